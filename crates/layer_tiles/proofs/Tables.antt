@@ -138,22 +138,22 @@ module _ (found : Name → ℕ → Option Tile) (name : Name) (column : ℕ) (x 
 -- ---- the tiles of rows that have what is found
 
 module _ (found : Name → ℕ → Option Tile) where
-  abbrev IsFound : Finished → Type 0
-  IsFound f = found f.name f.column ≡ Some f.tile
+  abbrev IsFoundTile : Finished → Type 0
+  IsFoundTile f = found f.name f.column ≡ Some f.tile
 
-  row_stands : (own : Name) (n a : ℕ) → All IsFound (row_tiles own a (map (found own) (range_with_len a n)))
-  row_stands own zero a = All-nil IsFound
+  row_stands : (own : Name) (n a : ℕ) → All IsFoundTile (row_tiles own a (map (found own) (range_with_len a n)))
+  row_stands own zero a = All-nil IsFoundTile
   row_stands own (suc n) a = more (found own a) refl (row_stands own n (a + 1)) where
     later : List (Option Tile)
     later = map (found own) (range_with_len (a + 1) n)
 
-    more : (o : Option Tile) → found own a ≡ o → All IsFound (row_tiles own (a + 1) later) → All IsFound (row_tiles own a (o ∷ later))
+    more : (o : Option Tile) → found own a ≡ o → All IsFoundTile (row_tiles own (a + 1) later) → All IsFoundTile (row_tiles own a (o ∷ later))
     more None e next = next
-    more (Some tile) e next = All-cons IsFound (record { name = own; column = a; tile = tile }) (row_tiles own (a + 1) later) e next
+    more (Some tile) e next = All-cons IsFoundTile (record { name = own; column = a; tile = tile }) (row_tiles own (a + 1) later) e next
 
-  rows_stand : (layers : List Layer) → All IsFound (tiles_of layers (rows_by found layers))
-  rows_stand [] = All-nil IsFound
-  rows_stand (l ∷ ls) = All-append IsFound (row_tiles l.name 0 (row_by (found l.name))) (tiles_of ls (rows_by found ls)) (row_stands l.name column_count 0) (rows_stand ls)
+  rows_stand : (layers : List Layer) → All IsFoundTile (tiles_of layers (rows_by found layers))
+  rows_stand [] = All-nil IsFoundTile
+  rows_stand (l ∷ ls) = All-append IsFoundTile (row_tiles l.name 0 (row_by (found l.name))) (tiles_of ls (rows_by found ls)) (row_stands l.name column_count 0) (rows_stand ls)
 
   one_more : (own : Name) (a k : ℕ) (o : Option Tile) (slots : List (Option Tile)) → is_some (tile_at (row_tiles own (a + 1) slots) own k) ≡ true → is_some (tile_at (row_tiles own a (o ∷ slots)) own k) ≡ true
   one_more own a k None slots there = there
@@ -196,7 +196,7 @@ module _ (found : Name → ℕ → Option Tile) where
       → (name : Name) (k : ℕ) → tile_at (tiles_of layers (rows_by found layers)) name k ≡ found name k
   found_in layers fit name k = by_found (tile_at (tiles_of layers (rows_by found layers)) name k) (found name k) refl refl where
     by_found : (here there : Option Tile) → tile_at (tiles_of layers (rows_by found layers)) name k ≡ here → found name k ≡ there → here ≡ there
-    by_found (Some tile) there e f = sym (found_is IsFound (tiles_of layers (rows_by found layers)) name k tile (rows_stand layers) e) ∙ f
+    by_found (Some tile) there e f = sym (found_is IsFoundTile (tiles_of layers (rows_by found layers)) name k tile (rows_stand layers) e) ∙ f
     by_found None None e f = refl
     by_found None (Some tile) e f =
         let fits = fit name k tile f in
