@@ -4,9 +4,9 @@
 pub mod change;
 pub mod closed;
 pub mod locked_log;
-mod other_entries;
 pub mod refused;
 pub mod room;
 pub mod session;
+mod sessionless_entries;
 mod shared_version;
 mod submitting;
