@@ -13,9 +13,8 @@ use Rattle.commit_plan.proofs.Drafts.{bytes_fit}
 use Rattle.commit_plan.specs.declared.write.Write.{Write}
 use Rattle.commit_plan.specs.Kept.{Kept, extents_in}
 use Rattle.commit_plan.specs.Planning.{IsOff, AreWrittenApart, AllApart}
-use Rattle.commit_plan.specs.Filed.{Filed, IsWriteOf, AreWritesOf}
+use Rattle.commit_plan.specs.Filed.{Filed, extents_of_filed, IsWriteOf, AreWritesOf}
 use Rattle.root_reading.specs.RootRuns.{AreRunsOf, IsMapOf}
-use Rattle.commit_plan.specs.Drafting.{extents_of_filed}
 use Rattle.root_reading.proofs.Rooms.{AreFreeOf}
 
 -- a run behind the slots that is free

@@ -4,6 +4,7 @@
 
 mod catalog_and_body;
 mod draft;
+mod filed_record;
 mod equality;
 pub mod fault;
 pub mod laws;
