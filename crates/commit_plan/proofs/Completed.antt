@@ -7,7 +7,7 @@ use Rattle.store_terms.specs.declared.damage.Damage.TheVariants.{Overlap}
 use Rattle.root_reading.specs.declared.load_fault.LoadFault.{LoadFault}
 use Rattle.root_reading.specs.declared.load_fault.LoadFault.TheVariants as loads
 use Rattle.root_reading.specs.Looking.{Refuses}
-use Rattle.commit_plan.specs.declared.fault.StoreFault.TheVariants.{Full, OutOfMemory}
+use Rattle.commit_plan.specs.declared.fault.StoreFault.TheVariants.{OutOfMemory}
 use Rattle.commit_plan.specs.Fault.{fault_told}
 use Rattle.extent_map.specs.declared.extent.Extent as runs
 use Rattle.extent_map.specs.FirstFit.{IsPlanned}
@@ -149,9 +149,3 @@ only_memory loads.Device es held apart (inr is) refuses = absurd (cc)
 only_memory loads.OutOfMemory es held apart errors refuses = refl
 only_memory (loads.Damaged damage) es held apart errors refuses =
     absurd (cc (cond-true (all_apart es) (Ok held) (Err Overlap) apart, refuses))
-
--- and it is never told as full
-pub never_full : (fault : LoadFault) → fault_told fault ≡ Full → ⊥
-never_full loads.Device is = absurd (cc)
-never_full (loads.Damaged damage) is = absurd (cc)
-never_full loads.OutOfMemory is = absurd (cc)

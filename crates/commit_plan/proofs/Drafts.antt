@@ -6,16 +6,12 @@ use Rattle.extent_map.specs.Extents.{AreAlike}
 use Rattle.extent_map.specs.FirstFit.{IsFirstFit, NoFit, IsPlanned, IsFull, taken_with}
 use Rattle.extent_map.specs.Taken.{taken_of}
 use Rattle.extent_map.proofs.Plans.{fit_alike, none_alike, planned_more, taken_more}
-use Rattle.extent_map.specs.declared.fault.ExtentFault.{ExtentFault}
-use Rattle.extent_map.specs.declared.fault.ExtentFault.TheVariants as extents
 use Rattle.store_terms.specs.Places.{blocks}
 use Rattle.commit_plan.specs.declared.room.Room.{Room}
 use Rattle.commit_plan.specs.declared.write.Write.{Write}
-use Rattle.commit_plan.specs.declared.fault.StoreFault.TheVariants.{Full}
-use Rattle.commit_plan.specs.Fault.{fault_of_extents}
 use Rattle.commit_plan.specs.Filed.{Filed, lengths_of, extents_of_filed, IsWriteOf, AreWritesOf}
 use Rattle.root_reading.specs.RootRuns.{AreRunsOf}
-use Rattle.commit_plan.specs.Drafted.{Drafted, HaveRuns, HasNoRunFor, IsDraft, sizes_in, with_filed}
+use Rattle.commit_plan.specs.Drafted.{Drafted, HasNoRunFor, IsDraft, sizes_in, with_filed}
 
 pub bytes_fit : (n : ℕ) → n ≤ 4096 * blocks n
 bytes_fit n = omega arith
@@ -132,13 +128,3 @@ pub passed_error : {A E : Type 0} (B : Type 0) (r : Result A E) (x e : E) → Is
     → error_in B x ≡ error_in B e
 passed_error B (Ok y) x e and is = absurd and
 passed_error {A} {E} B (Err y) x e and is = ap (error_in B) (sym and ∙ let same : y ≡ e = cc in same)
-
--- nor one that is not told as full
-pub not_full : (e : ExtentFault) → (e ≡ extents.Overlap → ⊥) → (e ≡ extents.Full → ⊥) → fault_of_extents e ≡ Full → ⊥
-not_full extents.Full apart never is = never refl
-not_full extents.Overlap apart never is = apart refl
-not_full extents.OutOfMemory apart never is = absurd cc
-
-pub same_fault : (A : Type 0) {E : Type 0} (e f : E) → error_in A e ≡ error_in A f → e ≡ f
-unfolding error_or
-same_fault A e f is = ap (error_or e) is

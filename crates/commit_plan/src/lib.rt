@@ -4,9 +4,9 @@
 
 mod catalog_and_body;
 mod draft;
-mod filed_record;
 mod equality;
 pub mod fault;
+mod filed_record;
 pub mod laws;
 pub mod live_records;
 pub mod loaded;

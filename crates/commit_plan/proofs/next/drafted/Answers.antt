@@ -1,5 +1,5 @@
 -- The plan of a commit: its records, the catalog and the body.
-use Rattle.std.proofs.Common.{◌≡◌, ◌+◌, [], ◌∷◌, ◌++◌, ℕ, List, length, refl, sym, ◌∙◌, ap, subst, arith}
+use Rattle.std.proofs.Common.{◌≡◌, ◌+◌, [], ◌∷◌, ◌++◌, ℕ, List, length, sym, ◌∙◌, ap, subst, arith}
 use Rattle.std.specs.List.{flat_map}
 use Rattle.overlay_terms.specs.Column.{column_count}
 use Rattle.extent_map.specs.declared.extent.Extent as runs
@@ -16,7 +16,7 @@ use Rattle.commit_plan.specs.declared.next.Next.{Next}
 use Rattle.commit_plan.specs.declared.room.Room.{Room}
 use Rattle.commit_plan.specs.Drafted.{Drafted, HasNoRunFor, begun_in, sizes_in, with_filed}
 use Rattle.commit_plan.specs.Drafting.{ArePlanned, IsLaidOut, Spell}
-use Rattle.commit_plan.specs.Filed.{Filed, filed_of}
+use Rattle.commit_plan.specs.Filed.{filed_of}
 use Rattle.commit_plan.specs.Fitting.{HasRoom}
 use Rattle.commit_plan.specs.Kept.{extents_in}
 use Rattle.commit_plan.specs.Live.{live_content}

@@ -1,9 +1,9 @@
 -- The own record of a layer stays, or has its place.
-use Rattle.std.proofs.Common.{◌≡◌, ◌++◌, ◌∷◌, [], List, ℕ, length, None, refl, sym, ◌∙◌, ap, subst, rules}
+use Rattle.std.proofs.Common.{◌≡◌, ◌++◌, ◌∷◌, [], List, ℕ, None, refl, sym, ◌∙◌, ap, subst, rules}
 use Rattle.layer_book.specs.Layer.{content}
 use Rattle.commit_plan.specs.Staying.{layer_named, layer_stays}
 use Rattle.commit_plan.specs.Live.{live_content}
-use Rattle.commit_plan.specs.Filed.{Filed, fresh, stays, SaysLayer}
+use Rattle.commit_plan.specs.Filed.{fresh, stays, SaysLayer}
 use Rattle.commit_plan.specs.Drafted.{HasNoRunFor, sizes_in, with_filed}
 use Rattle.commit_plan.specs.RecordPlaces.{IsFiled}
 use Rattle.commit_plan.specs.Sizes.{own_sizes}

@@ -4,7 +4,7 @@ use Rattle.tile_build.specs.Tile.{named_pieces, tile_of}
 use Rattle.layer_tiles.specs.Filling.{named}
 use Rattle.commit_plan.specs.Staying.{tile_stays}
 use Rattle.commit_plan.specs.Live.{live_content}
-use Rattle.commit_plan.specs.Filed.{Filed, fresh, stays, SaysTile}
+use Rattle.commit_plan.specs.Filed.{fresh, stays, SaysTile}
 use Rattle.commit_plan.specs.Drafted.{HasNoRunFor, sizes_in, with_filed}
 use Rattle.commit_plan.specs.RecordPlaces.{IsFiled}
 use Rattle.commit_plan.specs.Sizes.{tile_sizes}
