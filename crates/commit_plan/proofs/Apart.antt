@@ -15,8 +15,7 @@ use Rattle.store_terms.specs.declared.root.RecordExtent.{RecordExtent}
 use Rattle.store_terms.specs.Places.{blocks, is_apart_from, all_apart, some_extents, extents_of_records, extents_listed}
 use Rattle.root_reading.specs.RootRuns.{AreRunsOf, IsNear, AllNear}
 use Rattle.commit_plan.specs.Staying.{LiveContent, is_near, near_ones, AreHeldApart}
-use Rattle.commit_plan.specs.Filed.{Filed, Record, fresh, stays, extent_of, fresh_of, FiledLayer, a_base, a_definition, listed_of, filed_tiles, filed_of, SpellTiles, SpellLayer, SpellLayers}
-use Rattle.commit_plan.specs.Drafting.{extents_of_filed}
+use Rattle.commit_plan.specs.Filed.{Filed, extents_of_filed, Record, fresh, stays, extent_of, fresh_of, FiledLayer, a_base, a_definition, listed_of, filed_tiles, filed_of, SpellTiles, SpellLayer, SpellLayers}
 use Rattle.commit_plan.proofs.Placed.{IsNew, Beside, beside_turned, AllBeside, all_beside, last_first, planned_new, planned_apart}
 use Rattle.commit_plan.proofs.HeldApart.{Among, near_beside}
 use Rattle.commit_plan.proofs.Sitting.{Sits, layer_sits, tile_sits, sits_among, sit_beside, sit_elsewhere}

@@ -1,18 +1,17 @@
 -- What is known of an image, as its layers take their tiles.
-use Rattle.std.proofs.Common.{ℕ, List, Result, Ok, Err, IfOk}
-use Rattle.extent_map.specs.declared.extent.Extent as runs
+use Rattle.std.proofs.Common.{List, Result, Ok, Err, IfOk}
 use Rattle.layer_book.specs.Layer.{IsBook}
 use Rattle.record_writing.specs.Image.{IsImage}
 use Rattle.store_terms.specs.Catalog.{Listed}
 use Rattle.store_terms.specs.Image.{Held}
-use Rattle.commit_plan.specs.declared.draft.Draft.{Draft}
 use Rattle.commit_plan.specs.Staying.{LiveContent}
+use Rattle.commit_plan.specs.Drafted.{Drafted}
 use Rattle.commit_plan.specs.Drafting.{Spell}
-use Rattle.commit_plan.specs.Walking.{AreLayersFiled}
+use Rattle.commit_plan.specs.RecordPlaces.{AreLayersFiled}
 
-pub spell_of : (live : LiveContent) (x : Held) (given : List runs.Extent) (limit : ℕ) (ls : List Listed) (d : Draft) → IsImage x
-    → IsBook x.layers → (a : AreLayersFiled live given limit x.layers x.tiles ls d) → Spell live a.filed ls x
-spell_of live x given limit ls d image book a = record {
+pub spell_of : (live : LiveContent) (x : Held) (ls : List Listed) (old new : Drafted) → IsImage x → IsBook x.layers
+    → (a : AreLayersFiled live old x.layers x.tiles ls new) → Spell live a.filed ls x
+spell_of live x ls old new image book a = record {
   spelled = a.spelled;
   stored = record { orderly = book.sound.orderly; few = book.sound.few; named = book.named };
   small = image.small;

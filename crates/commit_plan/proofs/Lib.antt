@@ -12,7 +12,6 @@ pub mod Stays
 pub mod Entries
 pub mod Counted
 pub mod Completed
-mod Drafted
 pub mod Walked
 mod Rows
 pub mod Imaged

@@ -13,9 +13,8 @@ use Rattle.commit_plan.proofs.Drafts.{bytes_fit}
 use Rattle.commit_plan.specs.declared.write.Write.{Write}
 use Rattle.commit_plan.specs.Kept.{Kept, extents_in}
 use Rattle.commit_plan.specs.Planning.{IsOff, AreWrittenApart, AllApart}
-use Rattle.commit_plan.specs.Filed.{Filed, IsWriteOf, AreWritesOf}
+use Rattle.commit_plan.specs.Filed.{Filed, extents_of_filed, IsWriteOf, AreWritesOf}
 use Rattle.root_reading.specs.RootRuns.{AreRunsOf, IsMapOf}
-use Rattle.commit_plan.specs.Drafting.{extents_of_filed}
 use Rattle.root_reading.proofs.Rooms.{AreFreeOf}
 
 -- a run behind the slots that is free
@@ -179,11 +178,6 @@ front_of_all : (P : RecordExtent → Type 0) (es : List RecordExtent) (c : Recor
 front_of_all P [] c all = tt
 front_of_all P (e ∷ es) c all = (all.0, front_of_all P es c all.1)
 
-behind_all : (P : RecordExtent → Type 0) (es : List RecordExtent) (c : RecordExtent) → P c → AllByRecursion P es
-    → AllByRecursion P (es ++ c ∷ [])
-behind_all P [] c last all = (last, tt)
-behind_all P (e ∷ es) c last all = (all.0, behind_all P es c last all.1)
-
 pub beside_last : (es : List RecordExtent) (c : RecordExtent) → AllBeside (es ++ c ∷ []) → AllByRecursion (Beside c) es
 beside_last [] c all = tt
 beside_last (e ∷ es) c all = (beside_turned e c (last_of (Beside e) es c all.0), beside_last es c all.1)
@@ -205,5 +199,3 @@ all_apart_is (e ∷ es) all =
 -- where the last of some extents stands first, no two have a block in common either
 pub last_first : (es : List RecordExtent) (c : RecordExtent) → AllBeside (es ++ c ∷ []) → all_apart (c ∷ es) ≡ true
 last_first es c all = all_apart_is (c ∷ es) (beside_last es c all, beside_front es c all)
-
--- ---- the extents of records, as the catalog lists them

@@ -16,7 +16,7 @@ use Rattle.layer_tiles.specs.TileCode.{by_places, Named}
 use Rattle.layer_tiles.specs.Table.{row_by, places_in, Laid, IsLaid}
 use Rattle.layer_tiles.proofs.Placed.{places_at}
 use Rattle.layer_tiles.proofs.Tables.{slot_by}
-use Rattle.commit_plan.specs.Walking.{AreFormedIn}
+use Rattle.commit_plan.specs.RecordPlaces.{AreFormedIn}
 
 module _ (laid : Laid) (valid : IsLaid laid) (name : Name) (row : List (Option Named)) (is : places_in row ≡ row_by (tile_at laid.tiles name)) where
   pub row_whole : length row ≡ column_count

@@ -1,10 +1,9 @@
 -- How the writes of a commit lie, and what they lead to.
-use Rattle.std.specs.Prelude.{false, ◌≡◌, ℕ, ◌≤◌, List, [], ◌∷◌, ◌++◌, length, map, flat_map, Some}
+use Rattle.std.specs.Prelude.{false, ◌≡◌, ℕ, ◌≤◌, List, [], ◌∷◌, ◌++◌, map, flat_map, Some}
 use Rattle.extent_map.specs.declared.extent.Extent as runs
 use Rattle.extent_map.specs.FirstFit.{IsPlanned}
 use Rattle.extent_map.specs.Taken.{taken_of}
 use Rattle.overlay_terms.specs.Commands.{version_max}
-use Rattle.store_terms.specs.declared.root.RecordExtent.{RecordExtent}
 use Rattle.store_terms.specs.declared.root.Root.{Root}
 use Rattle.store_terms.specs.Catalog.{Listed, catalog_of_record}
 use Rattle.store_terms.specs.Roots.{body_text}

@@ -1,5 +1,5 @@
 -- The records of layers and of their rows of tiles, as they get their places one after another.
-use Rattle.std.specs.Prelude.{◌≡◌, ℕ, List, [], ◌∷◌, ◌++◌, map, flat_map, Option, Some, IsTrue}
+use Rattle.std.specs.Prelude.{◌≡◌, ℕ, List, [], ◌∷◌, map, flat_map, Option, Some, IsTrue}
 use Rattle.std.specs.Option.{option_map}
 use Rattle.std.proofs.Common.{get_or, None}
 use Rattle.overlay_terms.specs.Layers.{Name, Layer}

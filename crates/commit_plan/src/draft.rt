@@ -1,25 +1,15 @@
 //! The records of a commit, each put in its place.
-ghost use Rattle.std.specs.Prelude.{◌≡◌, ◌⊎◌, ◌-◌, ◌*◌, ◌^◌, ◌≤◌, ◌<◌, ◌++◌, ◌∷◌, [], length, replicate, IfOk, IfErr, IsErrOf};
-ghost use Rattle.extent_map.specs.Blocks.{block_size};
-ghost use Rattle.extent_map.specs.Taken.{taken_of};
-ghost use Rattle.store_terms.specs.Places.{blocks};
-ghost use Rattle.commit_plan.specs.Filed.{AreWritesOf, IsWriteOf};
-ghost use Rattle.commit_plan.specs.Drafted.{ArePlaced, HasNoRunFor, IsSized, filed_in, with_filed};
+ghost use Rattle.std.specs.Prelude.{◌≡◌, ◌⊎◌, ◌^◌, ◌<◌, ◌∷◌, [], length, IfOk, IfErr, IsErrOf};
+ghost use Rattle.commit_plan.specs.Filed.{AreWritesOf};
+ghost use Rattle.commit_plan.specs.Drafted.{ArePlaced, HasNoRunFor, begun_in, with_filed};
 
 use crate::fault::StoreFault;
+use crate::filed_record::FiledRecord;
 use crate::room::Room;
 use crate::write::Write;
-use extent_map::{BLOCK, blocks_of};
 use std::alloc::{AllocError, Global};
 use std::marker::Model;
 use store_terms::root::RecordExtent;
-
-/// A record, and where it goes.
-#[derive(Drop)]
-pub(crate) struct FiledRecord {
-    pub(crate) extent: RecordExtent,
-    pub(crate) bytes: Vec<u8>,
-}
 
 /// The records of a commit that have their places, in room that the live root leaves.
 #[derive(Drop)]
@@ -31,47 +21,20 @@ pub(crate) struct Draft<'a> {
 }
 
 impl<'a> Model for Draft<'a> {
-    ghost use Rattle.std.specs.Prelude.{map};
     ghost use Rattle.extent_map.specs.Taken.{taken_of};
-    ghost use Rattle.commit_plan.specs.Drafted.{Drafted, IsDraft, drafted_code, filed_in};
+    ghost use Rattle.commit_plan.specs.Drafted.{Drafted, IsDraft};
 
     ghost Value = { Drafted };
 
-    ghost coded = { drafted_code };
+    ghost view = { λ d. record { given = taken_of d.live.now.map; limit = d.live.now.max_blocks; filed = d.records.items } };
 
-    ghost view = { λ d. record { given = taken_of d.live.now.map; limit = d.live.now.max_blocks; filed = map filed_in d.records.items } };
-
-    ghost invariant = { λ d. IsDraft d.live.now d.room (map filed_in d.records.items) };
-}
-
-/// Bytes filled up to whole blocks by zeros.
-fn padded(mut bytes: Vec<u8>, blocks: u64) -> Result<Vec<u8>, AllocError>
-    requires few { blocks < 2 ^ 40 }
-    requires enough { length bytes.items ≤ block_size * blocks }
-    ensures { IfOk result (λ v. v.items ≡ bytes.items ++ replicate (block_size * blocks - length bytes.items) 0) }
-{
-    bytes.resize(blocks as usize * BLOCK, 0)?;
-    Ok(bytes)
-}
-
-/// The write of a record, in whole blocks.
-fn write_of(record: FiledRecord) -> Result<Write, AllocError>
-    requires behind { 2 ≤ record.extent.block }
-    requires low { record.extent.block < 2 ^ 32 }
-    requires sized { IsSized (filed_in record) }
-    ensures { IfOk result (IsWriteOf (filed_in record)) }
-{
-    let RecordExtent { block, size } = record.extent;
-    Ok(Write {
-        at: block as usize * BLOCK,
-        bytes: padded(record.bytes, blocks_of(size))?,
-    })
+    ghost invariant = { λ d. IsDraft d.live.now d.room d.records.items };
 }
 
 impl<'a> Draft<'a> {
     /// No record yet, in the room that a live root leaves.
     pub(crate) fn new(alloc: Global, live: &'a Room) -> Result<Draft<'a>, AllocError>
-        ensures { IfOk result (λ draft. draft ≡ record { given = taken_of live.now.map; limit = live.now.max_blocks; filed = [] }) }
+        ensures { IfOk result (λ draft. draft ≡ begun_in live.now) }
     {
         Ok(Draft {
             live,
@@ -116,8 +79,8 @@ impl<'a> Draft<'a> {
         ensures { IfOk result (λ writes. AreWritesOf self.entry.filed writes.items) }
     {
         let mut writes = Vec::with_capacity(alloc, self.records.len())?;
-        for record in self.records {
-            writes.push(write_of(record)?)?;
+        for filed in self.records {
+            writes.push(filed.into_write()?)?;
         }
         Ok(writes)
     }

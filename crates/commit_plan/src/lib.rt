@@ -6,6 +6,7 @@ mod catalog_and_body;
 mod draft;
 mod equality;
 pub mod fault;
+mod filed_record;
 pub mod laws;
 pub mod live_records;
 pub mod loaded;

@@ -1,25 +1,23 @@
 -- One layer after another has its records.
-use Rattle.std.proofs.Common.{◌≡◌, ◌+◌, ◌++◌, ◌∷◌, [], ℕ, List, length, take, refl, ap, sym, ◌∙◌, subst, arith}
+use Rattle.std.proofs.Common.{◌≡◌, ◌+◌, ◌++◌, ◌∷◌, [], ℕ, List, length, take, refl, ap, sym, ◌∙◌, subst, arith, rules}
 use Rattle.std.specs.List.{All, flat_map}
-use Rattle.std.proofs.lemmas.List.{length-append, map-append, take_all}
+use Rattle.std.proofs.lemmas.List.{length-append, map-append}
 use Rattle.std.proofs.lemmas.List.Elements.{All-push}
-use Rattle.overlay_terms.specs.Layers.{Layer}
-use Rattle.overlay_terms.specs.Histories.{Finished}
 use Rattle.layer_book.specs.Layer.{content}
-use Rattle.layer_tiles.specs.Table.{laid, placed_rows, tiles_of}
+use Rattle.layer_tiles.specs.Table.{laid}
 use Rattle.record_writing.specs.Listing.{entry_of, entries_of, IsListable}
 use Rattle.record_writing.specs.declared.catalog.Listed as code
 use Rattle.commit_plan.specs.declared.fault.StoreFault.TheVariants.{Full}
-use Rattle.commit_plan.specs.Drafting.{ArePlaced}
+use Rattle.commit_plan.specs.Drafted.{sizes_in}
 use Rattle.commit_plan.specs.Filed.{filed_of}
 use Rattle.commit_plan.specs.Live.{live_content}
-use Rattle.commit_plan.specs.Sizes.{sizes_of_layers}
+use Rattle.commit_plan.specs.RecordPlaces.{AreLayersFiled}
+use Rattle.commit_plan.specs.Sizes.{layer_sizes, sizes_of_layers}
 use Rattle.commit_plan.specs.Staying.{layer_named}
-use Rattle.commit_plan.specs.Walking.{AreLayersFiled}
-use Rattle.commit_plan.proofs.Drafts.{passed_error}
+use Rattle.commit_plan.proofs.Drafts.{joined, no_run_behind, passed_error}
 use Rattle.commit_plan.proofs.Rows.{row_formed, row_bare}
-use Rattle.commit_plan.proofs.Sized.{layers_placed, layers_full, layers_whole}
-use Rattle.commit_plan.proofs.Walked.{layers_more, tiles_whole}
+use Rattle.commit_plan.proofs.Sized.{none_behind, layers_full, layers_next, layers_whole}
+use Rattle.commit_plan.proofs.Walked.{no_layers, layers_more, all_layers}
 use Rattle.commit_plan.proofs.record_places.file_layers.Goals as goal
 
 pub file_layer-requires-clause-formed : goal.file_layer-requires-clause-formed
@@ -30,6 +28,17 @@ file_layer-requires-clause-bare c plain =
     row_bare (laid c.args.table.now) c.layers.ensures.valid c.in-Some.name.now c.in-Some.row.now c.in-Some.ensures.places
     (layer_named c.in-Some.name.now (content c.in-Some.layer.now)) c.loop-place.place (sym c.in-Some.ensures.layer) refl plain
 
+pub loop-place-init : goal.loop-place-init
+loop-place-init c =
+    let live = live_content c.args.live.now in
+    let d = c.args.draft.now in
+    record {
+      ok = subst (λ (l : List code.Listed). AreLayersFiled live d [] [] (entries_of l) d) (sym c.new-listing.ensures.items) (no_layers live d);
+      sizes = none_behind (sizes_in d) [] refl;
+      listable = search rules;
+      count = ap length c.new-listing.ensures.items;
+    }
+
 pub loop-place-preserved : goal.loop-place-preserved
 loop-place-preserved c =
     let live = live_content c.args.live.now in
@@ -39,49 +48,47 @@ loop-place-preserved c =
     let i = c.loop-place.place in
     let layer = layer_named c.in-Some.name.now (content c.in-Some.layer.now) in
     let row = c.in-Some.row.now in
+    let is = sym c.in-Some.ensures.layer in
+    let has = sym c.in-Some.ensures.row in
+    let old = c.args.draft.now in
+    let mid = c.loop-place.draft in
+    let new = c.file_layer.new.draft in
     let items = c.loop-place.listing.items in
     let one = c.in_ok-listed.listed in
     let pushed : c.push.new.self.items ≡ items ++ one ∷ [] = c.in_ok-push.ensures.items in
     record {
-      ok = λ given limit draft.
-          let before = so_far.ok given limit draft in
-          layers_more live given limit layers rows i layer row (entries_of items) (entries_of c.push.new.self.items) (entry_of one) c.loop-place.draft c.file_layer.new.draft
-          (sym c.in-Some.ensures.layer) (sym c.in-Some.ensures.row) before
-          (c.in_ok-listed.ensures.ok given limit (flat_map filed_of before.filed) before.draft) (ap entries_of pushed ∙ map-append entry_of items (one ∷ []));
-      taken = λ given limit placed.
-          layers_placed live given limit layers rows i layer row (sym c.in-Some.ensures.layer) (sym c.in-Some.ensures.row) c.file_layer.new.draft
-          (c.in_ok-listed.ensures.taken given limit (sizes_of_layers live (take i layers) (take i rows)) (so_far.taken given limit placed));
+      ok = layers_more live layers rows i layer row (entries_of items) (entries_of c.push.new.self.items) (entry_of one) old mid new is has so_far.ok c.in_ok-listed.ensures.ok
+          (ap entries_of pushed ∙ map-append entry_of items (one ∷ []));
+      sizes = joined (sizes_in old) (sizes_in mid) (sizes_in new) (sizes_of_layers live (take i layers) (take i rows)) (layer_sizes live layer row) so_far.sizes c.in_ok-listed.ensures.sizes
+          ∙ ap (λ (l : List ℕ). sizes_in old ++ l) (layers_next live layers rows i layer row is has);
       listable = subst (λ (l : List code.Listed). All IsListable l) (sym pushed) (All-push IsListable items one so_far.listable c.in_ok-listed.ensures.listable);
       count = ap length pushed ∙ length-append items (one ∷ []) ∙ ap (λ (n : ℕ). n + 1) so_far.count;
     }
 
 pub returns-clause-ok : goal.returns-clause-ok
-returns-clause-ok c given limit draft =
+returns-clause-ok c =
     let layers = c.args.table.now.layers in
-    let rows = c.args.table.now.rows in
     let end : c.loop-place.place ≡ length layers =
     omega (arith, c.loop-place-test.false, c.loop-place.auto.place-end, c.len-place-end.ensures.value, ap length c.layers.ensures.value) in
-    let whole : take c.loop-place.place layers ≡ layers = take_all c.loop-place.place layers (omega (arith, end)) in
-    let ls = entries_of c.loop-place.listing.items in
-    subst (λ (l : List Layer). AreLayersFiled (live_content c.args.live.now) given limit l (tiles_of layers (placed_rows rows)) ls c.loop-place.draft) whole
-    (subst (λ (ts : List Finished). AreLayersFiled (live_content c.args.live.now) given limit (take c.loop-place.place layers) ts ls c.loop-place.draft) (tiles_whole layers rows c.loop-place.place end)
-    (c.loop-place.invariant.ok given limit draft))
+    all_layers (live_content c.args.live.now) layers c.args.table.now.rows c.loop-place.place (entries_of c.loop-place.listing.items) c.args.draft.now c.loop-place.draft end c.loop-place.invariant.ok
 
-pub returns-clause-taken : goal.returns-clause-taken
-returns-clause-taken c given limit placed =
-    let live = live_content c.args.live.now in
+pub returns-clause-sizes : goal.returns-clause-sizes
+returns-clause-sizes c =
     let layers = c.args.table.now.layers in
-    let rows = c.args.table.now.rows in
     let end : c.loop-place.place ≡ length layers =
     omega (arith, c.loop-place-test.false, c.loop-place.auto.place-end, c.len-place-end.ensures.value, ap length c.layers.ensures.value) in
-    subst (λ (ns : List ℕ). ArePlaced given limit ns c.loop-place.draft) (layers_whole live layers rows c.loop-place.place end) (c.loop-place.invariant.taken given limit placed)
+    c.loop-place.invariant.sizes
+    ∙ ap (λ (l : List ℕ). sizes_in c.args.draft.now ++ l) (layers_whole (live_content c.args.live.now) layers c.args.table.now.rows c.loop-place.place end)
 
 pub returns-in_err-listed-clause-full : goal.returns-in_err-listed-clause-full
-returns-in_err-listed-clause-full c given limit placed u =
+returns-in_err-listed-clause-full c u =
     let live = live_content c.args.live.now in
     let layers = c.args.table.now.layers in
     let rows = c.args.table.now.rows in
     let i = c.loop-place.place in
-    layers_full live given limit layers rows i (layer_named c.in-Some.name.now (content c.in-Some.layer.now)) c.in-Some.row.now (sym c.in-Some.ensures.layer) (sym c.in-Some.ensures.row)
-    (c.in_err-listed.ensures.full given limit (sizes_of_layers live (take i layers) (take i rows)) (c.loop-place.invariant.taken given limit placed)
-    (passed_error _ c.from_residual.result c.in_err-listed.field-0.0 Full c.from_residual.ensures.1 u))
+    let layer = layer_named c.in-Some.name.now (content c.in-Some.layer.now) in
+    let row = c.in-Some.row.now in
+    let so_far = c.loop-place.invariant in
+    layers_full live c.args.draft.now layers rows i layer row (sym c.in-Some.ensures.layer) (sym c.in-Some.ensures.row)
+    (no_run_behind c.args.draft.now c.loop-place.draft (flat_map filed_of so_far.ok.filed) (sizes_of_layers live (take i layers) (take i rows)) (layer_sizes live layer row) so_far.ok.draft so_far.sizes
+    (c.in_err-listed.ensures.full (passed_error _ c.from_residual.result c.in_err-listed.field-0.0 Full c.from_residual.ensures.1 u)))

@@ -16,8 +16,8 @@ file_tile-requires c =
     (c.requires (named_pieces v) (ap (λ o. option_map (λ t. named_pieces t.now.value) o) c.in-Some.is))
 
 pub returns-in_ok-extent-in-Some-clause-ok : goal.returns-in_ok-extent-in-Some-clause-ok
-returns-in_ok-extent-in-Some-clause-ok c given limit fs draft =
-    slot_filed (live_content c.args.live.now) given limit fs c.args.name.now c.args.column c.deref.result.now
-    (option_map (λ t. named_pieces t.now.value) c.args.tile) c.in_ok-extent-in-Some.extent c.file_tile.new.draft
+returns-in_ok-extent-in-Some-clause-ok c =
+    slot_filed (live_content c.args.live.now) c.args.name.now c.args.column c.deref.result.now
+    (option_map (λ t. named_pieces t.now.value) c.args.tile) c.in_ok-extent-in-Some.extent c.args.draft.now c.file_tile.new.draft
     (ap (λ o. option_map (λ t. named_pieces t.now.value) o) c.in-Some.is ∙ ap (λ t. Some (named_pieces t)) (sym c.deref.ensures))
-    (c.in_ok-extent-in-Some.ensures.ok given limit fs draft)
+    c.in_ok-extent-in-Some.ensures.ok
