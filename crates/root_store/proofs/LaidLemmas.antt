@@ -6,8 +6,7 @@ use Rattle.extent_map.specs.declared.extent.Extent as runs
 use Rattle.extent_map.specs.FirstFit.{IsPlanned}
 use Rattle.store_terms.specs.Places.{blocks}
 use Rattle.commit_plan.specs.declared.write.Write.{Write}
-use Rattle.commit_plan.specs.Drafting.{lengths_of, extents_of_filed}
-use Rattle.commit_plan.specs.Filed.{Filed, filed_of, AreWritesOf}
+use Rattle.commit_plan.specs.Filed.{Filed, lengths_of, extents_of_filed, filed_of, AreWritesOf}
 use Rattle.root_reading.specs.RootRuns.{AreRunsOf}
 use Rattle.root_store.specs.Beginning.{EndsBelow, LaidIsBelow}
 
