@@ -28,7 +28,7 @@ use Rattle.commit_plan.specs.Live.{live_content}
 use Rattle.commit_plan.specs.Filed.{Filed, FiledLayer, listed_of, filed_of, AreWritesOf, Files}
 use Rattle.root_reading.specs.RootRuns.{AllNear, IsMapOf, if_apart}
 use Rattle.commit_plan.specs.Drafted.{Drafted, HaveRuns, ArePlaced, with_filed}
-use Rattle.commit_plan.specs.Drafting.{IsLaidOut, Spell, NextHolds}
+use Rattle.commit_plan.specs.Next.{IsLaidOut, Spell, NextHolds}
 use Rattle.commit_plan.proofs.Filed.{filing_makes}
 use Rattle.commit_plan.proofs.Plan.{plans}
 use Rattle.commit_plan.proofs.Placed.{planned_new, planned_apart, all_off, all_writes_apart}

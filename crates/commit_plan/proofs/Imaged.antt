@@ -6,7 +6,7 @@ use Rattle.store_terms.specs.Catalog.{Listed}
 use Rattle.store_terms.specs.Image.{Held}
 use Rattle.commit_plan.specs.Staying.{LiveContent}
 use Rattle.commit_plan.specs.Drafted.{Drafted}
-use Rattle.commit_plan.specs.Drafting.{Spell}
+use Rattle.commit_plan.specs.Next.{Spell}
 use Rattle.commit_plan.specs.RecordPlaces.{AreLayersFiled}
 
 pub spell_of : (live : LiveContent) (x : Held) (ls : List Listed) (old new : Drafted) → IsImage x → IsBook x.layers

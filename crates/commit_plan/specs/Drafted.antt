@@ -35,7 +35,7 @@ pub record HaveRuns (given : List runs.Extent) (limit : ℕ) (filed : List Filed
 abbrev pub ArePlaced : Drafted → Type 0
 ArePlaced d = (places : List runs.Extent) × HaveRuns d.given d.limit d.filed places
 
--- one of some records more, of these sizes, finds no run, where each before it has found its own
+-- of the records of a draft and some more, of these sizes, one finds no run, where each before it has found its own
 abbrev pub HasNoRunFor : Drafted → List ℕ → Type 0
 HasNoRunFor d sizes = IsFull d.given d.limit (sizes_in d ++ sizes)
 

@@ -4,7 +4,7 @@ use Rattle.extent_map.specs.Taken.{taken_of}
 use Rattle.record_writing.specs.declared.image.Image.{Image}
 use Rattle.commit_plan.specs.declared.live_records.LiveRecords.{LiveRecords}
 use Rattle.commit_plan.specs.Live.{live_content}
-use Rattle.commit_plan.specs.Drafting.{ArePlanned}
+use Rattle.commit_plan.specs.Next.{ArePlanned}
 use Rattle.commit_plan.specs.Sizes.{sizes_of}
 
 -- each new record of an image finds, in order, the lowest run that is free of what is taken and of the runs before it

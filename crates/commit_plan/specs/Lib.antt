@@ -7,7 +7,7 @@ pub mod Live
 pub mod Planning
 pub mod Filed
 pub mod Drafted
-pub mod Drafting
+pub mod Next
 pub mod Sizes
 pub mod RecordPlaces
 pub mod Fitting

@@ -13,7 +13,7 @@ ghost use Rattle.commit_plan.specs.Filed.{FiledLayer, filed_of};
 ghost use Rattle.commit_plan.specs.Staying.{LiveContent, kept_content, AreHeldApart};
 ghost use Rattle.root_reading.specs.RootRuns.{IsMapOf};
 ghost use Rattle.commit_plan.specs.Drafted.{HasNoRunFor, sizes_in};
-ghost use Rattle.commit_plan.specs.Drafting.{ArePlanned, IsLaidOut, NextHolds, Spell};
+ghost use Rattle.commit_plan.specs.Next.{ArePlanned, IsLaidOut, NextHolds, Spell};
 
 use crate::draft::Draft;
 use crate::fault::{StoreFault, told};

@@ -6,7 +6,7 @@ ghost use Rattle.store_terms.specs.StandsFor.{body_at};
 ghost use Rattle.record_writing.specs.ImageHeld.{image_held};
 ghost use Rattle.root_reading.specs.RootRuns.{IsMapOf};
 ghost use Rattle.commit_plan.specs.Kept.{Kept, extents_in, other};
-ghost use Rattle.commit_plan.specs.Drafting.{IsLaidOut, NextHolds};
+ghost use Rattle.commit_plan.specs.Next.{IsLaidOut, NextHolds};
 ghost use Rattle.commit_plan.specs.Fitting.{HasRoom, HasNoRoom};
 ghost use Rattle.commit_plan.specs.Staying.{kept_content};
 ghost use Rattle.commit_plan.specs.Live.{live_content};

@@ -7,4 +7,4 @@ pub mod fault;
 mod first_fit;
 pub mod laws;
 
-pub use first_fit::{BLOCK, blocks_of};
+pub use first_fit::{BLOCK, FIRST_BLOCK, blocks_of};

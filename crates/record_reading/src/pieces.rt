@@ -25,7 +25,7 @@ pub(crate) fn pieces_at(
     bytes: &[u8],
 ) -> Result<(Vec<Piece>, bool, &[u8]), ReadFault>
     ensures pieces { Gives (λ x. (x.0.items, x.2.now)) result (read_many spelled.read count bytes.now) }
-    ensures stand { IfOk result (λ x. x.1 ≡ are_in_order column x.0.items) }
+    ensures ordered { IfOk result (λ x. x.1 ≡ are_in_order column x.0.items) }
 {
     let mut pieces = Vec::new(alloc);
     let mut stand = true;

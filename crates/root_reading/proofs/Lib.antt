@@ -1,6 +1,6 @@
 pub mod Rooms
 mod LayerReadingLemmas
 pub mod Looked
-pub mod TakingLemmas
+pub mod RootRunsLemmas
 pub mod NearLemmas
 mod StoredLemmas

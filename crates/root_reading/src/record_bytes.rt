@@ -6,7 +6,7 @@ ghost use Rattle.root_reading.specs.Looking.{Gives, Looks, Causes};
 
 use crate::load_fault::LoadFault;
 use disk_model::disk::Disk;
-use extent_map::{BLOCK, blocks_of};
+use extent_map::{BLOCK, FIRST_BLOCK, blocks_of};
 use std::alloc::Global;
 use store_terms::damage::Damage;
 use store_terms::root::RecordExtent;
@@ -15,7 +15,7 @@ use store_terms::root::RecordExtent;
 fn is_within(extent: RecordExtent, whole: u64) -> bool
     ensures { result ≡ (nat_le 2 extent.block && nat_le (extent.block + blocks extent.size) whole) }
 {
-    extent.block >= 2 && extent.block <= whole && blocks_of(extent.size) <= whole - extent.block
+    extent.block >= FIRST_BLOCK && extent.block <= whole && blocks_of(extent.size) <= whole - extent.block
 }
 
 /// The bytes of a record in a file of this size; the damage where it is not placed in it.

@@ -24,7 +24,7 @@ fn run_of(extent: RecordExtent) -> Run
     first
 }
 
-#[tactic(auto, using(crate::proofs::TakingLemmas::runs_more))]
+#[tactic(auto, using(crate::proofs::RootRunsLemmas::runs_more))]
 fn add_run(runs: &mut Vec<Run>, extent: RecordExtent) -> Result<(), AllocError>
     ensures { (es : List terms.RecordExtent) → AreRunsFor es runs.old.items
         → OnOk result (AreRunsFor (es ++ extent ∷ []) runs.new.items) }

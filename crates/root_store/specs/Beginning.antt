@@ -7,7 +7,7 @@ use Rattle.store_terms.specs.Places.{block_size}
 use Rattle.store_terms.specs.StandsFor.{body_at}
 use Rattle.record_writing.specs.declared.image.Image.{Image}
 use Rattle.record_writing.specs.ImageHeld.{image_held}
-use Rattle.commit_plan.specs.Drafting.{IsLaidOut}
+use Rattle.commit_plan.specs.Next.{IsLaidOut}
 use Rattle.commit_plan.specs.Sizes.{sizes_of}
 use Rattle.commit_plan.specs.Kept.{other}
 use Rattle.commit_plan.specs.Live.{live_content}

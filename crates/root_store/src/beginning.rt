@@ -6,7 +6,7 @@ ghost use Rattle.store_terms.specs.Roots.{sequence_max};
 ghost use Rattle.record_writing.specs.ImageHeld.{image_held};
 ghost use Rattle.commit_plan.specs.Kept.{Kept};
 ghost use Rattle.root_store.specs.Running.{StoreStandsFor, Runs, LeadsTo, KeepsTo, calls_left, is_busy};
-ghost use Rattle.commit_plan.specs.Drafting.{NextHolds};
+ghost use Rattle.commit_plan.specs.Next.{NextHolds};
 ghost use Rattle.commit_plan.specs.Fitting.{HasRoom, HasNoRoom};
 ghost use Rattle.commit_plan.specs.Live.{live_content};
 ghost use Rattle.commit_plan.specs.Sizes.{new_records};

@@ -17,15 +17,18 @@ use commit_plan::live_records::LiveRecords;
 use commit_plan::room::Room;
 use disk_model::disk::Disk;
 use disk_model::fault::DiskFault;
-use extent_map::BLOCK;
+use extent_map::{BLOCK, FIRST_BLOCK};
 use extent_map::extent::Extent as Run;
 use record_writing::root_body::write_body;
 use std::alloc::{AllocError, Global};
-use store_terms::layout::{BODY, GATE_OPEN};
+use store_terms::layout::{BODY, GATE_OPEN, SLOTS_END};
 use store_terms::root::{RecordExtent, Root};
 
 /// Where the empty catalog of a new store lies.
-const CATALOG: RecordExtent = RecordExtent { block: 2, size: 2 };
+const CATALOG: RecordExtent = RecordExtent {
+    block: FIRST_BLOCK,
+    size: 2,
+};
 
 /// The root of a new store.
 const FIRST: Root = Root {
@@ -62,10 +65,10 @@ fn zeros(alloc: Global, size: usize) -> Result<Vec<u8>, AllocError>
 fn blank(alloc: Global) -> Result<Vec<u8>, AllocError>
     ensures { IfOk result (λ v. IsFirstWrite v.items) }
 {
-    let mut file = zeros(alloc, 3 * BLOCK)?;
+    let mut file = zeros(alloc, SLOTS_END + BLOCK)?;
     put(&mut file, BODY, &write_body(FIRST));
     put(&mut file, BLOCK + BODY, &write_body(TWIN));
-    put(&mut file, 2 * BLOCK, &[0, 0]);
+    put(&mut file, SLOTS_END, &[0, 0]);
     Ok(file)
 }
 
@@ -102,7 +105,7 @@ fn rooms(alloc: Global, max_blocks: u32) -> Result<(Room, Room), StoreFault>
     ensures next_limit { IfOk result (λ rooms. limit_of rooms.1.map ≡ max_blocks) }
     ensures err { IfErr result (λ fault. fault ≡ StoreFault.OutOfMemory) }
 {
-    let Some(run) = Run::new(2, 1) else {
+    let Some(run) = Run::new(FIRST_BLOCK, 1) else {
         unreachable!()
     };
     let room = Room::of(alloc, &[run], max_blocks)?;

@@ -12,7 +12,7 @@ use record_reading::root_body::read_body;
 use record_writing::root_body::format_of;
 use root_reading::load_fault::LoadFault;
 use store_terms::damage::Damage;
-use store_terms::layout::{GATE_OPEN, NUMBER_MAX, SLOTS};
+use store_terms::layout::{BODY, GATE_OPEN, NUMBER_MAX, SLOTS_END};
 use store_terms::root::{Body, Root};
 
 /// What stands in a slot: its gate, and its body whatever the gate.
@@ -96,11 +96,11 @@ fn read_slot<D: Disk>(disk: &mut D, number: usize) -> Result<RootSlot, LoadFault
     ensures read { D.is_honest disk.old → IfOk result (IsSlot (D.seen disk.old) number) }
     ensures err { IfErr result (λ e. e ≡ LoadFault.Device) }
 {
-    let mut bytes = [0; 56];
+    let mut bytes = [0; BODY + 40];
     disk.read(number * BLOCK, &mut bytes)?;
     Ok(RootSlot {
         gate: bytes[0],
-        body: read_body(&bytes[16..]),
+        body: read_body(&bytes[BODY..]),
     })
 }
 
@@ -115,7 +115,7 @@ pub fn find_root<D: Disk>(disk: &mut D) -> Result<(Root, bool, usize), LoadFault
     ensures memory { IfErr result (λ e. e ≢ LoadFault.OutOfMemory) }
 {
     let size = disk.length()?;
-    if size < SLOTS {
+    if size < SLOTS_END {
         return Err(LoadFault::Damaged(Damage::NotAStore));
     }
     let first = read_slot(disk, 0)?;

@@ -1,6 +1,6 @@
 pub mod Among
 pub mod Laws
 pub mod Storing
-pub mod Reports
+pub mod ToldFaults
 pub mod Told
 pub mod Unstored

@@ -9,12 +9,12 @@ ghost use Rattle.flush_core.specs.Stored.{HasNoRoomFor, stored_after};
 ghost use Rattle.book_history.specs.Fault.{passes};
 ghost use Rattle.book_history.specs.Logs.{history_of, newest_in};
 ghost use Rattle.store_flushing.specs.Storing.{AllReported, IsStoreOf, Keeps};
-ghost use Rattle.store_flushing.specs.Reports.{told_of};
+ghost use Rattle.store_flushing.specs.ToldFaults.{told_of};
 ghost use Rattle.store_flushing.specs.Told.{KeepsTelling, news_in, told_at, told_in};
 
 pub use crate::flusher_loop::flusher_loop;
 use crate::keeper::told_log::ToldLog;
-use crate::telling;
+use crate::reports;
 use commit_plan::fault::StoreFault;
 use disk_model::disk::Disk;
 use flush_core::flusher::Flusher;
@@ -147,7 +147,7 @@ impl<D: Disk> Keeper<D> {
         ensures same { self.new.reporter.book ≡ self.old.reporter.book }
     {
         let was = Snapshot::of(&self.reporter);
-        telling::report(rt, alloc, shared, &mut self.reporter, self.flusher.stored());
+        reports::report(rt, alloc, shared, &mut self.reporter, self.flusher.stored());
         self.told.write(&was, &self.reporter, &self.flusher);
         // What the reporter has seen is a history: the clauses rest on that.
         let _ = self.reporter.given();
@@ -164,6 +164,6 @@ impl<D: Disk> Keeper<D> {
         ensures nothing { self.new ≡ self.old }
         ensures passes { result ≡ passes (told_of fault) }
     {
-        telling::tell(rt, shared, &mut self.reporter, fault)
+        reports::tell(rt, shared, &mut self.reporter, fault)
     }
 }

@@ -3,7 +3,7 @@ ghost use Rattle.std.specs.Prelude.{◌≡◌, ◌⊎◌, ◌≤◌};
 ghost use Rattle.overlay_terms.specs.Histories.{BeginsWith, IsHistory, newest};
 ghost use Rattle.book_history.specs.Fault.{passes};
 ghost use Rattle.book_history.specs.Logs.{history_of};
-ghost use Rattle.store_flushing.specs.Reports.{told_of};
+ghost use Rattle.store_flushing.specs.ToldFaults.{told_of};
 
 use commit_plan::fault::StoreFault;
 use std::alloc::Global;

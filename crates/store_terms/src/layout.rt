@@ -4,8 +4,8 @@
 use extent_map::BLOCK;
 use overlay_terms::limits::VERSION_MAX;
 
-/// The bytes of the two root slots, a block each.
-pub const SLOTS: usize = 2 * BLOCK;
+/// Where the two root slots end, a block each.
+pub const SLOTS_END: usize = 2 * BLOCK;
 
 /// The byte of an open gate, the first of its slot. Every other value is closed.
 pub const GATE_OPEN: u8 = 0xA7;
@@ -22,10 +22,10 @@ pub const MAGIC: &[u8] = b"OVLSTORE";
 /// The number of the file's format.
 pub const FORMAT: u32 = 2;
 
-/// That of files whose columns are twice as wide.
+/// The number of the older format, whose columns are twice as wide.
 pub const OLD_FORMAT: u32 = 1;
 
-/// How many columns a catalog of such a file lists for a derived layer.
+/// How many columns a catalog of the older format lists for a derived layer.
 pub const OLD_COLUMN_COUNT: u8 = 17;
 
 /// The greatest sequence of a root, and the greatest version.

@@ -15,7 +15,7 @@ use Rattle.commit_plan.specs.declared.fault.StoreFault.TheVariants.{Full}
 use Rattle.commit_plan.specs.declared.next.Next.{Next}
 use Rattle.commit_plan.specs.declared.room.Room.{Room}
 use Rattle.commit_plan.specs.Drafted.{Drafted, HasNoRunFor, begun_in, sizes_in, with_filed}
-use Rattle.commit_plan.specs.Drafting.{ArePlanned, IsLaidOut, Spell}
+use Rattle.commit_plan.specs.Next.{ArePlanned, IsLaidOut, Spell}
 use Rattle.commit_plan.specs.Filed.{filed_of}
 use Rattle.commit_plan.specs.Fitting.{HasRoom}
 use Rattle.commit_plan.specs.Kept.{extents_in}

@@ -3,7 +3,7 @@ use Rattle.extent_map.specs.Taken.{taken_of}
 use Rattle.record_writing.specs.Listing.{entries_of}
 use Rattle.store_terms.specs.Places.{extents_listed}
 use Rattle.root_reading.specs.RootRuns.{AreRunsFor}
-use Rattle.root_reading.proofs.TakingLemmas.{room_taken, room_apart, room_overlap}
+use Rattle.root_reading.proofs.RootRunsLemmas.{room_taken, room_apart, room_overlap}
 use Rattle.commit_plan.proofs.HeldApart.{held_apart}
 use Rattle.commit_plan.proofs.taken_room.room_of.Goals as goal
 

@@ -3,7 +3,7 @@ use Rattle.std.proofs.lemmas.List.{get_or_default, take_all}
 use Rattle.store_terms.specs.declared.root.RecordExtent.{RecordExtent}
 use Rattle.store_terms.specs.Places.{some_extents}
 use Rattle.root_reading.specs.RootRuns.{AreRunsFor}
-use Rattle.root_reading.proofs.TakingLemmas.{entries_on}
+use Rattle.root_reading.proofs.RootRunsLemmas.{entries_on}
 use Rattle.root_reading.proofs.root_runs.add_entries.Goals as goal
 
 pub loop-entry-init : goal.loop-entry-init

@@ -4,7 +4,7 @@ use Rattle.record_writing.specs.Listing.{entry_of, entries_of}
 use Rattle.store_terms.specs.Catalog.{Listed}
 use Rattle.store_terms.specs.Places.{extents_listed}
 use Rattle.root_reading.specs.RootRuns.{AreRunsFor}
-use Rattle.root_reading.proofs.TakingLemmas.{listed_on}
+use Rattle.root_reading.proofs.RootRunsLemmas.{listed_on}
 use Rattle.root_reading.proofs.root_runs.runs_of.Goals as goal
 
 pub loop-layer-init : goal.loop-layer-init

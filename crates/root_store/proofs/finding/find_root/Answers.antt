@@ -3,8 +3,8 @@ use Rattle.root_store.proofs.FindingLemmas.{short_root}
 use Rattle.root_reading.proofs.Looked.{looked, looks_on}
 use Rattle.root_store.proofs.finding.find_root.Goals as goal
 
-pub returns-then-size-lt-SLOTS-clause-gives : goal.returns-then-size-lt-SLOTS-clause-gives
-returns-then-size-lt-SLOTS-clause-gives g c honest =
+pub returns-then-size-lt-SLOTS_END-clause-gives : goal.returns-then-size-lt-SLOTS_END-clause-gives
+returns-then-size-lt-SLOTS_END-clause-gives g c honest =
     let size = c.in_ok-size.ensures.length honest in
     short_root (g.D.Disk.seen c.args.disk.now) (omega (arith, size))
 
