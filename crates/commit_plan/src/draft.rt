@@ -62,10 +62,7 @@ impl<'a> Draft<'a> {
         // Its memory first: no run is taken without its record.
         self.records.reserve(1)?;
         let size = bytes.len() as u32;
-        let run = match self.room.place(size) {
-            Ok(run) => run,
-            Err(fault) => return Err(fault),
-        };
+        let run = self.room.place(size)?;
         let extent = RecordExtent {
             block: run.block,
             size,
