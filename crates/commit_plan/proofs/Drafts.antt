@@ -115,14 +115,6 @@ no_run_behind old new fs ns ms is sizes full =
 abbrev pub error_in : (A : Type 0) {E : Type 0} → E → Result A E
 error_in A e = Err e
 
-error_or : {A E : Type 0} → E → Result A E → E
-error_or e (Ok x) = e
-error_or e (Err f) = f
-
-pub same_error : (A B : Type 0) {E : Type 0} (e f : E) → error_in A e ≡ error_in A f → error_in B e ≡ error_in B f
-unfolding error_or
-same_error A B e f is = ap (error_in B) (ap (error_or f) is)
-
 -- the error that `?` passes on is the one that was met
 pub passed_error : {A E : Type 0} (B : Type 0) (r : Result A E) (x e : E) → IsErrAnd r (λ y. y ≡ x) → r ≡ Err e
     → error_in B x ≡ error_in B e

@@ -62,10 +62,7 @@ impl<'a> Draft<'a> {
         // Its memory first: no run is taken without its record.
         self.records.reserve(1)?;
         let size = bytes.len() as u32;
-        let run = match self.room.place(size) {
-            Ok(run) => run,
-            Err(fault) => return Err(fault),
-        };
+        let run = self.room.place(size)?;
         let extent = RecordExtent {
             block: run.block,
             size,
@@ -78,7 +75,8 @@ impl<'a> Draft<'a> {
     pub(crate) fn into_writes(self, alloc: Global) -> Result<Vec<Write>, AllocError>
         ensures { IfOk result (λ writes. AreWritesOf self.entry.filed writes.items) }
     {
-        let mut writes = Vec::with_capacity(alloc, self.records.len())?;
+        // One more: the body's, which comes last.
+        let mut writes = Vec::with_capacity(alloc, self.records.len() + 1)?;
         for filed in self.records {
             writes.push(filed.into_write()?)?;
         }
