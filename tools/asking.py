@@ -325,12 +325,12 @@ def worked(make: Callable[[], Map], write: Callable[[Map], int], errors: TextIO)
         return 1
 
 
-def run(parser: argparse.ArgumentParser, arguments: list[str], write: Writer, output: TextIO | None, errors: TextIO | None,
-        many: bool = False) -> int:
+def run(parser: argparse.ArgumentParser, arguments: list[str], write: Writer, output: TextIO | None,
+        errors: TextIO | None, many: bool = False) -> int:
     """Runs a tool: reads its words, asks for the map, and has it written."""
     words = parser.parse_args(arguments)
     target, told = output or sys.stdout, errors or sys.stderr
-    return worked(lambda: map_of(words, parser, many=many), lambda found: write(found, words, target, told), told)
+    return worked(lambda: map_of(words, parser, many), lambda found: write(found, words, target, told), told)
 
 
 if __name__ == "__main__":

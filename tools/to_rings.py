@@ -332,7 +332,8 @@ def write(found: Map, words: argparse.Namespace, output: TextIO, errors: TextIO)
     for line in lines(polygons, found):
         print(line, file=output)
     holes = sum(len(polygon) - 1 for polygon in polygons)
-    print(f"outer rings {len(polygons)} (counter-clockwise), holes {holes} (clockwise); inside on the left", file=errors)
+    print(f"outer rings {len(polygons)} (counter-clockwise), holes {holes} (clockwise); inside on the left",
+          file=errors)
     return 0
 
 
