@@ -14,7 +14,7 @@ use Rattle.std.specs.contracts.marker.PhantomData as phantom
 use Rattle.logbook.proofs.word.Word.TheSendSync as words
 use Rattle.book_lock.specs.contracts.locked_log.LockedLog as log
 use Rattle.book_lock.specs.contracts.locked_log.LockedLog.TheInside as inside
-use Rattle.book_history.specs.declared.seen_log.BookName as naming
+use Rattle.book_history.specs.declared.seen_log.BookName as book_name
 use Rattle.book_lock.specs.contracts.room.Room as room
 use Rattle.book_lock.specs.contracts.session.Session as session
 use Rattle.book_history.proofs.seen_log.SeenLog.TheSendSync as seen_logs
@@ -38,7 +38,7 @@ session_send = search (sendable, crosses, seen_logs.the_send, place_send) depth 
 at : (R : RattleType) → IsSend R → (x : R.Denot) → SendAt R x
 at R s x = (s.owned x, λ k. s.leaving k x)
 
-module _ (J R : RattleType) (g : naming.Ghosts J.Denot) where
+module _ (J R : RattleType) (g : book_name.Ghosts J.Denot) where
   inner_send : IsSend J → IsSend R → IsSend (inside.the_row J R g)
   inner_send j s =
       let O = inside.the_type J R g in

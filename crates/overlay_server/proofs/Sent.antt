@@ -12,7 +12,7 @@ use Rattle.std.specs.contracts.alloc.Global as global
 use Rattle.version_book.proofs.Sent.{session_send}
 use Rattle.version_book.proofs.SentBook.{shared_sync}
 use Rattle.version_book.specs.contracts.shared.Shared as shared
-use Rattle.book_history.specs.declared.seen_log.BookName as naming
+use Rattle.book_history.specs.declared.seen_log.BookName as book_name
 use Rattle.overlay_server.specs.contracts.running.Script as script
 use Rattle.overlay_server.specs.contracts.running.Ended as ended
 use Rattle.overlay_server.specs.contracts.outcome.Port as port
@@ -33,7 +33,7 @@ ended_send R W r w =
     let O = ended.the_type R W in
     recorded_send _ _ _ O.to_one (struct_send (shape O) (session_send, (port_send R W r w, (search (sendable, crosses), tt))))
 
-module _ (J S Q : RattleType) (g : naming.Ghosts J.Denot) (j : IsSend J) (s : IsSend S) (q : IsSync Q) where
+module _ (J S Q : RattleType) (g : book_name.Ghosts J.Denot) (j : IsSend J) (s : IsSend S) (q : IsSync Q) where
   -- a worker's closure: the runtime, the allocator, the gate and the book
   pub worker_send : (G : RattleType) → IsSync G → (ν : Sym) (a b c : Lifetime) (a' b' c' : Lft)
       → IsSend (TupleAt ν (ShrRef a a' Q ∷ global.the_row ∷ ShrRef b b' G ∷ ShrRef c c' (shared.the_row J S g) ∷ []))

@@ -126,7 +126,7 @@ where
         } = asked;
         return Err(refused(answer, flusher));
     };
-    let left = serve_asked(rt, alloc, workers, gate, asked, ports)?;
+    let left = asked.serve(rt, alloc, workers, gate, ports)?;
     Ok(gathered(left, outcomes))
 }
 
@@ -152,119 +152,143 @@ where
     ensures refused { IfErr result (IsRefusedFrom D.Disk opened.version opened.flusher) }
 {
     let asked = ask_book::<J, &Q, D>(rt, alloc, opened, ports.len());
-    serve_asked(rt, alloc, workers, gate, asked, ports)
+    asked.serve(rt, alloc, workers, gate, ports)
 }
 
-/// The server of a book that was opened, or was refused.
-fn serve_asked<J, S, D, R, W, G, Q>(
-    rt: &Q,
-    alloc: Global,
-    workers: usize,
-    gate: &G,
-    asked: Asked<J, S, D>,
-    ports: Vec<Port<R, W>>,
-) -> Result<Left<W, D>, ServerFault<D>>
+impl<J, S, D> Asked<J, S, D>
 where
     J: BookName + Send + Sync,
     S: Wait + Drop + Send,
     D: Disk + Send + Drop,
-    R: Read + Send + Drop,
-    W: Write + Send + Drop,
-    G: Gate + Sync,
-    Q: Threads + Wait + Sync,
-    requires ports { 0 < length ports.items }
-    requires stored { IfOk asked.begun (λ b. has_store b.0 ≡ is_some asked.flusher) }
-    requires reporter { IfOk asked.begun (λ b. (b.1.book ≡ J.book) × (b.1.log ≡ first_log asked.start.version.value)) }
-    requires sessions { IfOk asked.begun (λ b. b.2.items ≡ beginners (record { book = J.book; log = first_log asked.start.version.value }) (length ports.items)) }
-    requires fault { IfErr asked.begun (λ fault. (fault ≡ no_memory) ⊎ (fault ≡ BookFault.Gone)) }
-    requires answer { answer_in asked.answer ≡ fault_of asked.begun }
-    ensures left { IfOk result (IsLeftFrom R.remaining W.contents D.Disk asked.start.version.value asked.flusher ports.items) }
-    ensures refused { IfErr result (IsRefusedFrom D.Disk asked.start.version.value asked.flusher) }
-    // Of a book that was refused it is that refusal's number: so 44 tells that it gave no places, and nothing else.
-    ensures code { IfErr result (λ fault. fault.code ≡ refusal_code (fault_of asked.begun)) }
 {
-    let Asked {
-        start,
-        begun,
-        answer,
-        flusher,
-    } = asked;
-    match begun {
-        Ok((shared, reporter, sessions)) => {
-            let store = Store {
-                reporter,
-                flusher,
-                told: ToldLog::none(),
-            };
-            run_book(
-                rt, alloc, workers, gate, start, answer, shared, store, sessions, ports,
-            )
+    /// The server of this book.
+    fn serve<R, W, G, Q>(
+        self,
+        rt: &Q,
+        alloc: Global,
+        workers: usize,
+        gate: &G,
+        ports: Vec<Port<R, W>>,
+    ) -> Result<Left<W, D>, ServerFault<D>>
+    where
+        R: Read + Send + Drop,
+        W: Write + Send + Drop,
+        G: Gate + Sync,
+        Q: Threads + Wait + Sync,
+        requires ports { 0 < length ports.items }
+        requires stored { IfOk self.begun (λ b. has_store b.0 ≡ is_some self.flusher) }
+        requires reporter { IfOk self.begun (λ b. (b.1.book ≡ J.book) × (b.1.log ≡ first_log self.start.version.value)) }
+        requires sessions { IfOk self.begun (λ b. b.2.items ≡ beginners (record { book = J.book; log = first_log self.start.version.value }) (length ports.items)) }
+        requires fault { IfErr self.begun (λ fault. (fault ≡ no_memory) ⊎ (fault ≡ BookFault.Gone)) }
+        requires answer { answer_in self.answer ≡ fault_of self.begun }
+        ensures left { IfOk result (IsLeftFrom R.remaining W.contents D.Disk self.start.version.value self.flusher ports.items) }
+        ensures refused { IfErr result (IsRefusedFrom D.Disk self.start.version.value self.flusher) }
+        // Of a book that was refused it is that refusal's number: so 44 tells that it gave no places, and nothing else.
+        ensures code { IfErr result (λ fault. fault.code ≡ refusal_code (fault_of self.begun)) }
+    {
+        let Asked {
+            start,
+            begun,
+            answer,
+            flusher,
+        } = self;
+        match begun {
+            Ok((shared, reporter, sessions)) => {
+                let store = Store {
+                    reporter,
+                    flusher,
+                    told: ToldLog::none(),
+                };
+                let hosted = Hosted {
+                    start,
+                    answer,
+                    shared,
+                    store,
+                    sessions,
+                    ports,
+                };
+                hosted.run(rt, alloc, workers, gate)
+            }
+            Err(_) => Err(refused(answer, flusher)),
         }
-        Err(_) => Err(refused(answer, flusher)),
     }
 }
 
-/// The server of a book that was just opened.
-fn run_book<J, S, D, R, W, G, Q>(
-    rt: &Q,
-    alloc: Global,
-    workers: usize,
-    gate: &G,
+/// A book that was just opened, its store, and its sessions with the ports that they are for.
+struct Hosted<J: BookName, S: Wait + Drop, R, W, D: Disk> {
     start: Start,
     answer: BookAnswer,
     shared: Shared<J, S>,
     store: Store<D>,
     sessions: Vec<Session>,
     ports: Vec<Port<R, W>>,
-) -> Result<Left<W, D>, ServerFault<D>>
+}
+
+impl<J, S, R, W, D> Hosted<J, S, R, W, D>
 where
     J: BookName + Send + Sync,
     S: Wait + Drop + Send,
-    D: Disk + Send + Drop,
     R: Read + Send + Drop,
     W: Write + Send + Drop,
-    G: Gate + Sync,
-    Q: Threads + Wait + Sync,
-    requires ports { 0 < length ports.items }
-    requires answer { answer_in answer ≡ None }
-    requires stored { has_store shared ≡ is_some store.flusher }
-    requires reporter { (store.reporter.book ≡ J.book) × (store.reporter.log ≡ first_log start.version.value) }
-    requires told { told_in store.told ≡ [] }
-    requires sessions { sessions.items ≡ beginners (record { book = J.book; log = first_log start.version.value }) (length ports.items) }
-    ensures left { IfOk result (IsLeftFrom R.remaining W.contents D.Disk start.version.value store.flusher ports.items) }
-    ensures refused { IfErr result (IsRefusedFrom D.Disk start.version.value store.flusher) }
-    ensures code { IfErr result (λ fault. fault.code ≡ 40) }
+    D: Disk + Send + Drop,
 {
-    let Some(seats) = seated::<J, R, W>(alloc, sessions, ports) else {
-        return Err(refused(answer, store.flusher));
-    };
-    let Seats {
-        scripts,
-        rooms,
-        parts,
-    } = seats;
-    let work = Work {
-        workers,
-        store,
-        scripts,
-        rooms,
-    };
-    let Returned { store, ended } = run_threads(rt, alloc, gate, &shared, work);
-    // What was finished after the last commit is committed now that the workers have returned.
-    let Store {
-        reporter,
-        flusher,
-        told,
-    } = keep_store(rt, alloc, &shared, store);
-    let Some(ended) = ended else {
-        return Err(refused(answer, flusher));
-    };
-    let Parts { sessions, finished } = parted(ended, parts);
-    let made = made_by_all(rt, &sessions);
-    let closed = close(rt, alloc, shared, reporter, flusher, told, sessions);
-    await_number(rt, start.number, made, &closed.version);
-    Ok(Left {
-        sessions: finished,
-        closed,
-    })
+    /// The server of this book.
+    fn run<G: Gate + Sync, Q: Threads + Wait + Sync>(
+        self,
+        rt: &Q,
+        alloc: Global,
+        workers: usize,
+        gate: &G,
+    ) -> Result<Left<W, D>, ServerFault<D>>
+        requires ports { 0 < length self.ports.items }
+        requires answer { answer_in self.answer ≡ None }
+        requires stored { has_store self.shared ≡ is_some self.store.flusher }
+        requires reporter { (self.store.reporter.book ≡ J.book) × (self.store.reporter.log ≡ first_log self.start.version.value) }
+        requires told { told_in self.store.told ≡ [] }
+        requires sessions { self.sessions.items ≡ beginners (record { book = J.book; log = first_log self.start.version.value }) (length self.ports.items) }
+        ensures left { IfOk result (IsLeftFrom R.remaining W.contents D.Disk self.start.version.value self.store.flusher self.ports.items) }
+        ensures refused { IfErr result (IsRefusedFrom D.Disk self.start.version.value self.store.flusher) }
+        ensures code { IfErr result (λ fault. fault.code ≡ 40) }
+    {
+        let Hosted {
+            start,
+            answer,
+            shared,
+            store,
+            sessions,
+            ports,
+        } = self;
+        let Some(seats) = seated::<J, R, W>(alloc, sessions, ports) else {
+            return Err(refused(answer, store.flusher));
+        };
+        let Seats {
+            scripts,
+            rooms,
+            parts,
+        } = seats;
+        let work = Work {
+            workers,
+            store,
+            scripts,
+            rooms,
+        };
+        let Returned { store, ended } = run_threads(rt, alloc, gate, &shared, work);
+        // What was finished after the last commit is committed now that the workers have returned.
+        let Store {
+            reporter,
+            flusher,
+            told,
+        } = keep_store(rt, alloc, &shared, store);
+        let Some(ended) = ended else {
+            return Err(refused(answer, flusher));
+        };
+        let Parts { sessions, finished } = parted(ended, parts);
+        let made = made_by_all(rt, &sessions);
+        let closed = close(rt, alloc, shared, reporter, flusher, told, sessions);
+        await_number(rt, start.number, made, &closed.version);
+        Ok(Left {
+            sessions: finished,
+            closed,
+        })
+    }
 }

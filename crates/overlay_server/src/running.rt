@@ -77,34 +77,11 @@ where
     requires rooms { HasRooms rooms (length scripts.items) }
     ensures { IfSome result (λ list. AllZip (λ script ended. IsRunOf J.book (has_store shared.now) R.remaining W.contents script ended) scripts.items list.items) }
 {
-    let Rooms { running, ended } = rooms;
-    let running = start_sessions(scope, rt, alloc, shared, scripts, running)?;
-    Some(join_sessions(rt, running, ended))
-}
-
-/// Starts a thread for each script, in their order. None comes where one is refused.
-fn start_sessions<'s, E, J, S, Q, R, W>(
-    scope: &'s Scope<'s, E>,
-    rt: &'s Q,
-    alloc: Global,
-    shared: &'s Shared<J, S>,
-    scripts: Vec<Script<R, W>>,
-    mut list: Vec<Running<J, R, W>>,
-) -> Option<Vec<Running<J, R, W>>>
-where
-    J: BookName + Send + Sync,
-    S: Wait + Drop + Send + 's,
-    Q: Threads + Wait + Sync,
-    R: Read + Send + Drop + 's,
-    W: Write + Send + Drop + 's,
-    requires scripts { All (λ script. script.session.book ≡ J.book) scripts.items }
-    requires room { IsReserved list (length scripts.items) }
-    ensures begun { IfSome result (λ list. AllZip (λ script h. (h.promise.begun.value ≡ script) × (h.promise.stored ≡ has_store shared.now)) scripts.items list.items) }
-{
+    let Rooms { mut running, ended } = rooms;
     for script in scripts {
-        list.push_reserved(start_session(scope, rt, alloc, shared, script)?);
+        running.push_reserved(start_session(scope, rt, alloc, shared, script)?);
     }
-    Some(list)
+    Some(join_sessions(rt, running, ended))
 }
 
 /// Starts a thread for a script.

@@ -1,5 +1,5 @@
 -- Which tiles can be handed out.
-use Rattle.std.specs.Prelude.{◌≡◌, ◌<◌, ◌≤◌, ℕ, IsTrue, IfSome, slice_get, true, false, List, None}
+use Rattle.std.specs.Prelude.{◌≡◌, ◌<◌, ℕ, IsTrue, IfSome, slice_get, true, false, List, None}
 use Rattle.overlay_terms.specs.Column.{column_count}
 use Rattle.overlay_terms.specs.Layers.{Layer, Name}
 use Rattle.overlay_terms.specs.Commands.{stands_as_derived}
@@ -14,15 +14,16 @@ pub record IsFree (version : Version) (held : List HeldTile) (name : Name) (colu
   pub there : column < column_count
   pub free : is_held name column held ≡ false
 
+-- the same of a layer that is known to be derived
+pub record IsFreeColumn (version : Version) (held : List HeldTile) (name : Name) (column : ℕ) : Type 0 where
+  pub there : column < column_count
+  pub pending : tile_at version.tiles name column ≡ None
+  pub free : is_held name column held ≡ false
+
 -- each tile of a layer that is not finished is handed out or marked
 abbrev pub AreHeld : Version → List HeldTile → Name → Type 0
 AreHeld version held name =
     (column : ℕ) → column < column_count → tile_at version.tiles name column ≡ None → is_held name column held ≡ true
-
--- the same of the columns from one on
-abbrev pub AreHeldFrom : Version → List HeldTile → Name → ℕ → Type 0
-AreHeldFrom version held name from =
-    (column : ℕ) → from ≤ column → column < column_count → tile_at version.tiles name column ≡ None → is_held name column held ≡ true
 
 -- the same of the layer at a place, counted from 0, where a derived one stands there
 abbrev pub AreHeldAt : Version → List HeldTile → ℕ → Type 0

@@ -1,12 +1,11 @@
 //! Tiles that are pending, and neither handed out nor marked.
-ghost use Rattle.std.specs.Prelude.{◌≡◌, ◌<◌, None, false, IsTrue, IfOk, IfSome, IfNone};
+ghost use Rattle.std.specs.Prelude.{◌≡◌, ◌<◌, ◌≤◌, ◌+◌, IsTrue, IfOk, IfSome, IfNone};
 ghost use Rattle.overlay_terms.specs.Column.{column_count};
 ghost use Rattle.overlay_terms.specs.Commands.{stands_as_derived};
 ghost use Rattle.overlay_terms.specs.Histories.{tile_at};
 ghost use Rattle.overlay_terms.specs.Tiles.{input_of};
 ghost use Rattle.layer_tiles.specs.Table.{places_in, row_by};
-ghost use Rattle.version_book.specs.Free.{AllAreHeld, AreHeld, AreHeldAt, AreHeldFrom, IsFree};
-ghost use Rattle.version_book.specs.HeldTiles.{is_held};
+ghost use Rattle.version_book.specs.Free.{AllAreHeld, AreHeld, AreHeldAt, IsFree, IsFreeColumn};
 
 use crate::held_tiles::HeldTiles;
 use arrange::TileInput;
@@ -68,8 +67,8 @@ fn free_at<'a>(
     None
 }
 
-// The same among the columns of a layer, whose row says which tiles are pending. They are looked at from one on, then
-// all.
+// The same among the columns of a layer, whose row says which tiles are pending. Each is looked at once: from one on, and
+// behind the last from the first on.
 fn free_column(
     version: &Version,
     held: &HeldTiles,
@@ -78,44 +77,37 @@ fn free_column(
     from: u8,
 ) -> Option<Column>
     requires { places_in row.now ≡ row_by (tile_at version.now.tiles name.now) }
-    ensures pending { IfSome result (λ column. tile_at version.now.tiles name.now column ≡ None) }
-    ensures column { IfSome result (λ column. column < column_count) }
-    ensures free { IfSome result (λ column. is_held name.now column held.now.list.items ≡ false) }
+    ensures some { IfSome result (IsFreeColumn version.now held.now.list.items name.now) }
     ensures none { IfNone result (AreHeld version.now held.now.list.items name.now) }
 {
     if version.is_built(name) {
         return None;
     }
-    match free_from(version, held, name, row, from) {
-        Some(column) => Some(column),
-        None => free_from(version, held, name, row, 0),
-    }
-}
-
-// The same among the columns from one on.
-fn free_from(
-    version: &Version,
-    held: &HeldTiles,
-    name: &Name,
-    row: &TileRow,
-    from: u8,
-) -> Option<Column>
-    requires { places_in row.now ≡ row_by (tile_at version.now.tiles name.now) }
-    ensures pending { IfSome result (λ column. tile_at version.now.tiles name.now column ≡ None) }
-    ensures column { IfSome result (λ column. column < column_count) }
-    ensures free { IfSome result (λ column. is_held name.now column held.now.list.items ≡ false) }
-    ensures none { IfNone result (AreHeldFrom version.now held.now.list.items name.now from) }
-{
-    let _ = version;
-    for number in from..COLUMN_COUNT {
-        let Some(column) = Column::new(u64::from(number)) else {
-            unreachable!()
-        };
+    let first = if from < COLUMN_COUNT { from } else { 0 };
+    for step in 0..COLUMN_COUNT {
+        let column = column_around(first + step);
         if !row.has(column) && !held.has(name, column) {
             return Some(column);
         }
     }
     None
+}
+
+// The column with this number, where the columns are counted on once more behind the last.
+fn column_around(number: u8) -> Column
+    requires { number < column_count + column_count }
+    ensures ahead { number < column_count → result ≡ number }
+    ensures behind { column_count ≤ number → result + column_count ≡ number }
+{
+    let number = if number < COLUMN_COUNT {
+        number
+    } else {
+        number - COLUMN_COUNT
+    };
+    let Some(column) = Column::new(u64::from(number)) else {
+        unreachable!()
+    };
+    column
 }
 
 /// A copy of the name of a derived layer, and the input of its tile.

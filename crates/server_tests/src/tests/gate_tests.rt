@@ -85,7 +85,7 @@ const LATE: [&str; 3] = [
     "SYNC\n",
 ];
 
-// Caught: `late_tile_left_out` (in overlay_server/src/serving.rt `run_book` closes the book without `keep_store` behind
+// Caught: `late_tile_left_out` (in overlay_server/src/hosting.rt `Hosted::run` closes the book without `keep_store` behind
 // the threads): the store's thread has ended before the tile is finished, and the file lacks it.
 #[test]
 fn a_tile_that_is_finished_after_the_last_commit_is_in_the_file(

@@ -16,9 +16,9 @@ returns-in-Some-free_column-clause-some c =
     let book : IsBook layers = subst IsBook c.layers.ensures.value c.len.ensures.valid in
     let stands : stands_as_derived layers layer.name ≡ true = derived_here layers c.args.place layer book c.in-Some.ensures.layer ∙ sym c.is_derived.ensures ∙ c.if-is_derived.true in
     record {
-      pending = (stands, c.in-Some-free_column.ensures.pending);
-      there = c.in-Some-free_column.ensures.column;
-      free = c.in-Some-free_column.ensures.free;
+      pending = (stands, c.in-Some-free_column.ensures.some.pending);
+      there = c.in-Some-free_column.ensures.some.there;
+      free = c.in-Some-free_column.ensures.some.free;
     }
 
 pub returns-clause-none : goal.returns-clause-none

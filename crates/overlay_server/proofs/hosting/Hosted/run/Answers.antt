@@ -17,39 +17,39 @@ use Rattle.overlay_server.proofs.Refusals.{MayAnswer, refused_from}
 use Rattle.overlay_server.proofs.Parts.{AreSeated, all_of_book, as_many, of_ended}
 use Rattle.overlay_server.proofs.Stores.{kept_twice, stopped_at_once, stopped_by}
 use Rattle.overlay_server.proofs.ServedParts.{served_from}
-use Rattle.overlay_server.proofs.hosting.run_book.Goals as goal
+use Rattle.overlay_server.proofs.hosting.Hosted.run.Goals as goal
 
 pub seated-requires : goal.seated-requires
 seated-requires g c =
-    ap (λ (ks : List Known). length ks) c.requires.sessions ∙ count_of (record { book = g.J.BookName.book; log = first_log c.args.start.version.value }) (length c.args.ports.items)
+    ap (λ (ks : List Known). length ks) c.requires.sessions ∙ count_of (record { book = g.J.BookName.book; log = first_log c.args.self.start.version.value }) (length c.args.self.ports.items)
 
 pub returns-in_default-clause-refused : goal.returns-in_default-clause-refused
 returns-in_default-clause-refused g c =
-    refused_from g.D.Disk c.args.start.version.value c.args.store.flusher c.refused.result c.args.answer c.refused.ensures.code c.refused.ensures.answer
+    refused_from g.D.Disk c.args.self.start.version.value c.args.self.store.flusher c.refused.result c.args.self.answer c.refused.ensures.code c.refused.ensures.answer
     (subst MayAnswer (sym c.requires.answer) tt)
-    (stopped_at_once g.D.Disk c.args.start.version.value c.args.store.flusher c.refused.result.disk c.refused.ensures.now c.refused.ensures.disk)
+    (stopped_at_once g.D.Disk c.args.self.start.version.value c.args.self.store.flusher c.refused.result.disk c.refused.ensures.now c.refused.ensures.disk)
 
 pub run_threads-store-requires-after_bounds : goal.run_threads-store-requires-after_bounds
 run_threads-store-requires-after_bounds g c κs within =
     let seats = c.in-Some.seats in
-    let sessions : map session_of seats.scripts.items ≡ c.args.sessions.items = search rules in
-    let ports : map port_of seats.scripts.items ≡ c.args.ports.items = search rules in
-    let rooms : HasRooms seats.rooms (length c.args.ports.items) = search rules in
-    let seated : AreSeated g.J.BookName.book c.args.start.version.value c.args.ports.items seats.scripts.items = record { sessions = sessions ∙ c.requires.sessions; ports_are = ports } in
+    let sessions : map session_of seats.scripts.items ≡ c.args.self.sessions.items = search rules in
+    let ports : map port_of seats.scripts.items ≡ c.args.self.ports.items = search rules in
+    let rooms : HasRooms seats.rooms (length c.args.self.ports.items) = search rules in
+    let seated : AreSeated g.J.BookName.book c.args.self.start.version.value c.args.self.ports.items seats.scripts.items = record { sessions = sessions ∙ c.requires.sessions; ports_are = ports } in
     record {
       store = c.requires.reporter.0;
-      scripts = all_of_book g.J.BookName.book c.args.start.version.value c.args.ports.items seats.scripts.items seated;
-      rooms = subst (HasRooms seats.rooms) (sym (as_many g.J.BookName.book c.args.start.version.value c.args.ports.items seats.scripts.items seated)) rooms;
+      scripts = all_of_book g.J.BookName.book c.args.self.start.version.value c.args.self.ports.items seats.scripts.items seated;
+      rooms = subst (HasRooms seats.rooms) (sym (as_many g.J.BookName.book c.args.self.start.version.value c.args.self.ports.items seats.scripts.items seated)) rooms;
     }
 
 pub returns-in_default-ended-clause-refused : goal.returns-in_default-ended-clause-refused
 returns-in_default-ended-clause-refused g c =
     let after = c.run_threads-store.result.store in
     let last = c.keep_store-reporter.result in
-    let kept = kept_twice g.D.Disk g.J.BookName.book c.args.store after last c.run_threads-store.ensures.store c.keep_store-reporter.ensures in
-    refused_from g.D.Disk c.args.start.version.value c.args.store.flusher c.refused-in_default-ended.result c.args.answer
+    let kept = kept_twice g.D.Disk g.J.BookName.book c.args.self.store after last c.run_threads-store.ensures.store c.keep_store-reporter.ensures in
+    refused_from g.D.Disk c.args.self.start.version.value c.args.self.store.flusher c.refused-in_default-ended.result c.args.self.answer
     c.refused-in_default-ended.ensures.code c.refused-in_default-ended.ensures.answer (subst MayAnswer (sym c.requires.answer) tt)
-    (stopped_by g.D.Disk c.args.start.version.value c.args.store.reporter last.reporter (told_in c.args.store.told) (told_in last.told) c.args.store.flusher last.flusher c.refused-in_default-ended.result.disk
+    (stopped_by g.D.Disk c.args.self.start.version.value c.args.self.store.reporter last.reporter (told_in c.args.self.store.told) (told_in last.told) c.args.self.store.flusher last.flusher c.refused-in_default-ended.result.disk
     c.requires.reporter.1 c.requires.told kept.valid kept.flushed c.refused-in_default-ended.ensures.disk)
 
 pub parted-sessions-requires : goal.parted-sessions-requires
@@ -57,21 +57,21 @@ parted-sessions-requires g c =
     let seats = c.in-Some.seats in
     let scripts = seats.scripts.items in
     let ended = c.in-Some-ended.ended.items in
-    let stored = has_store c.args.shared in
-    let sessions : map session_of scripts ≡ c.args.sessions.items = search rules in
-    let ports : map port_of scripts ≡ c.args.ports.items = search rules in
-    let parts : HasParts seats.parts (length c.args.ports.items) = search rules in
+    let stored = has_store c.args.self.shared in
+    let sessions : map session_of scripts ≡ c.args.self.sessions.items = search rules in
+    let ports : map port_of scripts ≡ c.args.self.ports.items = search rules in
+    let parts : HasParts seats.parts (length c.args.self.ports.items) = search rules in
     let ran : AllZip (IsRunOf g.J.BookName.book stored g.R.Read.remaining g.W.Write.contents) scripts ended = search rules in
-    let seated : AreSeated g.J.BookName.book c.args.start.version.value c.args.ports.items scripts = record { sessions = sessions ∙ c.requires.sessions; ports_are = ports } in
-    let count : length c.args.ports.items ≡ length ended =
-    sym (as_many g.J.BookName.book c.args.start.version.value c.args.ports.items scripts seated) ∙ beside_length (IsRunOf g.J.BookName.book stored g.R.Read.remaining g.W.Write.contents) scripts ended ran in
+    let seated : AreSeated g.J.BookName.book c.args.self.start.version.value c.args.self.ports.items scripts = record { sessions = sessions ∙ c.requires.sessions; ports_are = ports } in
+    let count : length c.args.self.ports.items ≡ length ended =
+    sym (as_many g.J.BookName.book c.args.self.start.version.value c.args.self.ports.items scripts seated) ∙ beside_length (IsRunOf g.J.BookName.book stored g.R.Read.remaining g.W.Write.contents) scripts ended ran in
     subst (HasParts seats.parts) count parts
 
 pub close-closed-requires-clause-sessions : goal.close-closed-requires-clause-sessions
 close-closed-requires-clause-sessions g c =
     let scripts = c.in-Some.seats.scripts.items in
     let ended = c.in-Some-ended.ended.items in
-    let stored = has_store c.args.shared in
+    let stored = has_store c.args.self.shared in
     let ran : AllZip (IsRunOf g.J.BookName.book stored g.R.Read.remaining g.W.Write.contents) scripts ended = search rules in
     subst (All (λ (k : Known). k.book ≡ g.J.BookName.book)) (sym c.parted-sessions.ensures.sessions)
     (of_ended g.J.BookName.book stored g.R.Read.remaining g.W.Write.contents scripts ended ran)
@@ -81,14 +81,14 @@ returns-clause-left g c =
     let seats = c.in-Some.seats in
     let scripts = seats.scripts.items in
     let ended = c.in-Some-ended.ended.items in
-    let stored = has_store c.args.shared in
+    let stored = has_store c.args.self.shared in
     let after = c.run_threads-store.result.store in
     let last = c.keep_store-reporter.result in
     let closed = c.close-closed.ensures in
-    let sessions : map session_of scripts ≡ c.args.sessions.items = search rules in
-    let ports : map port_of scripts ≡ c.args.ports.items = search rules in
+    let sessions : map session_of scripts ≡ c.args.self.sessions.items = search rules in
+    let ports : map port_of scripts ≡ c.args.self.ports.items = search rules in
     let ran : AllZip (IsRunOf g.J.BookName.book stored g.R.Read.remaining g.W.Write.contents) scripts ended = search rules in
-    served_from g.D.Disk g.J.BookName.book stored g.R.Read.remaining g.W.Write.contents c.args.start.version.value c.args.ports.items c.args.store last scripts ended
+    served_from g.D.Disk g.J.BookName.book stored g.R.Read.remaining g.W.Write.contents c.args.self.start.version.value c.args.self.ports.items c.args.self.store last scripts ended
     (record { sessions = c.parted-sessions.result.finished; closed = c.close-closed.result })
     (record {
       log = c.requires.reporter.1;
@@ -98,7 +98,7 @@ returns-clause-left g c =
     })
     (record {
       sessions = ran;
-      kept = kept_twice g.D.Disk g.J.BookName.book c.args.store after last c.run_threads-store.ensures.store c.keep_store-reporter.ensures;
+      kept = kept_twice g.D.Disk g.J.BookName.book c.args.self.store after last c.run_threads-store.ensures.store c.keep_store-reporter.ensures;
       stored_is = c.requires.stored;
     })
     (record {
@@ -107,8 +107,8 @@ returns-clause-left g c =
       sessions = subst (All (HasAllOf c.close-closed.result.seen_log.log)) c.parted-sessions.ensures.sessions closed.sessions;
       number =
           ap (λ (v : Version). v.number) (sym closed.version) ∙ ap (λ (v : Version). v.number) (sym c.deref-2.ensures) ∙ c.await_number.ensures
-          ∙ ap (λ (n : ℕ). n + c.made_by_all-made.result) c.args.start.same
-          ∙ ap (λ (n : ℕ). c.args.start.version.value.number + n)
+          ∙ ap (λ (n : ℕ). n + c.made_by_all-made.result) c.args.self.start.same
+          ∙ ap (λ (n : ℕ). c.args.self.start.version.value.number + n)
           (c.made_by_all-made.ensures ∙ ap (λ (ks : List Known). made_in ks) (c.deref.ensures.value ∙ c.parted-sessions.ensures.sessions));
       finished = c.parted-sessions.ensures.finished;
       store = record {
