@@ -5,7 +5,6 @@ mod fault_tests;
 mod file_tests;
 mod keeping_tests;
 mod limit_tests;
-mod machine;
 mod old_file_tests;
 mod step_tests;
 mod testing;

@@ -4,7 +4,6 @@ mod call_tests;
 mod device_tests;
 mod edges_tests;
 mod job_tests;
-mod machine;
 mod many_tiles_tests;
 mod piece_tests;
 mod testing;

@@ -14,4 +14,5 @@ mod sweep_tests;
 mod testing;
 mod threads;
 mod tile_tests;
+mod tokens;
 mod version_tests;

@@ -1,7 +1,6 @@
 //! The tests of the server, and what they share.
 mod books;
 mod gate_tests;
-mod machine;
 mod ports_tests;
 mod row_tests;
 mod runs;

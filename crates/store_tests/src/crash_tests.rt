@@ -1,4 +1,4 @@
-//! A crash within a commit, and a device that fails.
+//! A crash within a commit.
 use crate::store::opened_disk;
 use crate::testing::{COMMITTED, CREATED, committed};
 use disk_model::image::Choice;

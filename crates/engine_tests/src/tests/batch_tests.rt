@@ -1,10 +1,10 @@
 //! Batches: their answers, and crashes at each device call of the commit of one.
-use crate::tests::machine::{created, recovered};
-use crate::tests::testing::{CHOICES, CREATED, SHIFTED, SQUARE, Words, joined};
+use crate::tests::testing::{BLOCKS, CHOICES, CREATED, SHIFTED, SQUARE, Words, drive, joined};
 use disk_model::mem_disk::MemDisk;
 use overlay_engine::step::Reply;
 use std::alloc::Global;
 use std::test::Fail;
+use test_machines::machine::Machine;
 
 /// How many calls the commit of a batch of two layers makes.
 const CALLS: usize = 9;
@@ -23,15 +23,15 @@ const ANSWERS: &[&[Reply]] = &[
 
 /// The number of the version that a disk recovers to, and how many layers it has.
 fn left(alloc: Global, disk: MemDisk) -> Result<(u64, usize), Fail> {
-    let engine = recovered(alloc, disk)?;
-    Ok((engine.number(), engine.len()))
+    let engine = Machine::recover(alloc, disk, BLOCKS)?;
+    Ok((engine.number(), engine.layer_count()))
 }
 
 #[test]
 fn a_crash_at_each_call_leaves_no_layer_of_a_batch_or_all(rt: HostRuntime) -> Result<(), Fail> {
-    let mut engine = created(rt.alloc(), 100)?;
+    let mut engine = Machine::in_memory(rt.alloc(), BLOCKS)?;
     let steps = joined(rt.alloc(), STEPS)?;
-    let replies = engine.drive(rt.alloc(), &steps)?;
+    let replies = drive(rt.alloc(), &mut engine, &steps)?;
     let answers = joined(rt.alloc(), ANSWERS)?;
     assert!(rt; replies.as_slice() == answers.as_slice());
     let disk = engine.into_disk();
@@ -72,9 +72,9 @@ const BATCH_ANSWERS: &[Reply] = &[
 
 #[test]
 fn a_batch_is_refused_whole_or_raises_the_number_by_one(rt: HostRuntime) -> Result<(), Fail> {
-    let mut engine = created(rt.alloc(), 100)?;
-    let replies = engine.drive(rt.alloc(), BATCHES)?;
+    let mut engine = Machine::in_memory(rt.alloc(), BLOCKS)?;
+    let replies = drive(rt.alloc(), &mut engine, BATCHES)?;
     assert!(rt; replies.as_slice() == BATCH_ANSWERS);
-    assert_eq!(rt; engine.len(), 1);
+    assert_eq!(rt; engine.layer_count(), 1);
     Ok(())
 }

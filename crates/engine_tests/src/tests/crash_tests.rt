@@ -1,11 +1,11 @@
 //! Crashes at each device call of two commits, and of the recoveries after them.
-use crate::tests::machine::{created, recovered};
-use crate::tests::testing::{CHOICES, CREATED, SHIFTED, SQUARE, Words, joined};
+use crate::tests::testing::{BLOCKS, CHOICES, CREATED, SHIFTED, SQUARE, Words, drive, joined};
 use disk_model::image::Choice;
 use disk_model::mem_disk::MemDisk;
 use overlay_engine::step::Reply;
 use std::alloc::Global;
 use std::test::Fail;
+use test_machines::machine::Machine;
 
 /// How many calls the commits of A, and then of B beside it, make.
 const FIRST: usize = 8;
@@ -49,7 +49,7 @@ fn left_after(calls: usize, choice: Choice) -> usize {
 
 /// Whether a disk recovers to just this version, all of it durable; and the disk then.
 fn is_left(alloc: Global, disk: MemDisk, number: usize) -> Result<(bool, MemDisk), Fail> {
-    let engine = recovered(alloc, disk)?;
+    let engine = Machine::recover(alloc, disk, BLOCKS)?;
     let listed = engine.listed(alloc)?;
     let same = engine.number() == number as u64
         && engine.durable() == number as u64
@@ -82,9 +82,9 @@ fn recovers(alloc: Global, disk: &MemDisk, calls: usize, choice: Choice) -> Resu
 
 #[test]
 fn a_crash_at_each_call_leaves_the_version_before_or_after(rt: HostRuntime) -> Result<(), Fail> {
-    let mut engine = created(rt.alloc(), 100)?;
+    let mut engine = Machine::in_memory(rt.alloc(), BLOCKS)?;
     let steps = joined(rt.alloc(), STEPS)?;
-    let replies = engine.drive(rt.alloc(), &steps)?;
+    let replies = drive(rt.alloc(), &mut engine, &steps)?;
     let answers = joined(rt.alloc(), ANSWERS)?;
     assert!(rt; replies.as_slice() == answers.as_slice());
     let disk = engine.into_disk();

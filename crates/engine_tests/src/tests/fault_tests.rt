@@ -1,11 +1,11 @@
 //! What an engine answers where a device call fails.
-use crate::tests::machine::{Machine, recovered};
-use crate::tests::testing::{CREATED, SQUARE, Words};
+use crate::tests::testing::{BLOCKS, CREATED, SQUARE, Words, drive};
 use disk_model::mem_disk::MemDisk;
 use overlay_engine::step::Reply;
 use std::alloc::Global;
 use std::test::Fail;
 use test_disks::fault_disk::FaultDisk;
+use test_machines::machine::Machine;
 
 /// A layer, and four device steps of its commit.
 const STEPS: &[Words] = &[
@@ -28,16 +28,18 @@ const ANSWERS: &[Reply] = &[
 /// An engine over an empty file on a disk whose third call behind those that make the store fails.
 fn failing(alloc: Global) -> Result<Machine<FaultDisk<MemDisk>>, Fail> {
     let disk = MemDisk::new(alloc, Vec::new(alloc))?;
-    Machine::over(alloc, FaultDisk::new(disk, CREATED as u64 + 2), 100)
+    let failing = FaultDisk::new(disk, CREATED as u64 + 2);
+    Ok(Machine::create(alloc, failing, BLOCKS)?)
 }
 
 #[test]
 fn a_commit_whose_third_call_fails_leaves_the_version_before(rt: HostRuntime) -> Result<(), Fail> {
     let mut engine = failing(rt.alloc())?;
-    let replies = engine.drive(rt.alloc(), STEPS)?;
+    let replies = drive(rt.alloc(), &mut engine, STEPS)?;
     assert!(rt; replies.as_slice() == ANSWERS);
     // The disk works again.
-    let left = recovered(rt.alloc(), engine.into_disk().into_disk())?;
+    let below = engine.into_disk().into_disk();
+    let left = Machine::recover(rt.alloc(), below, BLOCKS)?;
     assert_eq!(rt; left.number(), 0);
     Ok(())
 }

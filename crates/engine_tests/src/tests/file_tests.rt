@@ -1,13 +1,12 @@
 //! Files that are no store, or that a part is cut off.
-use crate::tests::machine::created;
-use crate::tests::testing::{SQUARE, Words, joined};
+use crate::tests::testing::{BLOCKS, SQUARE, Words, drive, joined};
 use commit_plan::fault::StoreFault;
 use disk_model::mem_disk::{Call, MemDisk};
-use overlay_engine::engine::Engine;
-use root_store::open_fault::OpenFault;
 use std::alloc::Global;
 use std::test::Fail;
 use store_terms::damage::Damage;
+use test_machines::machine::Machine;
+use test_machines::refused::Refused;
 
 /// A layer, and as many device calls as its commit makes.
 const COMMIT: &[&[Words]] = &[&[Words::Put("A", SQUARE)], &[Words::Device; 8]];
@@ -22,14 +21,14 @@ const FRONTS: [(usize, Damage, u8); 3] = [
 
 /// The file of a store that holds a layer.
 fn stored(alloc: Global) -> Result<Vec<u8>, Fail> {
-    let mut engine = created(alloc, 100)?;
+    let mut engine = Machine::in_memory(alloc, BLOCKS)?;
     let steps = joined(alloc, COMMIT)?;
-    engine.drive(alloc, &steps)?;
+    drive(alloc, &mut engine, &steps)?;
     Ok(engine.into_disk().bytes().to_vec(alloc)?)
 }
 
 /// The fault, where nothing was written.
-fn told(refused: &OpenFault<MemDisk>) -> Result<StoreFault, Fail> {
+fn told(refused: &Refused<MemDisk>) -> Result<StoreFault, Fail> {
     for call in refused.disk.calls() {
         if matches!(call, Call::Write(_, _)) {
             return Err(Fail::new("written"));
@@ -40,7 +39,8 @@ fn told(refused: &OpenFault<MemDisk>) -> Result<StoreFault, Fail> {
 
 /// Why a file is not recovered.
 fn refusal(alloc: Global, file: &[u8]) -> Result<StoreFault, Fail> {
-    match Engine::recover(alloc, MemDisk::new(alloc, file.to_vec(alloc)?)?, 100) {
+    let disk = MemDisk::new(alloc, file.to_vec(alloc)?)?;
+    match Machine::recover(alloc, disk, BLOCKS) {
         Ok(_) => Err(Fail::new("recovered")),
         Err(refused) => told(&refused),
     }
@@ -61,7 +61,7 @@ fn a_file_that_is_empty_or_cut_is_not_recovered(rt: HostRuntime) -> Result<(), F
 #[test]
 fn a_file_of_one_byte_is_made_no_store(rt: HostRuntime) -> Result<(), Fail> {
     let disk = MemDisk::new(rt.alloc(), vec![in rt.alloc(); 0; 1]?)?;
-    match Engine::create(rt.alloc(), disk, 100) {
+    match Machine::create(rt.alloc(), disk, BLOCKS) {
         Ok(_) => Err(Fail::new("made")),
         Err(refused) => {
             assert_eq!(rt; told(&refused)?.code(), 34);

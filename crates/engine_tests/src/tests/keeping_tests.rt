@@ -1,12 +1,12 @@
 //! Which records a commit writes: those that the store does not hold already.
-use crate::tests::machine::{Machine, created, recovered};
-use crate::tests::testing::{CREATED, SHIFTED, SMALLER, SQUARE, Words};
+use crate::tests::testing::{BLOCKS, CREATED, SHIFTED, SMALLER, SQUARE, Words, drive};
 use disk_model::image::Choice;
 use disk_model::mem_disk::{Call, MemDisk};
 use layer_expr::name::Name;
 use overlay_engine::step::Reply;
 use std::alloc::Global;
 use std::test::Fail;
+use test_machines::machine::Machine;
 use version_core::verifying::Verdict;
 
 /// How many bytes a block has, and how many of them the slots take.
@@ -109,7 +109,7 @@ fn extents_of(alloc: Global, calls: &[Call]) -> Result<Vec<usize>, Fail> {
 /// Makes the steps of a line and a commit, and tells whether the last reply is that it is done.
 fn is_done(alloc: Global, engine: &mut Machine<MemDisk>, line: &Line) -> Result<bool, Fail> {
     let steps = with_calls(alloc, line.0, line.1)?;
-    let replies = engine.drive(alloc, &steps)?;
+    let replies = drive(alloc, engine, &steps)?;
     Ok(matches!(replies.last(), Some(Reply::Done(_))))
 }
 
@@ -140,7 +140,8 @@ fn is_recovered(
     layers: &[u8],
     has_tile: bool,
 ) -> Result<bool, Fail> {
-    let engine = recovered(alloc, disk.image(disk.calls().len(), Choice::New)?)?;
+    let left = disk.image(disk.calls().len(), Choice::New)?;
+    let engine = Machine::recover(alloc, left, BLOCKS)?;
     let (found, is_there) = held(alloc, &engine)?;
     if found.as_slice() != layers || is_there != has_tile {
         return Ok(false);
@@ -151,7 +152,7 @@ fn is_recovered(
 
 /// Whether the commits of some lines write so, and what they write and keep is recovered.
 fn writes_so(alloc: Global, lines: &[Line]) -> Result<bool, Fail> {
-    let mut engine = created(alloc, 100)?;
+    let mut engine = Machine::in_memory(alloc, BLOCKS)?;
     for line in lines {
         if !is_done(alloc, &mut engine, line)? {
             return Ok(false);
@@ -186,11 +187,11 @@ const LIMITS: [(u32, usize, Reply); 2] = [(6, 8, Reply::Done(2)), (5, 1, Reply::
 #[test]
 fn six_blocks_are_enough_for_a_layer_beside_another(rt: HostRuntime) -> Result<(), Fail> {
     for &(limit, calls, reply) in &LIMITS {
-        let mut engine = created(rt.alloc(), limit)?;
+        let mut engine = Machine::in_memory(rt.alloc(), limit)?;
         let line: Line = (&[Words::Put("A", SQUARE)], 8, &[]);
         assert!(rt; is_done(rt.alloc(), &mut engine, &line)?);
         let steps = with_calls(rt.alloc(), &[Words::Put("B", SHIFTED)], calls)?;
-        let replies = engine.drive(rt.alloc(), &steps)?;
+        let replies = drive(rt.alloc(), &mut engine, &steps)?;
         assert!(rt; replies.last().copied() == Some(reply));
     }
     Ok(())
@@ -200,11 +201,12 @@ fn six_blocks_are_enough_for_a_layer_beside_another(rt: HostRuntime) -> Result<(
 fn a_store_that_is_opened_and_committed_writes_its_catalog_alone(
     rt: HostRuntime,
 ) -> Result<(), Fail> {
-    let mut engine = created(rt.alloc(), 100)?;
+    let mut engine = Machine::in_memory(rt.alloc(), BLOCKS)?;
     let line: Line = (&[Words::Put("A", SQUARE), Words::Put("B", SHIFTED)], 9, &[]);
     assert!(rt; is_done(rt.alloc(), &mut engine, &line)?);
     let file = engine.into_disk().bytes().to_vec(rt.alloc())?;
-    let mut again = recovered(rt.alloc(), MemDisk::new(rt.alloc(), file)?)?;
+    let reopened = MemDisk::new(rt.alloc(), file)?;
+    let mut again = Machine::recover(rt.alloc(), reopened, BLOCKS)?;
     let unchanged: Line = (&[], 7, &[]);
     assert!(rt; is_done(rt.alloc(), &mut again, &unchanged)?);
     let disk = again.into_disk();

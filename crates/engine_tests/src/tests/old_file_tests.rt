@@ -1,10 +1,10 @@
 //! A file of format 1: it opens with its layers and no tile, and the next commit makes it one of format 2.
-use crate::tests::machine::{Machine, recovered};
-use crate::tests::testing::{CHOICES, Words, joined};
+use crate::tests::testing::{BLOCKS, CHOICES, Words, drive, joined};
 use disk_model::mem_disk::MemDisk;
 use overlay_engine::step::Reply;
 use std::alloc::Global;
 use std::test::Fail;
+use test_machines::machine::Machine;
 
 /// The body of slot 1: format 1, sequence 1, version 2, a catalog of 61 bytes in block 5.
 const BODY: &[u8] =
@@ -102,7 +102,7 @@ fn lacks_tiles(alloc: Global, engine: &Machine<MemDisk>) -> Result<bool, Fail> {
 
 /// Whether a disk recovers to version 2 with A and I and no tile, all of it durable; and the disk then.
 fn is_left(alloc: Global, disk: MemDisk) -> Result<(bool, MemDisk), Fail> {
-    let engine = recovered(alloc, disk)?;
+    let engine = Machine::recover(alloc, disk, BLOCKS)?;
     let numbers = engine.number() == 2 && engine.durable() == 2;
     let listed = engine.listed(alloc)?;
     let columns = lacks_tiles(alloc, &engine)?;
@@ -150,8 +150,8 @@ const COMMITTED: &[Part] = &[
 
 /// Whether the commit to an old file answers so, and leaves its parts; and the disk then.
 fn is_committed(alloc: Global, parts: &[Part]) -> Result<(bool, MemDisk), Fail> {
-    let mut engine = recovered(alloc, disk_of(alloc, parts)?)?;
-    let replies = engine.drive(alloc, &[Words::Device; COMMIT])?;
+    let mut engine = Machine::recover(alloc, disk_of(alloc, parts)?, BLOCKS)?;
+    let replies = drive(alloc, &mut engine, &[Words::Device; COMMIT])?;
     let answers = joined(alloc, ANSWERS)?;
     let disk = engine.into_disk();
     let mut is = replies.as_slice() == answers.as_slice();

@@ -1,8 +1,8 @@
 //! Answers to lists of steps.
-use crate::tests::machine::created;
-use crate::tests::testing::{SHIFTED, SMALLER, SQUARE, Words};
+use crate::tests::testing::{BLOCKS, SHIFTED, SMALLER, SQUARE, Words, drive};
 use overlay_engine::step::Reply;
 use std::test::Fail;
+use test_machines::machine::Machine;
 
 /// A tile of I is taken, and finished after a layer under it was put anew; then it is taken again.
 const OVERTAKEN: &[Words] = &[
@@ -31,8 +31,8 @@ const ANSWERS: &[Reply] = &[
 
 #[test]
 fn a_result_that_is_overtaken_is_stale_and_the_next_is_kept(rt: HostRuntime) -> Result<(), Fail> {
-    let mut engine = created(rt.alloc(), 100)?;
-    let replies = engine.drive(rt.alloc(), OVERTAKEN)?;
+    let mut engine = Machine::in_memory(rt.alloc(), BLOCKS)?;
+    let replies = drive(rt.alloc(), &mut engine, OVERTAKEN)?;
     assert!(rt; replies.as_slice() == ANSWERS);
     Ok(())
 }

@@ -1,13 +1,15 @@
 //! Steps by their texts, and what tests share.
+use disk_model::disk::Disk;
 use disk_model::image::Choice;
 use layer_book::batch::Batch;
 use layer_book::command::Command;
 use layer_expr::name::Name;
 use layer_expr::reading::read_expr;
-use overlay_engine::step::Step;
+use overlay_engine::step::{Reply, Step};
 use std::alloc::Global;
 use std::sync::Arc;
 use std::test::Fail;
+use test_machines::machine::Machine;
 use wkt_form::reading::read_wkt;
 
 pub const SQUARE: &str = "POLYGON ((0 0, 10 0, 10 10, 0 10, 0 0))";
@@ -24,6 +26,9 @@ pub const CHOICES: [Choice; 5] = [
     Choice::Fill(0x55),
     Choice::Fill(0xA7),
 ];
+
+/// How many blocks a file of the tests may have where no other number is asked for.
+pub const BLOCKS: u32 = 100;
 
 /// How many device calls make a new store.
 pub const CREATED: usize = 5;
@@ -89,12 +94,22 @@ fn step_of(alloc: Global, words: Words) -> Result<Step, Fail> {
 }
 
 /// The steps in turn.
-pub fn steps_of(alloc: Global, list: &[Words]) -> Result<Vec<Step>, Fail> {
+fn steps_of(alloc: Global, list: &[Words]) -> Result<Vec<Step>, Fail> {
     let mut steps = Vec::new(alloc);
     for &words in list {
         steps.push(step_of(alloc, words)?)?;
     }
     Ok(steps)
+}
+
+/// Makes the steps of these words in an engine, one after the other, and gives the answers.
+pub fn drive<D: Disk>(
+    alloc: Global,
+    engine: &mut Machine<D>,
+    list: &[Words],
+) -> Result<Vec<Reply>, Fail> {
+    let steps = steps_of(alloc, list)?;
+    Ok(engine.drive(alloc, &steps)?)
 }
 
 /// The items of lists, one list behind another.

@@ -1,5 +1,4 @@
 //! A batch of as many commands as there may be, through an engine, and its commit.
-use crate::tests::machine::{created, recovered};
 use crate::tests::testing::{SHIFTED, SQUARE, numbered, put};
 use disk_model::mem_disk::MemDisk;
 use layer_book::batch::Batch;
@@ -7,6 +6,7 @@ use layer_book::command::Command;
 use overlay_engine::step::{Reply, Step};
 use std::alloc::Global;
 use std::process::Abort;
+use test_machines::machine::Machine;
 
 /// Puts one square under each of 32 names, and then the other: the 64 commands of the greatest batch.
 fn commands(rt: &impl Abort, alloc: Global) -> Vec<Command> {
@@ -35,16 +35,17 @@ fn steps(rt: &impl Abort, alloc: Global) -> Vec<Step> {
 
 /// Checks that an opening gives the version behind the batch.
 fn check_opened(rt: &impl Abort, alloc: Global, disk: MemDisk) {
-    let engine = recovered(rt, alloc, disk, 100);
-    assert!(rt; engine.version().number() == 1);
-    assert!(rt; engine.version().layers().len() == 32);
+    let engine = Machine::recover(alloc, disk, 100).expect(rt, "a store");
+    assert!(rt; engine.number() == 1);
+    assert!(rt; engine.layer_count() == 32);
 }
 
 #[test]
 fn a_batch_of_64_commands_is_one_version(rt: HostRuntime) {
     let alloc = rt.alloc();
-    let mut engine = created(&rt, alloc, 100);
-    let replies = engine.drive(&rt, alloc, &steps(&rt, alloc));
+    let mut engine = Machine::in_memory(alloc, 100).expect(&rt, "a store");
+    let steps = steps(&rt, alloc);
+    let replies = engine.drive(alloc, &steps).expect(&rt, "memory");
     assert!(rt; replies.first().copied() == Some(Reply::Accepted(1)));
     assert!(rt; replies.last().copied() == Some(Reply::Done(1)));
     check_opened(&rt, alloc, engine.into_disk());

@@ -1,5 +1,4 @@
 //! A device that stops behind each call of making a store, of a commit and of an opening, or fails in it alone.
-use crate::tests::machine::{Machine, made};
 use crate::tests::testing::{SQUARE, put};
 use disk_model::disk::Disk;
 use disk_model::image::Choice;
@@ -11,6 +10,8 @@ use test_disks::fault_disk::FaultDisk;
 use test_disks::plan::Plan;
 use test_disks::planned_disk::PlannedDisk;
 use test_disks::stop_disk::StopDisk;
+use test_machines::machine::Machine;
+use test_machines::refused::Refused;
 
 /// What a crash makes of the bytes that are written and not synced.
 const CHOICES: [Choice; 5] = [
@@ -40,12 +41,12 @@ fn disk_of(rt: &impl Abort, alloc: Global, bytes: &[u8]) -> MemDisk {
 fn found(rt: &impl Abort, alloc: Global, disk: MemDisk) -> Option<usize> {
     match Machine::recover(alloc, disk, 100) {
         Ok(engine) => {
-            let layers = engine.version().layers().len();
-            assert!(rt; engine.version().number() == layers as u64);
+            let layers = engine.layer_count();
+            assert!(rt; engine.number() == layers as u64);
             Some(layers)
         }
-        Err((_, code)) => {
-            assert!(rt; code == 32);
+        Err(refused) => {
+            assert!(rt; refused.fault.code() == 32);
             None
         }
     }
@@ -62,12 +63,12 @@ fn check_left(rt: &impl Abort, alloc: Global, disk: &MemDisk, left: Left) {
 }
 
 /// The disk that comes back from an engine that was not made or recovered for the device.
-fn handed_back<D: Disk>(rt: &impl Abort, got: Result<Machine<D>, (D, u8)>) -> D {
+fn handed_back<D: Disk>(rt: &impl Abort, got: Result<Machine<D>, Refused<D>>) -> D {
     match got {
         Ok(_) => panic!(rt; "no call failed"),
-        Err((disk, code)) => {
-            assert!(rt; code == 30);
-            disk
+        Err(refused) => {
+            assert!(rt; refused.fault.code() == 30);
+            refused.disk
         }
     }
 }
@@ -135,8 +136,10 @@ fn disturbed<P: Plan>(
     disk: PlannedDisk<MemDisk, P>,
     failing: u64,
 ) -> MemDisk {
-    let mut engine = made(rt, Machine::create(alloc, disk, 100));
-    let replies = engine.drive(rt, alloc, &steps(rt, alloc));
+    let mut engine = Machine::create(alloc, disk, 100).expect(rt, "a store");
+    let steps = steps(rt, alloc);
+    let replies = engine.drive(alloc, &steps).expect(rt, "memory");
+    assert!(rt; replies.len() as u64 == 1 + COMMITTED);
     assert!(rt; replies.first().copied() == Some(Reply::Accepted(1)));
     for (place, &reply) in replies.iter().skip(1).enumerate() {
         assert!(rt; reply == answer(place as u64, failing));
@@ -176,8 +179,9 @@ fn check_commit<P: Plan>(
 
 /// A file with the square A, whose first gate is shut: opening it writes.
 fn half_shut(rt: &impl Abort, alloc: Global) -> Vec<u8> {
-    let mut engine = made(rt, Machine::create(alloc, empty(rt, alloc), 100));
-    let replies = engine.drive(rt, alloc, &steps(rt, alloc));
+    let mut engine = Machine::in_memory(alloc, 100).expect(rt, "a store");
+    let steps = steps(rt, alloc);
+    let replies = engine.drive(alloc, &steps).expect(rt, "memory");
     assert!(rt; replies.last().copied() == Some(Reply::Done(1)));
     let bytes = engine.into_disk().bytes().to_vec(alloc);
     let mut file = bytes.expect(rt, "memory");
@@ -189,7 +193,8 @@ fn half_shut(rt: &impl Abort, alloc: Global) -> Vec<u8> {
 
 /// How many device calls open such a file.
 fn opening_calls(rt: &impl Abort, alloc: Global, file: &[u8]) -> u64 {
-    let engine = made(rt, Machine::recover(alloc, disk_of(rt, alloc, file), 100));
+    let disk = disk_of(rt, alloc, file);
+    let engine = Machine::recover(alloc, disk, 100).expect(rt, "a store");
     engine.into_disk().calls().len() as u64
 }
 

@@ -1,10 +1,10 @@
 //! More than 1,000 jobs that one engine holds: the same tile, handed out again and again, of which the last one is kept.
-use crate::tests::machine::{Machine, created};
 use crate::tests::testing::{SHIFTED, SQUARE, define, name_of, put};
 use disk_model::mem_disk::MemDisk;
 use overlay_engine::step::{Reply, Step};
 use std::alloc::Global;
 use std::process::Abort;
+use test_machines::machine::Machine;
 
 /// How many jobs are held at once.
 const JOBS: u32 = 1001;
@@ -43,7 +43,8 @@ const LAST: &[Reply] = &[
 ];
 
 fn check(rt: &impl Abort, alloc: Global, engine: &mut Machine<MemDisk>) {
-    let replies = engine.drive(rt, alloc, &steps(rt, alloc));
+    let steps = steps(rt, alloc);
+    let replies = engine.drive(alloc, &steps).expect(rt, "memory");
     for job in 0..JOBS {
         assert!(rt; replies.get(3 + job as usize).copied() == Some(Reply::Taken(job)));
     }
@@ -52,6 +53,6 @@ fn check(rt: &impl Abort, alloc: Global, engine: &mut Machine<MemDisk>) {
 
 #[test]
 fn more_than_1000_jobs_are_held(rt: HostRuntime) {
-    let mut engine = created(&rt, rt.alloc(), 100);
+    let mut engine = Machine::in_memory(rt.alloc(), 100).expect(&rt, "a store");
     check(&rt, rt.alloc(), &mut engine);
 }

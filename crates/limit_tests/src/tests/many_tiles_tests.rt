@@ -1,11 +1,11 @@
 //! As many layers as there may be with all their tiles, of which one commit writes all that are pending.
-use crate::tests::machine::{Machine, created, recovered};
 use crate::tests::testing::{define, name_of, numbered, put};
 use disk_model::mem_disk::MemDisk;
 use layer_expr::name::Name;
 use overlay_engine::step::{Reply, Step};
 use std::alloc::Global;
 use std::process::Abort;
+use test_machines::machine::Machine;
 use tile_build::Tile;
 use versions::Version;
 
@@ -85,7 +85,8 @@ fn answers(rt: &impl Abort, alloc: Global) -> Vec<Reply> {
 }
 
 fn run(rt: &impl Abort, alloc: Global, engine: &mut Machine<MemDisk>) {
-    let replies = engine.drive(rt, alloc, &steps(rt, alloc));
+    let steps = steps(rt, alloc);
+    let replies = engine.drive(alloc, &steps).expect(rt, "memory");
     assert!(rt; replies.as_slice() == answers(rt, alloc).as_slice());
 }
 
@@ -123,8 +124,9 @@ fn check_version(rt: &impl Abort, alloc: Global, version: &Version) {
 #[test]
 fn thirty_two_layers_with_all_their_tiles_are_one_commit(rt: HostRuntime) {
     let alloc = rt.alloc();
-    let mut engine = created(&rt, alloc, 2000);
+    let mut engine = Machine::in_memory(alloc, 2000).expect(&rt, "a store");
     run(&rt, alloc, &mut engine);
     let disk = engine.into_disk();
-    check_version(&rt, alloc, recovered(&rt, alloc, disk, 2000).version());
+    let opened = Machine::recover(alloc, disk, 2000).expect(&rt, "a store");
+    check_version(&rt, alloc, opened.version());
 }

@@ -4,12 +4,12 @@
 //! sides of each standing one, the two at its ends by none, and the other way round. Where just one of the two layers is,
 //! all of that is boundary: N lying and M standing ones have N * (2 * (2 * M + 1) + 2) + M * (2 * (2 * N + 1) + 2) pieces.
 //! 49 and 165 have 32,536 and 33,000, together 65,536. A corner that is cut off adds one.
-use crate::tests::machine::{Machine, created, recovered};
 use crate::tests::testing::{define, name_of, put};
 use disk_model::mem_disk::MemDisk;
 use overlay_engine::step::{Reply, Step};
 use std::alloc::Global;
 use std::process::Abort;
+use test_machines::machine::Machine;
 use tile_build::Tile;
 use version_core::Answers;
 use version_core::verifying::Verdict;
@@ -91,7 +91,8 @@ const LAST: &[Reply] = &[Reply::Going, Reply::Done(3), Reply::Durable(3)];
 
 /// Makes those steps in an engine, and checks their answers.
 fn run(rt: &impl Abort, alloc: Global, engine: &mut Machine<MemDisk>, corner: &str) {
-    let replies = engine.drive(rt, alloc, &steps(rt, alloc, corner));
+    let steps = steps(rt, alloc, corner);
+    let replies = engine.drive(alloc, &steps).expect(rt, "memory");
     assert!(rt; replies.starts_with(FIRST));
     assert!(rt; replies.ends_with(LAST));
 }
@@ -112,11 +113,12 @@ fn check_pieces(rt: &impl Abort, alloc: Global, version: &Version) {
 #[test]
 fn a_tile_of_65536_pieces_is_committed_and_opened(rt: HostRuntime) {
     let alloc = rt.alloc();
-    let mut engine = created(&rt, alloc, 2000);
+    let mut engine = Machine::in_memory(alloc, 2000).expect(&rt, "a store");
     run(&rt, alloc, &mut engine, CORNER);
     let disk = engine.into_disk();
     assert!(rt; disk.bytes().len() > 2_097_152);
-    check_pieces(&rt, alloc, recovered(&rt, alloc, disk, 2000).version());
+    let opened = Machine::recover(alloc, disk, 2000).expect(&rt, "a store");
+    check_pieces(&rt, alloc, opened.version());
 }
 
 /// Checks that the tile is opened as one of too many pieces, and is right.
@@ -134,8 +136,9 @@ fn check_oversize(rt: &impl Abort, alloc: Global, version: &Version) {
 #[test]
 fn a_tile_of_65537_pieces_is_too_large(rt: HostRuntime) {
     let alloc = rt.alloc();
-    let mut engine = created(&rt, alloc, 2000);
+    let mut engine = Machine::in_memory(alloc, 2000).expect(&rt, "a store");
     run(&rt, alloc, &mut engine, CUT);
     let disk = engine.into_disk();
-    check_oversize(&rt, alloc, recovered(&rt, alloc, disk, 2000).version());
+    let opened = Machine::recover(alloc, disk, 2000).expect(&rt, "a store");
+    check_oversize(&rt, alloc, opened.version());
 }

@@ -6,6 +6,7 @@ ghost use Rattle.version_book.specs.Rules.{head_of};
 use crate::tests::rows::check;
 use crate::tests::testing::{Change, batch, command, name_of};
 use crate::tests::threads::{Work, ask_beside, beside, news_beside, submit_beside, wait_beside};
+use crate::tests::tokens::Tokens;
 use exact_point::QueryPoint;
 use layer_book::batch_fault::BatchFault;
 use layer_book::direct_answer::Place;
@@ -138,18 +139,20 @@ fn play_in<J: BookName + Send + Sync, R: Threads + Wait + Clock + Abort + Sync>(
         version,
     } = opened;
     let started = Shared::<J, &R>::start(rt, alloc, head, seen_log, version, store, 2);
-    let (shared, mut reporter, mut sessions) = started.expect(rt, "no book");
-    let mut other = sessions.pop().expect(rt, "no session");
-    let mut me = sessions.pop().expect(rt, "no second session");
-    play_lists(
-        rt,
-        alloc,
-        &shared,
-        &mut reporter,
-        &mut me,
-        &mut other,
-        lists,
-    );
+    let (shared, reporter, mut sessions) = started.expect(rt, "no book");
+    let other = sessions.pop().expect(rt, "no session");
+    let me = sessions.pop().expect(rt, "no second session");
+    let mut tokens = Tokens {
+        reporter,
+        me,
+        other,
+    };
+    play_lists(rt, alloc, &shared, &mut tokens, lists);
+    let Tokens {
+        reporter,
+        me,
+        other,
+    } = tokens;
     let closed = shared.into_closed(rt, &reporter, &[me, other]);
     assert!(rt; closed.version.number() == last);
 }
@@ -158,17 +161,14 @@ fn play_lists<J: BookName + Send + Sync, R: Threads + Wait + Clock + Abort + Syn
     rt: &R,
     alloc: Global,
     shared: &Shared<J, &R>,
-    reporter: &mut Reporter,
-    me: &mut Session,
-    other: &mut Session,
+    tokens: &mut Tokens,
     lists: &[&[Row]],
 )
-    requires { (reporter.old.book ≡ J.book) × (me.old.book ≡ J.book) × (other.old.book ≡ J.book) }
-    ensures { (reporter.new.book ≡ reporter.old.book) × (me.new.book ≡ me.old.book)
-        × (other.new.book ≡ other.old.book) }
+    requires { tokens.old.reporter.book ≡ J.book }
+    ensures { tokens.new.reporter.book ≡ tokens.old.reporter.book }
 {
     'lists: for rows in lists {
-        play_rows(rt, alloc, shared, reporter, me, other, rows, 0);
+        play_rows(rt, alloc, shared, tokens, rows, 0);
     }
 }
 
@@ -177,21 +177,18 @@ fn play_rows<J: BookName + Send + Sync, R: Threads + Wait + Clock + Abort + Sync
     rt: &R,
     alloc: Global,
     shared: &Shared<J, &R>,
-    reporter: &mut Reporter,
-    me: &mut Session,
-    other: &mut Session,
+    tokens: &mut Tokens,
     rows: &[Row],
     at: usize,
 )
-    requires { (reporter.old.book ≡ J.book) × (me.old.book ≡ J.book) × (other.old.book ≡ J.book) }
-    ensures { (reporter.new.book ≡ reporter.old.book) × (me.new.book ≡ me.old.book)
-        × (other.new.book ≡ other.old.book) }
+    requires { tokens.old.reporter.book ≡ J.book }
+    ensures { tokens.new.reporter.book ≡ tokens.old.reporter.book }
 {
     let Some(row) = rows.get(at) else {
         return;
     };
-    let taken = play_row(rt, alloc, shared, reporter, me, other, row, at);
-    play_rows(rt, alloc, shared, reporter, me, other, rows, at + 1);
+    let taken = play_row(rt, alloc, shared, tokens, row, at);
+    play_rows(rt, alloc, shared, tokens, rows, at + 1);
     if let Some((job, is_kept)) = taken {
         check(rt, at, &finish(rt, alloc, shared, job), &is_kept);
     }
@@ -202,30 +199,25 @@ fn play_row<J: BookName + Send + Sync, R: Threads + Wait + Clock + Abort + Sync>
     rt: &R,
     alloc: Global,
     shared: &Shared<J, &R>,
-    reporter: &mut Reporter,
-    me: &mut Session,
-    other: &mut Session,
+    tokens: &mut Tokens,
     row: &Row,
     at: usize,
 ) -> Option<(Job, bool)>
-    requires { (reporter.old.book ≡ J.book) × (me.old.book ≡ J.book) × (other.old.book ≡ J.book) }
-    ensures same { (reporter.new.book ≡ reporter.old.book) × (me.new.book ≡ me.old.book)
-        × (other.new.book ≡ other.old.book) }
+    requires { tokens.old.reporter.book ≡ J.book }
+    ensures same { tokens.new.reporter.book ≡ tokens.old.reporter.book }
     ensures job { IfSome result (λ taken. taken.0.book ≡ J.book) }
 {
     match row {
         Row::Calls(asked, want) => {
-            check(
-                rt,
-                at,
-                &answer(rt, alloc, shared, reporter, me, asked),
-                want,
-            );
+            let Tokens { reporter, me, .. } = tokens;
+            let told = answer(rt, alloc, shared, reporter, me, asked);
+            check(rt, at, &told, want);
             None
         }
         Row::SubmitsAll(changes, want) => {
             let batch = batch(rt, alloc, changes);
-            check(rt, at, &shared.submit_all(rt, alloc, other, &batch), want);
+            let told = shared.submit_all(rt, alloc, &mut tokens.other, &batch);
+            check(rt, at, &told, want);
             None
         }
         Row::Builds(is_kept) => Some((take(rt, alloc, shared).expect(rt, "no tile"), *is_kept)),
@@ -237,6 +229,7 @@ fn play_row<J: BookName + Send + Sync, R: Threads + Wait + Clock + Abort + Sync>
             // Who asks for the tile is the first: where there is no tile but one that is marked, it sleeps until the
             // wait takes the mark away. Where both run in one thread, the wait comes first, and it finds the tile.
             let late = Work::WaitsLate(name_of(rt, alloc, name));
+            let Tokens { me, other, .. } = tokens;
             let (_, done) = beside(rt, alloc, shared, other, me, &Work::Builds, &late);
             check(rt, at, &last_of(done), want);
             None
@@ -247,12 +240,12 @@ fn play_row<J: BookName + Send + Sync, R: Threads + Wait + Clock + Abort + Sync>
                 WaitFor::Built(name) => Work::Waits(name_of(rt, alloc, name)),
                 WaitFor::Durable => Work::WaitsDurable,
             };
-            let (done, _) = wait_beside(rt, alloc, shared, reporter, me, other, &wait, asked);
+            let (done, _) = wait_beside(rt, alloc, shared, tokens, &wait, asked);
             check(rt, at, &last_of(done), want);
             None
         }
         Row::StaleBeside(asked, want) => {
-            let told = ask_beside_stale(rt, alloc, shared, reporter, me, asked);
+            let told = ask_beside_stale(rt, alloc, shared, tokens, asked);
             check(rt, at, &told, want);
             None
         }
@@ -262,15 +255,13 @@ fn play_row<J: BookName + Send + Sync, R: Threads + Wait + Clock + Abort + Sync>
                 Late::Submits(change) => Work::SubmitsLate(command(rt, alloc, change)),
                 Late::BeginsToClose => Work::ClosesLate,
             };
-            let told = news_beside(rt, alloc, shared, reporter, me, &work);
+            let told = news_beside(rt, alloc, shared, tokens, &work);
             check(rt, at, &told, want);
             None
         }
         Row::SubmitBeside(first, second) => {
             let (first, second) = (command(rt, alloc, first), command(rt, alloc, second));
-            let (last, reported) = submit_beside(
-                rt, alloc, shared, reporter, me, other, first, second,
-            );
+            let (last, reported) = submit_beside(rt, alloc, shared, tokens, first, second);
             check(rt, at, &reported, &Ok(Some(last)));
             None
         }
@@ -283,14 +274,14 @@ fn ask_beside_stale<J: BookName + Send + Sync, R: Threads + Wait + Clock + Abort
     rt: &R,
     alloc: Global,
     shared: &Shared<J, &R>,
-    reporter: &mut Reporter,
-    me: &mut Session,
+    tokens: &mut Tokens,
     asked: &Call,
 ) -> Answer
-    requires { (reporter.old.book ≡ J.book) × (me.old.book ≡ J.book) }
-    ensures { (reporter.new.book ≡ reporter.old.book) × (me.new.book ≡ me.old.book) }
+    requires { tokens.old.reporter.book ≡ J.book }
+    ensures { tokens.new.reporter.book ≡ tokens.old.reporter.book }
 {
     let job = take(rt, alloc, shared).expect(rt, "no tile");
+    let Tokens { reporter, me, .. } = tokens;
     answer(rt, alloc, shared, reporter, me, asked).expect(rt, "a refusal");
     let (column, is_kept) = ask_beside(rt, alloc, shared, job);
     assert!(rt; !is_kept);

@@ -104,7 +104,7 @@ impl Edition {
     /// The version that keeps the tile of a layer in a column, from the present layers.
     pub fn with_tile(&self, rt: &impl Abort, alloc: Global, name: &str, column: u8) -> Edition {
         let tile = self.built(rt, alloc, name, column);
-        self.finish(rt, alloc, name, tile).expect(rt, "stale")
+        self.finish(rt, alloc, name, tile).expect(rt, "kept")
     }
 
     /// The durable number behind a report.

@@ -2,6 +2,7 @@
 ghost use Rattle.std.specs.Prelude.{◌≡◌, IfSome};
 
 use crate::tests::books::{Answer, Call, answer, finish, news, take};
+use crate::tests::tokens::Tokens;
 use layer_book::command::Command;
 use layer_expr::name::Name;
 use std::alloc::Global;
@@ -169,13 +170,13 @@ pub fn news_beside<J: BookName + Send + Sync, R: Threads + Wait + Clock + Abort 
     rt: &R,
     alloc: Global,
     shared: &Shared<J, &R>,
-    reporter: &mut Reporter,
-    me: &mut Session,
+    tokens: &mut Tokens,
     work: &Work,
 ) -> Answer
-    requires { (reporter.old.book ≡ J.book) × (me.old.book ≡ J.book) }
-    ensures { (reporter.new.book ≡ reporter.old.book) × (me.new.book ≡ me.old.book) }
+    requires { tokens.old.reporter.book ≡ J.book }
+    ensures { tokens.new.reporter.book ≡ tokens.old.reporter.book }
 {
+    let Tokens { reporter, me, .. } = tokens;
     let (told, _) = join_mut(
         rt,
         &mut || news(rt, shared, reporter),
@@ -211,16 +212,18 @@ pub fn wait_beside<J: BookName + Send + Sync, R: Threads + Wait + Clock + Abort 
     rt: &R,
     alloc: Global,
     shared: &Shared<J, &R>,
-    reporter: &mut Reporter,
-    me: &mut Session,
-    other: &mut Session,
+    tokens: &mut Tokens,
     wait: &Work,
     asked: &Call,
 ) -> (Result<Vec<u64>, BookFault>, Answer)
-    requires { (reporter.old.book ≡ J.book) × (me.old.book ≡ J.book) × (other.old.book ≡ J.book) }
-    ensures { (reporter.new.book ≡ reporter.old.book) × (me.new.book ≡ me.old.book)
-        × (other.new.book ≡ other.old.book) }
+    requires { tokens.old.reporter.book ≡ J.book }
+    ensures { tokens.new.reporter.book ≡ tokens.old.reporter.book }
 {
+    let Tokens {
+        reporter,
+        me,
+        other,
+    } = tokens;
     join_mut(
         rt,
         &mut || carry_out(rt, alloc, shared, me, wait),
@@ -301,16 +304,18 @@ pub fn submit_beside<J: BookName + Send + Sync, R: Threads + Wait + Clock + Abor
     rt: &R,
     alloc: Global,
     shared: &Shared<J, &R>,
-    reporter: &mut Reporter,
-    one: &mut Session,
-    two: &mut Session,
+    tokens: &mut Tokens,
     first: Command,
     second: Command,
 ) -> (u64, Answer)
-    requires { (reporter.old.book ≡ J.book) × (one.old.book ≡ J.book) × (two.old.book ≡ J.book) }
-    ensures { (reporter.new.book ≡ reporter.old.book) × (one.new.book ≡ one.old.book)
-        × (two.new.book ≡ two.old.book) }
+    requires { tokens.old.reporter.book ≡ J.book }
+    ensures { tokens.new.reporter.book ≡ tokens.old.reporter.book }
 {
+    let Tokens {
+        reporter,
+        me: one,
+        other: two,
+    } = tokens;
     let from = one.snapshot().expect(rt, "no version").number();
     let works = (Work::Submits(first), Work::Submits(second));
     let (reported, (ours, theirs)) = join_mut(

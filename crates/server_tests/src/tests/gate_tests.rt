@@ -1,14 +1,16 @@
 //! That workers build side by side, while the sessions are answered.
-use crate::tests::machine::Machine;
 use crate::tests::runs::Run;
-use crate::tests::testing::{Lines, Watch, empty_disk, expect, name_of, served};
+use crate::tests::testing::{BLOCKS, Lines, Watch, expect, name_of, reopened, served};
 use disk_model::mem_disk::MemDisk;
 use layer_expr::name::Name;
 use overlay_server::Gate;
+use plane_base::COLUMN_COUNT;
+use std::alloc::Global;
 use std::sync::atomic::Ordering;
 use std::test::Fail;
 use std::thread;
 use std::time::{Clock, Duration};
+use test_machines::machine::Machine;
 
 /// A gate that holds the first worker until a second one has entered and the reader was asked often enough.
 #[derive(Drop)]
@@ -104,27 +106,29 @@ fn a_tile_that_is_finished_after_the_last_commit_is_in_the_file(
         entered: 1,
     };
     let alloc = rt.alloc();
-    let engine = Machine::created(alloc, empty_disk(alloc)?, 200)?;
+    let engine = Machine::in_memory(alloc, BLOCKS)?;
     let readers = Vec::from_array(alloc, [reader])?;
     let served = served(&rt, alloc, &gate, Some(engine), readers);
     expect(&rt, &served, 0, "ok 1\nok 2\ndurable 2\n");
     assert_eq!(rt; watch.failed.load(Ordering::SeqCst), 0);
     let name = name_of(alloc, "I")?;
-    let is_finished = finished(&served, &name);
-    let engine = Machine::recovered(alloc, served.into_disk())?;
-    for (column, &is_there) in is_finished.iter().enumerate() {
-        let in_file = engine.has_tile(&name, column as u8);
-        assert_eq!(rt; in_file, is_there, "in column {column}");
+    let finished = finished(alloc, &served, &name)?;
+    let engine = reopened(alloc, served.into_disk())?;
+    for column in 0..COLUMN_COUNT {
+        let in_file = engine.has_tile(&name, column);
+        assert_eq!(rt; in_file, finished.contains(&column), "in column {column}");
     }
-    assert!(rt; is_finished.contains(&true));
+    assert!(rt; !finished.is_empty());
     Ok(())
 }
 
-/// In which columns the newest version has the tile of a layer.
-fn finished(run: &Run<MemDisk>, name: &Name) -> [bool; 33] {
-    let mut list = [false; 33];
-    for column in 0..33 {
-        list[column] = run.has_tile(name, column as u8);
+/// The columns in which the newest version has the tile of a layer.
+fn finished(alloc: Global, run: &Run<MemDisk>, name: &Name) -> Result<Vec<u8>, Fail> {
+    let mut columns = Vec::new(alloc);
+    for column in 0..COLUMN_COUNT {
+        if run.has_tile(name, column) {
+            columns.push(column)?;
+        }
     }
-    list
+    Ok(columns)
 }

@@ -1,9 +1,8 @@
 //! Servers of ports: where replies go, when they stand there, and that a writer fails for its own session alone.
 ghost use Rattle.std.specs.Prelude.{◌<◌, ◌≤◌, length};
 
-use crate::tests::machine::Machine;
 use crate::tests::runs::PortsRun;
-use crate::tests::testing::{empty_disk, engine_of, expect, served};
+use crate::tests::testing::{BLOCKS, engine_of, expect, reopened, served};
 use disk_model::disk::Disk;
 use disk_model::mem_disk::MemDisk;
 use overlay_server::outcome::{Port, ServeOptions};
@@ -17,6 +16,7 @@ use std::sync::Wait;
 use std::sync::atomic::{AtomicU64, Ordering};
 use std::test::Fail;
 use std::thread::Threads;
+use test_machines::machine::Machine;
 
 /// The most bytes of a script that no limit is to end.
 const MANY: usize = 4096;
@@ -65,7 +65,7 @@ fn replies_stand_behind_what_their_writer_held(rt: HostRuntime) -> Result<(), Fa
     let second = port_of(alloc, b"HELLO\n", b"second: ")?;
     let ports = Vec::from_array(alloc, [first, second])?;
     let left = left_of(&rt, alloc, None::<Machine<MemDisk>>, ports);
-    assert_eq!(rt; left.len(), 2);
+    assert_eq!(rt; left.session_count(), 2);
     check_session(&rt, &left, 0, "first: layers 0\n", SessionEnd::End);
     let second = "second: error 41 command syntax\n";
     check_session(&rt, &left, 1, second, SessionEnd::End);
@@ -107,7 +107,7 @@ fn a_port_has_its_own_limit(rt: HostRuntime) -> Result<(), Fail> {
         };
         let ports = Vec::from_array(alloc, [port])?;
         let left = left_of(&rt, alloc, None::<Machine<MemDisk>>, ports);
-        assert_eq!(rt; left.len(), 1);
+        assert_eq!(rt; left.session_count(), 1);
         check_session(&rt, &left, 0, text, end);
     }
     Ok(())
@@ -161,7 +161,7 @@ fn narrow_run(
     let first = narrow_port(alloc, put, writes);
     let second = narrow_port(alloc, b"HELLO\nHELLO\n", 100);
     let ports = Vec::from_array(alloc, [first, second])?;
-    let engine = Machine::created(alloc, empty_disk(alloc)?, 200)?;
+    let engine = Machine::in_memory(alloc, BLOCKS)?;
     Ok(left_of(rt, alloc, Some(engine), ports))
 }
 
@@ -175,7 +175,7 @@ fn narrow_text(left: &PortsRun<Narrow, MemDisk>, session: usize) -> &[u8] {
 
 /// Compares what stands in the writer that failed, and checks that the other session is whole.
 fn check_narrow(rt: &impl Abort, left: &PortsRun<Narrow, MemDisk>, text: &str) {
-    assert_eq!(rt; left.len(), 2);
+    assert_eq!(rt; left.session_count(), 2);
     assert_eq!(rt; narrow_text(left, 0), text.as_bytes());
     assert_eq!(rt; left.end(0), Some(SessionEnd::Failed(49)));
     let whole = b"error 41 command syntax\nerror 41 command syntax\n".as_slice();
@@ -191,7 +191,7 @@ fn a_writer_fails_for_its_own_session_alone(rt: HostRuntime) -> Result<(), Fail>
     for &(writes, text) in NARROW {
         let left = narrow_run(&rt, alloc, writes)?;
         check_narrow(&rt, &left, text);
-        let engine = Machine::recovered(alloc, left.into_disk())?;
+        let engine = reopened(alloc, left.into_disk())?;
         let script: &'static [u8] = b"LOCATE A 2 2\n";
         let readers = Vec::from_array(alloc, [script])?;
         let next = served(&rt, alloc, &OpenGate, Some(engine), readers);

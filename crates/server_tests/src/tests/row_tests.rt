@@ -1,9 +1,9 @@
 //! Scripts and their replies, by a server without a store.
-use crate::tests::machine::Machine;
 use crate::tests::testing::{expect, served, written};
 use disk_model::mem_disk::MemDisk;
 use overlay_server::OpenGate;
 use std::test::Fail;
+use test_machines::machine::Machine;
 
 const SQUARES: &[u8] = b"PUT A POLYGON ((0 0, 10 0, 10 10, 0 10, 0 0))
 PUT B POLYGON ((5 5, 15 5, 15 15, 5 15, 5 5))

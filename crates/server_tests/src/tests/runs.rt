@@ -3,7 +3,7 @@ ghost use Rattle.std.specs.Prelude.{ℕ};
 
 use layer_expr::name::Name;
 use overlay_server::SessionEnd;
-use overlay_server::outcome::{Finished, Left, Outcome, Served};
+use overlay_server::outcome::{Left, Outcome, Served};
 use std::marker::Model;
 
 /// What a server leaves, of which a contract sees nothing.
@@ -95,24 +95,18 @@ impl<W, D> PortsRun<W, D> {
     }
 
     /// How many sessions there were.
-    pub fn len(&self) -> usize {
+    pub fn session_count(&self) -> usize {
         self.left.sessions.len()
     }
 
     /// The writer of a session.
     pub fn writer(&self, session: usize) -> Option<&W> {
-        match self.left.sessions.get(session) {
-            Some(one) => Some(&one.writer),
-            None => None,
-        }
+        self.left.sessions.get(session).map(|one| &one.writer)
     }
 
     /// How a session ended.
     pub fn end(&self, session: usize) -> Option<SessionEnd> {
-        match self.left.sessions.get(session) {
-            Some(one) => Some(one.end),
-            None => None,
-        }
+        self.left.sessions.get(session).map(|one| one.end)
     }
 
     /// The number of the version that is stored.

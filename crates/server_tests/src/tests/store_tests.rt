@@ -1,9 +1,6 @@
 //! That what sessions have put is in the store when that is opened again, and what they are told where it fails.
-ghost use Rattle.std.specs.Prelude.{◌≤◌};
-
-use crate::tests::machine::Machine;
 use crate::tests::runs::Run;
-use crate::tests::testing::{empty_disk, expect, served};
+use crate::tests::testing::{BLOCKS, empty_disk, expect, reopened, served};
 use disk_model::disk::Disk;
 use disk_model::mem_disk::MemDisk;
 use file_disk::file_disk::FileDisk;
@@ -18,6 +15,7 @@ use std::test::Fail;
 use std::thread::Threads;
 use test_disks::fault_disk::FaultDisk;
 use test_disks::stop_disk::StopDisk;
+use test_machines::machine::Machine;
 
 const PUT_A: &[u8] = b"PUT A POLYGON ((0 0, 10 0, 10 10, 0 10, 0 0))\n";
 
@@ -30,11 +28,8 @@ fn first_run<D: Disk + Send + Drop>(
     disk: D,
     blocks: u32,
     script: &'static [u8],
-) -> Result<Run<D>, Fail>
-    requires some { 1 ≤ blocks }
-    requires few { blocks ≤ 1048576 }
-{
-    let engine = Machine::created(alloc, disk, blocks)?;
+) -> Result<Run<D>, Fail> {
+    let engine = Machine::create(alloc, disk, blocks)?;
     let readers = Vec::from_array(alloc, [script])?;
     Ok(served(rt, alloc, &OpenGate, Some(engine), readers))
 }
@@ -46,7 +41,7 @@ fn next_run<D: Disk + Send + Drop>(
     disk: Option<D>,
     script: &'static [u8],
 ) -> Result<Run<D>, Fail> {
-    let engine = Machine::recovered(alloc, disk)?;
+    let engine = reopened(alloc, disk)?;
     let readers = Vec::from_array(alloc, [script])?;
     Ok(served(rt, alloc, &OpenGate, Some(engine), readers))
 }
@@ -54,7 +49,7 @@ fn next_run<D: Disk + Send + Drop>(
 #[test]
 fn a_layer_is_there_when_the_store_is_opened_again(rt: HostRuntime) -> Result<(), Fail> {
     let alloc = rt.alloc();
-    let first = first_run(&rt, alloc, empty_disk(alloc)?, 200, PUT_A)?;
+    let first = first_run(&rt, alloc, empty_disk(alloc)?, BLOCKS, PUT_A)?;
     expect(&rt, &first, 0, "ok 1\n");
     assert_eq!(rt; first.stored(), 1);
     let next = next_run(
@@ -72,7 +67,7 @@ fn a_layer_is_there_when_the_store_is_opened_again(rt: HostRuntime) -> Result<()
 #[test]
 fn a_sync_ends_with_a_durable_version(rt: HostRuntime) -> Result<(), Fail> {
     let alloc = rt.alloc();
-    let served = first_run(&rt, alloc, empty_disk(alloc)?, 200, PUT_AND_SYNC)?;
+    let served = first_run(&rt, alloc, empty_disk(alloc)?, BLOCKS, PUT_AND_SYNC)?;
     expect(&rt, &served, 0, "ok 1\ndurable 1\n");
     assert_eq!(rt; served.durable(), 1);
     Ok(())
@@ -86,7 +81,7 @@ fn a_sync_is_told_why_nothing_is_stored(rt: HostRuntime) -> Result<(), Fail> {
     assert_eq!(rt; full.stored(), 0);
     // Five calls make the store. The third of the commit behind them fails.
     let disk = FaultDisk::new(empty_disk(alloc)?, 7);
-    let failed = first_run(&rt, alloc, disk, 200, PUT_AND_SYNC)?;
+    let failed = first_run(&rt, alloc, disk, BLOCKS, PUT_AND_SYNC)?;
     expect(&rt, &failed, 0, "ok 1\nerror 30 device\n");
     let next = next_run(&rt, alloc, failed.into_disk(), b"LAYERS\n")?;
     expect(&rt, &next, 0, "layers 0\n");
@@ -95,10 +90,7 @@ fn a_sync_is_told_why_nothing_is_stored(rt: HostRuntime) -> Result<(), Fail> {
 
 /// The disk below one that has stopped.
 fn works_again(disk: Option<StopDisk<MemDisk>>) -> Result<MemDisk, Fail> {
-    match disk {
-        Some(disk) => Ok(disk.into_disk()),
-        None => Err(Fail::from("no disk")),
-    }
+    Ok(disk.ok_or("no disk")?.into_disk())
 }
 
 /// By how many calls the disk passes on before it stops: what a PUT and a SYNC are told, and what is left of the store.
@@ -117,7 +109,7 @@ fn a_disk_that_stops_has_what_was_told_durable(rt: HostRuntime) -> Result<(), Fa
     let alloc = rt.alloc();
     for &(calls, told, left) in STOPS {
         let disk = StopDisk::new(empty_disk(alloc)?, calls);
-        let stopped = first_run(&rt, alloc, disk, 200, PUT_AND_SYNC)?;
+        let stopped = first_run(&rt, alloc, disk, BLOCKS, PUT_AND_SYNC)?;
         expect(&rt, &stopped, 0, told);
         let below = works_again(stopped.into_disk())?;
         let next = next_run(&rt, alloc, Some(below), b"LAYERS\n")?;
@@ -135,7 +127,7 @@ fn over_a_file(
 ) -> Result<(), Fail> {
     let alloc = rt.alloc();
     let _absent = fs::remove_file(rt, path);
-    let first = first_run(rt, alloc, FileDisk::at(rt, path, true)?, 200, script)?;
+    let first = first_run(rt, alloc, FileDisk::at(rt, path, true)?, BLOCKS, script)?;
     expect(rt, &first, 0, replies);
     // The file is held as long as its disk is there.
     drop(first);

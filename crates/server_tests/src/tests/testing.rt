@@ -1,7 +1,6 @@
 //! Servers for the tests: what they are asked, and what they answer.
 ghost use Rattle.std.specs.Prelude.{◌<◌, ◌≤◌, length};
 
-use crate::tests::machine::Machine;
 use crate::tests::runs::Run;
 use disk_model::disk::Disk;
 use disk_model::mem_disk::MemDisk;
@@ -19,6 +18,7 @@ use std::test::Fail;
 use std::thread::Threads;
 use std::time::{Clock, Duration};
 use std::{io, thread};
+use test_machines::machine::Machine;
 
 /// How many blocks a store of the tests may have.
 pub const BLOCKS: u32 = 200;
@@ -117,12 +117,15 @@ where
     }
 }
 
+/// The engine of what a server has left.
+pub fn reopened<D: Disk + Drop>(alloc: Global, disk: Option<D>) -> Result<Machine<D>, Fail> {
+    let disk = disk.ok_or("no disk")?;
+    Ok(Machine::recover(alloc, disk, BLOCKS)?)
+}
+
 /// The engine that a server takes.
 pub fn engine_of<D: Disk + Drop>(machine: Option<Machine<D>>) -> Option<Engine<D>> {
-    match machine {
-        Some(machine) => Some(machine.into_engine()),
-        None => None,
-    }
+    machine.map(Machine::into_engine)
 }
 
 /// What a session wrote.

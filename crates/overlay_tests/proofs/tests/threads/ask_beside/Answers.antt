@@ -9,13 +9,13 @@ use Rattle.std.proofs.Crossing.{sync}
 use Rattle.std.specs.contracts.alloc.Global as global
 use Rattle.version_book.proofs.SentBook.{shared_sync}
 use Rattle.version_book.specs.contracts.shared.Shared as shared
-use Rattle.version_book.specs.declared.seen_log.BookName as naming
+use Rattle.version_book.specs.declared.seen_log.BookName as book_name
 use denote.Exit.{no}
 use denote.Param.{param}
 use denote.Param.Send.{IsSend, IsSync, arg_send, param_send, recorded_send, shr_send, struct_send}
 use Rattle.overlay_tests.proofs.tests.threads.ask_beside.Goals as goal
 
-module _ (J R : RattleType) (g : naming.Ghosts J.Denot) (j : IsSend J) (s : IsSync R) where
+module _ (J R : RattleType) (g : book_name.Ghosts J.Denot) (j : IsSend J) (s : IsSync R) where
   -- what the closure captures in which a worker asks for a tile: the runtime, the allocator and the book
   captures_send : (ν : Sym) (a b c d : Lifetime) (a' b' c' d' : Lft)
       → IsSend (TupleAt ν (ShrRef a a' R ∷ ShrRef b b' global.the_row ∷ ShrRef c c' (shared.the_row J (ShrRef d d' R) g) ∷ []))

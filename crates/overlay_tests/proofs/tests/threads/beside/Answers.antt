@@ -14,7 +14,7 @@ use Rattle.version_book.proofs.Sent.{expr_send, expr_sync, session_send}
 use Rattle.version_book.proofs.SentBook.{shared_sync}
 use Rattle.version_book.specs.contracts.session.Session as session
 use Rattle.version_book.specs.contracts.shared.Shared as shared
-use Rattle.version_book.specs.declared.seen_log.BookName as naming
+use Rattle.version_book.specs.declared.seen_log.BookName as book_name
 use denote.Exit.{no}
 use denote.Param.{param}
 use denote.Param.Send.{IsSend, IsSync, arg_send, mut_send, param_send, recorded_send, shr_send, struct_send, sendable}
@@ -23,7 +23,7 @@ use Rattle.overlay_tests.proofs.tests.threads.beside.Goals as goal
 work_sync : IsSync work.the_row
 work_sync = search (sendable, crosses, bases.the_send, bases.the_sync, names.the_sync, expr_send, expr_sync) depth 20
 
-module _ (J R : RattleType) (g : naming.Ghosts J.Denot) (j : IsSend J) (s : IsSync R) where
+module _ (J R : RattleType) (g : book_name.Ghosts J.Denot) (j : IsSend J) (s : IsSync R) where
   -- what a closure captures that does a work: the runtime, the allocator, the book, its session and its work
   pub captures_send : (ν : Sym) (a b c d e f : Lifetime) (a' b' c' d' e' f' : Lft)
       → IsSend (TupleAt ν (ShrRef a a' R ∷ ShrRef b b' global.the_row ∷ ShrRef c c' (shared.the_row J (ShrRef d d' R) g) ∷ MutRef e e' session.the_row ∷ ShrRef f f' work.the_row ∷ []))

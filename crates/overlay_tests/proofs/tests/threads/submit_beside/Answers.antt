@@ -11,13 +11,13 @@ use Rattle.version_book.proofs.SentBook.{shared_sync}
 use Rattle.version_book.proofs.reporter.Reporter.TheSendSync as reporters
 use Rattle.version_book.specs.contracts.reporter.Reporter as reporter
 use Rattle.version_book.specs.contracts.shared.Shared as shared
-use Rattle.version_book.specs.declared.seen_log.BookName as naming
+use Rattle.version_book.specs.declared.seen_log.BookName as book_name
 use denote.Exit.{no}
 use denote.Param.{param}
 use denote.Param.Send.{IsSend, IsSync, arg_send, mut_send, param_send, recorded_send, shr_send, struct_send}
 use Rattle.overlay_tests.proofs.tests.threads.submit_beside.Goals as goal
 
-module _ (J R : RattleType) (g : naming.Ghosts J.Denot) (j : IsSend J) (s : IsSync R) where
+module _ (J R : RattleType) (g : book_name.Ghosts J.Denot) (j : IsSend J) (s : IsSync R) where
   -- what the closure captures in which the reporter reports: the runtime, the allocator, the book and the reporter
   pub captures_send : (ν : Sym) (a b c d e : Lifetime) (a' b' c' d' e' : Lft)
       → IsSend (TupleAt ν (ShrRef a a' R ∷ ShrRef b b' global.the_row ∷ ShrRef c c' (shared.the_row J (ShrRef d d' R) g) ∷ MutRef e e' reporter.the_row ∷ []))
