@@ -67,8 +67,8 @@ fn free_at<'a>(
     None
 }
 
-// The same among the columns of a layer, whose row says which tiles are pending. Each is looked at once: from one on, and
-// behind the last from the first on.
+// The same among the columns of a layer, whose row says which tiles are pending. Each is looked at once: from one
+// on, and behind the last from the first on.
 fn free_column(
     version: &Version,
     held: &HeldTiles,

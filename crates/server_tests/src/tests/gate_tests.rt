@@ -87,8 +87,8 @@ const LATE: [&str; 3] = [
     "SYNC\n",
 ];
 
-// Caught: `late_tile_left_out` (in overlay_server/src/hosting.rt `Hosted::run` closes the book without `keep_store` behind
-// the threads): the store's thread has ended before the tile is finished, and the file lacks it.
+// Caught: `late_tile_left_out` (in overlay_server/src/hosting.rt `Hosted::run` closes the book without `keep_store`
+// behind the threads): the store's thread has ended before the tile is finished, and the file lacks it.
 #[test]
 fn a_tile_that_is_finished_after_the_last_commit_is_in_the_file(
     rt: HostRuntime,
