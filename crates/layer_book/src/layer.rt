@@ -8,8 +8,8 @@ ghost use Rattle.layer_book.specs.Layer.{content, HasRings};
 ghost use Rattle.layer_expr.specs.Expr.{tree};
 ghost use Rattle.layer_expr.specs.Name.{is_name};
 
-use layer_expr::expr::Node;
 use layer_expr::Expr;
+use layer_expr::expr::Node;
 use layer_expr::name::Name;
 use plane_base::BaseLayer;
 use std::alloc::AllocError;

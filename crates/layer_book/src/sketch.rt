@@ -15,9 +15,9 @@ use crate::fault::LayerFault;
 use crate::layer::{Layer, node_uses};
 use crate::layers::Layers;
 use arrayvec::ArrayVec;
-use layer_expr::{Expr, MAX_LAYERS};
 use layer_expr::expr::Node;
 use layer_expr::name::Name;
+use layer_expr::{Expr, MAX_LAYERS};
 use plane_base::BaseLayer;
 
 /// A layer by its name and what stands under it.

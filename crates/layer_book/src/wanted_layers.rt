@@ -7,8 +7,8 @@ ghost use Rattle.layer_book.specs.Question.{marked_layers};
 
 use crate::layer::Layer;
 use crate::layers::Layers;
-use layer_expr::{Expr, MAX_LAYERS};
 use layer_expr::name::Name;
+use layer_expr::{Expr, MAX_LAYERS};
 use plane_base::BaseLayer;
 use std::alloc::{AllocError, Global};
 

@@ -15,7 +15,9 @@ use store_terms::root::RecordExtent;
 fn is_within(extent: RecordExtent, whole: u64) -> bool
     ensures { result ≡ (nat_le 2 extent.block && nat_le (extent.block + blocks extent.size) whole) }
 {
-    extent.block >= FIRST_BLOCK && extent.block <= whole && blocks_of(extent.size) <= whole - extent.block
+    extent.block >= FIRST_BLOCK
+        && extent.block <= whole
+        && blocks_of(extent.size) <= whole - extent.block
 }
 
 /// The bytes of a record in a file of this size; the damage where it is not placed in it.
