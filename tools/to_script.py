@@ -29,7 +29,7 @@ by more than a 1000th of the extent, or are out of range, nothing is written, an
           Where one store of 32 layers does not suffice, NAME.1.txt, NAME.2.txt .. are each the script of a store.
 
 Status 0: all was written; 1: something was refused, the rest was written, or features overlap; 2: a file could not be
-read, the factor does not fit, or what would be written over is a store, and nothing was written.
+read, the factor does not fit, or what would be written over is a store or an input, and nothing was written.
 """
 
 import argparse
@@ -275,11 +275,19 @@ def write_names(path: pathlib.Path, stores: list[Store], scale: Scale) -> None:
                                 spelled_area(scale.area(layering.area_of(group)))])
 
 
-def check_targets(paths: list[pathlib.Path]) -> None:
-    """Refuses to write over a store."""
+def read_by(words: argparse.Namespace) -> list[pathlib.Path]:
+    """The files that were read, standard input by a path of its own."""
+    return [pathlib.Path("/dev/stdin" if name == "-" else name) for name in words.files]
+
+
+def check_targets(paths: list[pathlib.Path], inputs: list[pathlib.Path]) -> None:
+    """Refuses to write over a store, or over what was read, by whatever path or link."""
     for path in paths:
         if asking.is_store(path):
             raise Stopped(f"--output: {path} is a store, which a script is not written over")
+        for given in inputs:
+            if path.exists() and given.exists() and path.samefile(given):
+                raise Stopped(f"--output: {path} is the input {given}, which is not written over")
 
 
 def write_files(words: argparse.Namespace, stores: list[Store], scale: Scale) -> list[str]:
@@ -294,7 +302,9 @@ def write_files(words: argparse.Namespace, stores: list[Store], scale: Scale) ->
         scripts = [pathlib.Path(f"{base}.{place}{words.output.suffix}") for place in range(1, len(stores) + 1)]
     sidecar, names = pathlib.Path(f"{base}.scale.json"), pathlib.Path(f"{base}.names.csv")
     try:
-        check_targets([*scripts, sidecar, *([names] if words.coded else [])])
+        targets = [*scripts, *([names] if words.coded else [])]
+        check_targets([*targets, sidecar], read_by(words))
+        check_targets(targets, [words.scale] if words.scale else [])  # the sidecar says the same scale again
         for script, store in zip(scripts, stores):
             script.write_bytes("".join(line + "\n" for line in lines_of(store)).encode())
             made = script.with_suffix(".store" if script.suffix == ".db" else ".db")

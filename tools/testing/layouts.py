@@ -144,6 +144,31 @@ class Fitting(InFolder):
             kept = self.file("map.db", other)
             self.assertEqual(outcome(to_script, file, "--fit", "--output", kept)[0], 0)
 
+    def test_an_input_is_not_written_over(self) -> None:
+        file = self.file("plan.geojson", geojson(("a", [[square(0, 0, 9)]])))
+        other = self.file("other.wkt", SQUARE)
+        (self.folder / "link.txt").symlink_to(file)
+        (self.folder / "hard.txt").hardlink_to(file)
+        (self.folder / "within").mkdir()
+        text = file.read_bytes()
+        for target in (file, "link.txt", "hard.txt", "within/../plan.geojson"):
+            target = self.folder / target
+            told = outcome(to_script, other, file, "--fit", "--output", target)
+            self.assertEqual(told, (2, "", f"--output: {target} is the input {file}, which is not written over\n"))
+        for name, words in (("in.scale.json", []), ("in.names.csv", ["--coded"])):
+            given = self.file(name, text)
+            told = outcome(to_script, given, *words, "--output", self.folder / "in.txt")
+            self.assertEqual(told, (2, "", f"--output: {given} is the input {given}, which is not written over\n"))
+            self.assertEqual((given.read_bytes(), (self.folder / "in.txt").exists()), (text, False))
+        self.assertEqual((file.read_bytes(), (self.folder / "plan.scale.json").exists()), (text, False))
+
+    def test_the_scale_of_another_map_is_not_written_over_by_a_script(self) -> None:
+        file = self.file("plan.wkt", SQUARE)
+        scale = self.file("plan.scale.json", '{"factor": 2}')
+        told = outcome(to_script, file, "--scale", scale, "--output", scale)
+        self.assertEqual(told, (2, "", f"--output: {scale} is the input {scale}, which is not written over\n"))
+        self.assertEqual(outcome(to_script, file, "--scale", scale, "--output", self.folder / "plan.txt")[0], 0)
+
     def test_the_store_that_is_told_is_another_file_than_the_script(self) -> None:
         file = self.file("plan.wkt", self.degrees)
         for name, made in (("map.txt", "map.db"), ("map.db", "map.store"), ("map", "map.db")):
