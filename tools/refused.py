@@ -5,8 +5,8 @@
     tools/refused.py map.txt replies.txt
 
 Status 0 of the program does not mean that no line was refused, and a reply does not name its line: blank lines and
-comments have none, some have several lines. Status 0: no line was refused; 1: one was, or the replies are not those of
-the script.
+comments have none, some have several lines. Status 0: no line was refused; 1: one was, the replies are not those of the
+script, or the output cannot be written.
 """
 
 import argparse
@@ -14,6 +14,7 @@ import pathlib
 import sys
 from typing import TextIO
 
+import ending
 import sessions
 
 
@@ -33,4 +34,4 @@ def main(arguments: list[str], output: TextIO | None = None, errors: TextIO | No
 
 
 if __name__ == "__main__":
-    sys.exit(main(sys.argv[1:]))
+    ending.run(main)

@@ -28,8 +28,9 @@ by more than a 1000th of the extent, or are out of range, nothing is written, an
 --output  NAME.txt is the script, and NAME.scale.json says what its numbers mean, for the other tools and for web/.
           Where one store of 32 layers does not suffice, NAME.1.txt, NAME.2.txt .. are each the script of a store.
 
-Status 0: all was written; 1: something was refused, the rest was written, or features overlap; 2: a file could not be
-read, the factor does not fit, or what would be written over is a store or an input, and nothing was written.
+Status 0: all was written; 1: something was refused, the rest was written, features overlap, or standard output cannot
+be written; 2: a file could not be read, the factor does not fit, or what would be written over is a store or an input,
+and nothing was written.
 """
 
 import argparse
@@ -45,6 +46,7 @@ from typing import TextIO
 
 import asking
 import checking
+import ending
 import fitting
 import layering
 import limits
@@ -408,4 +410,4 @@ def main(arguments: list[str], output: TextIO | None = None, errors: TextIO | No
 
 
 if __name__ == "__main__":
-    sys.exit(main(sys.argv[1:]))
+    ending.run(main)

@@ -12,7 +12,7 @@ where it cannot be asked exactly the nearest one that can is asked, and told. A 
 
 For each point a line: the name, or names with a tab between, or nothing where no layer or feature has it; behind `edge`
 and a tab, where it lies on a segment, those that it may belong to: of coded layers all whose numbers fit, the
-neighbours among them. Status 0: all points are answered; 1: one is not.
+neighbours among them. Status 0: all points are answered; 1: one is not, or the output cannot be written.
 """
 
 import argparse
@@ -25,6 +25,7 @@ from fractions import Fraction
 from typing import TextIO
 
 import asking
+import ending
 import scale as scales
 import sessions
 from scale import Scale
@@ -200,4 +201,4 @@ def main(arguments: list[str], output: TextIO | None = None, errors: TextIO | No
 
 
 if __name__ == "__main__":
-    sys.exit(main(sys.argv[1:]))
+    ending.run(main)
