@@ -15,11 +15,9 @@ from typing import NoReturn, TextIO
 import limits
 
 
-def reason(fault: Exception) -> str:
-    """What a fault of the system says, with the file that it is of, where it is of one; else what a fault says."""
-    if not isinstance(fault, OSError):
-        return str(fault)
-    return ": ".join(str(part) for part in (fault.filename, fault.strerror) if part is not None) or str(fault)
+def told(of: object, fault: Exception) -> str:
+    """What a fault says of a file, or of whatever it is of: of the system's the words without number and name."""
+    return f"{of}: {fault.strerror or fault}" if isinstance(fault, OSError) else f"{of}: {fault}"
 
 
 def buffered(stream: TextIO) -> TextIO:
@@ -45,9 +43,9 @@ def flushed(main: Callable[[list[str]], int]) -> int | str | None:
 def tell_fault(fault: OSError) -> None:
     """Tells, where that can be told, what could not be written. A reader that went away knows it."""
     if not isinstance(fault, BrokenPipeError):
-        of = "" if fault.filename is not None else "standard output: "
+        of = "standard output" if fault.filename is None else fault.filename
         with contextlib.suppress(OSError):
-            print(f"{pathlib.Path(sys.argv[0]).name}: {of}{reason(fault)}", file=sys.stderr)
+            print(f"{pathlib.Path(sys.argv[0]).name}: {told(of, fault)}", file=sys.stderr)
 
 
 def drop_rest() -> None:

@@ -68,8 +68,7 @@ class Endings(InFolder):
 
 class Reasons(unittest.TestCase):
     def test_a_file_is_named_once(self) -> None:
-        self.assertEqual(ending.reason(FileNotFoundError(2, "No such file or directory", "a.txt")),
-                         "a.txt: No such file or directory")
-        self.assertEqual(ending.reason(OSError(28, os.strerror(28))), "No space left on device")
-        self.assertEqual(ending.reason(OSError("odd")), "odd")
-        self.assertEqual(ending.reason(ValueError("x")), "x")
+        for fault, text in ((FileNotFoundError(2, os.strerror(2), "a.txt"), "No such file or directory"),
+                            (OSError(28, os.strerror(28)), "No space left on device"), (OSError("odd"), "odd"),
+                            (ValueError("x"), "x")):
+            self.assertEqual(ending.told("a.txt", fault), f"a.txt: {text}")

@@ -234,9 +234,25 @@ class OverStores(WithProgram):
         self.assertEqual((status, output), (0, "F\nW\nedge\tW\tF\n\nedge\tW\tF\n"))
         self.assertEqual(errors, "asked at 500.1 -19.9, which is nearest to 500.100001 -19.9\n")
         self.assertEqual(self.each(which, store, "--", "-1", "2")[:2], (0, "\n"))
-        self.assertEqual(self.each(which, store, "999999", "2"),
-                         (1, "", f"{store}: LOCATE W 9994990 220 1: error 20 point out of range\n"))
-        self.assertEqual(self.each(which, store, "1", "x")[:2], (1, ""))
+
+    def test_a_point_that_is_none_takes_no_answer_along(self) -> None:
+        store = self.store("plan.db", BOW + CUT)
+        self.file("plan.scale.json", SCALE)
+        self.assertEqual(self.each(which, store, "999999", "2"), (1, "error\t999999 2: point out of range\n", ""))
+        none = "no number, or one that is too long"
+        self.assertEqual(self.each(which, store, "1", "x"), (1, f"error\t1 x: {none}: x\n", ""))
+        points = self.file("points.txt", "\ufeff# x y\n500.2 -19.9\n\n  # far out:\n 1e99; -19.9\n500.01,-19.85\r\n"
+                                         f"7\n1 2 3\n{'9' * 100} 1\n507;-10\n")
+        status, output, errors = self.each(which, store, "--points", points)
+        self.assertEqual((status, errors), (1, ""))
+        self.assertEqual(output.splitlines(), [
+            "F", "error\t1e99; -19.9: point out of range", "W", "error\t7: two numbers are a point",
+            "error\t1 2 3: two numbers are a point", f"error\t{'9' * 80} ..: {none}: {'9' * 40}", ""])
+        for text in ("", "#\n\n"):
+            self.assertEqual(self.each(which, store, "--points", self.file("none.txt", text)), (0, "", ""))
+        edge = self.file("edge.txt", "105357.6 0\n105357.7 0\n")  # 2^20 / 10 + 500 is the last that is in range
+        self.assertEqual(self.each(which, store, "--points", edge)[:2],
+                         (1, "\nerror\t105357.7 0: point out of range\n"))
 
 
 class OfAnswers(InFolder):
@@ -246,8 +262,7 @@ class OfAnswers(InFolder):
                               (["edge", "in", "out"], "edge\tb\tc"), (["edge", "edge", "out"], "edge\ta\tb\tc"),
                               (["out", "out", "edge"], "edge")):
             self.assertEqual(which.of_bits(table, answers).text(), text)
-        with self.assertRaisesRegex(sessions.Unusable, "number 6 is no feature's"):
-            which.of_bits(table, ["out", "in", "in"])
+        self.assertRegex(which.of_bits(table, ["out", "in", "in"]).fault or "", "number 6 is no feature's")
 
     def test_tables_that_are_none(self) -> None:
         for text in ("a,b\n1,2\n", "store,number,name\n1,x,y\n", "store,number,name\n1\n", "\xff"):
