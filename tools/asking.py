@@ -30,7 +30,8 @@ TOP = pathlib.Path(__file__).resolve().parent.parent
 LIVE, BATCHED = "overlay_live", "overlayd"
 ROOM = ["--max-blocks", str(limits.BLOCKS_MAX)]
 NEEDS_COPY = ("error 30 device", "error 50 words")
-PROGRAM_HELP = "the program to ask (default: overlay_live or overlayd, built in this repository or on the path)"
+PROGRAM_HELP = ("the program to ask (default: overlay_live or overlayd, from crates/*/out of this repository, else "
+                "from its top, else on the path)")
 MAGIC, SLOTS_END = b"OVLSTORE", 8192
 MAGIC_AT = (16, 4112)  # of the two slots: docs/FORMAT.md
 GridFor = Callable[[Session], tuple[int, ...] | None]
@@ -39,16 +40,14 @@ Writer = Callable[["Map", argparse.Namespace, TextIO, TextIO], int]
 
 
 def found_program(names: tuple[str, ...]) -> str:
-    """The first of the programs that is built in this repository, or else stands on the path."""
-    for name in names:
-        built = TOP / "crates" / name / "out" / name
-        if built.is_file():
-            return str(built)
-    for name in names:
-        on_path = shutil.which(name)
-        if on_path:
-            return on_path
-    raise Unusable(f"no program: neither {' nor '.join(names)} is built or stands on the path; say --program PATH")
+    """The first of the programs in crates/*/out, where the gate builds them, or at the top, as README does, or on the
+    path."""
+    built = [TOP / "crates" / name / "out" / name for name in names] + [TOP / name for name in names]
+    found = [str(file) for file in built if file.is_file()] + [file for file in map(shutil.which, names) if file]
+    if not found:
+        raise Unusable(f"no program: neither {' nor '.join(names)} is built in {TOP} or stands on the path; say "
+                       "--program PATH")
+    return found[0]
 
 
 def ran(program: str, words: list[str], script: bytes) -> bytes:

@@ -255,6 +255,24 @@ class OverStores(WithProgram):
                          (1, "\nerror\t105357.7 0: point out of range\n"))
 
 
+class ProgramsThatAreFound(InFolder):
+    def test_where_programs_are_looked_for(self) -> None:
+        top, path = self.folder / "top", self.folder / "path"
+        names = ("overlay_live", "overlayd")
+        places = [top / "crates" / name / "out" / name for name in names]
+        places += [folder / name for folder in (top, path) for name in names]
+        for place in places:
+            place.parent.mkdir(parents=True, exist_ok=True)
+            place.write_text("#!/bin/sh\n")
+            place.chmod(0o700)
+        with unittest.mock.patch("asking.TOP", top), unittest.mock.patch.dict("os.environ", PATH=str(path)):
+            for place in places:
+                self.assertEqual(asking.found_program((asking.LIVE, asking.BATCHED)), str(place))
+                place.unlink()
+            with self.assertRaisesRegex(sessions.Unusable, "neither overlay_live nor overlayd is built in .*--program"):
+                asking.found_program((asking.LIVE, asking.BATCHED))
+
+
 class OfAnswers(InFolder):
     def test_bits_spell_a_number(self) -> None:
         table = {1: "a", 2: "b", 3: "c", 5: "e"}
