@@ -20,6 +20,7 @@ from dataclasses import dataclass
 from fractions import Fraction
 from typing import BinaryIO, TextIO
 
+import ending
 import limits
 import scale as scales
 import sessions
@@ -62,7 +63,7 @@ def outcome(program: str, words: list[str], script: bytes) -> tuple[int, bytes, 
     try:
         done = subprocess.run([program, *words], input=script, capture_output=True, check=False)
     except OSError as fault:
-        raise Unusable(f"{program}: {fault}") from fault
+        raise Unusable(ending.told(program, fault)) from fault
     return done.returncode, done.stdout, done.stderr.decode("utf-8", "replace").strip()
 
 
@@ -77,6 +78,17 @@ def is_store(path: pathlib.Path) -> bool:
         return False
     with path.open("rb") as file:
         return begins_as_store(file.read(SLOTS_END))
+
+
+def content(path: pathlib.Path, kind: str, words: str) -> bytes:
+    """What a file has that is to be a script, or replies; where it is a store the words to type are told."""
+    try:
+        data = path.read_bytes()
+    except OSError as fault:
+        raise Unusable(ending.told(path, fault)) from fault
+    if begins_as_store(data):
+        raise Unusable(f"{path}: a store, and no {kind}; {words}")
+    return data
 
 
 def share(file: BinaryIO) -> None:
@@ -100,7 +112,7 @@ def copied(store: pathlib.Path) -> Iterator[pathlib.Path]:
         except BlockingIOError as fault:
             raise Unusable(f"{store}: another program holds it, and may write") from fault
         except OSError as fault:
-            raise Unusable(f"{store}: {fault.strerror or fault}") from fault
+            raise Unusable(ending.told(store, fault)) from fault
         yield copy
 
 
@@ -251,13 +263,8 @@ def of_store(words: argparse.Namespace, many: bool, grid: GridFor | None) -> tup
 
 def of_script(words: argparse.Namespace, many: bool, grid: GridFor | None) -> tuple[Session, list[str]]:
     """The session of a script and the layers that are asked for, with all their pieces."""
-    try:
-        script = words.script.read_bytes()
-        replies = words.replies.read_bytes() if words.replies else None
-    except OSError as fault:
-        raise Unusable(str(fault)) from fault
-    if begins_as_store(script):
-        raise Unusable(f"{words.script}: a store, and no script; say --store {words.script}")
+    script = content(words.script, "script", f"say --store {words.script}")
+    replies = content(words.replies, "replies", f"say --store {words.replies}") if words.replies else None
     layers = wanted(words, sessions.named_by(script) if many else [sessions.last_defined(script)])
     if not layers:
         raise Unusable("the script makes no layer")

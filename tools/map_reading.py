@@ -130,10 +130,9 @@ def positions_of(shape: Shape) -> Iterator[tuple[Fraction, Fraction]]:
         return
 
 
-def content(name: str) -> str:
-    """The text of a file, or of standard input for -; a byte order mark is passed over."""
-    data = sys.stdin.buffer.read() if name == "-" else pathlib.Path(name).read_bytes()
-    return data.decode("utf-8-sig")
+def content(name: str) -> bytes:
+    """What a file has, or standard input for -."""
+    return sys.stdin.buffer.read() if name == "-" else pathlib.Path(name).read_bytes()
 
 
 if __name__ == "__main__":

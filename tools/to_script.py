@@ -114,6 +114,15 @@ class Reader:
         return max((group.tally.furthest for group in self.groups.values()), default=Fraction(0))
 
 
+def content(name: str) -> str:
+    """The text of a file, or of standard input for -; where it is a store the words to type are told."""
+    data = map_reading.content(name)
+    if asking.begins_as_store(data):
+        raise Stopped(f"{name}: a store, and no map; its layers as a script: dump_store.py {name}, as GeoJSON: "
+                      f"to_geojson.py --store {name}")
+    return data.decode("utf-8-sig")
+
+
 def read_shapes(words: argparse.Namespace) -> tuple[list[Shape], set[str | None]]:
     """The shapes of all files, and the names of their coordinates."""
     shapes, names = [], set()
@@ -121,9 +130,9 @@ def read_shapes(words: argparse.Namespace) -> tuple[list[Shape], set[str | None]
         stem = words.name or ("L" if name == "-" else pathlib.Path(name).stem)
         source = map_reading.Source(number, name, stem, words.name_by)
         try:
-            own, crs = source.read(map_reading.content(name))
+            own, crs = source.read(content(name))
         except (OSError, ValueError, ArithmeticError, RecursionError, wkt.WktFault) as fault:
-            raise Stopped(f"{name}: not read: {fault}") from fault
+            raise Stopped(ending.told(f"{name}: not read", fault)) from fault
         shapes += own
         names.add(crs)
     return shapes, names

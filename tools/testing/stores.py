@@ -10,9 +10,11 @@ from types import ModuleType
 
 import asking
 import dump_store
+import refused
 import sessions
 import to_geojson
 import to_rings
+import to_script
 import to_svg
 import which
 from testing.common import SQUARE, InFolder, WithProgram, content, outcome
@@ -126,6 +128,15 @@ class OverScripts(InFolder):
                     tool.main(words)
                 self.assertEqual(ended.exception.code, 2)
 
+    def test_a_file_that_is_not_there(self) -> None:
+        script, absent = self.file("a.txt", TRIANGLE), self.folder / "absent"
+        told = f"{absent}: No such file or directory\n"
+        for words in ([absent, script], [script, absent]):
+            self.assertEqual(outcome(refused, *words), (1, "", told))
+        for words in ([absent], [script, "--replies", absent], [script, "--program", absent]):
+            self.assertEqual(outcome(to_rings, *words), (1, "", told))
+        self.assertEqual(outcome(to_script, absent), (2, "", told.replace(": No", ": not read: No")))
+
     def test_a_script_that_makes_no_layer(self) -> None:
         for tool in (to_rings, to_svg, to_geojson):
             self.assertEqual(self.asked(tool, "LAYERS\n"), (1, "", "the script makes no layer\n"))
@@ -216,6 +227,18 @@ class OverStores(WithProgram):
             for tool in (to_rings, to_svg, to_geojson):
                 self.assertEqual(outcome(tool, store, "--program", self.program),
                                  (1, "", f"{store}: a store, and no script; say --store {store}\n"))
+
+    def test_a_store_in_the_place_of_a_map_or_of_replies(self) -> None:
+        store, script = self.store("map.db", CUT), self.file("map.txt", CUT)
+        self.assertEqual(outcome(to_script, store),
+                         (2, "", f"{store}: a store, and no map; its layers as a script: dump_store.py {store}, as "
+                                 f"GeoJSON: to_geojson.py --store {store}\n"))
+        self.assertEqual(outcome(refused, store, script), (1, "", f"{store}: a store, and no script; its layers as a "
+                                                           f"script: dump_store.py {store}\n"))
+        self.assertEqual(outcome(refused, script, store),
+                         (1, "", f"{store}: a store, and no replies; say what the program wrote\n"))
+        self.assertEqual(outcome(to_rings, script, "--replies", store),
+                         (1, "", f"{store}: a store, and no replies; say --store {store}\n"))
 
     def test_no_program(self) -> None:
         script = self.file("plan.txt", CUT)
