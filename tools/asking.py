@@ -166,7 +166,8 @@ def add_words(parser: argparse.ArgumentParser, many: bool = False) -> None:
     source.add_argument("--replies", metavar="FILE", type=pathlib.Path,
                         help="ask no program: the replies to the script, which asks EDGES itself")
     source.add_argument("--questions", action="store_true",
-                        help="only print the script with the questions behind it, to be run elsewhere")
+                        help="only print the script with the questions behind it, to be run elsewhere; where no layer "
+                        "is named, those of its last DEFINE, as no reply says which one stands")
     add_layer_word(parser, many)
 
 
@@ -175,7 +176,8 @@ def add_layer_word(parser: argparse.ArgumentParser, many: bool) -> None:
         parser.add_argument("--layer", metavar="NAME", action="append",
                             help="a layer, base or derived; may stand several times (default: all)")
     else:
-        parser.add_argument("--layer", metavar="NAME", help="a layer, base or derived (default: the last derived one)")
+        parser.add_argument("--layer", metavar="NAME",
+                            help="a layer, base or derived (default: the derived one that was defined last and stands)")
 
 
 def add_scale_words(parser: argparse.ArgumentParser) -> None:
@@ -229,9 +231,9 @@ def wanted(words: argparse.Namespace, default: list[str]) -> list[str]:
 
 
 def last_layer(session: Session) -> list[str]:
-    """The last derived layer, or where there is none the last one."""
-    derived = [name for name in session.order if name in session.definitions]
-    return (derived or session.order)[-1:]
+    """The layer that was defined last and stands, or where none is derived the one that was put last."""
+    derived = [name for name in session.recent if name in session.definitions]
+    return (derived or session.recent)[-1:]
 
 
 def grid_line(layer: str, grid: tuple[int, ...] | None) -> bytes:
@@ -261,25 +263,41 @@ def of_store(words: argparse.Namespace, many: bool, grid: GridFor | None) -> tup
     return session, layers
 
 
+def with_questions(script: bytes, layers: list[str], grid: GridFor | None) -> bytes:
+    """The script and behind it the questions for the pieces of layers, and for a picture of the first."""
+    put = Session()
+    put.base = sessions.put_by(script)
+    return sessions.with_lines(script, sessions.questions(layers) + grid_line(layers[0], grid(put) if grid else None))
+
+
+def answered(program: str, script: bytes, layers: list[str], grid: GridFor | None) -> Session:
+    """The session of a script with the pieces of layers."""
+    asked = with_questions(script, layers, grid)
+    return sessions.read(asked, ran(program, [], asked), len(sessions.requests(script)[0]))
+
+
+def standing(session: Session, named: list[str], many: bool) -> list[str]:
+    """The layers that are meant where no word names one: all, or the last; where none stands what the text named."""
+    return session.order if many else last_layer(session) or named
+
+
 def of_script(words: argparse.Namespace, many: bool, grid: GridFor | None) -> tuple[Session, list[str]]:
     """The session of a script and the layers that are asked for, with all their pieces."""
     script = content(words.script, "script", f"say --store {words.script}")
     replies = content(words.replies, "replies", f"say --store {words.replies}") if words.replies else None
-    layers = wanted(words, sessions.named_by(script) if many else [sessions.last_defined(script)])
-    if not layers:
+    named = wanted(words, sessions.named_by(script) if many else [sessions.last_defined(script)])
+    if not named:
         raise Unusable("the script makes no layer")
     if replies is not None:
-        return sessions.read(script, replies), layers
-    put = Session()
-    put.base = sessions.put_by(script)
-    lines = sessions.questions(layers) + grid_line(layers[0], grid(put) if grid else None)
-    asked = sessions.with_lines(script, lines)
+        session = sessions.read(script, replies)
+        return session, wanted(words, standing(session, named, many))
     if words.questions:
-        return printed(asked)
+        return printed(with_questions(script, named, grid))
     program = words.program or found_program((BATCHED, LIVE))
-    session = sessions.read(asked, ran(program, [], asked), len(sessions.requests(script)[0]))
-    if many and not words.layer:
-        layers = session.order
+    session = answered(program, script, named, grid)
+    layers = wanted(words, standing(session, named, many))
+    if not set(layers) <= set(named):  # the last DEFINE of the text was refused, or its layer dropped
+        session = answered(program, script, layers, grid)
     ask_base(program, session, layers)
     return session, layers
 

@@ -64,6 +64,28 @@ class OverScripts(InFolder):
             self.assertEqual((status, output), (1, ""))
             self.assertEqual(errors, "line 2: DEFINE I ..: error 10 unknown layer\nI: no layer has this name\n")
 
+    def test_the_last_layer_that_stands(self) -> None:
+        text = f"PUT A {SQUARE}\nDEFINE I = A\n"
+        for more, layer, refused_lines in (
+            ("DEFINE J = A & B\n", "I", 1), ("DEFINE J = A\nDROP J\n", "I", 0),
+            ("DEFINE J = A\nDEFINE I = A\n", "I", 0),
+            ("DEFINE J = A\nDEFINE I = B\n", "J", 1), ("BATCH 2\nDEFINE J = A\nDROP Q\n", "I", 1), ("DROP I\n", "A", 0),
+        ):
+            script = self.file("plan.txt", text + more)
+            for tool in (to_rings, to_svg) if "Q" in more else (to_rings,):
+                words = ["--program", self.model()]
+                wanted, found = (outcome(tool, script, *words, *own) for own in (["--layer", layer], []))
+                self.assertEqual(found, wanted)
+                self.assertEqual((found[0], found[2].count("error 10")), (min(1, refused_lines), refused_lines))
+        for tool in (to_rings, to_svg):
+            words = ["--replies", self.folder / "replies"]
+            script = self.file("asked.txt", text + "DEFINE J = Q\nWAIT I\n"
+                               + "".join(f"EDGES I {column}\n" for column in range(33)))
+            self.file("replies", "ok 1\nok 2\nerror 10 unknown layer\nbuilt 2\n" + "edges 0\n" * 33)
+            self.assertEqual(outcome(tool, script, *words), outcome(tool, script, *words, "--layer", "I"))
+            self.assertEqual(self.asked(tool, "PUT A POLYGON EMPTY x\n")[2].splitlines()[-1],
+                             "A: no layer has this name")
+
     def test_numbers_with_great_exponents_are_refused_as_other_lines_are(self) -> None:
         text = f"PUT A {SQUARE}\nPUT B POLYGON ((0 0, 1e99999999 0, 0 1e-99999999, 0 0))\n"
         for tool, words in ((to_rings, []), (to_svg, ["--grid", 4]), (to_geojson, [])):
