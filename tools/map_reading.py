@@ -8,7 +8,7 @@ import pathlib
 import re
 import sys
 from collections.abc import Iterator
-from dataclasses import dataclass
+from dataclasses import dataclass, field
 from decimal import Decimal
 from fractions import Fraction
 from typing import Any
@@ -47,12 +47,14 @@ class Shape:
 
 @dataclass(frozen=True)
 class Source:
-    """A file: its number among the words, what its shapes are called, and the property that names their layers."""
+    """A file: its number among the words, what its shapes are called, the property that names their layers, and all
+    properties that its features have, as keys."""
 
     number: int
     name: str
     stem: str
     name_by: str | None
+    properties: dict[str, None] = field(default_factory=dict)
 
     def shape(self, label: str, wish: str | None, kind: str, coordinates: Any, feature: str) -> Shape:
         return Shape(label, wish, kind, coordinates, feature, self.number, self.stem)
@@ -71,7 +73,9 @@ class Source:
         return [self.shape(label, wish, str(kind).upper(), value.get("coordinates"), feature or label)]
 
     def of_feature(self, value: dict[str, Any], label: str, wish: str | None) -> list[Shape]:
-        properties = value.get("properties") or {}
+        given = value.get("properties")
+        properties: dict[str, Any] = given if isinstance(given, dict) else {}
+        self.properties.update(dict.fromkeys(properties))
         if self.name_by and properties.get(self.name_by) is not None:
             wish = str(properties[self.name_by])
         called = f"{label} ({wish})" if self.name_by and wish else label

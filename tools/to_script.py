@@ -8,7 +8,8 @@
 
 A coordinate x becomes the whole number nearest to (x - X) * FACTOR, the greater one of two that are as near. Standard
 error tells what was rounded, by how much in the given unit, merged and refused. Each file is a layer, or with --name-by
-each value of the property (features without it make one of the file's name).
+each value of the property (features without it make one of the file's name). Names are cut to 32 bytes; letters
+lose their marks, other characters become `_`, and of names that are then the same the later ones get a number.
 
 Without --factor, --origin, --scale and --fit the factor is 1 where that fits: where rings collapse, or coordinates move
 by more than a 1000th of the extent, or are out of range, nothing is written, and the words to type are told.
@@ -28,9 +29,9 @@ by more than a 1000th of the extent, or are out of range, nothing is written, an
 --output  NAME.txt is the script, and NAME.scale.json says what its numbers mean, for the other tools and for web/.
           Where one store of 32 layers does not suffice, NAME.1.txt, NAME.2.txt .. are each the script of a store.
 
-Status 0: all was written; 1: something was refused, the rest was written, features overlap, or standard output cannot
-be written; 2: a file could not be read, the factor does not fit, or what would be written over is a store or an input,
-and nothing was written.
+Status 0: all was written; 1: something was refused, the rest was written, features overlap, no layer came of the files
+and nothing was written, or standard output cannot be written; 2: a file could not be read, the factor does not fit, no
+feature has the property of --name-by, or what would be written over is a store or an input, and nothing was written.
 """
 
 import argparse
@@ -58,6 +59,9 @@ import wkt
 from layering import Group, Layout, Store
 from map_reading import Refused, Shape
 from scale import Scale
+
+
+NAMED_MAX = 10  # so many properties are told
 
 
 class Stopped(Exception):
@@ -125,7 +129,7 @@ def content(name: str) -> str:
 
 def read_shapes(words: argparse.Namespace) -> tuple[list[Shape], set[str | None]]:
     """The shapes of all files, and the names of their coordinates."""
-    shapes, names = [], set()
+    shapes, names, properties = [], set(), dict[str, None]()
     for number, name in enumerate(words.files):
         stem = words.name or ("L" if name == "-" else pathlib.Path(name).stem)
         source = map_reading.Source(number, name, stem, words.name_by)
@@ -135,7 +139,16 @@ def read_shapes(words: argparse.Namespace) -> tuple[list[Shape], set[str | None]
             raise Stopped(ending.told(f"{name}: not read", fault)) from fault
         shapes += own
         names.add(crs)
+        properties |= source.properties
+    if shapes and words.name_by is not None and words.name_by not in properties:
+        raise Stopped(f"--name-by {words.name_by}: no feature has this property; {listed(list(properties))}")
     return shapes, names
+
+
+def listed(properties: list[str]) -> str:
+    """The properties that there are, the first few."""
+    more = f" and {len(properties) - NAMED_MAX} more" if len(properties) > NAMED_MAX else ""
+    return f"they have {', '.join(properties[:NAMED_MAX])}{more}" if properties else "they have none"
 
 
 def crs_for(words: argparse.Namespace, names: set[str | None], box: fitting.Box | None) -> str | None:
@@ -357,7 +370,7 @@ def words_of(arguments: list[str]) -> argparse.Namespace:
                         help="factor and origin of another map, NAME.scale.json")
     parser.add_argument("--name", help="the layer's name (default: the file's)")
     parser.add_argument("--name-by", metavar="PROPERTY",
-                        help="a layer for each value of this property of GeoJSON features")
+                        help="a layer for each value of this property of GeoJSON features, one of which has it")
     parser.add_argument("--split", action="store_true", help="spread what is too long for a layer over several")
     parser.add_argument("--union", action="store_true", help="polygons of one layer may overlap")
     parser.add_argument("--coded", action="store_true", help="number the features over few layers (needs --output)")
@@ -392,8 +405,8 @@ def work(words: argparse.Namespace, output: TextIO, say: Callable[[str], None]) 
     planner = Planner(words, reader.refuse)
     groups = list(reader.groups.values())
     stores = planner.coded(groups) if words.coded else planner.named(groups)
-    written = []
-    if words.output:
+    written = [] if stores else ["no layer: nothing is written"]
+    if words.output and stores:
         written = write_files(words, stores, scale)
     else:
         stores = one_store(stores, reader.refuse)
@@ -405,7 +418,7 @@ def work(words: argparse.Namespace, output: TextIO, say: Callable[[str], None]) 
     for text in planner.told + reader.told + told + written:
         say(text)
     overlap = overlaps(words, stores, say) if words.check else 0
-    return 1 if reader.refusals else overlap
+    return 1 if reader.refusals or not stores else overlap
 
 
 def main(arguments: list[str], output: TextIO | None = None, errors: TextIO | None = None) -> int:

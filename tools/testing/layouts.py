@@ -169,6 +169,16 @@ class Fitting(InFolder):
         self.assertEqual(told, (2, "", f"--output: {scale} is the input {scale}, which is not written over\n"))
         self.assertEqual(outcome(to_script, file, "--scale", scale, "--output", self.folder / "plan.txt")[0], 0)
 
+    def test_no_file_is_left_where_there_is_no_layer(self) -> None:
+        for text in (geojson(), geojson(("a", [])), "POINT (1 2)", "POLYGON ((0 0, 1 0, 2 0, 0 0))"):
+            file = self.file("plan.geojson", text)
+            named = ["--name-by", "name"] if text.startswith("{") else []
+            for words in (["--fit"], ["--factor", 1, "--coded"], ["--factor", 1, *named]):
+                status, output, errors = outcome(to_script, file, *words, "--output", self.folder / "out.txt")
+                self.assertEqual((status, output), (1, ""), (text, words, errors))
+                self.assertEqual(errors.splitlines()[-1], "no layer: nothing is written")
+                self.assertEqual([path.name for path in self.folder.iterdir()], ["plan.geojson"])
+
     def test_the_store_that_is_told_is_another_file_than_the_script(self) -> None:
         file = self.file("plan.wkt", self.degrees)
         for name, made in (("map.txt", "map.db"), ("map.db", "map.store"), ("map", "map.db")):
