@@ -119,7 +119,8 @@ def copied(store: pathlib.Path) -> Iterator[pathlib.Path]:
 def store_replies(program: str, store: pathlib.Path, script: bytes) -> bytes:
     """What the program writes for a script over a store, which stays as it is."""
     if not store.is_file():
-        raise Unusable(f"{store}: no such file" if not store.exists() else f"{store}: no file")
+        kind = "a folder, and no store" if store.is_dir() else "no file" if store.exists() else "no such file"
+        raise Unusable(f"{store}: {kind}")
     if pathlib.Path(program).name == LIVE:
         words = ["--read-only", "--store", str(store), *ROOM]
         status, output, errors = outcome(program, words, script)

@@ -67,9 +67,9 @@ class Source:
         if kind == "Feature":
             return self.of_feature(value, label, wish)
         if kind in COLLECTIONS:
-            members = value.get("features" if kind == "FeatureCollection" else "geometries") or []
-            return [shape for number, member in enumerate(members, 1)
-                    for shape in self.of_geojson(member, f"{label}, member {number}", wish, feature)]
+            key, called = ("features", "feature") if kind == "FeatureCollection" else ("geometries", "member")
+            return [shape for number, member in enumerate(value.get(key) or [], 1)
+                    for shape in self.of_geojson(member, f"{label}, {called} {number}", wish, feature)]
         return [self.shape(label, wish, str(kind).upper(), value.get("coordinates"), feature or label)]
 
     def of_feature(self, value: dict[str, Any], label: str, wish: str | None) -> list[Shape]:
@@ -93,7 +93,8 @@ class Source:
         """All shapes of a text, and the name of its coordinates; GeoJSON where it begins as an object."""
         if text.lstrip().startswith("{"):
             value = json.loads(text, parse_float=Decimal)
-            return self.of_geojson(value, self.name, None, ""), crs_of(value)
+            label = f"{self.name}, feature 1" if value.get("type") == "Feature" else self.name
+            return self.of_geojson(value, label, None, ""), crs_of(value)
         texts = enumerate(wkt.read_all(text), 1)
         labelled = ((f"{self.name}, text {number}", kind, coordinates) for number, (kind, coordinates) in texts)
         return [shape for label, kind, coordinates in labelled

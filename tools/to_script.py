@@ -7,9 +7,10 @@
     tools/to_script.py plan.wkt --factor 100 --origin 500000 4600000 > plan.txt
 
 A coordinate x becomes the whole number nearest to (x - X) * FACTOR, the greater one of two that are as near. Standard
-error tells what was rounded, by how much in the given unit, merged and refused. Each file is a layer, or with --name-by
-each value of the property (features without it make one of the file's name). Names are cut to 32 bytes; letters
-lose their marks, other characters become `_`, and of names that are then the same the later ones get a number.
+error tells what was rounded, by how much in the given unit, merged and refused, and of which feature or text of a file,
+counted from 1. Each file is a layer, or with --name-by each value of the property (features without it make one of the
+file's name). Names are cut to 32 bytes; letters lose their marks, other characters become `_`, and of names that are
+then the same the later ones get a number.
 
 Without --factor, --origin, --scale and --fit the factor is 1 where that fits: where rings collapse, or coordinates move
 by more than a 1000th of the extent, or are out of range, nothing is written, and the words to type are told.
@@ -338,7 +339,7 @@ def write_files(words: argparse.Namespace, stores: list[Store], scale: Scale) ->
             write_names(names, stores, scale)
             told.append(f"names in {names}")
     except OSError as fault:
-        raise Stopped(str(fault)) from fault
+        raise Stopped(ending.told(fault.filename or words.output, fault)) from fault
     return [f"factor and origin in {sidecar}"] + told
 
 

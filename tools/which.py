@@ -89,8 +89,11 @@ def read_table(path: pathlib.Path) -> dict[int, dict[int, str]]:
         with path.open(encoding="utf-8-sig", newline="") as file:
             for row in csv.DictReader(file):
                 found.setdefault(int(row["store"]), {})[int(row["number"])] = row["name"]
-    except (OSError, KeyError, TypeError, ValueError) as fault:
-        raise Unusable(f"{path}: no table of features: {fault}") from fault
+    except OSError as fault:
+        raise Unusable(ending.told(path, fault)) from fault
+    except (csv.Error, KeyError, TypeError, ValueError) as fault:
+        raise Unusable(f"{path}: no table of features: expected is NAME.names.csv of to_script.py --coded, with "
+                       "columns store, number and name, the first two of whole numbers") from fault
     return found
 
 

@@ -144,6 +144,11 @@ class Fitting(InFolder):
             kept = self.file("map.db", other)
             self.assertEqual(outcome(to_script, file, "--fit", "--output", kept)[0], 0)
 
+    def test_a_file_that_cannot_be_written(self) -> None:
+        target = self.folder / "absent" / "plan.txt"
+        self.assertEqual(outcome(to_script, self.file("plan.wkt", SQUARE), "--output", target),
+                         (2, "", f"{target}: No such file or directory\n"))
+
     def test_an_input_is_not_written_over(self) -> None:
         file = self.file("plan.geojson", geojson(("a", [[square(0, 0, 9)]])))
         other = self.file("other.wkt", SQUARE)
@@ -320,7 +325,7 @@ class Coding(InFolder):
         file = self.file("plan.geojson", text)
         self.assertEqual(outcome(to_script, file, "--coded", "--output", self.folder / "out.txt")[0], 0)
         names = (self.folder / "out.names.csv").read_text().splitlines()[1:]
-        self.assertEqual([row.split('"')[1] for row in names], [f"{file}, member 1", f"{file}, member 2"])
+        self.assertEqual([row.split('"')[1] for row in names], [f"{file}, feature 1", f"{file}, feature 2"])
 
     def test_several_stores_where_a_layer_would_be_too_long(self) -> None:
         features = [(f"n{i}", [[zigzag(1000, 3000 * i)]]) for i in range(5)]

@@ -181,6 +181,14 @@ class Names(unittest.TestCase):
         output = on_file(to_script, collection(feature('"a"'), feature('"b"', 10)))[1]
         self.assertEqual(len(output.splitlines()), 1)
 
+    def test_the_feature_that_is_refused_is_told(self) -> None:
+        told = "refused: FILE, {}: a ring whose last point is not its first, 10 0\n"
+        broken = feature('"b"', 10).replace(", [10, 0]]", ", [10, 1]]")
+        for text, label in ((collection(feature('"a"'), broken), "feature 2"), (broken, "feature 1")):
+            self.assertIn(told.format(label), on_file(to_script, text)[2])
+            self.assertIn(told.format(f"{label} (b)"), on_file(to_script, text, "--name-by", "name")[2])
+        self.assertIn(told.format("text 1"), on_file(to_script, "POLYGON ((10 0, 15 0, 10 5, 10 1))")[2])
+
     def test_a_property_that_no_feature_has(self) -> None:
         told = "--name-by nope: no feature has this property; they have"
         text = collection(feature('"a"'), feature('"b"', 10))

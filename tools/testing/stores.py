@@ -238,7 +238,8 @@ class OverStores(WithProgram):
             self.assertEqual(outcome(to_rings, "--store", none, "--program", program),
                              (1, "", f"{none}: error 32 not a store\n"))
             self.assertEqual(outcome(dump_store, self.folder / "absent", "--program", program)[0], 1)
-            self.assertEqual(outcome(dump_store, self.folder, "--program", program)[0], 1)
+            self.assertEqual(outcome(dump_store, self.folder, "--program", program),
+                             (1, "", f"{self.folder}: a folder, and no store\n"))
         empty = self.store("empty.db", "")
         self.assertEqual(self.each(to_rings, empty), (1, "", f"{empty}: it has no layer\n"))
         self.assertEqual(outcome(dump_store, empty, "--program", self.program), (0, "", ""))
@@ -329,8 +330,10 @@ class OfAnswers(InFolder):
 
     def test_tables_that_are_none(self) -> None:
         for text in ("a,b\n1,2\n", "store,number,name\n1,x,y\n", "store,number,name\n1\n", "\xff"):
-            with self.assertRaises(sessions.Unusable, msg=text):
+            with self.assertRaisesRegex(sessions.Unusable, "expected is NAME.names.csv of to_script.py --coded"):
                 which.read_table(self.file("names.csv", text.encode("latin-1") + b"\n"))
+        with self.assertRaisesRegex(sessions.Unusable, "^/absent/names.csv: No such file or directory$"):
+            which.read_table(pathlib.Path("/absent/names.csv"))
         table = self.file("names.csv", "\ufeffstore,number,name\r\n2,3,Ash\r\n")
         self.assertEqual(which.read_table(table), {2: {3: "Ash"}})
 
