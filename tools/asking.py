@@ -20,6 +20,7 @@ from dataclasses import dataclass
 from fractions import Fraction
 from typing import BinaryIO, TextIO
 
+import ending
 import limits
 import scale as scales
 import sessions
@@ -30,7 +31,8 @@ TOP = pathlib.Path(__file__).resolve().parent.parent
 LIVE, BATCHED = "overlay_live", "overlayd"
 ROOM = ["--max-blocks", str(limits.BLOCKS_MAX)]
 NEEDS_COPY = ("error 30 device", "error 50 words")
-PROGRAM_HELP = "the program to ask (default: overlay_live or overlayd, built in this repository or on the path)"
+PROGRAM_HELP = ("the program to ask (default: overlay_live or overlayd, from crates/*/out of this repository, else "
+                "from its top, else on the path)")
 MAGIC, SLOTS_END = b"OVLSTORE", 8192
 MAGIC_AT = (16, 4112)  # of the two slots: docs/FORMAT.md
 GridFor = Callable[[Session], tuple[int, ...] | None]
@@ -39,16 +41,14 @@ Writer = Callable[["Map", argparse.Namespace, TextIO, TextIO], int]
 
 
 def found_program(names: tuple[str, ...]) -> str:
-    """The first of the programs that is built in this repository, or else stands on the path."""
-    for name in names:
-        built = TOP / "crates" / name / "out" / name
-        if built.is_file():
-            return str(built)
-    for name in names:
-        on_path = shutil.which(name)
-        if on_path:
-            return on_path
-    raise Unusable(f"no program: neither {' nor '.join(names)} is built or stands on the path; say --program PATH")
+    """The first of the programs in crates/*/out, where the gate builds them, or at the top, as README does, or on the
+    path."""
+    built = [TOP / "crates" / name / "out" / name for name in names] + [TOP / name for name in names]
+    found = [str(file) for file in built if file.is_file()] + [file for file in map(shutil.which, names) if file]
+    if not found:
+        raise Unusable(f"no program: neither {' nor '.join(names)} is built in {TOP} or stands on the path; say "
+                       "--program PATH")
+    return found[0]
 
 
 def ran(program: str, words: list[str], script: bytes) -> bytes:
@@ -63,7 +63,7 @@ def outcome(program: str, words: list[str], script: bytes) -> tuple[int, bytes, 
     try:
         done = subprocess.run([program, *words], input=script, capture_output=True, check=False)
     except OSError as fault:
-        raise Unusable(f"{program}: {fault}") from fault
+        raise Unusable(ending.told(program, fault)) from fault
     return done.returncode, done.stdout, done.stderr.decode("utf-8", "replace").strip()
 
 
@@ -78,6 +78,17 @@ def is_store(path: pathlib.Path) -> bool:
         return False
     with path.open("rb") as file:
         return begins_as_store(file.read(SLOTS_END))
+
+
+def content(path: pathlib.Path, kind: str, words: str) -> bytes:
+    """What a file has that is to be a script, or replies; where it is a store the words to type are told."""
+    try:
+        data = path.read_bytes()
+    except OSError as fault:
+        raise Unusable(ending.told(path, fault)) from fault
+    if begins_as_store(data):
+        raise Unusable(f"{path}: a store, and no {kind}; {words}")
+    return data
 
 
 def share(file: BinaryIO) -> None:
@@ -101,14 +112,15 @@ def copied(store: pathlib.Path) -> Iterator[pathlib.Path]:
         except BlockingIOError as fault:
             raise Unusable(f"{store}: another program holds it, and may write") from fault
         except OSError as fault:
-            raise Unusable(f"{store}: {fault.strerror or fault}") from fault
+            raise Unusable(ending.told(store, fault)) from fault
         yield copy
 
 
 def store_replies(program: str, store: pathlib.Path, script: bytes) -> bytes:
     """What the program writes for a script over a store, which stays as it is."""
     if not store.is_file():
-        raise Unusable(f"{store}: no such file" if not store.exists() else f"{store}: no file")
+        kind = "a folder, and no store" if store.is_dir() else "no file" if store.exists() else "no such file"
+        raise Unusable(f"{store}: {kind}")
     if pathlib.Path(program).name == LIVE:
         words = ["--read-only", "--store", str(store), *ROOM]
         status, output, errors = outcome(program, words, script)
@@ -155,7 +167,8 @@ def add_words(parser: argparse.ArgumentParser, many: bool = False) -> None:
     source.add_argument("--replies", metavar="FILE", type=pathlib.Path,
                         help="ask no program: the replies to the script, which asks EDGES itself")
     source.add_argument("--questions", action="store_true",
-                        help="only print the script with the questions behind it, to be run elsewhere")
+                        help="only print the script with the questions behind it, to be run elsewhere; where no layer "
+                        "is named, those of its last DEFINE, as no reply says which one stands")
     add_layer_word(parser, many)
 
 
@@ -164,7 +177,8 @@ def add_layer_word(parser: argparse.ArgumentParser, many: bool) -> None:
         parser.add_argument("--layer", metavar="NAME", action="append",
                             help="a layer, base or derived; may stand several times (default: all)")
     else:
-        parser.add_argument("--layer", metavar="NAME", help="a layer, base or derived (default: the last derived one)")
+        parser.add_argument("--layer", metavar="NAME",
+                            help="a layer, base or derived (default: the derived one that was defined last and stands)")
 
 
 def add_scale_words(parser: argparse.ArgumentParser) -> None:
@@ -218,9 +232,9 @@ def wanted(words: argparse.Namespace, default: list[str]) -> list[str]:
 
 
 def last_layer(session: Session) -> list[str]:
-    """The last derived layer, or where there is none the last one."""
-    derived = [name for name in session.order if name in session.definitions]
-    return (derived or session.order)[-1:]
+    """The layer that was defined last and stands, or where none is derived the one that was put last."""
+    derived = [name for name in session.recent if name in session.definitions]
+    return (derived or session.recent)[-1:]
 
 
 def grid_line(layer: str, grid: tuple[int, ...] | None) -> bytes:
@@ -250,30 +264,41 @@ def of_store(words: argparse.Namespace, many: bool, grid: GridFor | None) -> tup
     return session, layers
 
 
-def of_script(words: argparse.Namespace, many: bool, grid: GridFor | None) -> tuple[Session, list[str]]:
-    """The session of a script and the layers that are asked for, with all their pieces."""
-    try:
-        script = words.script.read_bytes()
-        replies = words.replies.read_bytes() if words.replies else None
-    except OSError as fault:
-        raise Unusable(str(fault)) from fault
-    if begins_as_store(script):
-        raise Unusable(f"{words.script}: a store, and no script; say --store {words.script}")
-    layers = wanted(words, sessions.named_by(script) if many else [sessions.last_defined(script)])
-    if not layers:
-        raise Unusable("the script makes no layer")
-    if replies is not None:
-        return sessions.read(script, replies), layers
+def with_questions(script: bytes, layers: list[str], grid: GridFor | None) -> bytes:
+    """The script and behind it the questions for the pieces of layers, and for a picture of the first."""
     put = Session()
     put.base = sessions.put_by(script)
-    lines = sessions.questions(layers) + grid_line(layers[0], grid(put) if grid else None)
-    asked = sessions.with_lines(script, lines)
+    return sessions.with_lines(script, sessions.questions(layers) + grid_line(layers[0], grid(put) if grid else None))
+
+
+def answered(program: str, script: bytes, layers: list[str], grid: GridFor | None) -> Session:
+    """The session of a script with the pieces of layers."""
+    asked = with_questions(script, layers, grid)
+    return sessions.read(asked, ran(program, [], asked), len(sessions.requests(script)[0]))
+
+
+def standing(session: Session, named: list[str], many: bool) -> list[str]:
+    """The layers that are meant where no word names one: all, or the last; where none stands what the text named."""
+    return session.order if many else last_layer(session) or named
+
+
+def of_script(words: argparse.Namespace, many: bool, grid: GridFor | None) -> tuple[Session, list[str]]:
+    """The session of a script and the layers that are asked for, with all their pieces."""
+    script = content(words.script, "script", f"say --store {words.script}")
+    replies = content(words.replies, "replies", f"say --store {words.replies}") if words.replies else None
+    named = wanted(words, sessions.named_by(script) if many else [sessions.last_defined(script)])
+    if not named:
+        raise Unusable("the script makes no layer")
+    if replies is not None:
+        session = sessions.read(script, replies)
+        return session, wanted(words, standing(session, named, many))
     if words.questions:
-        return printed(asked)
+        return printed(with_questions(script, named, grid))
     program = words.program or found_program((BATCHED, LIVE))
-    session = sessions.read(asked, ran(program, [], asked), len(sessions.requests(script)[0]))
-    if many and not words.layer:
-        layers = session.order
+    session = answered(program, script, named, grid)
+    layers = wanted(words, standing(session, named, many))
+    if not set(layers) <= set(named):  # the last DEFINE of the text was refused, or its layer dropped
+        session = answered(program, script, layers, grid)
     ask_base(program, session, layers)
     return session, layers
 

@@ -7,7 +7,7 @@
 The store is read and not changed. The script has the layers and definitions, as LAYERS writes them: a text anew, an
 expression with the fewest brackets. It has no version numbers, and no tiles: they are built again.
 
-Status 0: all layers are written; 1: the store cannot be read.
+Status 0: all layers are written; 1: the store cannot be read, or the output not written.
 """
 
 import argparse
@@ -16,6 +16,7 @@ import sys
 from typing import TextIO
 
 import asking
+import ending
 import sessions
 
 
@@ -45,4 +46,4 @@ def main(arguments: list[str], output: TextIO | None = None, errors: TextIO | No
 
 
 if __name__ == "__main__":
-    sys.exit(main(sys.argv[1:]))
+    ending.run(main)

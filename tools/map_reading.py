@@ -8,7 +8,7 @@ import pathlib
 import re
 import sys
 from collections.abc import Iterator
-from dataclasses import dataclass
+from dataclasses import dataclass, field
 from decimal import Decimal
 from fractions import Fraction
 from typing import Any
@@ -47,12 +47,14 @@ class Shape:
 
 @dataclass(frozen=True)
 class Source:
-    """A file: its number among the words, what its shapes are called, and the property that names their layers."""
+    """A file: its number among the words, what its shapes are called, the property that names their layers, and all
+    properties that its features have, as keys."""
 
     number: int
     name: str
     stem: str
     name_by: str | None
+    properties: dict[str, None] = field(default_factory=dict)
 
     def shape(self, label: str, wish: str | None, kind: str, coordinates: Any, feature: str) -> Shape:
         return Shape(label, wish, kind, coordinates, feature, self.number, self.stem)
@@ -65,13 +67,15 @@ class Source:
         if kind == "Feature":
             return self.of_feature(value, label, wish)
         if kind in COLLECTIONS:
-            members = value.get("features" if kind == "FeatureCollection" else "geometries") or []
-            return [shape for number, member in enumerate(members, 1)
-                    for shape in self.of_geojson(member, f"{label}, member {number}", wish, feature)]
+            key, called = ("features", "feature") if kind == "FeatureCollection" else ("geometries", "member")
+            return [shape for number, member in enumerate(value.get(key) or [], 1)
+                    for shape in self.of_geojson(member, f"{label}, {called} {number}", wish, feature)]
         return [self.shape(label, wish, str(kind).upper(), value.get("coordinates"), feature or label)]
 
     def of_feature(self, value: dict[str, Any], label: str, wish: str | None) -> list[Shape]:
-        properties = value.get("properties") or {}
+        given = value.get("properties")
+        properties: dict[str, Any] = given if isinstance(given, dict) else {}
+        self.properties.update(dict.fromkeys(properties))
         if self.name_by and properties.get(self.name_by) is not None:
             wish = str(properties[self.name_by])
         called = f"{label} ({wish})" if self.name_by and wish else label
@@ -89,7 +93,8 @@ class Source:
         """All shapes of a text, and the name of its coordinates; GeoJSON where it begins as an object."""
         if text.lstrip().startswith("{"):
             value = json.loads(text, parse_float=Decimal)
-            return self.of_geojson(value, self.name, None, ""), crs_of(value)
+            label = f"{self.name}, feature 1" if value.get("type") == "Feature" else self.name
+            return self.of_geojson(value, label, None, ""), crs_of(value)
         texts = enumerate(wkt.read_all(text), 1)
         labelled = ((f"{self.name}, text {number}", kind, coordinates) for number, (kind, coordinates) in texts)
         return [shape for label, kind, coordinates in labelled
@@ -130,10 +135,9 @@ def positions_of(shape: Shape) -> Iterator[tuple[Fraction, Fraction]]:
         return
 
 
-def content(name: str) -> str:
-    """The text of a file, or of standard input for -; a byte order mark is passed over."""
-    data = sys.stdin.buffer.read() if name == "-" else pathlib.Path(name).read_bytes()
-    return data.decode("utf-8-sig")
+def content(name: str) -> bytes:
+    """What a file has, or standard input for -."""
+    return sys.stdin.buffer.read() if name == "-" else pathlib.Path(name).read_bytes()
 
 
 if __name__ == "__main__":

@@ -74,7 +74,8 @@ class Rounding:
             self.tally.heights += len(position) > 2
             points.append((self.whole(0, position[0]), self.whole(1, position[1])))
         if len(positions) >= 2 and list(positions[0][:2]) != list(positions[-1][:2]):
-            raise Refused("a ring whose last point is not its first")
+            begin = " ".join(str(number) for number in positions[0][:2])
+            raise Refused(f"a ring whose last point is not its first, {begin}")
         kept = points[:1] + [point for before, point in zip(points, points[1:]) if point != before]
         self.tally.merged += len(points) - len(kept)
         return kept

@@ -122,6 +122,7 @@ class Session:
 
     def __init__(self) -> None:
         self.order: list[str] = []  # all names, as LAYERS has them
+        self.recent: list[str] = []  # all names, the one that was put or defined last behind all others
         self.base: dict[str, list[list[tuple[int, int]]]] = {}  # name: its rings of points
         self.definitions: dict[str, str] = {}  # name: the expression as given
         self.edges: dict[tuple[str, int], list[Piece] | str] = {}  # (name, column): pieces, or the line of the refusal
@@ -154,6 +155,7 @@ class Session:
         """Takes in that a layer stands, behind all others where it is new, and gives up answers that it changes."""
         if name not in self.order:
             self.order.append(name)
+        self.recent = [layer for layer in self.recent if layer != name] + [name]
         stale = [layer for layer in self.definitions if name in self.reach(layer)]
         self.forget(stale)
 
@@ -177,6 +179,7 @@ class Session:
         self.base.pop(name, None)
         self.definitions.pop(name, None)
         self.order = [layer for layer in self.order if layer != name]
+        self.recent = [layer for layer in self.recent if layer != name]
 
     def refuse(self, request: Request, reply: str) -> None:
         """Takes in the refusal of a line, or of a batch for one of its lines."""
@@ -292,7 +295,7 @@ def named_by(script: bytes) -> list[str]:
 
 
 def last_defined(script: bytes) -> str:
-    """The name that the last DEFINE of a script gives, or where it has none that of its last PUT."""
+    """The name that the last DEFINE of a script gives, refused or not, or where it has none that of its last PUT."""
     found = [re.match(rf"[ \t]*DEFINE[ \t]+({NAME})[ \t]*=", line) for line in all_lines(script)]
     names = [match.group(1) for match in found if match] or named_by(script)
     if not names:

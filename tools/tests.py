@@ -13,18 +13,20 @@ import pathlib
 import sys
 import unittest
 
+import ending
 from testing.common import Programs
 
 MODULES = (
-    "helps", "scales", "scripts", "layouts", "replies", "rings", "pictures", "overlays", "stores", "maps", "pages",
+    "helps", "endings", "scales", "scripts", "layouts", "replies", "rings", "pictures", "overlays", "stores",
+    "maps", "pages",
 )
 
 
-def main() -> int:
+def main(arguments: list[str]) -> int:
     parser = argparse.ArgumentParser(description=__doc__, formatter_class=argparse.RawDescriptionHelpFormatter)
     parser.add_argument("program", metavar="PROGRAM", nargs="?", type=pathlib.Path)
     parser.add_argument("live", metavar="LIVE", nargs="?", type=pathlib.Path)
-    words = parser.parse_args()
+    words = parser.parse_args(arguments)
     for given in (words.program, words.live):
         if given and not given.is_file():
             parser.error(f"{given}: no file")
@@ -41,4 +43,4 @@ def main() -> int:
 
 
 if __name__ == "__main__":
-    sys.exit(main())
+    ending.run(main)

@@ -10,7 +10,8 @@ area in the world's unit, rounded in `area` and exact, as a fraction, in `area_e
 scale's digits, or to --digits; a place that is a whole number in the store comes back from them through to_script.py
 with the same scale.
 
-Status 0: all layers are written; 1: a line of the script was refused (each is told), or a layer has no rings to give.
+Status 0: all layers are written; 1: a line of the script was refused (each is told), a layer has no rings to give, or
+the output cannot be written.
 """
 
 import argparse
@@ -21,6 +22,7 @@ from fractions import Fraction
 from typing import TextIO
 
 import asking
+import ending
 import scale as scales
 import to_rings
 from asking import Map
@@ -98,4 +100,4 @@ def main(arguments: list[str], output: TextIO | None = None, errors: TextIO | No
 
 
 if __name__ == "__main__":
-    sys.exit(main(sys.argv[1:]))
+    ending.run(main)

@@ -19,7 +19,7 @@ columns among them. The text is rounded to --digits; --exact writes the fraction
 
 Coordinates and areas are those of the world where a scale is there. A base layer has the boundary of its even-odd
 inside. Status 0: all rings are written; 1: a line of the script was refused (each is told), a column is missing or
-oversize, or a reply is of another form.
+oversize, a reply is of another form, or the output cannot be written.
 """
 
 import argparse
@@ -30,6 +30,7 @@ from fractions import Fraction
 from typing import TextIO
 
 import asking
+import ending
 import sessions
 import wkt
 from asking import Map
@@ -342,4 +343,4 @@ def main(arguments: list[str], output: TextIO | None = None, errors: TextIO | No
 
 
 if __name__ == "__main__":
-    sys.exit(main(sys.argv[1:]))
+    ending.run(main)

@@ -7,8 +7,10 @@
     tools/to_script.py plan.wkt --factor 100 --origin 500000 4600000 > plan.txt
 
 A coordinate x becomes the whole number nearest to (x - X) * FACTOR, the greater one of two that are as near. Standard
-error tells what was rounded, by how much in the given unit, merged and refused. Each file is a layer, or with --name-by
-each value of the property (features without it make one of the file's name).
+error tells what was rounded, by how much in the given unit, merged and refused, and of which feature or text of a file,
+counted from 1. Each file is a layer, or with --name-by each value of the property (features without it make one of the
+file's name). Names are cut to 32 bytes; letters lose their marks, other characters become `_`, and of names that are
+then the same the later ones get a number.
 
 Without --factor, --origin, --scale and --fit the factor is 1 where that fits: where rings collapse, or coordinates move
 by more than a 1000th of the extent, or are out of range, nothing is written, and the words to type are told.
@@ -28,8 +30,9 @@ by more than a 1000th of the extent, or are out of range, nothing is written, an
 --output  NAME.txt is the script, and NAME.scale.json says what its numbers mean, for the other tools and for web/.
           Where one store of 32 layers does not suffice, NAME.1.txt, NAME.2.txt .. are each the script of a store.
 
-Status 0: all was written; 1: something was refused, the rest was written, or features overlap; 2: a file could not be
-read, the factor does not fit, or what would be written over is a store, and nothing was written.
+Status 0: all was written; 1: something was refused, the rest was written, features overlap, no layer came of the files
+and nothing was written, or standard output cannot be written; 2: a file could not be read, the factor does not fit, no
+feature has the property of --name-by, or what would be written over is a store or an input, and nothing was written.
 """
 
 import argparse
@@ -45,6 +48,7 @@ from typing import TextIO
 
 import asking
 import checking
+import ending
 import fitting
 import layering
 import limits
@@ -56,6 +60,9 @@ import wkt
 from layering import Group, Layout, Store
 from map_reading import Refused, Shape
 from scale import Scale
+
+
+NAMED_MAX = 10  # so many properties are told
 
 
 class Stopped(Exception):
@@ -112,19 +119,37 @@ class Reader:
         return max((group.tally.furthest for group in self.groups.values()), default=Fraction(0))
 
 
+def content(name: str) -> str:
+    """The text of a file, or of standard input for -; where it is a store the words to type are told."""
+    data = map_reading.content(name)
+    if asking.begins_as_store(data):
+        raise Stopped(f"{name}: a store, and no map; its layers as a script: dump_store.py {name}, as GeoJSON: "
+                      f"to_geojson.py --store {name}")
+    return data.decode("utf-8-sig")
+
+
 def read_shapes(words: argparse.Namespace) -> tuple[list[Shape], set[str | None]]:
     """The shapes of all files, and the names of their coordinates."""
-    shapes, names = [], set()
+    shapes, names, properties = [], set(), dict[str, None]()
     for number, name in enumerate(words.files):
         stem = words.name or ("L" if name == "-" else pathlib.Path(name).stem)
         source = map_reading.Source(number, name, stem, words.name_by)
         try:
-            own, crs = source.read(map_reading.content(name))
+            own, crs = source.read(content(name))
         except (OSError, ValueError, ArithmeticError, RecursionError, wkt.WktFault) as fault:
-            raise Stopped(f"{name}: not read: {fault}") from fault
+            raise Stopped(ending.told(f"{name}: not read", fault)) from fault
         shapes += own
         names.add(crs)
+        properties |= source.properties
+    if shapes and words.name_by is not None and words.name_by not in properties:
+        raise Stopped(f"--name-by {words.name_by}: no feature has this property; {listed(list(properties))}")
     return shapes, names
+
+
+def listed(properties: list[str]) -> str:
+    """The properties that there are, the first few."""
+    more = f" and {len(properties) - NAMED_MAX} more" if len(properties) > NAMED_MAX else ""
+    return f"they have {', '.join(properties[:NAMED_MAX])}{more}" if properties else "they have none"
 
 
 def crs_for(words: argparse.Namespace, names: set[str | None], box: fitting.Box | None) -> str | None:
@@ -275,11 +300,19 @@ def write_names(path: pathlib.Path, stores: list[Store], scale: Scale) -> None:
                                 spelled_area(scale.area(layering.area_of(group)))])
 
 
-def check_targets(paths: list[pathlib.Path]) -> None:
-    """Refuses to write over a store."""
+def read_by(words: argparse.Namespace) -> list[pathlib.Path]:
+    """The files that were read, standard input by a path of its own."""
+    return [pathlib.Path("/dev/stdin" if name == "-" else name) for name in words.files]
+
+
+def check_targets(paths: list[pathlib.Path], inputs: list[pathlib.Path]) -> None:
+    """Refuses to write over a store, or over what was read, by whatever path or link."""
     for path in paths:
         if asking.is_store(path):
             raise Stopped(f"--output: {path} is a store, which a script is not written over")
+        for given in inputs:
+            if path.exists() and given.exists() and path.samefile(given):
+                raise Stopped(f"--output: {path} is the input {given}, which is not written over")
 
 
 def write_files(words: argparse.Namespace, stores: list[Store], scale: Scale) -> list[str]:
@@ -294,7 +327,9 @@ def write_files(words: argparse.Namespace, stores: list[Store], scale: Scale) ->
         scripts = [pathlib.Path(f"{base}.{place}{words.output.suffix}") for place in range(1, len(stores) + 1)]
     sidecar, names = pathlib.Path(f"{base}.scale.json"), pathlib.Path(f"{base}.names.csv")
     try:
-        check_targets([*scripts, sidecar, *([names] if words.coded else [])])
+        targets = [*scripts, *([names] if words.coded else [])]
+        check_targets([*targets, sidecar], read_by(words))
+        check_targets(targets, [words.scale] if words.scale else [])  # the sidecar says the same scale again
         for script, store in zip(scripts, stores):
             script.write_bytes("".join(line + "\n" for line in lines_of(store)).encode())
             made = script.with_suffix(".store" if script.suffix == ".db" else ".db")
@@ -304,7 +339,7 @@ def write_files(words: argparse.Namespace, stores: list[Store], scale: Scale) ->
             write_names(names, stores, scale)
             told.append(f"names in {names}")
     except OSError as fault:
-        raise Stopped(str(fault)) from fault
+        raise Stopped(ending.told(fault.filename or words.output, fault)) from fault
     return [f"factor and origin in {sidecar}"] + told
 
 
@@ -336,7 +371,7 @@ def words_of(arguments: list[str]) -> argparse.Namespace:
                         help="factor and origin of another map, NAME.scale.json")
     parser.add_argument("--name", help="the layer's name (default: the file's)")
     parser.add_argument("--name-by", metavar="PROPERTY",
-                        help="a layer for each value of this property of GeoJSON features")
+                        help="a layer for each value of this property of GeoJSON features, one of which has it")
     parser.add_argument("--split", action="store_true", help="spread what is too long for a layer over several")
     parser.add_argument("--union", action="store_true", help="polygons of one layer may overlap")
     parser.add_argument("--coded", action="store_true", help="number the features over few layers (needs --output)")
@@ -371,8 +406,8 @@ def work(words: argparse.Namespace, output: TextIO, say: Callable[[str], None]) 
     planner = Planner(words, reader.refuse)
     groups = list(reader.groups.values())
     stores = planner.coded(groups) if words.coded else planner.named(groups)
-    written = []
-    if words.output:
+    written = [] if stores else ["no layer: nothing is written"]
+    if words.output and stores:
         written = write_files(words, stores, scale)
     else:
         stores = one_store(stores, reader.refuse)
@@ -384,7 +419,7 @@ def work(words: argparse.Namespace, output: TextIO, say: Callable[[str], None]) 
     for text in planner.told + reader.told + told + written:
         say(text)
     overlap = overlaps(words, stores, say) if words.check else 0
-    return 1 if reader.refusals else overlap
+    return 1 if reader.refusals or not stores else overlap
 
 
 def main(arguments: list[str], output: TextIO | None = None, errors: TextIO | None = None) -> int:
@@ -398,4 +433,4 @@ def main(arguments: list[str], output: TextIO | None = None, errors: TextIO | No
 
 
 if __name__ == "__main__":
-    sys.exit(main(sys.argv[1:]))
+    ending.run(main)

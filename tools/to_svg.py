@@ -9,7 +9,8 @@ and how many pieces its tile has. With --grid N, or where the replies hold a GRI
 full where in, a ring where edge, small where out. Where a scale is there, a bar of it and the corners of the picture
 are told. Coordinates of the picture are rounded to a hundredth of a unit.
 
-Status 0: the picture is whole; 1: it is not, or a line of the script was refused (each is told), or there is none.
+Status 0: the picture is whole; 1: it is not, or a line of the script was refused (each is told), there is none, or it
+cannot be written.
 """
 
 import argparse
@@ -20,6 +21,7 @@ from collections.abc import Callable
 from typing import Any, TextIO
 
 import asking
+import ending
 import limits
 import scale as scales
 import sessions
@@ -238,4 +240,4 @@ def main(arguments: list[str], output: TextIO | None = None, errors: TextIO | No
 
 
 if __name__ == "__main__":
-    sys.exit(main(sys.argv[1:]))
+    ending.run(main)

@@ -10,36 +10,52 @@ answers of layers b0, b1 .. spell the number of the feature in the table that to
 stand once for each of its stores, in their order. The point is in coordinates of the world where a scale is there;
 where it cannot be asked exactly the nearest one that can is asked, and told. A store is read and not changed.
 
+A file of points has one on each line, two numbers apart by blanks, a comma or a semicolon; blank lines and those that
+begin with # are passed over.
+
 For each point a line: the name, or names with a tab between, or nothing where no layer or feature has it; behind `edge`
 and a tab, where it lies on a segment, those that it may belong to: of coded layers all whose numbers fit, the
-neighbours among them. Status 0: all points are answered; 1: one is not.
+neighbours among them; behind `error` and a tab, where it cannot be answered, the point as it was typed and the reason,
+while all others are answered. Status 0: all points are answered; 1: one is not, or the output cannot be written.
 """
 
 import argparse
 import csv
 import pathlib
 import sys
-from collections.abc import Iterator
+from collections.abc import Callable, Iterator
 from dataclasses import dataclass, field
 from fractions import Fraction
 from typing import TextIO
 
 import asking
+import ending
+import limits
 import scale as scales
 import sessions
 from scale import Scale
 from sessions import Corner, Session, Unusable
 
-Point = tuple[Fraction, Fraction]
 OUTSIDE = 0
+TYPED_MAX = 80  # so much of a point that was typed is told
+
+
+@dataclass(frozen=True)
+class Point:
+    """A point as it was typed, and its two numbers, or why it has none."""
+
+    typed: str
+    place: tuple[Fraction, Fraction] | None
+    fault: str = ""
 
 
 @dataclass
 class Answer:
-    """What a point is in, and what it is at the edge of."""
+    """What a point is in, and what it is at the edge of; or why nobody can say."""
 
     within: list[str] = field(default_factory=list)
     edge: list[str] | None = None
+    fault: str | None = None
 
     def text(self) -> str:
         found = "\t".join(self.within)
@@ -59,7 +75,8 @@ def of_bits(table: dict[int, str], answers: list[str]) -> Answer:
     number = sum(1 << bit for bit in sure if answers[bit] == "in")
     if len(sure) == len(answers):
         if number not in table and number != OUTSIDE:
-            raise Unusable(f"number {number} is no feature's: features overlap there, or this is another store's table")
+            return Answer(fault=f"number {number} is no feature's: features overlap there, or this is another store's "
+                                "table")
         return Answer([table[number]] if number != OUTSIDE else [])
     mask = sum(1 << bit for bit in sure)
     return Answer([], [name for one, name in table.items() if one & mask == number])
@@ -72,8 +89,11 @@ def read_table(path: pathlib.Path) -> dict[int, dict[int, str]]:
         with path.open(encoding="utf-8-sig", newline="") as file:
             for row in csv.DictReader(file):
                 found.setdefault(int(row["store"]), {})[int(row["number"])] = row["name"]
-    except (OSError, KeyError, TypeError, ValueError) as fault:
-        raise Unusable(f"{path}: no table of features: {fault}") from fault
+    except OSError as fault:
+        raise Unusable(ending.told(path, fault)) from fault
+    except (csv.Error, KeyError, TypeError, ValueError) as fault:
+        raise Unusable(f"{path}: no table of features: expected is NAME.names.csv of to_script.py --coded, with "
+                       "columns store, number and name, the first two of whole numbers") from fault
     return found
 
 
@@ -112,44 +132,60 @@ def answers_of(program: str, store: pathlib.Path, table: dict[int, str] | None,
 
 def joined(answers: list[Answer]) -> Answer:
     """The answer of several stores."""
+    faults = [answer.fault for answer in answers if answer.fault]
     edges = [name for answer in answers if answer.edge is not None for name in answer.edge]
     at_edge = any(answer.edge is not None for answer in answers)
-    return Answer([name for answer in answers for name in answer.within], edges if at_edge else None)
+    within = [name for answer in answers for name in answer.within]
+    return Answer(within, edges if at_edge else None, faults[0] if faults else None)
+
+
+def point_of(line: str) -> Point:
+    """The point that a line spells: two numbers apart by blanks, a comma or a semicolon."""
+    try:
+        x, y = (scales.exact(word) for word in line.replace(",", " ").replace(";", " ").split())
+    except ValueError:
+        return Point(line, None, "two numbers are a point")
+    except scales.ScaleFault as fault:
+        return Point(line, None, str(fault))
+    return Point(line, (x, y))
 
 
 def read_points(words: argparse.Namespace) -> list[Point]:
-    """The points of the words, or of the file: two numbers on a line, apart by blanks, a comma or a semicolon."""
+    """The points of the words, or of the lines of the file that are not blank and no comments."""
     if words.points is None:
-        if len(words.numbers) != 2:
-            raise Unusable("a point is two numbers")
-        lines = [" ".join(words.numbers)]
-    else:
-        try:
-            text = words.points.read_text(encoding="utf-8-sig") if str(words.points) != "-" else sys.stdin.read()
-        except (OSError, ValueError) as fault:
-            raise Unusable(f"{words.points}: {fault}") from fault
-        lines = [line for line in text.splitlines() if line.strip()]
-    points = []
-    for place, line in enumerate(lines, 1):
-        try:
-            x, y = (scales.exact(word) for word in line.replace(",", " ").replace(";", " ").split())
-        except (ValueError, scales.ScaleFault) as fault:
-            raise Unusable(f"point {place}: {line[:40]}: two numbers are a point") from fault
-        points.append((x, y))
-    return points
+        return [point_of(" ".join(words.numbers))]
+    try:
+        text = words.points.read_text(encoding="utf-8-sig") if str(words.points) != "-" else sys.stdin.read()
+    except (OSError, ValueError) as fault:
+        raise Unusable(ending.told(words.points, fault)) from fault
+    lines = [line.strip() for line in text.splitlines()]
+    return [point_of(line) for line in lines if line and not line.startswith("#")]
 
 
-def questions(points: list[Point], scale: Scale, say: list[str]) -> list[Corner]:
-    """The numbers of LOCATE for each point; what is not asked exactly is told."""
-    found = []
-    for x, y in points:
-        corner = scale.question(x, y)
-        near = scale.world(corner)
-        if near != (x, y):
-            shown = " ".join(scales.decimals(number, scale.digits + 4) for number in near)
-            say.append(f"asked at {shown}, which is nearest to {scales.decimals(x, 12)} {scales.decimals(y, 12)}")
-        found.append(corner)
-    return found
+def question(x: Fraction, y: Fraction, scale: Scale, say: Callable[[str], None]) -> Corner | None:
+    """The numbers of LOCATE for a point, None where it is out of range; what is not asked exactly is told."""
+    corner = scale.question(x, y)
+    if max(abs(corner[0]), abs(corner[1])) > limits.COORDINATE_MAX * corner[2]:
+        return None
+    near = scale.world(corner)
+    if near != (x, y):
+        shown = " ".join(scales.decimals(number, scale.digits + 4) for number in near)
+        say(f"asked at {shown}, which is nearest to {scales.decimals(x, 12)} {scales.decimals(y, 12)}")
+    return corner
+
+
+def shortened(typed: str) -> str:
+    return typed if len(typed) <= TYPED_MAX else typed[:TYPED_MAX] + " .."
+
+
+def texts(points: list[Point], corners: list[Corner | None], answers: Iterator[Answer]) -> Iterator[tuple[str, bool]]:
+    """The line of each point, and whether it is answered; only those that have corners were asked."""
+    for point, corner in zip(points, corners, strict=True):
+        answer = Answer(fault=point.fault or "point out of range") if corner is None else next(answers)
+        if answer.fault:
+            yield f"error\t{shortened(point.typed)}: {answer.fault}", False
+        else:
+            yield answer.text(), True
 
 
 def parser_of() -> argparse.ArgumentParser:
@@ -158,46 +194,55 @@ def parser_of() -> argparse.ArgumentParser:
     parser.add_argument("--store", metavar="FILE", type=pathlib.Path, action="append", required=True,
                         help="a store; it is not changed")
     parser.add_argument("--names", metavar="FILE", type=pathlib.Path, help="NAME.names.csv of to_script.py --coded")
-    parser.add_argument("--points", metavar="FILE", type=pathlib.Path, help="a point on each line; - is standard input")
+    parser.add_argument("--points", metavar="FILE", type=pathlib.Path,
+                        help="a point on each line; blank lines and # lines are passed over; - is standard input")
     parser.add_argument("--scale", metavar="FILE", type=pathlib.Path,
                         help="what whole numbers mean (default: NAME.scale.json beside the store NAME.*)")
     parser.add_argument("--program", metavar="PATH", help="the program to ask (default: as the other tools)")
     return parser
 
 
-def work(words: argparse.Namespace, output: TextIO, errors: TextIO) -> None:
+def scale_for(words: argparse.Namespace) -> Scale:
+    """The scale that is given, or that lies beside the first store, else that of whole numbers."""
+    file = words.scale or scales.beside(words.store[0])
+    try:
+        return scales.read(file) if words.scale or file.is_file() else Scale()
+    except scales.ScaleFault as fault:
+        raise Unusable(str(fault)) from fault
+
+
+def work(words: argparse.Namespace, output: TextIO, errors: TextIO) -> int:
+    """Asks for all points and writes a line for each; the status."""
     points = read_points(words)
     program = words.program or asking.found_program((asking.LIVE, asking.BATCHED))
     tables = read_table(words.names) if words.names else {}
     if words.names and len(tables) != len(words.store):
         raise Unusable(f"{words.names} is of {len(tables)} stores, and {len(words.store)} are given")
-    file = words.scale or scales.beside(words.store[0])
-    try:
-        scale = scales.read(file) if words.scale or file.is_file() else Scale()
-    except scales.ScaleFault as fault:
-        raise Unusable(str(fault)) from fault
-    told: list[str] = []
-    corners = questions(points, scale, told)
-    found = [answers_of(program, store, tables.get(place) if words.names else None, corners)
+    scale, told = scale_for(words), list[str]()
+    corners = [question(*point.place, scale, told.append) if point.place else None for point in points]
+    asking_for = [corner for corner in corners if corner is not None]
+    found = [answers_of(program, store, tables.get(place) if words.names else None, asking_for)
              for place, store in enumerate(words.store, 1)]
     for text in told:
         print(text, file=errors)
-    for own in zip(*found, strict=True):
-        print(joined(list(own)).text(), file=output)
+    status = 0
+    for text, is_answered in texts(points, corners, (joined(list(own)) for own in zip(*found, strict=True))):
+        print(text, file=output)
+        status = status if is_answered else 1
+    return status
 
 
 def main(arguments: list[str], output: TextIO | None = None, errors: TextIO | None = None) -> int:
     parser = parser_of()
     words = parser.parse_args(arguments)
-    if (words.points is None) == (not words.numbers):
+    if len(words.numbers) != (2 if words.points is None else 0):
         parser.error("either a point X Y or --points FILE")
     try:
-        work(words, output or sys.stdout, errors or sys.stderr)
+        return work(words, output or sys.stdout, errors or sys.stderr)
     except Unusable as fault:
         print(fault, file=errors or sys.stderr)
         return 1
-    return 0
 
 
 if __name__ == "__main__":
-    sys.exit(main(sys.argv[1:]))
+    ending.run(main)

@@ -144,6 +144,46 @@ class Fitting(InFolder):
             kept = self.file("map.db", other)
             self.assertEqual(outcome(to_script, file, "--fit", "--output", kept)[0], 0)
 
+    def test_a_file_that_cannot_be_written(self) -> None:
+        target = self.folder / "absent" / "plan.txt"
+        self.assertEqual(outcome(to_script, self.file("plan.wkt", SQUARE), "--output", target),
+                         (2, "", f"{target}: No such file or directory\n"))
+
+    def test_an_input_is_not_written_over(self) -> None:
+        file = self.file("plan.geojson", geojson(("a", [[square(0, 0, 9)]])))
+        other = self.file("other.wkt", SQUARE)
+        (self.folder / "link.txt").symlink_to(file)
+        (self.folder / "hard.txt").hardlink_to(file)
+        (self.folder / "within").mkdir()
+        text = file.read_bytes()
+        for target in (file, "link.txt", "hard.txt", "within/../plan.geojson"):
+            target = self.folder / target
+            told = outcome(to_script, other, file, "--fit", "--output", target)
+            self.assertEqual(told, (2, "", f"--output: {target} is the input {file}, which is not written over\n"))
+        for name, words in (("in.scale.json", []), ("in.names.csv", ["--coded"])):
+            given = self.file(name, text)
+            told = outcome(to_script, given, *words, "--output", self.folder / "in.txt")
+            self.assertEqual(told, (2, "", f"--output: {given} is the input {given}, which is not written over\n"))
+            self.assertEqual((given.read_bytes(), (self.folder / "in.txt").exists()), (text, False))
+        self.assertEqual((file.read_bytes(), (self.folder / "plan.scale.json").exists()), (text, False))
+
+    def test_the_scale_of_another_map_is_not_written_over_by_a_script(self) -> None:
+        file = self.file("plan.wkt", SQUARE)
+        scale = self.file("plan.scale.json", '{"factor": 2}')
+        told = outcome(to_script, file, "--scale", scale, "--output", scale)
+        self.assertEqual(told, (2, "", f"--output: {scale} is the input {scale}, which is not written over\n"))
+        self.assertEqual(outcome(to_script, file, "--scale", scale, "--output", self.folder / "plan.txt")[0], 0)
+
+    def test_no_file_is_left_where_there_is_no_layer(self) -> None:
+        for text in (geojson(), geojson(("a", [])), "POINT (1 2)", "POLYGON ((0 0, 1 0, 2 0, 0 0))"):
+            file = self.file("plan.geojson", text)
+            named = ["--name-by", "name"] if text.startswith("{") else []
+            for words in (["--fit"], ["--factor", 1, "--coded"], ["--factor", 1, *named]):
+                status, output, errors = outcome(to_script, file, *words, "--output", self.folder / "out.txt")
+                self.assertEqual((status, output), (1, ""), (text, words, errors))
+                self.assertEqual(errors.splitlines()[-1], "no layer: nothing is written")
+                self.assertEqual([path.name for path in self.folder.iterdir()], ["plan.geojson"])
+
     def test_the_store_that_is_told_is_another_file_than_the_script(self) -> None:
         file = self.file("plan.wkt", self.degrees)
         for name, made in (("map.txt", "map.db"), ("map.db", "map.store"), ("map", "map.db")):
@@ -285,7 +325,7 @@ class Coding(InFolder):
         file = self.file("plan.geojson", text)
         self.assertEqual(outcome(to_script, file, "--coded", "--output", self.folder / "out.txt")[0], 0)
         names = (self.folder / "out.names.csv").read_text().splitlines()[1:]
-        self.assertEqual([row.split('"')[1] for row in names], [f"{file}, member 1", f"{file}, member 2"])
+        self.assertEqual([row.split('"')[1] for row in names], [f"{file}, feature 1", f"{file}, feature 2"])
 
     def test_several_stores_where_a_layer_would_be_too_long(self) -> None:
         features = [(f"n{i}", [[zigzag(1000, 3000 * i)]]) for i in range(5)]

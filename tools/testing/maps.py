@@ -184,7 +184,10 @@ class Overlaps(WithProgram):
                                                      "area have FILE, text 3, FILE, text 4"))
         words = ["--store", self.store("plan.db", (self.folder / "plan.txt").read_bytes()), "--names",
                  self.folder / "plan.names.csv", "--program", self.program]
-        self.assertEqual(outcome(which, *words, "29.5", "5")[:2], (1, ""))
+        points = self.file("points.txt", "29.5 5\n25 5\n")  # a point that nobody can answer takes no other along
+        self.assertEqual(outcome(which, *words, "--points", points)[:2],
+                         (1, "error\t29.5 5: number 7 is no feature's: features overlap there, or this is another "
+                             f"store's table\n{self.folder / 'plan.wkt'}, text 3\n"))
         self.assertEqual(outcome(which, *words, "25", "5")[1], f"{self.folder / 'plan.wkt'}, text 3\n")
 
     def test_rings_that_cross_have_the_area_of_their_inside(self) -> None:

@@ -181,6 +181,25 @@ class Names(unittest.TestCase):
         output = on_file(to_script, collection(feature('"a"'), feature('"b"', 10)))[1]
         self.assertEqual(len(output.splitlines()), 1)
 
+    def test_the_feature_that_is_refused_is_told(self) -> None:
+        told = "refused: FILE, {}: a ring whose last point is not its first, 10 0\n"
+        broken = feature('"b"', 10).replace(", [10, 0]]", ", [10, 1]]")
+        for text, label in ((collection(feature('"a"'), broken), "feature 2"), (broken, "feature 1")):
+            self.assertIn(told.format(label), on_file(to_script, text)[2])
+            self.assertIn(told.format(f"{label} (b)"), on_file(to_script, text, "--name-by", "name")[2])
+        self.assertIn(told.format("text 1"), on_file(to_script, "POLYGON ((10 0, 15 0, 10 5, 10 1))")[2])
+
+    def test_a_property_that_no_feature_has(self) -> None:
+        told = "--name-by nope: no feature has this property; they have"
+        text = collection(feature('"a"'), feature('"b"', 10))
+        self.assertEqual(on_file(to_script, text, "--name-by", "nope"), (2, "", f"{told} name\n"))
+        many = text.replace('"name": "b"', ", ".join(f'"p{place}": 1' for place in range(12)))
+        self.assertEqual(on_file(to_script, many, "--name-by", "nope"),
+                         (2, "", f"{told} name, {', '.join(f'p{place}' for place in range(9))} and 3 more\n"))
+        self.assertEqual(on_file(to_script, many, "--name-by", "p11")[0], 0)
+        for none in (SQUARE, text.replace('{"name": "a"}', "[1]").replace('{"name": "b"}', "null")):
+            self.assertEqual(on_file(to_script, none, "--name-by", "nope"), (2, "", f"{told} none\n"))
+
     def test_geometry_collections_and_odd_values(self) -> None:
         inner = '{"type": "Polygon", "coordinates": [[[0, 0], [5, 0], [0, 5], [0, 0]]]}'
         text = f'{{"type": "GeometryCollection", "geometries": [{inner}, {{"type": "Point", "coordinates": [1, 2]}}]}}'
@@ -193,5 +212,5 @@ class Names(unittest.TestCase):
             status, output, errors = on_file(to_script, f'{{"type": "Polygon", "coordinates": {odd}}}')
             self.assertEqual((status, output), (1, ""), odd)
         status, output, errors = on_file(to_script, '{"type": "Polygon", "coordinates": []}')
-        self.assertEqual((status, output, errors), (0, "", "nothing to write: FILE\n"))
+        self.assertEqual((status, output, errors), (1, "", "nothing to write: FILE\nno layer: nothing is written\n"))
         self.assertEqual(on_file(to_script, '{"type": "Feature", "properties": null, "geometry": null}')[:2], (1, ""))

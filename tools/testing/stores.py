@@ -10,9 +10,11 @@ from types import ModuleType
 
 import asking
 import dump_store
+import refused
 import sessions
 import to_geojson
 import to_rings
+import to_script
 import to_svg
 import which
 from testing.common import SQUARE, InFolder, WithProgram, content, outcome
@@ -61,6 +63,28 @@ class OverScripts(InFolder):
             status, output, errors = self.asked(tool, f"PUT A {SQUARE}\nDEFINE I = A & B\n", "--layer", "I")
             self.assertEqual((status, output), (1, ""))
             self.assertEqual(errors, "line 2: DEFINE I ..: error 10 unknown layer\nI: no layer has this name\n")
+
+    def test_the_last_layer_that_stands(self) -> None:
+        text = f"PUT A {SQUARE}\nDEFINE I = A\n"
+        for more, layer, refused_lines in (
+            ("DEFINE J = A & B\n", "I", 1), ("DEFINE J = A\nDROP J\n", "I", 0),
+            ("DEFINE J = A\nDEFINE I = A\n", "I", 0),
+            ("DEFINE J = A\nDEFINE I = B\n", "J", 1), ("BATCH 2\nDEFINE J = A\nDROP Q\n", "I", 1), ("DROP I\n", "A", 0),
+        ):
+            script = self.file("plan.txt", text + more)
+            for tool in (to_rings, to_svg) if "Q" in more else (to_rings,):
+                words = ["--program", self.model()]
+                wanted, found = (outcome(tool, script, *words, *own) for own in (["--layer", layer], []))
+                self.assertEqual(found, wanted)
+                self.assertEqual((found[0], found[2].count("error 10")), (min(1, refused_lines), refused_lines))
+        for tool in (to_rings, to_svg):
+            words = ["--replies", self.folder / "replies"]
+            script = self.file("asked.txt", text + "DEFINE J = Q\nWAIT I\n"
+                               + "".join(f"EDGES I {column}\n" for column in range(33)))
+            self.file("replies", "ok 1\nok 2\nerror 10 unknown layer\nbuilt 2\n" + "edges 0\n" * 33)
+            self.assertEqual(outcome(tool, script, *words), outcome(tool, script, *words, "--layer", "I"))
+            self.assertEqual(self.asked(tool, "PUT A POLYGON EMPTY x\n")[2].splitlines()[-1],
+                             "A: no layer has this name")
 
     def test_numbers_with_great_exponents_are_refused_as_other_lines_are(self) -> None:
         text = f"PUT A {SQUARE}\nPUT B POLYGON ((0 0, 1e99999999 0, 0 1e-99999999, 0 0))\n"
@@ -125,6 +149,15 @@ class OverScripts(InFolder):
                 with self.assertRaises(SystemExit) as ended, unittest.mock.patch("sys.stderr"):
                     tool.main(words)
                 self.assertEqual(ended.exception.code, 2)
+
+    def test_a_file_that_is_not_there(self) -> None:
+        script, absent = self.file("a.txt", TRIANGLE), self.folder / "absent"
+        told = f"{absent}: No such file or directory\n"
+        for words in ([absent, script], [script, absent]):
+            self.assertEqual(outcome(refused, *words), (1, "", told))
+        for words in ([absent], [script, "--replies", absent], [script, "--program", absent]):
+            self.assertEqual(outcome(to_rings, *words), (1, "", told))
+        self.assertEqual(outcome(to_script, absent), (2, "", told.replace(": No", ": not read: No")))
 
     def test_a_script_that_makes_no_layer(self) -> None:
         for tool in (to_rings, to_svg, to_geojson):
@@ -205,7 +238,8 @@ class OverStores(WithProgram):
             self.assertEqual(outcome(to_rings, "--store", none, "--program", program),
                              (1, "", f"{none}: error 32 not a store\n"))
             self.assertEqual(outcome(dump_store, self.folder / "absent", "--program", program)[0], 1)
-            self.assertEqual(outcome(dump_store, self.folder, "--program", program)[0], 1)
+            self.assertEqual(outcome(dump_store, self.folder, "--program", program),
+                             (1, "", f"{self.folder}: a folder, and no store\n"))
         empty = self.store("empty.db", "")
         self.assertEqual(self.each(to_rings, empty), (1, "", f"{empty}: it has no layer\n"))
         self.assertEqual(outcome(dump_store, empty, "--program", self.program), (0, "", ""))
@@ -216,6 +250,18 @@ class OverStores(WithProgram):
             for tool in (to_rings, to_svg, to_geojson):
                 self.assertEqual(outcome(tool, store, "--program", self.program),
                                  (1, "", f"{store}: a store, and no script; say --store {store}\n"))
+
+    def test_a_store_in_the_place_of_a_map_or_of_replies(self) -> None:
+        store, script = self.store("map.db", CUT), self.file("map.txt", CUT)
+        self.assertEqual(outcome(to_script, store),
+                         (2, "", f"{store}: a store, and no map; its layers as a script: dump_store.py {store}, as "
+                                 f"GeoJSON: to_geojson.py --store {store}\n"))
+        self.assertEqual(outcome(refused, store, script), (1, "", f"{store}: a store, and no script; its layers as a "
+                                                           f"script: dump_store.py {store}\n"))
+        self.assertEqual(outcome(refused, script, store),
+                         (1, "", f"{store}: a store, and no replies; say what the program wrote\n"))
+        self.assertEqual(outcome(to_rings, script, "--replies", store),
+                         (1, "", f"{store}: a store, and no replies; say --store {store}\n"))
 
     def test_no_program(self) -> None:
         script = self.file("plan.txt", CUT)
@@ -234,9 +280,43 @@ class OverStores(WithProgram):
         self.assertEqual((status, output), (0, "F\nW\nedge\tW\tF\n\nedge\tW\tF\n"))
         self.assertEqual(errors, "asked at 500.1 -19.9, which is nearest to 500.100001 -19.9\n")
         self.assertEqual(self.each(which, store, "--", "-1", "2")[:2], (0, "\n"))
-        self.assertEqual(self.each(which, store, "999999", "2"),
-                         (1, "", f"{store}: LOCATE W 9994990 220 1: error 20 point out of range\n"))
-        self.assertEqual(self.each(which, store, "1", "x")[:2], (1, ""))
+
+    def test_a_point_that_is_none_takes_no_answer_along(self) -> None:
+        store = self.store("plan.db", BOW + CUT)
+        self.file("plan.scale.json", SCALE)
+        self.assertEqual(self.each(which, store, "999999", "2"), (1, "error\t999999 2: point out of range\n", ""))
+        none = "no number, or one that is too long"
+        self.assertEqual(self.each(which, store, "1", "x"), (1, f"error\t1 x: {none}: x\n", ""))
+        points = self.file("points.txt", "\ufeff# x y\n500.2 -19.9\n\n  # far out:\n 1e99; -19.9\n500.01,-19.85\r\n"
+                                         f"7\n1 2 3\n{'9' * 100} 1\n507;-10\n")
+        status, output, errors = self.each(which, store, "--points", points)
+        self.assertEqual((status, errors), (1, ""))
+        self.assertEqual(output.splitlines(), [
+            "F", "error\t1e99; -19.9: point out of range", "W", "error\t7: two numbers are a point",
+            "error\t1 2 3: two numbers are a point", f"error\t{'9' * 80} ..: {none}: {'9' * 40}", ""])
+        for text in ("", "#\n\n"):
+            self.assertEqual(self.each(which, store, "--points", self.file("none.txt", text)), (0, "", ""))
+        edge = self.file("edge.txt", "105357.6 0\n105357.7 0\n")  # 2^20 / 10 + 500 is the last that is in range
+        self.assertEqual(self.each(which, store, "--points", edge)[:2],
+                         (1, "\nerror\t105357.7 0: point out of range\n"))
+
+
+class ProgramsThatAreFound(InFolder):
+    def test_where_programs_are_looked_for(self) -> None:
+        top, path = self.folder / "top", self.folder / "path"
+        names = ("overlay_live", "overlayd")
+        places = [top / "crates" / name / "out" / name for name in names]
+        places += [folder / name for folder in (top, path) for name in names]
+        for place in places:
+            place.parent.mkdir(parents=True, exist_ok=True)
+            place.write_text("#!/bin/sh\n")
+            place.chmod(0o700)
+        with unittest.mock.patch("asking.TOP", top), unittest.mock.patch.dict("os.environ", PATH=str(path)):
+            for place in places:
+                self.assertEqual(asking.found_program((asking.LIVE, asking.BATCHED)), str(place))
+                place.unlink()
+            with self.assertRaisesRegex(sessions.Unusable, "neither overlay_live nor overlayd is built in .*--program"):
+                asking.found_program((asking.LIVE, asking.BATCHED))
 
 
 class OfAnswers(InFolder):
@@ -246,13 +326,14 @@ class OfAnswers(InFolder):
                               (["edge", "in", "out"], "edge\tb\tc"), (["edge", "edge", "out"], "edge\ta\tb\tc"),
                               (["out", "out", "edge"], "edge")):
             self.assertEqual(which.of_bits(table, answers).text(), text)
-        with self.assertRaisesRegex(sessions.Unusable, "number 6 is no feature's"):
-            which.of_bits(table, ["out", "in", "in"])
+        self.assertRegex(which.of_bits(table, ["out", "in", "in"]).fault or "", "number 6 is no feature's")
 
     def test_tables_that_are_none(self) -> None:
         for text in ("a,b\n1,2\n", "store,number,name\n1,x,y\n", "store,number,name\n1\n", "\xff"):
-            with self.assertRaises(sessions.Unusable, msg=text):
+            with self.assertRaisesRegex(sessions.Unusable, "expected is NAME.names.csv of to_script.py --coded"):
                 which.read_table(self.file("names.csv", text.encode("latin-1") + b"\n"))
+        with self.assertRaisesRegex(sessions.Unusable, "^/absent/names.csv: No such file or directory$"):
+            which.read_table(pathlib.Path("/absent/names.csv"))
         table = self.file("names.csv", "\ufeffstore,number,name\r\n2,3,Ash\r\n")
         self.assertEqual(which.read_table(table), {2: {3: "Ash"}})
 

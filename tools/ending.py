@@ -1,0 +1,70 @@
+"""Ends a tool: with one line where standard output cannot be written, quietly where the reader of it went away.
+
+A module for the tools; it is no tool of its own.
+"""
+
+import contextlib
+import errno
+import io
+import os
+import pathlib
+import sys
+from collections.abc import Callable
+from typing import NoReturn, TextIO
+
+import limits
+
+
+def told(of: object, fault: Exception) -> str:
+    """What a fault says of a file, or of whatever it is of: of the system's the words without number and name."""
+    return f"{of}: {fault.strerror or fault}" if isinstance(fault, OSError) else f"{of}: {fault}"
+
+
+def buffered(stream: TextIO) -> TextIO:
+    """The stream through a buffer: where it has none (PYTHONUNBUFFERED), what a write leaves over is lost unsaid."""
+    if not isinstance(stream.buffer, io.RawIOBase):
+        return stream
+    return open(stream.fileno(), "w", encoding=stream.encoding, errors=stream.errors, closefd=False)
+
+
+def flushed(main: Callable[[list[str]], int]) -> int | str | None:
+    """The status of a tool, all of whose output is written."""
+    if sys.stdout is None:
+        raise OSError(errno.EBADF, os.strerror(errno.EBADF))
+    sys.stdout = buffered(sys.stdout)
+    try:
+        status: int | str | None = main(sys.argv[1:])
+    except SystemExit as ended:
+        status = ended.code
+    sys.stdout.flush()
+    return status
+
+
+def tell_fault(fault: OSError) -> None:
+    """Tells, where that can be told, what could not be written. A reader that went away knows it."""
+    if not isinstance(fault, BrokenPipeError):
+        of = "standard output" if fault.filename is None else fault.filename
+        with contextlib.suppress(OSError):
+            print(f"{pathlib.Path(sys.argv[0]).name}: {told(of, fault)}", file=sys.stderr)
+
+
+def drop_rest() -> None:
+    """What is left in the buffers goes nowhere, so that the interpreter tells nothing of it at its end."""
+    nowhere = os.open(os.devnull, os.O_WRONLY)
+    for stream in (1, 2):
+        os.dup2(nowhere, stream)
+
+
+def run(main: Callable[[list[str]], int]) -> NoReturn:
+    """Runs a tool by the words that it is called with, and ends with its status: 1 where output cannot be written."""
+    try:
+        status = flushed(main)
+    except OSError as fault:
+        tell_fault(fault)
+        drop_rest()
+        status = 1
+    sys.exit(status)
+
+
+if __name__ == "__main__":
+    limits.tell(__doc__)

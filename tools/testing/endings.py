@@ -1,0 +1,74 @@
+"""Each tool ends with one line, or none, where what it writes cannot be written."""
+
+import os
+import subprocess
+import sys
+import unittest
+
+import ending
+from testing.common import SQUARE, InFolder, path
+
+COUNT = 20000
+LONG = "PUT A x\n" + "".join(f"DROP L{place}\n" for place in range(COUNT))
+
+
+class Endings(InFolder):
+    def calls(self) -> list[list[str]]:
+        """A call of each tool that writes more than a buffer of the interpreter and of a pipe holds."""
+        map_file = self.file("map.wkt", "".join(f"POLYGON (({x} 100000, {x + 9} 100000, {x + 9} 100009, {x} 100000))\n"
+                                                for x in range(100000, 115000, 10)))
+        script = self.file("long.txt", LONG)
+        replies = self.file("long.replies", "error 10 unknown layer\n" * (COUNT + 1))
+        store = self.file("a.db", "")
+        many = self.file("many.replies", f"layers {COUNT}\n" + "I = A\n" * COUNT)
+        program = self.file("program", f"#!/bin/sh\ncat '{many}'\n", 0o700)
+        listed = self.file("listed.replies", f"layers 1\n{'A' * 32} {SQUARE}\n")
+        found = self.file("found.replies", "in\n" * 4000)
+        answers = self.file("answers", f"#!/bin/sh\nread line\n[ $line = LAYERS ] && exec cat '{listed}'\n"
+                                       f"exec cat '{found}'\n", 0o700)
+        points = self.file("points.txt", "1 1\n" * 4000)
+        ring = ", ".join(f"{place} {place % 7}" for place in [*range(COUNT), 0])
+        drawn, accepted = self.file("drawn.txt", f"PUT A POLYGON (({ring}))\n"), self.file("drawn.replies", "ok 1\n")
+        return [
+            ["to_script.py", str(map_file), "--split"],
+            ["refused.py", str(script), str(replies)],
+            ["dump_store.py", str(store), "--program", str(program)],
+            ["which.py", "--store", str(store), "--program", str(answers), "--points", str(points)],
+            ["to_rings.py", str(script), "--questions", "--layer", "A"],
+            ["to_geojson.py", str(script), "--questions", "--layer", "A"],
+            ["to_svg.py", str(drawn), "--replies", str(accepted)],
+        ]
+
+    def test_a_reader_that_went_away(self) -> None:
+        calls = self.calls()
+        for unbuffered, (name, *words) in [("", call) for call in calls] + [("1", calls[-2])]:
+            begin = f"PYTHONUNBUFFERED={unbuffered} {sys.executable} {path(name)} {' '.join(words)}"
+            text = f"{begin} 2> {self.folder}/errors | head -c 10 > {self.folder}/output; echo ${{PIPESTATUS[0]}}"
+            done = subprocess.run(["bash", "-c", text], capture_output=True, text=True, check=True)
+            told = (self.folder / "errors").read_text()
+            self.assertEqual((done.stdout, "Broken" in told, "Traceback" in told), ("1\n", False, False), name + told)
+
+    def test_a_full_device(self) -> None:
+        for name, *words in [*self.calls(), ["which.py", "--help"], ["refused.py", "--help"]]:
+            with open("/dev/full", "w", encoding="utf-8") as full:
+                done = subprocess.run([sys.executable, path(name), *words], stdout=full, stderr=subprocess.PIPE,
+                                      text=True, check=False)
+            self.assertEqual(done.returncode, 1, name)
+            self.assertEqual(done.stderr.splitlines()[-1], f"{name}: standard output: No space left on device")
+            self.assertNotIn("Traceback", done.stderr)
+            self.assertNotIn("Exception", done.stderr)
+
+    def test_both_streams(self) -> None:
+        name, *words = self.calls()[1]
+        call = f"{sys.executable} {path(name)} {' '.join(words)}"
+        for streams, status in ((">/dev/full 2>&1", 1), (">&- 2>/dev/null", 1), (">/dev/null", 1)):
+            done = subprocess.run(["bash", "-c", f"{call} {streams}"], capture_output=True, text=True, check=False)
+            self.assertEqual((done.returncode, done.stdout, done.stderr), (status, "", ""), streams)
+
+
+class Reasons(unittest.TestCase):
+    def test_a_file_is_named_once(self) -> None:
+        for fault, text in ((FileNotFoundError(2, os.strerror(2), "a.txt"), "No such file or directory"),
+                            (OSError(28, os.strerror(28)), "No space left on device"), (OSError("odd"), "odd"),
+                            (ValueError("x"), "x")):
+            self.assertEqual(ending.told("a.txt", fault), f"a.txt: {text}")
