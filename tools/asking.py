@@ -178,7 +178,8 @@ def add_layer_word(parser: argparse.ArgumentParser, many: bool) -> None:
                             help="a layer, base or derived; may stand several times (default: all)")
     else:
         parser.add_argument("--layer", metavar="NAME",
-                            help="a layer, base or derived (default: the derived one that was defined last and stands)")
+                            help="a layer, base or derived (default: the derived one that was defined last and stands;"
+                                 " of a store the last derived one that LAYERS tells)")
 
 
 def add_scale_words(parser: argparse.ArgumentParser) -> None:

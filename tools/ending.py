@@ -60,6 +60,9 @@ def run(main: Callable[[list[str]], int]) -> NoReturn:
     try:
         status = flushed(main)
     except OSError as fault:
+        # What was printed before a note could not be told is output all the same.
+        with contextlib.suppress(OSError, AttributeError):
+            sys.stdout.flush()
         tell_fault(fault)
         drop_rest()
         status = 1

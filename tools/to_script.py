@@ -329,7 +329,9 @@ def write_files(words: argparse.Namespace, stores: list[Store], scale: Scale) ->
     try:
         targets = [*scripts, *([names] if words.coded else [])]
         check_targets([*targets, sidecar], read_by(words))
-        check_targets(targets, [words.scale] if words.scale else [])  # the sidecar says the same scale again
+        check_targets(targets, [words.scale] if words.scale else [])
+        if words.scale and words.title not in (None, scale.title):
+            check_targets([sidecar], [words.scale])  # under the same title it says the same scale again
         for script, store in zip(scripts, stores):
             script.write_bytes("".join(line + "\n" for line in lines_of(store)).encode())
             made = script.with_suffix(".store" if script.suffix == ".db" else ".db")

@@ -48,6 +48,15 @@ class Endings(InFolder):
             told = (self.folder / "errors").read_text()
             self.assertEqual((done.stdout, "Broken" in told, "Traceback" in told), ("1\n", False, False), name + told)
 
+    def test_output_is_kept_where_notes_cannot_be_told(self) -> None:
+        square = self.file("a.wkt", SQUARE + "\n")
+        plain = subprocess.run([sys.executable, path("to_script.py"), str(square)], capture_output=True, check=True)
+        with open("/dev/full", "wb") as full:
+            done = subprocess.run([sys.executable, path("to_script.py"), str(square)], stdout=subprocess.PIPE,
+                                  stderr=full, check=False)
+        self.assertTrue(plain.stdout and plain.stderr)
+        self.assertEqual(done.stdout, plain.stdout)
+
     def test_a_full_device(self) -> None:
         for name, *words in [*self.calls(), ["which.py", "--help"], ["refused.py", "--help"]]:
             with open("/dev/full", "w", encoding="utf-8") as full:

@@ -172,6 +172,9 @@ class Fitting(InFolder):
         scale = self.file("plan.scale.json", '{"factor": 2}')
         told = outcome(to_script, file, "--scale", scale, "--output", scale)
         self.assertEqual(told, (2, "", f"--output: {scale} is the input {scale}, which is not written over\n"))
+        titled = ["--title", "Other", "--output", self.folder / "plan.txt"]
+        told = outcome(to_script, file, "--scale", scale, *titled)
+        self.assertEqual(told, (2, "", f"--output: {scale} is the input {scale}, which is not written over\n"))
         self.assertEqual(outcome(to_script, file, "--scale", scale, "--output", self.folder / "plan.txt")[0], 0)
 
     def test_no_file_is_left_where_there_is_no_layer(self) -> None:
