@@ -57,6 +57,9 @@ def drop_rest() -> None:
 
 def run(main: Callable[[list[str]], int]) -> NoReturn:
     """Runs a tool by the words that it is called with, and ends with its status: 1 where output cannot be written."""
+    if sys.stderr is None:
+        # Closed by who calls: `print` would write what is told into the output.
+        sys.stderr = open(os.devnull, "w", encoding="utf-8")
     try:
         status = flushed(main)
     except OSError as fault:

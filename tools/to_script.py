@@ -31,8 +31,9 @@ by more than a 1000th of the extent, or are out of range, nothing is written, an
           Where one store of 32 layers does not suffice, NAME.1.txt, NAME.2.txt .. are each the script of a store.
 
 Status 0: all was written; 1: something was refused, the rest was written, features overlap, no layer came of the files
-and nothing was written, or standard output cannot be written; 2: a file could not be read, the factor does not fit, no
-feature has the property of --name-by, or what would be written over is a store or an input, and nothing was written.
+and nothing was written, or standard output or error cannot be written; 2: a file could not be read, the factor does not
+fit, no feature has the property of --name-by, or what would be written over is a store or an input, and nothing was
+written.
 """
 
 import argparse
@@ -330,7 +331,7 @@ def write_files(words: argparse.Namespace, stores: list[Store], scale: Scale) ->
         targets = [*scripts, *([names] if words.coded else [])]
         check_targets([*targets, sidecar], read_by(words))
         check_targets(targets, [words.scale] if words.scale else [])
-        if words.scale and words.title not in (None, scale.title):
+        if words.scale and (words.title or scale.title) != scale.title:
             check_targets([sidecar], [words.scale])  # under the same title it says the same scale again
         for script, store in zip(scripts, stores):
             script.write_bytes("".join(line + "\n" for line in lines_of(store)).encode())

@@ -51,11 +51,11 @@ class Endings(InFolder):
     def test_output_is_kept_where_notes_cannot_be_told(self) -> None:
         square = self.file("a.wkt", SQUARE + "\n")
         plain = subprocess.run([sys.executable, path("to_script.py"), str(square)], capture_output=True, check=True)
-        with open("/dev/full", "wb") as full:
-            done = subprocess.run([sys.executable, path("to_script.py"), str(square)], stdout=subprocess.PIPE,
-                                  stderr=full, check=False)
         self.assertTrue(plain.stdout and plain.stderr)
-        self.assertEqual(done.stdout, plain.stdout)
+        for stream, status in (("2>/dev/full", 1), ("2>&-", 0)):
+            call = f"{sys.executable} {path('to_script.py')} {square} {stream}"
+            done = subprocess.run(["bash", "-c", call], stdout=subprocess.PIPE, check=False)
+            self.assertEqual((done.returncode, done.stdout), (status, plain.stdout), stream)
 
     def test_a_full_device(self) -> None:
         for name, *words in [*self.calls(), ["which.py", "--help"], ["refused.py", "--help"]]:

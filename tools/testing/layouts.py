@@ -175,7 +175,9 @@ class Fitting(InFolder):
         titled = ["--title", "Other", "--output", self.folder / "plan.txt"]
         told = outcome(to_script, file, "--scale", scale, *titled)
         self.assertEqual(told, (2, "", f"--output: {scale} is the input {scale}, which is not written over\n"))
-        self.assertEqual(outcome(to_script, file, "--scale", scale, "--output", self.folder / "plan.txt")[0], 0)
+        for words in ([], ["--title", ""]):
+            told = outcome(to_script, file, "--scale", scale, *words, "--output", self.folder / "plan.txt")
+            self.assertEqual(told[0], 0, told)
 
     def test_no_file_is_left_where_there_is_no_layer(self) -> None:
         for text in (geojson(), geojson(("a", [])), "POINT (1 2)", "POLYGON ((0 0, 1 0, 2 0, 0 0))"):

@@ -17,9 +17,9 @@ IN OUT           paths of one to four pairs; lines are read from IN, and their
 --max-blocks N   the file has at most N blocks of 4,096 bytes, 1 to 1048576;
                  65536 where it is left out
 
-It ends when all sessions have read their lines to the end. Status 0: all
-replies are written and the last version is in the file; 1: not so, or it could
-not begin; 2: wrong words.
+It ends when all sessions have read their lines to the end. Status 0: all lines
+are read, all replies written and, with a store that is not read alone, the last
+version is in the file; 1: not so, or it could not begin; 2: wrong words.
 
 PUT name wkt      DEFINE name = A & (B | C)   DROP name      BATCH n     SYNC
 LOCATE name x y   GRID name x y step nx ny    WAIT name      LAYERS
