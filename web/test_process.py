@@ -198,6 +198,8 @@ class Processes(unittest.TestCase):
                 self.assertEqual((status, "Traceback" in text), (2, False), line)
         words = overlay_web.words_of(["--store", "map.db", "--host", "10.1.2.3", "--name", "Map.Example.Org"])
         self.assertEqual(overlay_web.hosts_of(words), {"10.1.2.3", "map.example.org"})
+        words = overlay_web.words_of(["--store", "map.db", "--host", "127.0.0.2"])
+        self.assertEqual(overlay_web.hosts_of(words), {"127.0.0.2", "127.0.0.1", "localhost", "[::1]"})
         self.assertTrue(
             overlay_web.is_loopback("127.8.8.8")
             and overlay_web.is_loopback("::1")
