@@ -26,6 +26,9 @@ first_decides r x s b e d t = differs r s (sym d ∙ t) ∙ ap (λ o. ordering_t
 pub second_decides : (r x s t : Ordering) (b : Bool) → r ≡ x → b ≡ is_ne r → b ≡ false → t ≡ s → t ≡ ordering_then x s
 second_decides r x s t b e d f k = k ∙ agrees r s (sym d ∙ f) ∙ ap (λ o. ordering_then o s) e
 
+pub by_products : (r : Ordering) (a b m n : ℤ) → r ≡ int_cmp a b → a ≡ m → b ≡ n → r ≡ int_cmp m n
+by_products r a b m n e ea eb = e ∙ ap (λ z. int_cmp z b) ea ∙ ap (λ z. int_cmp m z) eb
+
 -- over one denominator the numerators alone decide
 over_one : (x a w : ℤ) → pos 0 <ℤ w → int_cmp x a ≡ int_cmp (x *ℤ w) (a *ℤ w)
 over_one x a w h = int_cmp-scaled w x a h ∙ ap (λ z. int_cmp z (w *ℤ a)) (*ℤ_comm w x) ∙ ap (λ z. int_cmp (x *ℤ w) z) (*ℤ_comm w a)
@@ -40,7 +43,12 @@ pub first_fails : (x y z : Bool) → x ≡ false → false ≡ (x && y && z)
 first_fails true y z e = cc
 first_fails false y z e = refl
 
-pub last_decides : (x y z b : Bool) → x ≡ true → y ≡ true → b ≡ z → b ≡ (x && y && z)
+pub second_fails : (x y z : Bool) → y ≡ false → false ≡ (x && y && z)
+second_fails true true z e = cc
+second_fails true false z e = refl
+second_fails false y z e = refl
+
+last_decides : (x y z b : Bool) → x ≡ true → y ≡ true → b ≡ z → b ≡ (x && y && z)
 last_decides true true z b e f k = k
 last_decides true false z b e f k = cc
 last_decides false y z b e f k = cc
@@ -58,6 +66,9 @@ from_left l p a e h = grind (arith, ints)
 before_right : (r s p q : ℤ) → s ≡ r → q ≡ p → int_le s q ≡ false → int_lt p r ≡ true
 before_right r s p q e f h = grind (arith, ints)
 
+at_right : (r s p q : ℤ) → s ≡ r → q ≡ p → int_le s q ≡ true → int_lt p r ≡ false
+at_right r s p q e f h = grind (arith, ints)
+
 pub equal_to : (r s : Ordering) (b : Bool) → r ≡ s → b ≡ is_ne r → b ≡ false → is_eq s ≡ true
 equal_to r s b e d f = ap is_eq (sym e) ∙ by_case r (sym d ∙ f)
   where
@@ -70,6 +81,10 @@ equal_to r s b e d f = ap is_eq (sym e) ∙ by_case r (sym d ∙ f)
 pub not_below : (s : Segment) (p : Point) (a : ℤ) → a ≡ p.x -ℤ (s.left.x *ℤ p.w) → int_lt a (pos 0) ≡ true → false ≡ is_below s p
 not_below s p a e h =
     first_fails (int_le (s.left.x *ℤ p.w) p.x) (int_lt p.x (s.right.x *ℤ p.w)) (int_lt (pos 0) (height_over s p)) (not_left (s.left.x *ℤ p.w) p.x a e h)
+
+pub past_end : (s : Segment) (p : Point) (r x : ℤ) → r ≡ s.right.x *ℤ p.w → x ≡ p.x → int_le r x ≡ true → false ≡ is_below s p
+past_end s p r x er ex tr =
+    second_fails (int_le (s.left.x *ℤ p.w) p.x) (int_lt p.x (s.right.x *ℤ p.w)) (int_lt (pos 0) (height_over s p)) (at_right (s.right.x *ℤ p.w) r p.x x er ex tr)
 
 pub below_by_height : (s : Segment) (p : Point) (a r x h : ℤ) → a ≡ p.x -ℤ (s.left.x *ℤ p.w) → int_lt a (pos 0) ≡ false → r ≡ s.right.x *ℤ p.w → x ≡ p.x → int_le r x ≡ false → h ≡ height_over s p → int_lt (pos 0) h ≡ is_below s p
 below_by_height s p a r x h ea fa er ex fr eh =

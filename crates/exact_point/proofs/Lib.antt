@@ -1,6 +1,7 @@
 pub mod Tests
 pub mod Signs
 pub mod PointBounds
+pub mod Readings
 pub mod NarrowBounds
 pub mod Lexical
 pub mod OnSegment

@@ -1,7 +1,7 @@
 -- How large sums and products of bounded numbers are, where 64 bits hold them.
-use Rattle.std.proofs.Common.{◌≡◌, ℕ, ℤ, ◌+ℤ◌, ◌-ℤ◌, ◌*ℤ◌, ◌+◌, ◌*◌, ◌^◌, ◌<◌, arith, ◌∙◌, FitsSigned, to_z, of_z}
+use Rattle.std.proofs.Common.{◌≡◌, ℕ, ℤ, pos, negsuc, nat_abs, ◌+ℤ◌, ◌-ℤ◌, ◌*ℤ◌, ◌≤ℤ◌, ◌+◌, ◌*◌, ◌^◌, ◌<◌, refl, ap, arith, ◌∙◌, FitsSigned, to_z, of_z}
 use Rattle.std.specs.Int.{w64, w128}
-use Rattle.std.proofs.lemmas.Int.{fits_signed_from_abs, to_z-of_z}
+use Rattle.std.proofs.lemmas.Int.{ints, fits_signed_from_abs, to_z-of_z}
 use Rattle.overlay_terms.specs.Within.{IsWithin}
 use Rattle.overlay_terms.proofs.Bounds.{Reads, read, reads, abs_within, within_add, within_mul, within_sub}
 
@@ -41,3 +41,15 @@ widened {n} {a} {b} h k e = let is : b ≡ a = e ∙ narrow_read n a h k in rw i
 -- a number of 128 bits, cut to 64
 pub narrowed : {n : ℕ} {a : ℤ} → IsWithin n a → n < 2 ^ 63 → Reads n (to_z w64 (of_z w64 (to_z w128 (of_z w128 a)))) a
 narrowed {n} {a} h k = rw (read n a h (omega (arith, k))) (narrow_reads n a h k)
+
+-- it fits there
+pub cut_fits : {n : ℕ} {a : ℤ} → IsWithin n a → n < 2 ^ 63 → FitsSigned w64 (to_z w128 (of_z w128 a))
+cut_fits {n} {a} h k = rw (read n a h (omega (arith, k))) (narrow_fits n a h k)
+
+-- a number of 128 bits without sign, cut to 64 bits that have none
+pub unsigned : {n : ℕ} {a b : ℤ} → pos 0 ≤ℤ a → IsWithin n a → n < 2 ^ 127 → b ≡ pos (nat_abs (to_z w128 (of_z w128 a))) → Reads n (to_z w128 (of_z w128 b)) a
+unsigned {n} {a} {b} l h k e = let is : b ≡ a = e ∙ ap (λ (z : ℤ). pos (nat_abs z)) (read n a h k) ∙ whole a l in rw is (reads n a h k)
+  where
+    whole : (a : ℤ) → pos 0 ≤ℤ a → pos (nat_abs a) ≡ a
+    whole (pos k) l = refl
+    whole (negsuc k) l = omega (arith, ints, l)

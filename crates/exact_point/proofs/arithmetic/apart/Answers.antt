@@ -1,8 +1,19 @@
 use Rattle.std.proofs.Common.{lit<}
 use Rattle.overlay_terms.specs.Plane.{coordinate_max}
 use Rattle.overlay_terms.specs.Within.{IsWithin}
-use Rattle.exact_point.proofs.NarrowBounds.{narrowed, narrow_reads, narrow_mul_reads, narrow_sub_fits, narrow_sub_reads}
+use Rattle.exact_point.proofs.NarrowBounds.{cut_fits, narrowed, narrow_mul_fits, narrow_mul_reads, narrow_reads, narrow_sub_fits, narrow_sub_reads}
 use Rattle.exact_point.proofs.arithmetic.apart.Goals as goal
+
+pub overflow_cast-result : goal.overflow_cast-result
+overflow_cast-result c = cut_fits c.requires.a_small (lit< tt)
+
+pub overflow_cast-result-2 : goal.overflow_cast-result-2
+overflow_cast-result-2 c = cut_fits c.requires.w_small (lit< tt)
+
+pub overflow_mul-result : goal.overflow_mul-result
+overflow_mul-result c =
+    let x : IsWithin coordinate_max c.args.x = record { low = c.requires.x_small.0; high = c.requires.x_small.1 } in
+    narrow_mul_fits (narrow_reads _ _ x (lit< tt)) (narrowed c.requires.w_small (lit< tt)) (lit< tt)
 
 pub overflow_sub-result : goal.overflow_sub-result
 overflow_sub-result c =
