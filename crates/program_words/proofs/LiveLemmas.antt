@@ -1,16 +1,15 @@
 -- What `clap` says of the live program's command line, and what words ask for by it; and paths put into pairs.
-use Rattle.std.proofs.Common.{◌≡◌, ◌≢◌, ◌++◌, ◌*◌, ◌+◌, ◌<◌, ℕ, map, take, get_or, append_assoc, arith, inl, inr, suc, List, [], ◌∷◌, length, ◌==◌, ◌&&◌, Bool, true, false, Option, None, Result, if◌then◌else◌, codes, refl, sym, subst, ap, ◌∙◌, string_bytes}
+use Rattle.std.proofs.Common.{◌≡◌, ◌≢◌, ◌++◌, ◌*◌, ◌+◌, ◌<◌, ℕ, map, take, get_or, append_assoc, arith, inl, inr, List, [], ◌∷◌, length, ◌==◌, ◌&&◌, Bool, true, false, Option, None, Result, if◌then◌else◌, codes, refl, sym, subst, ap, ◌∙◌, string_bytes}
 use Rattle.std.proofs.lemmas.List.{map-append, take_more}
 use Rattle.std.proofs.lemmas.Grind.{flat_map-append}
-use Rattle.std.proofs.lemmas.Bool.Decides.{nat_tests}
 use Rattle.std.specs.List.{list_all}
 use Rattle.std.specs.declared.alloc.Global.{Global}
 use Rattle.std.specs.declared.string.String.{String}
 use Rattle.clap.specs.Words.{App, FailsBy, HasKind, IsAmong, Kinds, Row, Text, fault_of, kind_of, is_simple, is_simple_and_free, matches_of}
 use Rattle.clap.specs.declared.error.Error.{Error}
-use Rattle.clap.specs.declared.error.kind.ErrorKind.{ErrorKind}
 use Rattle.clap.specs.declared.error.kind.ErrorKind.TheVariants as kinds
 use Rattle.clap.proofs.OnLiterals.{clap_on_literals}
+use Rattle.program_words.proofs.RequestLemmas.{none_if}
 use Rattle.program_words.specs.LiveLine.{LiveRequest, is_known_live, live_line, live_request_in, live_request_of, paths_of}
 
 is_simple_line : is_simple live_line ≡ true
@@ -44,14 +43,6 @@ taken_live words all rows known is none found =
     ∙ ap (λ (them : List Text). live_request_in (matches_of live_line them)) (sym is) ∙ ap live_request_in (sym found)
 
 -- words that `clap` refuses ask for nothing
-is_no : (n : ℕ) → (suc n == 0) ≡ false
-is_no n = grind (arith, nat_tests)
-
-none_if : (known : Bool) (kinds : Kinds) (request : Option LiveRequest) (kind : ErrorKind) → IsAmong kind kinds → (if known && (length kinds == 0) then request else None) ≡ None
-none_if known [] request kind among = absurd among
-none_if true (k ∷ kinds) request kind among = rw (is_no (length kinds)) refl
-none_if false (k ∷ kinds) request kind among = refl
-
 pub refused_live : (words all : List Text) (error : Error) → all ≡ codes "overlay_live" ∷ words → HasKind (fault_of live_line all) error → kind_of error ≢ kinds.OutOfMemory
     → live_request_of words ≡ None
 refused_live words all error is (inl memory) other = absurd (other memory)

@@ -1,8 +1,11 @@
 -- What `clap` says of the program's command line, and what words ask for by it.
-use Rattle.std.proofs.Common.{◌≡◌, List, [], ◌∷◌, length, ◌==◌, ◌&&◌, Bool, true, false, Option, None, Result, if◌then◌else◌, codes, refl, sym, subst, ap, ◌∙◌}
+use Rattle.std.proofs.Common.{◌≡◌, ◌≢◌, ℕ, suc, inl, inr, arith, List, [], ◌∷◌, length, ◌==◌, ◌&&◌, Bool, true, false, Option, None, Result, if◌then◌else◌, codes, refl, sym, subst, ap, ◌∙◌}
+use Rattle.std.proofs.lemmas.Bool.Decides.{nat_tests}
 use Rattle.std.specs.List.{list_all}
-use Rattle.clap.specs.Words.{App, FailsBy, Kinds, Row, Text, fault_of, is_simple, is_simple_and_free, matches_of}
+use Rattle.clap.specs.Words.{App, FailsBy, HasKind, IsAmong, Kinds, Row, Text, fault_of, kind_of, is_simple, is_simple_and_free, matches_of}
 use Rattle.clap.specs.declared.error.Error.{Error}
+use Rattle.clap.specs.declared.error.kind.ErrorKind.{ErrorKind}
+use Rattle.clap.specs.declared.error.kind.ErrorKind.TheVariants as kinds
 use Rattle.clap.proofs.OnLiterals.{clap_on_literals}
 use Rattle.program_words.specs.CommandLine.{Request, command_line, is_known, request_in, request_of}
 
@@ -35,3 +38,20 @@ taken words all rows known is none found =
     asked_if (list_all is_known words) (fault_of command_line (codes "overlayd" ∷ words))
     (request_in (matches_of command_line (codes "overlayd" ∷ words))) known (ap (fault_of command_line) (sym is) ∙ none)
     ∙ ap (λ (them : List Text). request_in (matches_of command_line them)) (sym is) ∙ ap request_in (sym found)
+
+-- words that `clap` refuses ask for nothing
+is_no : (n : ℕ) → (suc n == 0) ≡ false
+is_no n = grind (arith, nat_tests)
+
+pub none_if : {R : Type 0} (known : Bool) (kinds : Kinds) (request : Option R) (kind : ErrorKind) → IsAmong kind kinds → (if known && (length kinds == 0) then request else None) ≡ None
+none_if known [] request kind among = absurd among
+none_if true (k ∷ kinds) request kind among = rw (is_no (length kinds)) refl
+none_if false (k ∷ kinds) request kind among = refl
+
+pub refused : (words all : List Text) (error : Error) → all ≡ codes "overlayd" ∷ words → HasKind (fault_of command_line all) error → kind_of error ≢ kinds.OutOfMemory
+    → request_of words ≡ None
+refused words all error is (inl memory) other = absurd (other memory)
+refused words all error is (inr among) other =
+    none_if (list_all is_known words) (fault_of command_line (codes "overlayd" ∷ words))
+    (request_in (matches_of command_line (codes "overlayd" ∷ words))) (kind_of error)
+    (subst (λ (them : List Text). IsAmong (kind_of error) (fault_of command_line them)) is among)
