@@ -10,19 +10,19 @@ pub overflow_cast-w : goal.overflow_cast-w
 overflow_cast-w c = cut_fits c.requires.w_small (lit< tt)
 
 pub overflow_mul-result : goal.overflow_mul-result
-overflow_mul-result c = 
+overflow_mul-result c =
     let x : IsWithin coordinate_max c.args.x = record { low = c.requires.x_small.0; high = c.requires.x_small.1 } in
     let w = widened c.requires.w_small (lit< tt) (c.from-2.ensures ∙ ap (λ n. to_z w64 (of_z w64 n)) (read _ _ c.requires.w_small (lit< tt))) in
     mul_fits (widened x (lit< tt) c.from.ensures) w (lit< tt)
 
 pub returns-clause-value : goal.returns-clause-value
-returns-clause-value c = 
+returns-clause-value c =
     let x : IsWithin coordinate_max c.args.x = record { low = c.requires.x_small.0; high = c.requires.x_small.1 } in
     let w = widened c.requires.w_small (lit< tt) (c.from-2.ensures ∙ ap (λ n. to_z w64 (of_z w64 n)) (read _ _ c.requires.w_small (lit< tt))) in
     (mul_reads (widened x (lit< tt) c.from.ensures) w (lit< tt)).is
 
 pub returns-clause-small : goal.returns-clause-small
-returns-clause-small c = 
+returns-clause-small c =
     let x : IsWithin coordinate_max c.args.x = record { low = c.requires.x_small.0; high = c.requires.x_small.1 } in
     let w = widened c.requires.w_small (lit< tt) (c.from-2.ensures ∙ ap (λ n. to_z w64 (of_z w64 n)) (read _ _ c.requires.w_small (lit< tt))) in
     let all = mul_reads (widened x (lit< tt) c.from.ensures) w (lit< tt) in

@@ -10,6 +10,6 @@ pub returns-clause-value : goal.returns-clause-value
 returns-clause-value c = (mul_reads (widened c.requires.a_small (lit< tt) c.from.ensures) (widened c.requires.w_small (lit< tt) c.from-2.ensures) (lit< tt)).is
 
 pub returns-clause-small : goal.returns-clause-small
-returns-clause-small c = 
+returns-clause-small c =
     let all = mul_reads (widened c.requires.a_small (lit< tt) c.from.ensures) (widened c.requires.w_small (lit< tt) c.from-2.ensures) (lit< tt) in
     rw all.is all.within

@@ -43,7 +43,7 @@ pub returns-clause-value : goal.returns-clause-value
 returns-clause-value c = at_place c
 
 pub returns-clause-low : goal.returns-clause-low
-returns-clause-low c = 
+returns-clause-low c =
     let bound = mean_low (neg_ℤ (pos 1048576)) c.args.from c.args.to c.args.t c.args.w c.requires.from_small.0 c.requires.to_small.0 c.requires.t_low c.requires.t_high in
     rw (at_place c) (omega (arith, ints, bound))
 

@@ -39,7 +39,7 @@ pub whole_cross-requires-clause-d_small : goal.whole_cross-requires-clause-d_sma
 whole_cross-requires-clause-d_small c = narrow_within _ _ c.minus-4.ensures.small (lit< tt)
 
 pub returns-clause-value : goal.returns-clause-value
-returns-clause-value c = 
+returns-clause-value c =
     let first = way_is c.minus.ensures.small c.minus.ensures.value (whole_is c.x.ensures.in_range (c.x.ensures.value ∙ ap (λ p. p.x) c.left.ensures.value)) (whole_is c.x-2.ensures.in_range (c.x-2.ensures.value ∙ ap (λ p. p.x) c.left-2.ensures.value)) in
     let second = way_is c.minus-2.ensures.small c.minus-2.ensures.value (whole_is c.y.ensures.in_range (c.y.ensures.value ∙ ap (λ p. p.y) c.left-3.ensures.value)) (whole_is c.y-2.ensures.in_range (c.y-2.ensures.value ∙ ap (λ p. p.y) c.left-4.ensures.value)) in
     let third = way_is c.minus-3.ensures.small c.minus-3.ensures.value (whole_is c.x-3.ensures.in_range (c.x-3.ensures.value ∙ ap (λ p. p.x) c.right-end.ensures.value)) (whole_is c.x-4.ensures.in_range (c.x-4.ensures.value ∙ ap (λ p. p.x) c.left-begin.ensures.value)) in

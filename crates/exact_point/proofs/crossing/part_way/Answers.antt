@@ -20,9 +20,10 @@ in_plane : {r w e f : ℤ} → pos 1 ≤ℤ w → w ≤ℤ pos denominator_max �
     (neg_ℤ (pos coordinate_max *ℤ f) ≤ℤ to_z w128 (of_z w128 r)) × (to_z w128 (of_z w128 r) ≤ℤ (pos coordinate_max *ℤ f))
 in_plane {r} {w} {e} {f} l h ew fw lo hi =
     let is = reads_as r w e l h ew lo hi in
-    let over : e ≡ f = ew ∙ sym fw in
-    (subst (λ (z : ℤ). neg_ℤ (pos coordinate_max *ℤ f) ≤ℤ z) (sym is) (subst (λ (z : ℤ). neg_ℤ (pos coordinate_max *ℤ z) ≤ℤ r) over lo),
-     subst (λ (z : ℤ). z ≤ℤ (pos coordinate_max *ℤ f)) (sym is) (subst (λ (z : ℤ). r ≤ℤ (pos coordinate_max *ℤ z)) over hi))
+    let over : e ≡ f = ew ∙ sym fw in (
+      subst (λ (z : ℤ). neg_ℤ (pos coordinate_max *ℤ f) ≤ℤ z) (sym is) (subst (λ (z : ℤ). neg_ℤ (pos coordinate_max *ℤ z) ≤ℤ r) over lo),
+      subst (λ (z : ℤ). z ≤ℤ (pos coordinate_max *ℤ f)) (sym is) (subst (λ (z : ℤ). r ≤ℤ (pos coordinate_max *ℤ z)) over hi),
+    )
 
 between_is : (r e f g h a b t w : ℤ) → pos 1 ≤ℤ w → w ≤ℤ pos denominator_max → neg_ℤ (pos coordinate_max *ℤ h) ≤ℤ r → r ≤ℤ (pos coordinate_max *ℤ h) →
     r ≡ (e *ℤ h) +ℤ ((f -ℤ e) *ℤ g) → e ≡ a → f ≡ b → g ≡ t → h ≡ w → to_z w128 (of_z w128 r) ≡ (a *ℤ w) +ℤ ((b -ℤ a) *ℤ t)
@@ -61,14 +62,17 @@ pub between-requires-2-clause-w_high : goal.between-requires-2-clause-w_high
 between-requires-2-clause-w_high c = way_high _ _ c.requires.t_low c.requires.t_high c.requires.w_high
 
 pub invariant_of-result : goal.invariant_of-result
-invariant_of-result c = 
+invariant_of-result c =
     let over = (widened (way_small _ _ c.requires.t_low c.requires.t_high c.requires.w_high) (lit< tt) c.from.ensures).is in
     let x = in_plane c.requires.w_low c.requires.w_high (narrow_read _ _ (way_small _ _ c.requires.t_low c.requires.t_high c.requires.w_high) (lit< tt)) over c.between.ensures.low c.between.ensures.high in
     let y = in_plane c.requires.w_low c.requires.w_high (narrow_read _ _ (way_small _ _ c.requires.t_low c.requires.t_high c.requires.w_high) (lit< tt)) over c.between-2.ensures.low c.between-2.ensures.high in
     record {
       w_low = subst (λ (z : ℤ). pos 1 ≤ℤ z) (sym over) c.requires.w_low;
       w_high = subst (λ (z : ℤ). z ≤ℤ pos denominator_max) (sym over) c.requires.w_high;
-      x_low = x.0; x_high = x.1; y_low = y.0; y_high = y.1;
+      x_low = x.0;
+      x_high = x.1;
+      y_low = y.0;
+      y_high = y.1;
     }
 
 pub returns : goal.returns

@@ -19,7 +19,7 @@ pub scaled-requires-clause-w_small : goal.scaled-requires-clause-w_small
 scaled-requires-clause-w_small c = w_read c.args.p.now
 
 pub returns-then-scaled-p : goal.returns-then-scaled-p
-returns-then-scaled-p c = 
+returns-then-scaled-p c =
     let r = scaled_is c.args.p.now c.scaled.ensures.small c.scaled.ensures.value c.x.ensures.in_range (c.x.ensures.value ∙ ap (λ p. p.x) c.right.ensures.value) in
     past_end c.args.seg.now (place c.args.p.now) _ _ r (x_is c.args.p.now) c.if-scaled-p.true
 
@@ -30,7 +30,7 @@ pub height-requires-clause-small : goal.height-requires-clause-small
 height-requires-clause-small c = within_read _ _ c.along-along.ensures.small (lit< tt)
 
 pub returns : goal.returns
-returns c = 
+returns c =
     let r = scaled_is c.args.p.now c.scaled.ensures.small c.scaled.ensures.value c.x.ensures.in_range (c.x.ensures.value ∙ ap (λ p. p.x) c.right.ensures.value) in
     let h = read _ _ c.height.ensures.small (lit< tt) ∙ c.height.ensures.value in
     below_by_height c.args.seg.now (place c.args.p.now) _ _ _ _ (read _ _ c.along-along.ensures.small (lit< tt) ∙ c.along-along.ensures.value) c.if-along-lt0.false r (x_is c.args.p.now) c.if-scaled-p.false h

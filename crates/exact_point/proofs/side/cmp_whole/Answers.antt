@@ -18,7 +18,7 @@ pub scaled-requires-clause-w_small : goal.scaled-requires-clause-w_small
 scaled-requires-clause-w_small c = w_read c.args.p.now
 
 pub returns-then-is_ne : goal.returns-then-is_ne
-returns-then-is_ne c = 
+returns-then-is_ne c =
     let p = c.args.p.now in
     let x = by_products _ _ _ _ _ c.cmp-x.ensures (once p.x) (scaled_is c.args.p.now c.scaled.ensures.small c.scaled.ensures.value c.x.ensures.in_range c.x.ensures.value) in
     first_decides c.cmp-x.result _ _ c.is_ne.result x c.is_ne.ensures c.if-is_ne.true
@@ -33,7 +33,7 @@ pub scaled-requires-2-clause-w_small : goal.scaled-requires-2-clause-w_small
 scaled-requires-2-clause-w_small c = w_read c.args.p.now
 
 pub returns : goal.returns
-returns c = 
+returns c =
     let p = c.args.p.now in
     let x = by_products _ _ _ _ _ c.cmp-x.ensures (once p.x) (scaled_is c.args.p.now c.scaled.ensures.small c.scaled.ensures.value c.x.ensures.in_range c.x.ensures.value) in
     let y = by_products _ _ _ _ _ c.cmp.ensures (once p.y) (scaled_is c.args.p.now c.scaled-2.ensures.small c.scaled-2.ensures.value c.y.ensures.in_range c.y.ensures.value) in

@@ -47,7 +47,7 @@ pub returns-clause-small : goal.returns-clause-small
 returns-clause-small c = within_read _ _ c.cross.ensures.small (lit< tt)
 
 pub returns-clause-value : goal.returns-clause-value
-returns-clause-value c = 
+returns-clause-value c =
     let wide = way_is c.minus-wide.ensures.small c.minus-wide.ensures.value (whole_is c.x.ensures.in_range (c.x.ensures.value ∙ ap (λ p. p.x) c.right-right.ensures.value)) (whole_is c.x-2.ensures.in_range (c.x-2.ensures.value ∙ ap (λ p. p.x) c.left-left.ensures.value)) in
     let high = way_is c.minus-high.ensures.small c.minus-high.ensures.value (whole_is c.y.ensures.in_range (c.y.ensures.value ∙ ap (λ p. p.y) c.right-right.ensures.value)) (whole_is c.y-2.ensures.in_range (c.y-2.ensures.value ∙ ap (λ p. p.y) c.left-left.ensures.value)) in
     let base = scaled_is c.args.p.now c.scaled.ensures.small c.scaled.ensures.value c.y-3.ensures.in_range (c.y-3.ensures.value ∙ ap (λ p. p.y) c.left-left.ensures.value) in

@@ -46,7 +46,7 @@ pub near_cross-requires-clause-d_small : goal.near_cross-requires-clause-d_small
 near_cross-requires-clause-d_small c = narrow_within _ _ c.apart-2.ensures.small (lit< tt)
 
 pub returns : goal.returns
-returns c = 
+returns c =
     let wide = way_is c.minus.ensures.small c.minus.ensures.value (whole_is c.x.ensures.in_range (c.x.ensures.value ∙ ap (λ p. p.x) c.right-right.ensures.value)) (whole_is c.x-2.ensures.in_range (c.x-2.ensures.value ∙ ap (λ p. p.x) c.left-left.ensures.value)) in
     let high = way_is c.minus-2.ensures.small c.minus-2.ensures.value (whole_is c.y.ensures.in_range (c.y.ensures.value ∙ ap (λ p. p.y) c.right-right.ensures.value)) (whole_is c.y-2.ensures.in_range (c.y-2.ensures.value ∙ ap (λ p. p.y) c.left-left.ensures.value)) in
     let along = apart_is c.args.p.now c.apart.ensures.small c.apart.ensures.value (x_is c.args.p.now) c.x-3.ensures.in_range (c.x-3.ensures.value ∙ ap (λ p. p.x) c.left-left.ensures.value) in

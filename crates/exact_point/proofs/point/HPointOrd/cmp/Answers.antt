@@ -1,4 +1,4 @@
-use Rattle.std.proofs.Common.{◌≡◌, ◌*ℤ◌, pos, ◌<ℤ◌, arith, to_z, sym, ap, ◌∙◌}
+use Rattle.std.proofs.Common.{◌≡◌, pos, ◌<ℤ◌, arith, to_z, sym, ap, ◌∙◌}
 use Rattle.std.specs.Int.{w128}
 use Rattle.std.specs.Ordering.{int_cmp, ordering_then}
 use Rattle.std.proofs.lemmas.Int.{ints}
