@@ -1,8 +1,9 @@
 //! Batches: their answers, and crashes at each device call of the commit of one.
-use crate::tests::testing::{BLOCKS, CHOICES, CREATED, SHIFTED, SQUARE, Words, drive, joined};
+use crate::tests::testing::{BLOCKS, CHOICES, CREATED, SHIFTED, SQUARE, Words, drive};
 use disk_model::mem_disk::MemDisk;
 use overlay_engine::step::Reply;
 use std::alloc::Global;
+use std::process::Abort;
 use std::test::Fail;
 use test_machines::machine::Machine;
 
@@ -27,25 +28,42 @@ fn left(alloc: Global, disk: MemDisk) -> Result<(u64, usize), Fail> {
     Ok((engine.number(), engine.layer_count()))
 }
 
+/// Checks what a crash behind so many calls of the commit leaves.
+fn check_left(rt: &impl Abort, found: (u64, usize), calls: usize) {
+    let whole = found == (1, 2);
+    assert!(rt; whole || found == (0, 0), "behind {calls} calls");
+    assert!(rt; !whole || calls >= CALLS - 1, "behind {calls} calls");
+    assert!(rt; whole || calls < CALLS, "behind {calls} calls");
+}
+
+/// The disk of a new store on which the batch is committed.
+fn committed(rt: &impl Abort, alloc: Global) -> Result<MemDisk, Fail> {
+    let mut engine = Machine::in_memory(alloc, BLOCKS)?;
+    check_replies(rt, alloc, &mut engine)?;
+    Ok(engine.into_disk())
+}
+
+/// Makes the steps, and compares the answers.
+fn check_replies(
+    rt: &impl Abort,
+    alloc: Global,
+    engine: &mut Machine<MemDisk>,
+) -> Result<(), Fail> {
+    let steps = STEPS.concat(alloc)?;
+    let replies = drive(alloc, engine, &steps)?;
+    let answers = ANSWERS.concat(alloc)?;
+    assert!(rt; replies.as_slice() == answers.as_slice());
+    Ok(())
+}
+
 #[test]
 fn a_crash_at_each_call_leaves_no_layer_of_a_batch_or_all(rt: HostRuntime) -> Result<(), Fail> {
-    let mut engine = Machine::in_memory(rt.alloc(), BLOCKS)?;
-    let steps = joined(rt.alloc(), STEPS)?;
-    let replies = drive(rt.alloc(), &mut engine, &steps)?;
-    let answers = joined(rt.alloc(), ANSWERS)?;
-    assert!(rt; replies.as_slice() == answers.as_slice());
-    let disk = engine.into_disk();
+    let disk = committed(&rt, rt.alloc())?;
     assert_eq!(rt; disk.calls().len(), CREATED + CALLS);
     for calls in 0..=CALLS {
         for &choice in &CHOICES {
-            let found = left(
-                rt.alloc(),
-                disk.image(CREATED.saturating_add(calls), choice)?,
-            )?;
-            let whole = found == (1, 2);
-            assert!(rt; whole || found == (0, 0), "behind {calls} calls");
-            assert!(rt; !whole || calls >= CALLS - 1, "behind {calls} calls");
-            assert!(rt; whole || calls < CALLS, "behind {calls} calls");
+            let image = disk.image(CREATED.saturating_add(calls), choice)?;
+            check_left(&rt, left(rt.alloc(), image)?, calls);
         }
     }
     Ok(())

@@ -1,9 +1,10 @@
 //! Crashes at each device call of two commits, and of the recoveries after them.
-use crate::tests::testing::{BLOCKS, CHOICES, CREATED, SHIFTED, SQUARE, Words, drive, joined};
+use crate::tests::testing::{BLOCKS, CHOICES, CREATED, SHIFTED, SQUARE, Words, drive};
 use disk_model::image::Choice;
 use disk_model::mem_disk::MemDisk;
 use overlay_engine::step::Reply;
 use std::alloc::Global;
+use std::process::Abort;
 use std::test::Fail;
 use test_machines::machine::Machine;
 
@@ -35,13 +36,15 @@ const LAYERS: [&str; 3] = [
     "layers 2\nA MULTIPOLYGON (((0 0, 10 0, 10 10, 0 10, 0 0)))\nB MULTIPOLYGON (((5 5, 15 5, 15 15, 5 15, 5 5)))\n",
 ];
 
-/// The version that a crash behind so many calls of the two commits leaves.
+/// The version that a crash behind so many calls of the two commits leaves. The last call but one of each opens a gate,
+/// and the last syncs it: where the crash leaves the gate open, it is as if that were synced.
 fn left_after(calls: usize, choice: Choice) -> usize {
     let opens = matches!(choice, Choice::New | Choice::Fill(0xA7));
-    if calls < FIRST - 1 || calls == FIRST - 1 && !opens {
+    let synced = calls.saturating_add(usize::from(opens));
+    if synced < FIRST {
         return 0;
     }
-    if calls < FIRST + SECOND - 1 || calls == FIRST + SECOND - 1 && !opens {
+    if synced < FIRST + SECOND {
         return 1;
     }
     2
@@ -53,9 +56,7 @@ fn is_left(alloc: Global, disk: MemDisk, number: usize) -> Result<(bool, MemDisk
     let listed = engine.listed(alloc)?;
     let same = engine.number() == number as u64
         && engine.durable() == number as u64
-        && LAYERS
-            .get(number)
-            .is_some_and(|text| text.as_bytes() == listed.as_slice());
+        && LAYERS.get(number).unwrap_or(&"").as_bytes() == listed.as_slice();
     Ok((same, engine.into_disk()))
 }
 
@@ -80,13 +81,23 @@ fn recovers(alloc: Global, disk: &MemDisk, calls: usize, choice: Choice) -> Resu
     Ok(same && are_left(alloc, &recovered, number)?)
 }
 
+/// Makes the steps, and compares the answers.
+fn check_replies(
+    rt: &impl Abort,
+    alloc: Global,
+    engine: &mut Machine<MemDisk>,
+) -> Result<(), Fail> {
+    let steps = STEPS.concat(alloc)?;
+    let replies = drive(alloc, engine, &steps)?;
+    let answers = ANSWERS.concat(alloc)?;
+    assert!(rt; replies.as_slice() == answers.as_slice());
+    Ok(())
+}
+
 #[test]
 fn a_crash_at_each_call_leaves_the_version_before_or_after(rt: HostRuntime) -> Result<(), Fail> {
     let mut engine = Machine::in_memory(rt.alloc(), BLOCKS)?;
-    let steps = joined(rt.alloc(), STEPS)?;
-    let replies = drive(rt.alloc(), &mut engine, &steps)?;
-    let answers = joined(rt.alloc(), ANSWERS)?;
-    assert!(rt; replies.as_slice() == answers.as_slice());
+    check_replies(&rt, rt.alloc(), &mut engine)?;
     let disk = engine.into_disk();
     assert_eq!(rt; disk.calls().len(), CREATED + FIRST + SECOND);
     for calls in 0..=FIRST + SECOND {

@@ -1,5 +1,5 @@
 //! What an engine answers where a device call fails.
-use crate::tests::testing::{BLOCKS, CREATED, SQUARE, Words, drive};
+use crate::tests::testing::{BLOCKS, CREATED, put_square};
 use disk_model::mem_disk::MemDisk;
 use overlay_engine::step::Reply;
 use std::alloc::Global;
@@ -7,16 +7,7 @@ use std::test::Fail;
 use test_disks::fault_disk::FaultDisk;
 use test_machines::machine::Machine;
 
-/// A layer, and four device steps of its commit.
-const STEPS: &[Words] = &[
-    Words::Put("A", SQUARE),
-    Words::Device,
-    Words::Device,
-    Words::Device,
-    Words::Device,
-];
-
-/// The third of them fails.
+/// The answers to a layer and to four device calls of its commit, of which the third fails.
 const ANSWERS: &[Reply] = &[
     Reply::Accepted(1),
     Reply::Going,
@@ -35,7 +26,7 @@ fn failing(alloc: Global) -> Result<Machine<FaultDisk<MemDisk>>, Fail> {
 #[test]
 fn a_commit_whose_third_call_fails_leaves_the_version_before(rt: HostRuntime) -> Result<(), Fail> {
     let mut engine = failing(rt.alloc())?;
-    let replies = drive(rt.alloc(), &mut engine, STEPS)?;
+    let replies = put_square(rt.alloc(), &mut engine, 4)?;
     assert!(rt; replies.as_slice() == ANSWERS);
     // The disk works again.
     let below = engine.into_disk().into_disk();

@@ -1,15 +1,12 @@
 //! Files that are no store, or that a part is cut off.
-use crate::tests::testing::{BLOCKS, SQUARE, Words, drive, joined};
+use crate::tests::testing::{BLOCKS, disk_of, only_reads, put_square};
 use commit_plan::fault::StoreFault;
-use disk_model::mem_disk::{Call, MemDisk};
+use disk_model::mem_disk::MemDisk;
 use std::alloc::Global;
 use std::test::Fail;
 use store_terms::damage::Damage;
 use test_machines::machine::Machine;
 use test_machines::refused::Refused;
-
-/// A layer, and as many device calls as its commit makes.
-const COMMIT: &[&[Words]] = &[&[Words::Put("A", SQUARE)], &[Words::Device; 8]];
 
 /// So many bytes of the front of a store that holds a layer, why they are not recovered, and the number of that fault.
 const FRONTS: [(usize, Damage, u8); 3] = [
@@ -22,25 +19,21 @@ const FRONTS: [(usize, Damage, u8); 3] = [
 /// The file of a store that holds a layer.
 fn stored(alloc: Global) -> Result<Vec<u8>, Fail> {
     let mut engine = Machine::in_memory(alloc, BLOCKS)?;
-    let steps = joined(alloc, COMMIT)?;
-    drive(alloc, &mut engine, &steps)?;
+    put_square(alloc, &mut engine, 8)?;
     Ok(engine.into_disk().bytes().to_vec(alloc)?)
 }
 
 /// The fault, where nothing was written.
 fn told(refused: &Refused<MemDisk>) -> Result<StoreFault, Fail> {
-    for call in refused.disk.calls() {
-        if matches!(call, Call::Write(_, _)) {
-            return Err(Fail::new("written"));
-        }
+    if !only_reads(refused.disk.calls()) {
+        return Err(Fail::new("written"));
     }
     Ok(refused.fault)
 }
 
 /// Why a file is not recovered.
 fn refusal(alloc: Global, file: &[u8]) -> Result<StoreFault, Fail> {
-    let disk = MemDisk::new(alloc, file.to_vec(alloc)?)?;
-    match Machine::recover(alloc, disk, BLOCKS) {
+    match Machine::recover(alloc, disk_of(alloc, file)?, BLOCKS) {
         Ok(_) => Err(Fail::new("recovered")),
         Err(refused) => told(&refused),
     }

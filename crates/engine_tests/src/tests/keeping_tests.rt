@@ -1,5 +1,7 @@
 //! Which records a commit writes: those that the store does not hold already.
-use crate::tests::testing::{BLOCKS, CREATED, SHIFTED, SMALLER, SQUARE, Words, drive};
+use crate::tests::testing::{
+    BLOCKS, CREATED, SHIFTED, SMALLER, SQUARE, Words, disk_of, drive, put_square,
+};
 use disk_model::image::Choice;
 use disk_model::mem_disk::{Call, MemDisk};
 use layer_expr::name::Name;
@@ -84,13 +86,15 @@ const LISTS: &[Lines] = &[
     ],
 ];
 
-/// The steps of a line, and so many device calls behind them.
-fn with_calls(alloc: Global, steps: &[Words], calls: usize) -> Result<Vec<Words>, Fail> {
-    let mut all = Vec::from_slice(alloc, steps)?;
-    for _ in 0..calls {
-        all.push(Words::Device)?;
-    }
-    Ok(all)
+/// Makes so many device calls, and gives the reply to the last.
+fn committed(
+    alloc: Global,
+    engine: &mut Machine<MemDisk>,
+    calls: usize,
+) -> Result<Option<Reply>, Fail> {
+    let steps = vec![in alloc; Words::Device; calls]?;
+    let replies = drive(alloc, engine, &steps)?;
+    Ok(replies.last().copied())
 }
 
 /// The blocks of the extents that some calls write.
@@ -108,9 +112,9 @@ fn extents_of(alloc: Global, calls: &[Call]) -> Result<Vec<usize>, Fail> {
 
 /// Makes the steps of a line and a commit, and tells whether the last reply is that it is done.
 fn is_done(alloc: Global, engine: &mut Machine<MemDisk>, line: &Line) -> Result<bool, Fail> {
-    let steps = with_calls(alloc, line.0, line.1)?;
-    let replies = drive(alloc, engine, &steps)?;
-    Ok(matches!(replies.last(), Some(Reply::Done(_))))
+    drive(alloc, engine, line.0)?;
+    let last = committed(alloc, engine, line.1)?;
+    Ok(matches!(last, Some(Reply::Done(_))))
 }
 
 /// Whether each line's commit is done by its calls, and writes just its extents; and all calls together.
@@ -188,11 +192,11 @@ const LIMITS: [(u32, usize, Reply); 2] = [(6, 8, Reply::Done(2)), (5, 1, Reply::
 fn six_blocks_are_enough_for_a_layer_beside_another(rt: HostRuntime) -> Result<(), Fail> {
     for &(limit, calls, reply) in &LIMITS {
         let mut engine = Machine::in_memory(rt.alloc(), limit)?;
-        let line: Line = (&[Words::Put("A", SQUARE)], 8, &[]);
-        assert!(rt; is_done(rt.alloc(), &mut engine, &line)?);
-        let steps = with_calls(rt.alloc(), &[Words::Put("B", SHIFTED)], calls)?;
-        let replies = drive(rt.alloc(), &mut engine, &steps)?;
-        assert!(rt; replies.last().copied() == Some(reply));
+        let first = put_square(rt.alloc(), &mut engine, 8)?;
+        assert!(rt; first.last().copied() == Some(Reply::Done(1)));
+        drive(rt.alloc(), &mut engine, &[Words::Put("B", SHIFTED)])?;
+        let last = committed(rt.alloc(), &mut engine, calls)?;
+        assert!(rt; last == Some(reply));
     }
     Ok(())
 }
@@ -204,9 +208,8 @@ fn a_store_that_is_opened_and_committed_writes_its_catalog_alone(
     let mut engine = Machine::in_memory(rt.alloc(), BLOCKS)?;
     let line: Line = (&[Words::Put("A", SQUARE), Words::Put("B", SHIFTED)], 9, &[]);
     assert!(rt; is_done(rt.alloc(), &mut engine, &line)?);
-    let file = engine.into_disk().bytes().to_vec(rt.alloc())?;
-    let reopened = MemDisk::new(rt.alloc(), file)?;
-    let mut again = Machine::recover(rt.alloc(), reopened, BLOCKS)?;
+    let copy = disk_of(rt.alloc(), engine.into_disk().bytes())?;
+    let mut again = Machine::recover(rt.alloc(), copy, BLOCKS)?;
     let unchanged: Line = (&[], 7, &[]);
     assert!(rt; is_done(rt.alloc(), &mut again, &unchanged)?);
     let disk = again.into_disk();

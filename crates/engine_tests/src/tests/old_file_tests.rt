@@ -1,5 +1,5 @@
 //! A file of format 1: it opens with its layers and no tile, and the next commit makes it one of format 2.
-use crate::tests::testing::{BLOCKS, CHOICES, Words, drive, joined};
+use crate::tests::testing::{BLOCKS, CHOICES, Words, drive};
 use disk_model::mem_disk::MemDisk;
 use overlay_engine::step::Reply;
 use std::alloc::Global;
@@ -152,7 +152,7 @@ const COMMITTED: &[Part] = &[
 fn is_committed(alloc: Global, parts: &[Part]) -> Result<(bool, MemDisk), Fail> {
     let mut engine = Machine::recover(alloc, disk_of(alloc, parts)?, BLOCKS)?;
     let replies = drive(alloc, &mut engine, &[Words::Device; COMMIT])?;
-    let answers = joined(alloc, ANSWERS)?;
+    let answers = ANSWERS.concat(alloc)?;
     let disk = engine.into_disk();
     let mut is = replies.as_slice() == answers.as_slice();
     for &part in COMMITTED {

@@ -1,6 +1,7 @@
 //! Steps by their texts, and what tests share.
 use disk_model::disk::Disk;
 use disk_model::image::Choice;
+use disk_model::mem_disk::{Call, MemDisk};
 use layer_book::batch::Batch;
 use layer_book::command::Command;
 use layer_expr::name::Name;
@@ -112,11 +113,32 @@ pub fn drive<D: Disk>(
     Ok(engine.drive(alloc, &steps)?)
 }
 
-/// The items of lists, one list behind another.
-pub fn joined<T: Copy>(alloc: Global, lists: &[&[T]]) -> Result<Vec<T>, Fail> {
-    let mut all = Vec::new(alloc);
-    for list in lists {
-        all.extend_from_slice(list)?;
+/// Puts the square A in an engine, makes so many device calls behind it, and gives the answers.
+pub fn put_square<D: Disk>(
+    alloc: Global,
+    engine: &mut Machine<D>,
+    calls: usize,
+) -> Result<Vec<Reply>, Fail> {
+    let square = put(alloc, name_of(alloc, "A")?, SQUARE)?;
+    let mut steps = Vec::new(alloc);
+    steps.push(Step::Submit(square))?;
+    for _ in 0..calls {
+        steps.push(Step::Device)?;
     }
-    Ok(all)
+    Ok(engine.drive(alloc, &steps)?)
+}
+
+/// A disk with these bytes, of which no call is counted.
+pub fn disk_of(alloc: Global, bytes: &[u8]) -> Result<MemDisk, Fail> {
+    Ok(MemDisk::new(alloc, bytes.to_vec(alloc)?)?)
+}
+
+/// Whether none of these calls writes.
+pub fn only_reads(calls: &[Call]) -> bool {
+    for call in calls {
+        if matches!(call, Call::Write(_, _)) {
+            return false;
+        }
+    }
+    true
 }
