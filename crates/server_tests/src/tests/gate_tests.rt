@@ -6,6 +6,7 @@ use layer_expr::name::Name;
 use overlay_server::Gate;
 use plane_base::COLUMN_COUNT;
 use std::alloc::Global;
+use std::process::Abort;
 use std::sync::atomic::Ordering;
 use std::test::Fail;
 use std::thread;
@@ -58,7 +59,7 @@ fn workers_build_side_by_side_while_a_session_is_answered(rt: HostRuntime) -> Re
     let readers = Vec::from_array(rt.alloc(), [reader])?;
     let served = served(&rt, rt.alloc(), &gate, None::<Machine<MemDisk>>, readers);
     expect(&rt, &served, 0, "ok 1\nok 2\nok 3\nok 4\nin\nbuilt 4\n");
-    assert_eq!(rt; watch.failed.load(Ordering::SeqCst), 0);
+    watch.check(&rt);
     assert!(rt; watch.has_seen(2, 7));
     Ok(())
 }
@@ -110,16 +111,21 @@ fn a_tile_that_is_finished_after_the_last_commit_is_in_the_file(
     let readers = Vec::from_array(alloc, [reader])?;
     let served = served(&rt, alloc, &gate, Some(engine), readers);
     expect(&rt, &served, 0, "ok 1\nok 2\ndurable 2\n");
-    assert_eq!(rt; watch.failed.load(Ordering::SeqCst), 0);
+    watch.check(&rt);
     let name = name_of(alloc, "I")?;
     let finished = finished(alloc, &served, &name)?;
     let engine = reopened(alloc, served.into_disk())?;
+    check_tiles(&rt, &engine, &name, &finished);
+    Ok(())
+}
+
+/// Checks that a store has the tile of a layer in just these columns, and that there are some.
+fn check_tiles(rt: &impl Abort, engine: &Machine<MemDisk>, name: &Name, finished: &[u8]) {
     for column in 0..COLUMN_COUNT {
-        let in_file = engine.has_tile(&name, column);
+        let in_file = engine.has_tile(name, column);
         assert_eq!(rt; in_file, finished.contains(&column), "in column {column}");
     }
     assert!(rt; !finished.is_empty());
-    Ok(())
 }
 
 /// The columns in which the newest version has the tile of a layer.

@@ -173,14 +173,24 @@ fn narrow_text(left: &PortsRun<Narrow, MemDisk>, session: usize) -> &[u8] {
     }
 }
 
+/// Compares what stands in the writer of a session, and how it ended.
+fn check_writer(
+    rt: &impl Abort,
+    left: &PortsRun<Narrow, MemDisk>,
+    session: usize,
+    text: &str,
+    end: SessionEnd,
+) {
+    assert_eq!(rt; narrow_text(left, session), text.as_bytes());
+    assert_eq!(rt; left.end(session), Some(end));
+}
+
 /// Compares what stands in the writer that failed, and checks that the other session is whole.
 fn check_narrow(rt: &impl Abort, left: &PortsRun<Narrow, MemDisk>, text: &str) {
     assert_eq!(rt; left.session_count(), 2);
-    assert_eq!(rt; narrow_text(left, 0), text.as_bytes());
-    assert_eq!(rt; left.end(0), Some(SessionEnd::Failed(49)));
-    let whole = b"error 41 command syntax\nerror 41 command syntax\n".as_slice();
-    assert_eq!(rt; narrow_text(left, 1), whole);
-    assert_eq!(rt; left.end(1), Some(SessionEnd::End));
+    check_writer(rt, left, 0, text, SessionEnd::Failed(49));
+    let whole = "error 41 command syntax\nerror 41 command syntax\n";
+    check_writer(rt, left, 1, whole, SessionEnd::End);
     assert_eq!(rt; left.stored(), 1);
 }
 

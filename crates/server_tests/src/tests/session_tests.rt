@@ -71,6 +71,17 @@ impl Write for Sink {
     }
 }
 
+/// Compares how a session ended, and checks that a reader or a writer failed once where it had to, and else never.
+fn check_end(rt: &impl Abort, end: SessionEnd, wanted: SessionEnd, failed: u64, is_failed: bool) {
+    assert_eq!(rt; end, wanted);
+    assert_eq!(rt; failed, u64::from(is_failed));
+}
+
+/// Compares what was written in the case with this number.
+fn check_written(rt: &impl Abort, written: &[u8], text: &[u8], number: u64) {
+    assert_eq!(rt; written, text, "with {number}");
+}
+
 /// Runs a script to its end or its fault, by reads of so many bytes, and compares what it writes.
 fn expect(
     rt: &(impl Abort + AllocGlobal + Threads + Wait + Sync),
@@ -91,9 +102,8 @@ fn expect(
         Some(_) => SessionEnd::Failed(48),
         None => SessionEnd::End,
     };
-    assert_eq!(rt; end, wanted);
-    assert_eq!(rt; reader.failed, u64::from(fault.is_some()));
-    assert_eq!(rt; writer.as_slice(), text.as_bytes(), "by {step}");
+    check_end(rt, end, wanted, reader.failed, fault.is_some());
+    check_written(rt, &writer, text.as_bytes(), step as u64);
 }
 
 #[test]
@@ -173,10 +183,10 @@ fn expect_writes(
     };
     let end = run_script(rt, rt.alloc(), &mut reader, &mut writer);
     let is_cut = writes < 11;
-    assert_eq!(rt; end, SessionEnd::Failed(if is_cut { 49 } else { 48 }));
-    assert_eq!(rt; writer.refused, u64::from(is_cut));
+    let wanted = SessionEnd::Failed(if is_cut { 49 } else { 48 });
+    check_end(rt, end, wanted, writer.refused, is_cut);
     let told = text.len().min(writes.saturating_mul(6));
-    assert_eq!(rt; writer.text.as_slice(), &text[..told], "at write {writes}");
+    check_written(rt, &writer.text, &text[..told], writes as u64);
 }
 
 #[test]
@@ -202,7 +212,7 @@ fn a_script_holds_16777216_bytes(rt: HostRuntime) {
         let mut reader = io::repeat(b'\n').take(feeds).chain(text);
         let mut writer = Vec::new(rt.alloc());
         assert_eq!(rt; run_script(&rt, rt.alloc(), &mut reader, &mut writer), end);
-        assert_eq!(rt; writer.as_slice(), replies.as_bytes(), "behind {feeds}");
+        check_written(&rt, &writer, replies.as_bytes(), feeds);
     }
 }
 

@@ -59,6 +59,11 @@ impl Watch {
         }
         self.failed.fetch_add(1, Ordering::SeqCst);
     }
+
+    /// Checks that no gate has given up.
+    pub fn check(&self, rt: &impl Abort) {
+        assert_eq!(rt; self.failed.load(Ordering::SeqCst), 0);
+    }
 }
 
 /// A reader that gives one line a read, and counts how often it is asked. It does not end before so many tiles are begun.
