@@ -1,5 +1,7 @@
 //! Batches: their answers, and crashes at each device call of the commit of one.
-use crate::tests::testing::{BLOCKS, CHOICES, CREATED, SHIFTED, SQUARE, Words, drive};
+use crate::tests::testing::{
+    BLOCKS, CHOICES, CREATED, SHIFTED, SQUARE, Words, check_commit, drive,
+};
 use disk_model::mem_disk::MemDisk;
 use overlay_engine::step::Reply;
 use std::alloc::Global;
@@ -9,18 +11,6 @@ use test_machines::machine::Machine;
 
 /// How many calls the commit of a batch of two layers makes.
 const CALLS: usize = 9;
-
-/// A batch of two layers, and its commit.
-const STEPS: &[&[Words]] = &[
-    &[Words::Both("A", SQUARE, "B", SHIFTED)],
-    &[Words::Device; CALLS],
-];
-
-const ANSWERS: &[&[Reply]] = &[
-    &[Reply::Accepted(1)],
-    &[Reply::Going; CALLS - 1],
-    &[Reply::Done(1)],
-];
 
 /// The number of the version that a disk recovers to, and how many layers it has.
 fn left(alloc: Global, disk: MemDisk) -> Result<(u64, usize), Fail> {
@@ -39,21 +29,9 @@ fn check_left(rt: &impl Abort, found: (u64, usize), calls: usize) {
 /// The disk of a new store on which the batch is committed.
 fn committed(rt: &impl Abort, alloc: Global) -> Result<MemDisk, Fail> {
     let mut engine = Machine::in_memory(alloc, BLOCKS)?;
-    check_replies(rt, alloc, &mut engine)?;
+    let batch = Words::Both("A", SQUARE, "B", SHIFTED);
+    check_commit(rt, alloc, &mut engine, batch, CALLS, 1)?;
     Ok(engine.into_disk())
-}
-
-/// Makes the steps, and compares the answers.
-fn check_replies(
-    rt: &impl Abort,
-    alloc: Global,
-    engine: &mut Machine<MemDisk>,
-) -> Result<(), Fail> {
-    let steps = STEPS.concat(alloc)?;
-    let replies = drive(alloc, engine, &steps)?;
-    let answers = ANSWERS.concat(alloc)?;
-    assert!(rt; replies.as_slice() == answers.as_slice());
-    Ok(())
 }
 
 #[test]

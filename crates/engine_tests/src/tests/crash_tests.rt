@@ -1,5 +1,7 @@
 //! Crashes at each device call of two commits, and of the recoveries after them.
-use crate::tests::testing::{BLOCKS, CHOICES, CREATED, SHIFTED, SQUARE, Words, drive};
+use crate::tests::testing::{
+    BLOCKS, CHOICES, CREATED, SHIFTED, SQUARE, Words, check_commit, drive,
+};
 use disk_model::image::Choice;
 use disk_model::mem_disk::MemDisk;
 use overlay_engine::step::Reply;
@@ -12,22 +14,6 @@ use test_machines::machine::Machine;
 const FIRST: usize = 8;
 
 const SECOND: usize = 8;
-
-/// A is put, committed and reported, and then B is put and committed.
-const STEPS: &[&[Words]] = &[
-    &[Words::Put("A", SQUARE)],
-    &[Words::Device; FIRST],
-    &[Words::Report, Words::Put("B", SHIFTED)],
-    &[Words::Device; SECOND],
-];
-
-const ANSWERS: &[&[Reply]] = &[
-    &[Reply::Accepted(1)],
-    &[Reply::Going; FIRST - 1],
-    &[Reply::Done(1), Reply::Durable(1), Reply::Accepted(2)],
-    &[Reply::Going; SECOND - 1],
-    &[Reply::Done(2)],
-];
 
 /// The layers of the versions 0, 1 and 2.
 const LAYERS: [&str; 3] = [
@@ -81,23 +67,22 @@ fn recovers(alloc: Global, disk: &MemDisk, calls: usize, choice: Choice) -> Resu
     Ok(same && are_left(alloc, &recovered, number)?)
 }
 
-/// Makes the steps, and compares the answers.
-fn check_replies(
+/// Puts, commits and reports A, and then puts and commits B.
+fn check_commits(
     rt: &impl Abort,
     alloc: Global,
     engine: &mut Machine<MemDisk>,
 ) -> Result<(), Fail> {
-    let steps = STEPS.concat(alloc)?;
-    let replies = drive(alloc, engine, &steps)?;
-    let answers = ANSWERS.concat(alloc)?;
-    assert!(rt; replies.as_slice() == answers.as_slice());
-    Ok(())
+    check_commit(rt, alloc, engine, Words::Put("A", SQUARE), FIRST, 1)?;
+    let reported = drive(alloc, engine, &[Words::Report])?;
+    assert!(rt; reported.as_slice() == [Reply::Durable(1)].as_slice());
+    check_commit(rt, alloc, engine, Words::Put("B", SHIFTED), SECOND, 2)
 }
 
 #[test]
 fn a_crash_at_each_call_leaves_the_version_before_or_after(rt: HostRuntime) -> Result<(), Fail> {
     let mut engine = Machine::in_memory(rt.alloc(), BLOCKS)?;
-    check_replies(&rt, rt.alloc(), &mut engine)?;
+    check_commits(&rt, rt.alloc(), &mut engine)?;
     let disk = engine.into_disk();
     assert_eq!(rt; disk.calls().len(), CREATED + FIRST + SECOND);
     for calls in 0..=FIRST + SECOND {

@@ -8,6 +8,7 @@ use layer_expr::name::Name;
 use layer_expr::reading::read_expr;
 use overlay_engine::step::{Reply, Step};
 use std::alloc::Global;
+use std::process::Abort;
 use std::sync::Arc;
 use std::test::Fail;
 use test_machines::machine::Machine;
@@ -126,6 +127,35 @@ pub fn put_square<D: Disk>(
         steps.push(Step::Device)?;
     }
     Ok(engine.drive(alloc, &steps)?)
+}
+
+/// Makes a step that is accepted as a version, and the device calls of its commit: each goes on but the last, which is done.
+pub fn check_commit(
+    rt: &impl Abort,
+    alloc: Global,
+    engine: &mut Machine<MemDisk>,
+    step: Words,
+    calls: usize,
+    number: u64,
+) -> Result<(), Fail> {
+    let accepted = drive(alloc, engine, &[step])?;
+    assert!(rt; accepted.as_slice() == [Reply::Accepted(number)].as_slice());
+    let steps = vec![in alloc; Words::Device; calls]?;
+    let replies = drive(alloc, engine, &steps)?;
+    check_calls(rt, &replies, calls, number);
+    Ok(())
+}
+
+/// Checks that so many device calls commit a version.
+fn check_calls(rt: &impl Abort, replies: &[Reply], calls: usize, number: u64) {
+    assert!(rt; replies.len() == calls);
+    let Some((last, others)) = replies.split_last() else {
+        panic!(rt; "no call");
+    };
+    assert!(rt; *last == Reply::Done(number));
+    for reply in others {
+        assert!(rt; *reply == Reply::Going);
+    }
 }
 
 /// A disk with these bytes, of which no call is counted.
