@@ -101,12 +101,14 @@ impl<W, D> PortsRun<W, D> {
 
     /// The writer of a session.
     pub fn writer(&self, session: usize) -> Option<&W> {
-        self.left.sessions.get(session).map(|one| &one.writer)
+        let one = self.left.sessions.get(session)?;
+        Some(&one.writer)
     }
 
     /// How a session ended.
     pub fn end(&self, session: usize) -> Option<SessionEnd> {
-        self.left.sessions.get(session).map(|one| one.end)
+        let one = self.left.sessions.get(session)?;
+        Some(one.end)
     }
 
     /// The number of the version that is stored.
