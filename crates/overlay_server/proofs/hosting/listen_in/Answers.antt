@@ -1,6 +1,5 @@
-use Rattle.std.proofs.Common.{rules, ◌≡◌, Some, None, MatchOption, length, map, subst}
+use Rattle.std.proofs.Common.{◌≡◌, Some, None, MatchOption, subst}
 use Rattle.overlay_server.specs.Rooms.{IsReserved}
-use Rattle.overlay_server.specs.Listening.{bytes_in, limit_in, no_bytes, reader_in, script_limit}
 use Rattle.overlay_server.specs.Answering.{answer_in}
 use Rattle.overlay_server.specs.Serving.{IsLeftFrom}
 use Rattle.overlay_server.proofs.Listened.{as_many_left, held, listened_from}
@@ -20,19 +19,19 @@ pub gathered-requires : goal.gathered-requires
 gathered-requires g c =
     let ports = c.in-Some.field-0.ports.items in
     let left = c.in_ok-left.left in
-    let is : map reader_in ports ≡ c.args.readers.items = search rules in
-    let room : IsReserved c.in-Some.field-0.outcomes (length c.args.readers.items) = search rules in
-    let were : IsLeftFrom g.R.Read.remaining held g.D.Disk c.args.opened.version c.args.opened.flusher ports left = search rules in
+    let were : IsLeftFrom g.R.Read.remaining held g.D.Disk c.args.opened.version c.args.opened.flusher ports left =
+    subst (λ v. IsLeftFrom g.R.Read.remaining held g.D.Disk v c.args.opened.flusher ports left) c.ask_book-asked.ensures.start
+    (subst (λ f. IsLeftFrom g.R.Read.remaining held g.D.Disk c.ask_book-asked.result.start.version.value f ports left) c.ask_book-asked.ensures.flusher c.in_ok-left.ensures.left) in
     subst (λ n. IsReserved c.in-Some.field-0.outcomes n)
-    (as_many_left _ g.R.Read.remaining c.args.opened.version left.closed.seen_log.log ports c.args.readers.items left.sessions.items is were.sessions) room
+    (as_many_left _ g.R.Read.remaining c.args.opened.version left.closed.seen_log.log ports c.args.readers.items left.sessions.items c.in-Some.ensures.readers were.sessions) c.in-Some.ensures.room
 
 pub returns-clause-served : goal.returns-clause-served
 returns-clause-served g c =
     let ports = c.in-Some.field-0.ports.items in
     let left = c.in_ok-left.left in
-    let is : map reader_in ports ≡ c.args.readers.items = search rules in
-    let limits : map limit_in ports ≡ map script_limit c.args.readers.items = search rules in
-    let empty : map bytes_in ports ≡ map no_bytes c.args.readers.items = search rules in
-    let were : IsLeftFrom g.R.Read.remaining held g.D.Disk c.args.opened.version c.args.opened.flusher ports left = search rules in
-    listened_from g.D.Disk g.R.Read.remaining c.args.opened.version c.args.opened.flusher ports c.args.readers.items left c.gathered.result is limits empty
+    let were : IsLeftFrom g.R.Read.remaining held g.D.Disk c.args.opened.version c.args.opened.flusher ports left =
+    subst (λ v. IsLeftFrom g.R.Read.remaining held g.D.Disk v c.args.opened.flusher ports left) c.ask_book-asked.ensures.start
+    (subst (λ f. IsLeftFrom g.R.Read.remaining held g.D.Disk c.ask_book-asked.result.start.version.value f ports left) c.ask_book-asked.ensures.flusher c.in_ok-left.ensures.left) in
+    listened_from g.D.Disk g.R.Read.remaining c.args.opened.version c.args.opened.flusher ports c.args.readers.items left c.gathered.result
+    c.in-Some.ensures.readers c.in-Some.ensures.limits c.in-Some.ensures.empty
     c.gathered.ensures.sessions c.gathered.ensures.closed were

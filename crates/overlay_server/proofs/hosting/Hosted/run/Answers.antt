@@ -1,4 +1,4 @@
-use Rattle.std.proofs.Common.{rules, ◌≡◌, ◌+◌, ◌∙◌, ℕ, List, All, length, map, ap, sym, subst}
+use Rattle.std.proofs.Common.{◌≡◌, IfSome, ◌+◌, ◌∙◌, ℕ, List, All, length, map, ap, sym, subst}
 use Rattle.std.specs.List.{AllZip}
 use Rattle.overlay_terms.specs.Histories.{Version}
 use Rattle.book_history.specs.Known.{Known}
@@ -32,9 +32,9 @@ returns-in_default-clause-refused g c =
 pub run_threads-store-requires-after_bounds : goal.run_threads-store-requires-after_bounds
 run_threads-store-requires-after_bounds g c κs within =
     let seats = c.in-Some.seats in
-    let sessions : map session_of seats.scripts.items ≡ c.args.self.sessions.items = search rules in
-    let ports : map port_of seats.scripts.items ≡ c.args.self.ports.items = search rules in
-    let rooms : HasRooms seats.rooms (length c.args.self.ports.items) = search rules in
+    let sessions : map session_of seats.scripts.items ≡ c.args.self.sessions.items = c.in-Some.ensures.sessions in
+    let ports : map port_of seats.scripts.items ≡ c.args.self.ports.items = c.in-Some.ensures.ports in
+    let rooms : HasRooms seats.rooms (length c.args.self.ports.items) = c.in-Some.ensures.rooms in
     let seated : AreSeated g.J.BookName.book c.args.self.start.version.value c.args.self.ports.items seats.scripts.items = record { sessions = sessions ∙ c.requires.sessions; ports_are = ports } in
     record {
       store = c.requires.reporter.0;
@@ -58,10 +58,11 @@ parted-sessions-requires g c =
     let scripts = seats.scripts.items in
     let ended = c.in-Some-ended.ended.items in
     let stored = has_store c.args.self.shared in
-    let sessions : map session_of scripts ≡ c.args.self.sessions.items = search rules in
-    let ports : map port_of scripts ≡ c.args.self.ports.items = search rules in
-    let parts : HasParts seats.parts (length c.args.self.ports.items) = search rules in
-    let ran : AllZip (IsRunOf g.J.BookName.book stored g.R.Read.remaining g.W.Write.contents) scripts ended = search rules in
+    let sessions : map session_of scripts ≡ c.args.self.sessions.items = c.in-Some.ensures.sessions in
+    let ports : map port_of scripts ≡ c.args.self.ports.items = c.in-Some.ensures.ports in
+    let parts : HasParts seats.parts (length c.args.self.ports.items) = c.in-Some.ensures.parts in
+    let ran : AllZip (IsRunOf g.J.BookName.book stored g.R.Read.remaining g.W.Write.contents) scripts ended =
+    subst (λ o. IfSome o (λ list. AllZip (IsRunOf g.J.BookName.book stored g.R.Read.remaining g.W.Write.contents) scripts list.items)) c.in-Some-ended.is c.run_threads-store.ensures.ended in
     let seated : AreSeated g.J.BookName.book c.args.self.start.version.value c.args.self.ports.items scripts = record { sessions = sessions ∙ c.requires.sessions; ports_are = ports } in
     let count : length c.args.self.ports.items ≡ length ended =
     sym (as_many g.J.BookName.book c.args.self.start.version.value c.args.self.ports.items scripts seated) ∙ beside_length (IsRunOf g.J.BookName.book stored g.R.Read.remaining g.W.Write.contents) scripts ended ran in
@@ -72,7 +73,8 @@ close-closed-requires-clause-sessions g c =
     let scripts = c.in-Some.seats.scripts.items in
     let ended = c.in-Some-ended.ended.items in
     let stored = has_store c.args.self.shared in
-    let ran : AllZip (IsRunOf g.J.BookName.book stored g.R.Read.remaining g.W.Write.contents) scripts ended = search rules in
+    let ran : AllZip (IsRunOf g.J.BookName.book stored g.R.Read.remaining g.W.Write.contents) scripts ended =
+    subst (λ o. IfSome o (λ list. AllZip (IsRunOf g.J.BookName.book stored g.R.Read.remaining g.W.Write.contents) scripts list.items)) c.in-Some-ended.is c.run_threads-store.ensures.ended in
     subst (All (λ (k : Known). k.book ≡ g.J.BookName.book)) (sym c.parted-sessions.ensures.sessions)
     (of_ended g.J.BookName.book stored g.R.Read.remaining g.W.Write.contents scripts ended ran)
 
@@ -85,9 +87,10 @@ returns-clause-left g c =
     let after = c.run_threads-store.result.store in
     let last = c.keep_store-reporter.result in
     let closed = c.close-closed.ensures in
-    let sessions : map session_of scripts ≡ c.args.self.sessions.items = search rules in
-    let ports : map port_of scripts ≡ c.args.self.ports.items = search rules in
-    let ran : AllZip (IsRunOf g.J.BookName.book stored g.R.Read.remaining g.W.Write.contents) scripts ended = search rules in
+    let sessions : map session_of scripts ≡ c.args.self.sessions.items = c.in-Some.ensures.sessions in
+    let ports : map port_of scripts ≡ c.args.self.ports.items = c.in-Some.ensures.ports in
+    let ran : AllZip (IsRunOf g.J.BookName.book stored g.R.Read.remaining g.W.Write.contents) scripts ended =
+    subst (λ o. IfSome o (λ list. AllZip (IsRunOf g.J.BookName.book stored g.R.Read.remaining g.W.Write.contents) scripts list.items)) c.in-Some-ended.is c.run_threads-store.ensures.ended in
     served_from g.D.Disk g.J.BookName.book stored g.R.Read.remaining g.W.Write.contents c.args.self.start.version.value c.args.self.ports.items c.args.self.store last scripts ended
     (record { sessions = c.parted-sessions.result.finished; closed = c.close-closed.result })
     (record {
