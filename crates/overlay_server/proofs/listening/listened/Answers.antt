@@ -1,7 +1,7 @@
-use Rattle.std.proofs.Common.{rules, ◌∷◌, [], ℕ, ◌+◌, length-append, refl, ap, sym, arith, ◌∙◌}
+use Rattle.std.proofs.Common.{refl, arith}
 use Rattle.std.specs.Vec.{vec_len, vec_capacity}
 use Rattle.overlay_server.specs.Listening.{bytes_in, limit_in, no_bytes, reader_in, script_limit}
-use Rattle.overlay_server.proofs.Lists.{one_on, pushed, pushed_one, room_left}
+use Rattle.overlay_server.proofs.Lists.{one_less, one_longer, one_on, pushed, pushed_one, room_left}
 use Rattle.overlay_server.proofs.listening.listened.Goals as goal
 
 pub push_reserved-requires : goal.push_reserved-requires
@@ -16,8 +16,8 @@ loop-reader-preserved g c =
     let reader = c.in-Some.reader in
     record {
       all = one_on _ at.yielded _ _ reader at.invariant.all c.in-Some.ensures.steps.0;
-      left = search rules;
-      grown = c.push_reserved.ensures.len ∙ ap (λ (n : ℕ). n + 1) at.invariant.grown ∙ sym (length-append at.yielded (reader ∷ []));
+      left = one_less _ _ reader _ _ c.in-Some.ensures.steps.0 c.in-Some.ensures.steps.1 at.invariant.left;
+      grown = one_longer at.yielded reader _ _ c.push_reserved.ensures.len at.invariant.grown;
       room = omega (arith, at.invariant.room, c.push_reserved.ensures.capacity);
       readers = pushed_one reader_in at.ports.items _ _ at.yielded c.push_reserved.ensures.items at.invariant.readers;
       limits = pushed limit_in script_limit at.ports.items _ _ at.yielded reader c.push_reserved.ensures.items at.invariant.limits refl;
