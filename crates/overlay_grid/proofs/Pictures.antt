@@ -3,7 +3,7 @@ use Rattle.std.specs.Prelude.{◌≡◌, ℕ, pos, ◌+ℤ◌, ◌*ℤ◌, ◌+�
 use Rattle.std.specs.List.{range_with_len}
 use Rattle.std.proofs.Common.{zero, suc, refl, ap, sym, ◌∙◌, arith, get_or, take, take_all, append_assoc, append-nil}
 use Rattle.std.proofs.lemmas.Grind.{flat_map-append}
-use Rattle.std.proofs.lemmas.List.{length-map, get_or-map, get_or_default, map-id, map_push, take_more}
+use Rattle.std.proofs.lemmas.List.{length-map, get_or-map, map-id}
 use Rattle.std.proofs.lemmas.List.FromFn.{get_or-map-range_with_len, length-map-range_with_len, map-range_with_len_more}
 use Rattle.overlay_terms.specs.Plane.{WholePoint, Point}
 use Rattle.overlay_terms.specs.Trees.{Steps}
@@ -91,15 +91,6 @@ pub row_more : (nx ny j : ℕ) (columns : List (List ℕ)) (text new : List ℕ)
 row_more nx ny j columns text new was added =
     added ∙ ap (λ (t : List ℕ). t ++ row_of columns j) was ∙ headed_more nx ny (flat_map (row_of columns) (range_with_len 0 j)) (row_of columns j)
     ∙ ap (headed nx ny) (sym (lines_push (row_of columns) j))
-
--- one more character of a row
-pub row_character : {V : Type 0} (items : V → List ℕ) (columns : List V) (i j x : ℕ) (column : V) (before text new : List ℕ) → i < length columns → column ≡ get_or columns i column → j < length (items (get_or columns i column)) → x ≡ get_or (items column) j x
-    → text ≡ before ++ map (λ c. slice_index (items c) j) (take i columns) → new ≡ text ++ x ∷ [] → new ≡ before ++ map (λ c. slice_index (items c) j) (take (i + 1) columns)
-row_character {V} items columns i j x column before text new there here high is was added =
-    let one : V → ℕ = λ c. slice_index (items c) j in
-    let same : x ≡ one (get_or columns i column) = is ∙ ap (λ c. get_or (items c) j x) here ∙ get_or_default (items (get_or columns i column)) j x 0 high in
-    added ∙ (λ t. was t ++ same t ∷ []) ∙ append_assoc before (map one (take i columns)) (one (get_or columns i column) ∷ [])
-    ∙ ap (λ (t : List ℕ). before ++ t) (sym (ap (map one) (take_more columns i column there) ∙ map_push one (take i columns) (get_or columns i column)))
 
 -- a row of characters with the end of its line
 pub row_ended : {V : Type 0} (items : V → List ℕ) (columns : List V) (i j : ℕ) (before text new : List ℕ) → length columns ≤ i → text ≡ before ++ map (λ c. slice_index (items c) j) (take i columns) → new ≡ text ++ 10 ∷ [] → new ≡ before ++ row_of (map items columns) j

@@ -1,7 +1,7 @@
 use Rattle.std.proofs.Common.{lit<, arith, ◌^◌}
 use Rattle.std.proofs.lemmas.Int.{ints}
 use Rattle.overlay_terms.specs.Within.{IsWithin}
-use Rattle.overlay_terms.proofs.Bounds.{Reads, mul_fits, mul_reads}
+use Rattle.overlay_terms.proofs.Bounds.{mul_fits, mul_reads}
 use Rattle.exact_point.proofs.NarrowBounds.{widened}
 use Rattle.exact_point.proofs.MiddleLemmas.{add_fits, add_reads}
 use Rattle.overlay_grid.specs.declared.rising.Rise.{Rise}
