@@ -31,7 +31,7 @@ by more than a 1000th of the extent, or are out of range, nothing is written, an
           Where one store of 32 layers does not suffice, NAME.1.txt, NAME.2.txt .. are each the script of a store.
 
 Status 0: all was written; 1: something was refused, the rest was written, features overlap, no layer came of the files
-and nothing was written, or standard output or error cannot be written; 2: a file could not be read, the factor does not
+and nothing was written, or standard output or an open standard error cannot be written; 2: a file could not be read, the factor does not
 fit, no feature has the property of --name-by, or what would be written over is a store or an input, and nothing was
 written.
 """

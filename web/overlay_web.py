@@ -99,8 +99,9 @@ def scale_of(words: argparse.Namespace) -> MapScale:
 
 def hosts_of(words: argparse.Namespace) -> set[str]:
     """The names that stand in the Host of a good question."""
-    own = f"[{words.host}]" if ":" in words.host else words.host.lower()
-    return {own, *(LOOPBACK if is_loopback(words.host) else ()), *(name.lower() for name in words.name)}
+    host = words.host.lower()
+    own = f"[{host}]" if ":" in host else host
+    return {own, *(LOOPBACK if is_loopback(host) else ()), *(name.lower() for name in words.name)}
 
 
 @contextlib.contextmanager

@@ -1,6 +1,7 @@
 """Each tool ends with one line, or none, where what it writes cannot be written."""
 
 import os
+import shlex
 import subprocess
 import sys
 import unittest
@@ -53,8 +54,8 @@ class Endings(InFolder):
         plain = subprocess.run([sys.executable, path("to_script.py"), str(square)], capture_output=True, check=True)
         self.assertTrue(plain.stdout and plain.stderr)
         for stream, status in (("2>/dev/full", 1), ("2>&-", 0)):
-            call = f"{sys.executable} {path('to_script.py')} {square} {stream}"
-            done = subprocess.run(["bash", "-c", call], stdout=subprocess.PIPE, check=False)
+            call = shlex.join([sys.executable, str(path("to_script.py")), str(square)])
+            done = subprocess.run(["bash", "-c", f"{call} {stream}"], stdout=subprocess.PIPE, check=False)
             self.assertEqual((done.returncode, done.stdout), (status, plain.stdout), stream)
 
     def test_a_full_device(self) -> None:

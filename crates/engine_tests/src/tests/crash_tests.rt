@@ -42,7 +42,9 @@ fn is_left(alloc: Global, disk: MemDisk, number: usize) -> Result<(bool, MemDisk
     let listed = engine.listed(alloc)?;
     let same = engine.number() == number as u64
         && engine.durable() == number as u64
-        && LAYERS.get(number).unwrap_or(&"").as_bytes() == listed.as_slice();
+        && LAYERS
+            .get(number)
+            .is_some_and(|text| text.as_bytes() == listed.as_slice());
     Ok((same, engine.into_disk()))
 }
 

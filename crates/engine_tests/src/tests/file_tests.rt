@@ -1,5 +1,5 @@
 //! Files that are no store, or that a part is cut off.
-use crate::tests::testing::{BLOCKS, disk_of, only_reads, put_square};
+use crate::tests::testing::{BLOCKS, disk_of, writes_nothing, put_square};
 use commit_plan::fault::StoreFault;
 use disk_model::mem_disk::MemDisk;
 use std::alloc::Global;
@@ -25,7 +25,7 @@ fn stored(alloc: Global) -> Result<Vec<u8>, Fail> {
 
 /// The fault, where nothing was written.
 fn told(refused: &Refused<MemDisk>) -> Result<StoreFault, Fail> {
-    if !only_reads(refused.disk.calls()) {
+    if !writes_nothing(refused.disk.calls()) {
         return Err(Fail::new("written"));
     }
     Ok(refused.fault)

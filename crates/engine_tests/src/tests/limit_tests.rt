@@ -1,5 +1,5 @@
 //! Limits of blocks and of numbers.
-use crate::tests::testing::{BLOCKS, CREATED, disk_of, only_reads, put_square};
+use crate::tests::testing::{BLOCKS, CREATED, disk_of, writes_nothing, put_square};
 use disk_model::disk::Disk;
 use disk_model::mem_disk::MemDisk;
 use overlay_engine::step::Reply;
@@ -54,6 +54,6 @@ fn the_greatest_numbers_open_and_go_no_further(rt: HostRuntime) -> Result<(), Fa
     assert_eq!(rt; engine.number(), 1 << 62);
     let replies = put_square(rt.alloc(), &mut engine, 1)?;
     assert!(rt; replies.as_slice() == [Reply::Refused(16), Reply::Refused(36)].as_slice());
-    assert!(rt; only_reads(engine.into_disk().calls()));
+    assert!(rt; writes_nothing(engine.into_disk().calls()));
     Ok(())
 }

@@ -129,7 +129,8 @@ pub fn put_square<D: Disk>(
     Ok(engine.drive(alloc, &steps)?)
 }
 
-/// Makes a step that is accepted as a version, and the device calls of its commit: each goes on but the last, which is done.
+/// Makes a step that is accepted as a version, and the device calls of its commit: each goes on but the last, which is
+/// done.
 pub fn check_commit(
     rt: &impl Abort,
     alloc: Global,
@@ -164,7 +165,7 @@ pub fn disk_of(alloc: Global, bytes: &[u8]) -> Result<MemDisk, Fail> {
 }
 
 /// Whether none of these calls writes.
-pub fn only_reads(calls: &[Call]) -> bool {
+pub fn writes_nothing(calls: &[Call]) -> bool {
     for call in calls {
         if matches!(call, Call::Write(_, _)) {
             return false;

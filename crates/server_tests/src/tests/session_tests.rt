@@ -77,9 +77,9 @@ fn check_end(rt: &impl Abort, end: SessionEnd, wanted: SessionEnd, failed: u64, 
     assert_eq!(rt; failed, u64::from(is_failed));
 }
 
-/// Compares what was written in the case with this number.
-fn check_written(rt: &impl Abort, written: &[u8], text: &[u8], number: u64) {
-    assert_eq!(rt; written, text, "with {number}");
+/// Compares what was written in a case: the one behind, by or at this number.
+fn check_written(rt: &impl Abort, written: &[u8], text: &[u8], word: &str, number: u64) {
+    assert_eq!(rt; written, text, "{word} {number}");
 }
 
 /// Runs a script to its end or its fault, by reads of so many bytes, and compares what it writes.
@@ -103,7 +103,7 @@ fn expect(
         None => SessionEnd::End,
     };
     check_end(rt, end, wanted, reader.failed, fault.is_some());
-    check_written(rt, &writer, text.as_bytes(), step as u64);
+    check_written(rt, &writer, text.as_bytes(), "by", step as u64);
 }
 
 #[test]
@@ -186,7 +186,7 @@ fn expect_writes(
     let wanted = SessionEnd::Failed(if is_cut { 49 } else { 48 });
     check_end(rt, end, wanted, writer.refused, is_cut);
     let told = text.len().min(writes.saturating_mul(6));
-    check_written(rt, &writer.text, &text[..told], writes as u64);
+    check_written(rt, &writer.text, &text[..told], "at write", writes as u64);
 }
 
 #[test]
@@ -212,7 +212,7 @@ fn a_script_holds_16777216_bytes(rt: HostRuntime) {
         let mut reader = io::repeat(b'\n').take(feeds).chain(text);
         let mut writer = Vec::new(rt.alloc());
         assert_eq!(rt; run_script(&rt, rt.alloc(), &mut reader, &mut writer), end);
-        check_written(&rt, &writer, replies.as_bytes(), feeds);
+        check_written(&rt, &writer, replies.as_bytes(), "behind", feeds);
     }
 }
 
