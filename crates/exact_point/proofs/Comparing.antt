@@ -48,7 +48,7 @@ second_fails true true z e = cc
 second_fails true false z e = refl
 second_fails false y z e = refl
 
-last_decides : (x y z b : Bool) → x ≡ true → y ≡ true → b ≡ z → b ≡ (x && y && z)
+pub last_decides : (x y z b : Bool) → x ≡ true → y ≡ true → b ≡ z → b ≡ (x && y && z)
 last_decides true true z b e f k = k
 last_decides true false z b e f k = cc
 last_decides false y z b e f k = cc

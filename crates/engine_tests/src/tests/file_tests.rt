@@ -1,5 +1,5 @@
 //! Files that are no store, or that a part is cut off.
-use crate::tests::testing::{BLOCKS, disk_of, writes_nothing, put_square};
+use crate::tests::testing::{BLOCKS, disk_of, put_square, writes_nothing};
 use commit_plan::fault::StoreFault;
 use disk_model::mem_disk::MemDisk;
 use std::alloc::Global;

@@ -1,5 +1,5 @@
 //! Limits of blocks and of numbers.
-use crate::tests::testing::{BLOCKS, CREATED, disk_of, writes_nothing, put_square};
+use crate::tests::testing::{BLOCKS, CREATED, disk_of, put_square, writes_nothing};
 use disk_model::disk::Disk;
 use disk_model::mem_disk::MemDisk;
 use overlay_engine::step::Reply;
