@@ -4,8 +4,8 @@ ghost use Rattle.std.specs.List.{list_all};
 ghost use Rattle.program_store.specs.Ending.{ends_of, is_end, was_run, was_written};
 
 use crate::ports::Replies;
-use overlay_server::outcome::Finished;
 use program_store::ending::{Ends, is_end, was_run, was_written};
+use session_threads::port::Finished;
 
 /// How all sessions ended.
 pub fn ends_of(sessions: &[Finished<Replies>]) -> Ends

@@ -1,8 +1,8 @@
 //! Where sessions read their lines, and where their replies go.
 ghost use Rattle.std.specs.Prelude.{◌≡◌, ◌<◌, ◌≤◌, ◌^◌, length, max, IfOk};
 
-use overlay_server::outcome::Port;
 use program_store::fault::ProgramFault;
+use session_threads::port::Port;
 use std::fs::{File, OpenOptions, TryLockError};
 use std::io::{ErrorKind, Read, Stdin, Stdout, Write};
 use std::rt::Files;

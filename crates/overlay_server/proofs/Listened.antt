@@ -17,11 +17,11 @@ use Rattle.book_history.specs.Known.{Known}
 use Rattle.book_lock.specs.Steps.{beginners}
 use Rattle.script_form.specs.Lines.{script_max}
 use Rattle.server_session.specs.Session.{IsSessionWithin}
+use Rattle.session_threads.specs.declared.port.Finished.{Finished}
+use Rattle.session_threads.specs.declared.port.Port.{Port}
 use Rattle.overlay_server.specs.Listening.{bytes_in, limit_in, no_bytes, outcome_of, reader_in, script_limit}
 use Rattle.overlay_server.specs.Serving.{AreServed, ArePortsServed, IsLeftFrom, IsLeftOfStore, IsServedFrom, IsServed, IsPortServed, Part, PortPart, first_log}
-use Rattle.overlay_server.specs.declared.outcome.Finished.{Finished}
 use Rattle.overlay_server.specs.declared.outcome.Outcome.{Outcome}
-use Rattle.overlay_server.specs.declared.outcome.Port.{Port}
 
 -- the first of two lists that are the same
 abbrev head_or : {A : Type 0} → A → List A → A

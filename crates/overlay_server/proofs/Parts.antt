@@ -8,13 +8,13 @@ use Rattle.book_history.specs.Known.{Known, seen}
 use Rattle.book_history.specs.Logs.{history_of}
 use Rattle.book_history.proofs.Chains.{begins_with}
 use Rattle.book_lock.specs.Steps.{beginners, HasAllOf}
-use Rattle.overlay_server.specs.Running.{IsRunOf}
-use Rattle.overlay_server.specs.Seats.{session_of, port_of, ended_session, finished_of}
+use Rattle.session_threads.specs.Running.{IsRunOf}
+use Rattle.session_threads.specs.Seats.{session_of, port_of, ended_session, finished_of}
+use Rattle.session_threads.specs.declared.running.Script.{Script}
+use Rattle.session_threads.specs.declared.running.Ended.{Ended}
+use Rattle.session_threads.specs.declared.port.Finished.{Finished}
+use Rattle.session_threads.specs.declared.port.Port.{Port}
 use Rattle.overlay_server.specs.Serving.{ArePortsServed, IsPortServed, PortPart, first_log}
-use Rattle.overlay_server.specs.declared.running.Script.{Script}
-use Rattle.overlay_server.specs.declared.running.Ended.{Ended}
-use Rattle.overlay_server.specs.declared.outcome.Finished.{Finished}
-use Rattle.overlay_server.specs.declared.outcome.Port.{Port}
 
 -- a session that a book begins with: it has seen the first version alone
 abbrev beginner : Book → Version → ℕ → Known

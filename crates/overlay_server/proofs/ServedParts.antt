@@ -8,16 +8,16 @@ use Rattle.overlay_terms.specs.Histories.{Version}
 use Rattle.book_history.specs.Logs.{newest_in, IsLog}
 use Rattle.book_lock.specs.Steps.{HasAllOf}
 use Rattle.store_flushing.specs.Told.{told_in}
-use Rattle.overlay_server.specs.Counting.{made_in}
+use Rattle.session_threads.specs.Counting.{made_in}
+use Rattle.session_threads.specs.Running.{IsRunOf}
+use Rattle.session_threads.specs.Seats.{ended_session, finished_of}
+use Rattle.session_threads.specs.declared.port.Finished.{Finished}
+use Rattle.session_threads.specs.declared.port.Port.{Port}
+use Rattle.session_threads.specs.declared.running.Script.{Script}
+use Rattle.session_threads.specs.declared.running.Ended.{Ended}
 use Rattle.overlay_server.specs.Keeping.{IsStoreKept}
-use Rattle.overlay_server.specs.Running.{IsRunOf}
-use Rattle.overlay_server.specs.Seats.{ended_session, finished_of}
 use Rattle.overlay_server.specs.Serving.{ArePortsServed, IsLeftFrom, first_log}
-use Rattle.overlay_server.specs.declared.outcome.Finished.{Finished}
 use Rattle.overlay_server.specs.declared.outcome.Left.{Left}
-use Rattle.overlay_server.specs.declared.outcome.Port.{Port}
-use Rattle.overlay_server.specs.declared.running.Script.{Script}
-use Rattle.overlay_server.specs.declared.running.Ended.{Ended}
 use Rattle.overlay_server.specs.declared.storing.Store.{Store}
 use Rattle.overlay_server.proofs.Parts.{AreSeated, are_served, begins_first}
 use Rattle.overlay_server.proofs.Stores.{Closes, left_by}

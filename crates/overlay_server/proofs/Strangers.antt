@@ -13,13 +13,13 @@ use Rattle.book_history.specs.Known.{Known}
 use Rattle.book_history.specs.Logs.{history_of, newest_in, IsLog}
 use Rattle.book_history.proofs.Chains.{commands_in_log, is_history}
 use Rattle.book_lock.specs.Steps.{beginners, HasAllOf}
-use Rattle.overlay_server.specs.Counting.{made_in}
-use Rattle.overlay_server.specs.Running.{IsRunOf}
-use Rattle.overlay_server.specs.Seats.{session_of, ended_session}
+use Rattle.session_threads.specs.Counting.{made_in}
+use Rattle.session_threads.specs.Running.{IsRunOf}
+use Rattle.session_threads.specs.Seats.{session_of, ended_session}
+use Rattle.session_threads.specs.declared.port.Port.{Port}
+use Rattle.session_threads.specs.declared.running.Script.{Script}
+use Rattle.session_threads.specs.declared.running.Ended.{Ended}
 use Rattle.overlay_server.specs.Serving.{first_log}
-use Rattle.overlay_server.specs.declared.outcome.Port.{Port}
-use Rattle.overlay_server.specs.declared.running.Script.{Script}
-use Rattle.overlay_server.specs.declared.running.Ended.{Ended}
 use Rattle.overlay_server.proofs.Counts.{all_below, counted}
 use Rattle.overlay_server.proofs.Parts.{AreSeated}
 

@@ -1,12 +1,8 @@
 pub mod Alone
 pub mod Answering
-pub mod Counting
 pub mod Durability
 pub mod Keeping
 pub mod Listening
 pub mod Moments
-pub mod Rooms
-pub mod Running
-pub mod Seats
 pub mod Serving
 pub mod Working

@@ -1,8 +1,8 @@
 -- Sessions whose replies are kept as lists of bytes.
 use Rattle.std.specs.Prelude.{ℕ, List, []}
-use Rattle.overlay_server.specs.declared.outcome.Finished.{Finished}
+use Rattle.session_threads.specs.declared.port.Finished.{Finished}
+use Rattle.session_threads.specs.declared.port.Port.{Port}
 use Rattle.overlay_server.specs.declared.outcome.Outcome.{Outcome}
-use Rattle.overlay_server.specs.declared.outcome.Port.{Port}
 use Rattle.std.specs.declared.vec.Vec.{Vec}
 use Rattle.std.specs.declared.alloc.Global.{Global}
 

@@ -20,11 +20,11 @@ use Rattle.store_flushing.specs.Storing.{IsStoreOf}
 use Rattle.store_flushing.specs.Told.{StaysTold, told_in}
 use Rattle.store_flushing.specs.declared.closed.Closed.{Closed}
 use Rattle.store_flushing.specs.declared.keeper.told_log.Told.{Told}
+use Rattle.session_threads.specs.declared.port.Finished.{Finished}
+use Rattle.session_threads.specs.declared.port.Port.{Port}
 use Rattle.overlay_server.specs.Answering.{answer_in, refusal_code}
-use Rattle.overlay_server.specs.declared.outcome.Finished.{Finished}
 use Rattle.overlay_server.specs.declared.outcome.Left.{Left}
 use Rattle.overlay_server.specs.declared.outcome.Outcome.{Outcome}
-use Rattle.overlay_server.specs.declared.outcome.Port.{Port}
 use Rattle.overlay_server.specs.declared.outcome.Served.{Served}
 use Rattle.overlay_server.specs.declared.outcome.ServerFault.{ServerFault}
 

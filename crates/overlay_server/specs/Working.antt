@@ -3,11 +3,11 @@ use Rattle.std.specs.Prelude.{◌≡◌, Bool, ℕ, List, length, All, Option, I
 use Rattle.std.specs.List.{AllZip}
 use Rattle.logbook.specs.Pages.{Book}
 use Rattle.disk_model.specs.declared.disk.Disk.{Ghosts}
+use Rattle.session_threads.specs.Rooms.{HasRooms}
+use Rattle.session_threads.specs.Running.{IsRunOf}
+use Rattle.session_threads.specs.declared.running.Ended.{Ended}
+use Rattle.session_threads.specs.declared.running.Script.{Script}
 use Rattle.overlay_server.specs.Keeping.{IsStoreKept}
-use Rattle.overlay_server.specs.Rooms.{HasRooms}
-use Rattle.overlay_server.specs.Running.{IsRunOf}
-use Rattle.overlay_server.specs.declared.running.Ended.{Ended}
-use Rattle.overlay_server.specs.declared.running.Script.{Script}
 use Rattle.overlay_server.specs.declared.threads.Returned.{Returned}
 use Rattle.overlay_server.specs.declared.threads.Work.{Work}
 

@@ -1,21 +1,18 @@
 //! A server over one book: workers, a store and one session a reader, each in a thread of its own.
 #![tactic(auto)]
 
-mod counting;
 mod hosting;
 pub mod laws;
 mod listening;
 mod opening;
 pub mod outcome;
 mod refusing;
-mod running;
-mod seating;
 pub mod serving;
 mod storing;
 mod threads;
 
 pub use opening::BookAnswer;
-pub use outcome::{Finished, Left, Outcome, Port, ServeOptions, Served, ServerFault};
+pub use outcome::{Left, Outcome, ServeOptions, Served, ServerFault};
 pub use overlay_grid::{GridSpec, grid};
 pub use script_form::{CommandFault, SessionEnd};
 pub use server_session::session_run;

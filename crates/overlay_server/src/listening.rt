@@ -1,10 +1,11 @@
 //! Sessions whose replies are kept as lists of bytes.
 ghost use Rattle.std.specs.Prelude.{◌≡◌, length, map, IfSome};
-ghost use Rattle.overlay_server.specs.Rooms.{IsReserved};
+ghost use Rattle.session_threads.specs.Rooms.{IsReserved};
 ghost use Rattle.overlay_server.specs.Listening.{bytes_in, limit_in, no_bytes, outcome_of, reader_in, script_limit};
 
-use crate::outcome::{Finished, Left, Outcome, Port, Served};
+use crate::outcome::{Left, Outcome, Served};
 use script_form::SCRIPT_MAX;
+use session_threads::port::{Finished, Port};
 use std::alloc::Global;
 use std::io::Read;
 

@@ -1,8 +1,9 @@
 //! What a server is run with, and what it leaves.
-ghost use Rattle.std.specs.Prelude.{◌<◌, ◌≤◌, ◌^◌};
+ghost use Rattle.std.specs.Prelude.{◌≤◌};
 
 use crate::opening::BookAnswer;
 use script_form::SessionEnd;
+use session_threads::port::Finished;
 use store_flushing::closed::Closed;
 
 /// What a server is run with.
@@ -12,22 +13,6 @@ pub struct ServeOptions {
     pub workers: usize,
     pub ghost some: { 1 ≤ workers },
     pub ghost few: { workers ≤ 8 },
-}
-
-/// Where the lines of a session come from, how many bytes of them it may have, and where its replies go.
-#[derive(Drop)]
-pub struct Port<R, W> {
-    pub reader: R,
-    pub most: usize,
-    pub writer: W,
-    pub ghost countable: { most < 2 ^ 63 },
-}
-
-/// The writer that a session's replies went to, and how it ended.
-#[derive(Debug, Drop)]
-pub struct Finished<W> {
-    pub writer: W,
-    pub end: SessionEnd,
 }
 
 /// What a server of ports leaves: the writer of each session, in the order of the ports, and what is left of the book and

@@ -3,9 +3,10 @@ ghost use Rattle.std.specs.Prelude.{◌≡◌, ◌<◌, ◌≤◌, length, IfOk,
 ghost use Rattle.overlay_server.specs.Serving.{IsLeftFrom, IsServedFrom, IsRefusedFrom, flusher_of, start_of};
 
 use crate::hosting::{Opened, listen_in, serve_in};
-use crate::outcome::{Left, Port, ServeOptions, Served, ServerFault};
+use crate::outcome::{Left, ServeOptions, Served, ServerFault};
 use disk_model::disk::Disk;
 use overlay_engine::engine::Engine;
+use session_threads::port::Port;
 use std::alloc::Global;
 use std::io::{Read, Write};
 use std::marker::Brand;

@@ -3,9 +3,9 @@ ghost use Rattle.std.specs.Prelude.{◌≡◌};
 ghost use Rattle.overlay_server.specs.Working.{HasWorked, IsReady};
 ghost use Rattle.version_book.specs.Store.{has_store};
 
-use crate::running::{Ended, Rooms, Script, run_sessions};
 use crate::storing::{Store, start_store};
 use disk_model::disk::Disk;
+use session_threads::running::{Ended, Rooms, Script, run_sessions};
 use std::alloc::Global;
 use std::io::{Read, Write};
 use std::sync::Wait;

@@ -5,9 +5,10 @@ use crate::tests::runs::PortsRun;
 use crate::tests::testing::{BLOCKS, engine_of, expect, reopened, served};
 use disk_model::disk::Disk;
 use disk_model::mem_disk::MemDisk;
-use overlay_server::outcome::{Port, ServeOptions};
+use overlay_server::outcome::ServeOptions;
 use overlay_server::serving::serve_ports;
 use overlay_server::{OpenGate, SessionEnd};
+use session_threads::port::Port;
 use std::alloc::Global;
 use std::io;
 use std::io::{ErrorKind, Read, Write};
@@ -261,8 +262,8 @@ impl Write for Counting<'_> {
     }
 }
 
-// Caught: `replies_kept_to_the_end` (in overlay_server/src/running.rt the script is run into a list, which is written when
-// it has ended).
+// Caught: `replies_kept_to_the_end` (in session_threads/src/running.rt the script is run into a list, which is written
+// when it has ended).
 #[test]
 fn a_reply_stands_before_the_next_line_is_read(rt: HostRuntime) -> Result<(), Fail> {
     let alloc = rt.alloc();

@@ -1,5 +1,5 @@
 use Rattle.std.proofs.Common.{◌≡◌, Some, None, MatchOption, subst}
-use Rattle.overlay_server.specs.Rooms.{IsReserved}
+use Rattle.session_threads.specs.Rooms.{IsReserved}
 use Rattle.overlay_server.specs.Answering.{answer_in}
 use Rattle.overlay_server.specs.Serving.{IsLeftFrom}
 use Rattle.overlay_server.proofs.Listened.{as_many_left, held, listened_from}

@@ -1,5 +1,5 @@
 use Rattle.std.specs.Vec.{vec_len, vec_capacity}
-use Rattle.overlay_server.proofs.Lists.{room_left}
+use Rattle.session_threads.proofs.Lists.{room_left}
 use Rattle.overlay_server.proofs.listening.gathered.Goals as goal
 
 pub push_reserved-requires : goal.push_reserved-requires

@@ -1,7 +1,8 @@
 use Rattle.std.proofs.Common.{refl, arith}
 use Rattle.std.specs.Vec.{vec_len, vec_capacity}
+use Rattle.session_threads.proofs.Lists.{one_less, one_longer, one_on, room_left}
 use Rattle.overlay_server.specs.Listening.{bytes_in, limit_in, no_bytes, reader_in, script_limit}
-use Rattle.overlay_server.proofs.Lists.{one_less, one_longer, one_on, pushed, pushed_one, room_left}
+use Rattle.overlay_server.proofs.Lists.{pushed, pushed_one}
 use Rattle.overlay_server.proofs.listening.listened.Goals as goal
 
 pub push_reserved-requires : goal.push_reserved-requires

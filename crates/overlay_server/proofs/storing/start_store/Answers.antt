@@ -1,7 +1,7 @@
 use denote.Exit.{no}
 use denote.Param.{param}
 use denote.Param.Send.{arg_send, param_send}
-use Rattle.overlay_server.proofs.Sent.{taking_send}
+use Rattle.session_threads.proofs.Sent.{taking_send}
 use Rattle.overlay_server.specs.contracts.storing.Store as store
 use Rattle.overlay_server.proofs.SentStore.{store_send}
 use Rattle.overlay_server.proofs.storing.start_store.Goals as goal

@@ -7,12 +7,12 @@ use Rattle.book_lock.specs.Steps.{HasAllOf}
 use Rattle.book_lock.proofs.Beginning.{count_of}
 use Rattle.version_book.specs.Store.{has_store}
 use Rattle.store_flushing.specs.Told.{told_in}
-use Rattle.overlay_server.specs.Counting.{made_in}
-use Rattle.overlay_server.specs.Rooms.{HasParts, HasRooms}
-use Rattle.overlay_server.specs.Running.{IsRunOf}
-use Rattle.overlay_server.specs.Seats.{port_of, session_of}
+use Rattle.session_threads.specs.Counting.{made_in}
+use Rattle.session_threads.specs.Rooms.{HasParts, HasRooms}
+use Rattle.session_threads.specs.Running.{IsRunOf}
+use Rattle.session_threads.specs.Seats.{port_of, session_of}
+use Rattle.session_threads.proofs.Lists.{beside_length}
 use Rattle.overlay_server.specs.Serving.{first_log}
-use Rattle.overlay_server.proofs.Lists.{beside_length}
 use Rattle.overlay_server.proofs.Refusals.{MayAnswer, refused_from}
 use Rattle.overlay_server.proofs.Parts.{AreSeated, all_of_book, as_many, of_ended}
 use Rattle.overlay_server.proofs.Stores.{kept_twice, stopped_at_once, stopped_by}

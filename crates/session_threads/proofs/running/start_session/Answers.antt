@@ -1,9 +1,9 @@
 use denote.Exit.{no}
 use denote.Param.{param}
 use denote.Param.Send.{arg_send, param_send}
-use Rattle.overlay_server.proofs.Sent.{ended_send, script_send, taking_send}
-use Rattle.overlay_server.specs.contracts.running.Script as script
-use Rattle.overlay_server.proofs.running.start_session.Goals as goal
+use Rattle.session_threads.proofs.Sent.{ended_send, script_send, taking_send}
+use Rattle.session_threads.specs.contracts.running.Script as script
+use Rattle.session_threads.proofs.running.start_session.Goals as goal
 
 pub spawn_with-requires-send-F : goal.spawn_with-requires-send-F
 spawn_with-requires-send-F g c κs within =

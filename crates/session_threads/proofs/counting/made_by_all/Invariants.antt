@@ -1,6 +1,6 @@
 use Rattle.std.proofs.Common.{◌≡◌, take}
-use Rattle.overlay_server.specs.Counting.{made_in}
-use Rattle.overlay_server.proofs.counting.made_by_all.Given as goal
+use Rattle.session_threads.specs.Counting.{made_in}
+use Rattle.session_threads.proofs.counting.made_by_all.Given as goal
 
 -- what the sessions before this one made
 abbrev pub invariant-loop-session : goal.invariant-loop-session

@@ -2,8 +2,8 @@ use Rattle.std.proofs.Common.{◌≡◌, ◌++◌, ◌≤◌, length}
 use Rattle.std.specs.List.{AllZip}
 use Rattle.std.specs.Vec.{vec_len, vec_capacity}
 use Rattle.std.specs.Vec.Iter.{into_iter_items, into_iter_len}
-use Rattle.overlay_server.specs.Running.{IsRunOf}
-use Rattle.overlay_server.proofs.running.join_sessions.Given as goal
+use Rattle.session_threads.specs.Running.{IsRunOf}
+use Rattle.session_threads.proofs.running.join_sessions.Given as goal
 
 -- each thread that was taken in has kept its promise, and there is room for what the others leave
 abbrev pub invariant-loop-handle : goal.invariant-loop-handle

@@ -2,8 +2,8 @@
 use Rattle.std.specs.Prelude.{◌≡◌, ◌≤◌, ℕ, []}
 use Rattle.std.specs.declared.vec.Vec.{Vec}
 use Rattle.std.specs.Vec.{vec_len, vec_capacity}
-use Rattle.overlay_server.specs.declared.running.Rooms.{Rooms}
-use Rattle.overlay_server.specs.declared.seating.Parts.{Parts}
+use Rattle.session_threads.specs.declared.running.Rooms.{Rooms}
+use Rattle.session_threads.specs.declared.seating.Parts.{Parts}
 
 -- a list is empty, and has room for so many
 pub record IsReserved {X Z : Type 0} (list : Vec X Z) (count : ℕ) : Type 0 where

@@ -1,7 +1,7 @@
 use Rattle.std.proofs.Common.{◌≡◌, ◌++◌, length, map}
 use Rattle.std.specs.Vec.Iter.{into_iter_items, into_iter_len}
-use Rattle.overlay_server.specs.Seats.{port_of, session_of}
-use Rattle.overlay_server.proofs.seating.scripts.Given as goal
+use Rattle.session_threads.specs.Seats.{port_of, session_of}
+use Rattle.session_threads.proofs.seating.scripts.Given as goal
 
 -- each session so far has its reader, and there are as many readers as sessions left
 abbrev pub invariant-loop-session : goal.invariant-loop-session

@@ -3,7 +3,7 @@ use Rattle.std.specs.List.{AllZip}
 use Rattle.std.specs.Vec.{vec_len, vec_capacity}
 use Rattle.std.specs.Vec.Iter.{into_iter_items, into_iter_len}
 use Rattle.version_book.specs.Store.{has_store}
-use Rattle.overlay_server.proofs.running.run_sessions.Given as goal
+use Rattle.session_threads.proofs.running.run_sessions.Given as goal
 
 -- each script so far has its thread, and there is room for those of the others
 abbrev pub invariant-loop-script : goal.invariant-loop-script

@@ -1,11 +1,11 @@
 //! Sessions in threads of their own, one for each reader.
 ghost use Rattle.std.specs.Prelude.{◌≡◌, All, length, IfSome};
 ghost use Rattle.std.specs.List.{AllZip};
-ghost use Rattle.overlay_server.specs.Rooms.{IsReserved, HasRooms};
-ghost use Rattle.overlay_server.specs.Running.{IsRunOf};
+ghost use Rattle.session_threads.specs.Rooms.{IsReserved, HasRooms};
+ghost use Rattle.session_threads.specs.Running.{IsRunOf};
 ghost use Rattle.version_book.specs.Store.{has_store};
 
-use crate::outcome::Port;
+use crate::port::Port;
 use script_form::SessionEnd;
 use server_session::session::session_run_within;
 use std::alloc::Global;
@@ -43,7 +43,7 @@ pub struct RunsScript<J: BookName, R, W> {
 }
 
 impl<J: BookName, R: Read, W: Write> Promise<Ended<R, W>> for RunsScript<J, R, W> {
-    ghost use Rattle.overlay_server.specs.Running.{IsRunOf};
+    ghost use Rattle.session_threads.specs.Running.{IsRunOf};
 
     ghost kept_by = { λ p r. IsRunOf J.book p.stored R.remaining W.contents p.begun.value r };
 }

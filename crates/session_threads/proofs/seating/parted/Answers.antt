@@ -1,9 +1,9 @@
 use Rattle.std.proofs.Common.{ap, arith, map, ◌∙◌}
 use Rattle.std.specs.Vec.{vec_len, vec_capacity}
 use Rattle.std.specs.Vec.Iter.{into_iter_items}
-use Rattle.overlay_server.specs.Seats.{ended_session, finished_of}
-use Rattle.overlay_server.proofs.Lists.{gone_by_count, one_less, one_longer, one_on, room_left, told_pushed}
-use Rattle.overlay_server.proofs.seating.parted.Goals as goal
+use Rattle.session_threads.specs.Seats.{ended_session, finished_of}
+use Rattle.session_threads.proofs.Lists.{gone_by_count, one_less, one_longer, one_on, room_left, told_pushed}
+use Rattle.session_threads.proofs.seating.parted.Goals as goal
 
 pub push_reserved-requires : goal.push_reserved-requires
 push_reserved-requires g c =

@@ -1,8 +1,8 @@
 use Rattle.std.proofs.Common.{◌≡◌, ◌++◌, ◌≤◌, length, map}
 use Rattle.std.specs.Vec.{vec_len, vec_capacity}
 use Rattle.std.specs.Vec.Iter.{into_iter_items, into_iter_len}
-use Rattle.overlay_server.specs.Seats.{ended_session, finished_of}
-use Rattle.overlay_server.proofs.seating.parted.Given as goal
+use Rattle.session_threads.specs.Seats.{ended_session, finished_of}
+use Rattle.session_threads.proofs.seating.parted.Given as goal
 
 -- the sessions and what they finished so far, and room for the others
 abbrev pub invariant-loop-one : goal.invariant-loop-one

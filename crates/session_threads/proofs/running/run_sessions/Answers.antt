@@ -4,10 +4,10 @@ use Rattle.std.specs.Vec.{vec_len, vec_capacity}
 use Rattle.std.specs.Vec.Iter.{into_iter_items}
 use Rattle.overlay_terms.proofs.Lists.{in_middle}
 use Rattle.version_book.specs.Store.{has_store}
-use Rattle.overlay_server.specs.Rooms.{IsReserved}
-use Rattle.overlay_server.specs.Running.{IsRunOf}
-use Rattle.overlay_server.proofs.Lists.{beside_length, beside_pushed, beside_through, gone_by_count, one_less, one_longer, one_on, room_left}
-use Rattle.overlay_server.proofs.running.run_sessions.Goals as goal
+use Rattle.session_threads.specs.Rooms.{IsReserved}
+use Rattle.session_threads.specs.Running.{IsRunOf}
+use Rattle.session_threads.proofs.Lists.{beside_length, beside_pushed, beside_through, gone_by_count, one_less, one_longer, one_on, room_left}
+use Rattle.session_threads.proofs.running.run_sessions.Goals as goal
 
 pub start_session-requires-after_bounds : goal.start_session-requires-after_bounds
 start_session-requires-after_bounds g c κs within =

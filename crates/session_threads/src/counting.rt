@@ -1,6 +1,6 @@
 //! Whether all that a book accepted was made by its sessions.
 ghost use Rattle.std.specs.Prelude.{◌≡◌, ◌+◌};
-ghost use Rattle.overlay_server.specs.Counting.{made_in};
+ghost use Rattle.session_threads.specs.Counting.{made_in};
 
 use std::sync::Wait;
 use version_book::session::Session;

@@ -2,9 +2,9 @@ use Rattle.std.proofs.Common.{arith, subst}
 use Rattle.std.specs.List.{AllZip}
 use Rattle.std.specs.Vec.{vec_len, vec_capacity}
 use Rattle.std.specs.Vec.Iter.{into_iter_items}
-use Rattle.overlay_server.specs.Running.{IsRunOf}
-use Rattle.overlay_server.proofs.Lists.{beside_pushed, gone_by_count, one_less, one_longer, one_on, room_left}
-use Rattle.overlay_server.proofs.running.join_sessions.Goals as goal
+use Rattle.session_threads.specs.Running.{IsRunOf}
+use Rattle.session_threads.proofs.Lists.{beside_pushed, gone_by_count, one_less, one_longer, one_on, room_left}
+use Rattle.session_threads.proofs.running.join_sessions.Goals as goal
 
 pub push_reserved-requires : goal.push_reserved-requires
 push_reserved-requires g c =

@@ -1,9 +1,9 @@
 -- Who runs which script, and what a session leaves.
 use Rattle.book_history.specs.Known.{Known}
-use Rattle.overlay_server.specs.declared.running.Script.{Script}
-use Rattle.overlay_server.specs.declared.running.Ended.{Ended}
-use Rattle.overlay_server.specs.declared.outcome.Finished.{Finished}
-use Rattle.overlay_server.specs.declared.outcome.Port.{Port}
+use Rattle.session_threads.specs.declared.running.Script.{Script}
+use Rattle.session_threads.specs.declared.running.Ended.{Ended}
+use Rattle.session_threads.specs.declared.port.Finished.{Finished}
+use Rattle.session_threads.specs.declared.port.Port.{Port}
 
 module _ {R W : Type 0} where
   abbrev pub session_of : Script R W → Known

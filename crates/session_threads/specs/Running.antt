@@ -4,8 +4,8 @@ use Rattle.logbook.specs.Pages.{Book}
 use Rattle.overlay_terms.specs.Histories.{BeginsWith}
 use Rattle.book_history.specs.Known.{seen}
 use Rattle.server_session.specs.Session.{IsSessionWithin}
-use Rattle.overlay_server.specs.declared.running.Script.{Script}
-use Rattle.overlay_server.specs.declared.running.Ended.{Ended}
+use Rattle.session_threads.specs.declared.running.Script.{Script}
+use Rattle.session_threads.specs.declared.running.Ended.{Ended}
 
 -- a session of this book ran its script: what it put behind what its writer had are the replies, from what it had seen to
 -- what it has seen then; `stored` says whether the book has a store

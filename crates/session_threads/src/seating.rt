@@ -1,9 +1,9 @@
 //! Which session runs which reader's script, and what the sessions leave.
 ghost use Rattle.std.specs.Prelude.{◌≡◌, length, map, IfSome};
-ghost use Rattle.overlay_server.specs.Rooms.{HasParts, IsReserved, HasRooms};
-ghost use Rattle.overlay_server.specs.Seats.{ended_session, finished_of, port_of, session_of};
+ghost use Rattle.session_threads.specs.Rooms.{HasParts, IsReserved, HasRooms};
+ghost use Rattle.session_threads.specs.Seats.{ended_session, finished_of, port_of, session_of};
 
-use crate::outcome::{Finished, Port};
+use crate::port::{Finished, Port};
 use crate::running::{Ended, Rooms, Script};
 use std::alloc::Global;
 use std::io::{Read, Write};

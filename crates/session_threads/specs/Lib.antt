@@ -1,0 +1,4 @@
+pub mod Counting
+pub mod Rooms
+pub mod Running
+pub mod Seats
