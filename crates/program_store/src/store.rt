@@ -1,4 +1,10 @@
 //! The store that a program keeps its layers in.
+ghost use Rattle.std.specs.Prelude.{◌≡◌, is_some, IfOk, IfSome};
+ghost use Rattle.overlay_terms.specs.Histories.{empty_version};
+ghost use Rattle.program_words.specs.declared.keeping.Opening.TheVariants.{New};
+ghost use Rattle.root_store.specs.Running.{KeepsTo};
+ghost use Rattle.root_store.specs.declared.phase.Phase.TheVariants.{Idle};
+
 use crate::fault::ProgramFault;
 use commit_plan::fault::StoreFault;
 use file_disk::file_disk::FileDisk;
@@ -8,11 +14,20 @@ use std::fs::File;
 use std::io::ErrorKind;
 use std::rt::Files;
 
-/// Makes or opens the store that the words name. None comes where they name none.
+/// Makes or opens the store that the words name. None comes where they name none. What the file holds is claimed nowhere,
+/// as nothing is of files.
 pub fn open_store<Q: Files<File = File> + AllocGlobal>(
     rt: &Q,
     keeping: &Keeping,
-) -> Result<Option<Engine<FileDisk>>, ProgramFault> {
+) -> Result<Option<Engine<FileDisk>>, ProgramFault>
+    // There is an engine just where the words name a store.
+    ensures named { IfOk result (λ engine. is_some engine ≡ is_some keeping.now.store) }
+    // Its file may have as many blocks as the words say, and no commit is under way.
+    ensures limit { IfOk result (λ engine. IfSome engine (λ e. KeepsTo keeping.now.max_blocks e.flusher.commit)) }
+    ensures idle { IfOk result (λ engine. IfSome engine (λ e. e.flusher.commit.phase ≡ Idle)) }
+    // A store that is made is empty.
+    ensures made { keeping.now.opening ≡ New → IfOk result (λ engine. IfSome engine (λ e. e.version ≡ empty_version)) }
+{
     let Some(path) = &keeping.store else {
         return Ok(None);
     };
