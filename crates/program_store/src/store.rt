@@ -1,5 +1,5 @@
 //! The store that a program keeps its layers in.
-ghost use Rattle.std.specs.Prelude.{◌≡◌, is_some, IfOk, IfSome};
+ghost use Rattle.std.specs.Prelude.{◌≡◌, false, is_some, IfOk, IfSome, IsOk};
 ghost use Rattle.overlay_terms.specs.Histories.{empty_version};
 ghost use Rattle.program_words.specs.declared.keeping.Opening.TheVariants.{New};
 ghost use Rattle.root_store.specs.Running.{KeepsTo};
@@ -14,19 +14,20 @@ use std::fs::File;
 use std::io::ErrorKind;
 use std::rt::Files;
 
-/// Makes or opens the store that the words name. None comes where they name none. What the file holds is claimed nowhere,
-/// as nothing is of files.
+/// Makes or opens the store that the words name. None comes where they name none. Nothing is claimed of what the file
+/// holds.
 pub fn open_store<Q: Files<File = File> + AllocGlobal>(
     rt: &Q,
     keeping: &Keeping,
 ) -> Result<Option<Engine<FileDisk>>, ProgramFault>
-    // There is an engine just where the words name a store.
-    ensures named { IfOk result (λ engine. is_some engine ≡ is_some keeping.now.store) }
+    // There is an engine just where the words name a store. Where they name none, nothing is refused.
+    ensures named { IfOk result (λ opened. is_some opened ≡ is_some keeping.now.store) }
+    ensures memory { is_some keeping.now.store ≡ false → IsOk result }
     // Its file may have as many blocks as the words say, and no commit is under way.
-    ensures limit { IfOk result (λ engine. IfSome engine (λ e. KeepsTo keeping.now.max_blocks e.flusher.commit)) }
-    ensures idle { IfOk result (λ engine. IfSome engine (λ e. e.flusher.commit.phase ≡ Idle)) }
-    // A store that is made is empty.
-    ensures made { keeping.now.opening ≡ New → IfOk result (λ engine. IfSome engine (λ e. e.version ≡ empty_version)) }
+    ensures limit { IfOk result (λ opened. IfSome opened (λ e. KeepsTo keeping.now.max_blocks e.flusher.commit)) }
+    ensures idle { IfOk result (λ opened. IfSome opened (λ e. e.flusher.commit.phase ≡ Idle)) }
+    // Of a store that is made the version is the empty one.
+    ensures made { keeping.now.opening ≡ New → IfOk result (λ opened. IfSome opened (λ e. e.version ≡ empty_version)) }
 {
     let Some(path) = &keeping.store else {
         return Ok(None);
