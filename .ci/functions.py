@@ -1,0 +1,119 @@
+"""The functions of a crate: where each stands in its sources, and the name by which the prover calls it.
+
+Sources are laid out by `rt fmt`, so a function begins at the margin or four columns in, and ends with a brace there or on
+its own line. The prover names one by its module, its type and itself: `bounds::Bounds::with`; one of an `impl` for a trait
+by both names in one, `point::PtOrd::cmp`; one of a type by the module where the type is, wherever its `impl` stands.
+"""
+
+from __future__ import annotations
+
+import collections
+import dataclasses
+import pathlib
+import re
+
+HEAD = re.compile(r"^(?P<indent> *)(?:pub(?:\([^)]*\))? )?(?:const )?(?:unsafe )?fn (?P<name>\w+)")
+IMPL = re.compile(r"^(?:unsafe )?impl(?:<(?:[^<>]|<[^<>]*>)*>)? (?P<made>.*?)(?: where.*)?(?: \{)?$")
+TRAIT = re.compile(r"^(?:pub(?:\([^)]*\))? )?trait (?P<name>\w+)")
+TYPE = re.compile(r"^(?:pub(?:\([^)]*\))? )?(?:struct|enum|union) (?P<name>\w+)", re.M)
+
+
+@dataclasses.dataclass(frozen=True)
+class Function:
+    """A function: its name, its file, and the lines, from 0, where its head, its body and it end begin.
+
+    It has no proof of its own where a trait declares it; the `drop` of a type, and a function of two `impl` blocks, have
+    names of the prover's.
+    """
+
+    name: str
+    path: str
+    first: int
+    body: int
+    last: int
+    is_own: bool
+
+
+def bare(name: str) -> str:
+    """A type's name without its path and its parameters."""
+    return re.sub(r"<.*>", "", name).split("::")[-1].strip()
+
+
+def module(path: str) -> str:
+    """The module that a file below src/ is: `a::b` of src/a/b.rt, nothing of the root."""
+    parts = pathlib.PurePath(path).with_suffix("").parts[1:]
+    return "" if parts in (("lib",), ("main",)) else "::".join(parts)
+
+
+def within(*parts: str) -> str:
+    """A path of those parts that are not empty."""
+    return "::".join(part for part in parts if part)
+
+
+def of_trait(trait: str, held: str) -> str:
+    """A trait's name with the types that it is given, but for parameters (one letter) and for the type that has it alone."""
+    name, *given = re.findall(r"(?:\w+::)*(\w+)", re.sub(r"'\w+", "", trait))
+    return name + "".join(one for one in given if len(one) > 1 and given != [held])
+
+
+def owner(line: str, path: str, homes: dict[str, list[str]]) -> str | None:
+    """The path of the type or trait whose functions follow a line, if it begins a block of some."""
+    trait = TRAIT.match(line)
+    if trait:
+        return within(module(path), trait["name"])
+    head = IMPL.match(line)
+    if not head:
+        return None
+    left, is_trait, right = head["made"].partition(" for ")
+    if is_trait:
+        return within(module(path), bare(right) + of_trait(left, bare(right)))
+    places = homes.get(bare(left), [])
+    return within(places[0] if len(places) == 1 else module(path), bare(left))
+
+
+def ends(lines: list[str], first: int, indent: str) -> tuple[int, int]:
+    """The line that opens the body of the function that begins on a line, and its last one; no body: the last one twice."""
+    body = last = len(lines) - 1
+    for at in range(first, len(lines)):
+        is_level = lines[at].startswith(indent) and not lines[at].startswith(f"{indent} ")
+        if is_level and lines[at].endswith(("{", "{}")):
+            body = min(body, at)
+        if is_level and lines[at].endswith((";", "}")):
+            last = at
+            break
+    return min(body, last), last
+
+
+def of_source(source: str, path: str, homes: dict[str, list[str]]) -> list[Function]:
+    """The functions of a file, in their order; `homes` has the modules of each type of the crate."""
+    found: list[Function] = []
+    holder: str | None = None
+    is_own = True
+    lines = source.split("\n")
+    for at, line in enumerate(lines):
+        if line and line[0] not in " }{)#/" and not line.startswith("where"):
+            holder = owner(line, path, homes)
+            is_own = not TRAIT.match(line) and " Drop for " not in line
+        head = HEAD.match(line)
+        if head and len(head["indent"]) in (0, 4):
+            before = holder if head["indent"] and holder else module(path)
+            found.append(Function(within(before, head["name"]), path, at, *ends(lines, at, head["indent"]), is_own))
+    return found
+
+
+def homes_of(texts: dict[str, str]) -> dict[str, list[str]]:
+    """The modules of each type of a crate, by its name."""
+    found: dict[str, list[str]] = {}
+    for path, text in texts.items():
+        if path.startswith("src/"):
+            for kind in TYPE.finditer(text):
+                found.setdefault(kind["name"], []).append(module(path))
+    return found
+
+
+def of_crate(texts: dict[str, str]) -> list[Function]:
+    """The functions of a crate, by the texts of its files, file by file."""
+    homes = homes_of(texts)
+    found = [one for path, text in texts.items() if path.startswith("src/") for one in of_source(text, path, homes)]
+    count = collections.Counter(one.name for one in found)
+    return [dataclasses.replace(one, is_own=one.is_own and count[one.name] == 1) for one in found]

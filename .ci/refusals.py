@@ -1,0 +1,162 @@
+"""What a check says of the functions of a crate: which are refused, and at which goal.
+
+A wrong body is refused for its meaning where a goal has no proof: a clause, an invariant, a condition of what is called,
+or that no operation goes wrong. `At its written proof` stands where it was one that was written for the text as it is:
+whether the goal could be proved otherwise, that does not tell; nor does `at a limit of the search`, where the prover gave
+up. Where it only finds that a written proof names what the edit has taken away, nothing is known of the contract: that is
+`a name that is gone`.
+"""
+
+from __future__ import annotations
+
+import dataclasses
+import re
+
+import functions
+
+ANSWER = re.compile(r"(?:\./)?proofs/(?P<place>\S+)/\w+\.antt:\d+:\d+: error: (?P<said>.*)")
+AT_LINE = re.compile(r"(?:note: )?(?P<path>src/\S+?):(?P<line>\d+):\d+: (?:error: )?it is not proved (?P<said>.*)")
+TOLD = re.compile(r"fn (?P<crate>\w+)::(?P<name>\S+): (?P<said>.*)")
+SOUGHT = re.compile(r"`search` did not prove (?P<goals>`[^;]*`)")
+ASKED = re.compile(r"\(`(?P<goal>[\w-]+)`\)")
+NAMED = re.compile(r"^`(?P<first>[^`]+)`: |\(in `(?P<last>[^`]+)`\)")
+# A proof file that names what is not there, and what cites that proof.
+GONE = re.compile(r"has no field|is not in scope|has no `|was not admitted")
+# What is lent out by a method can be written by the caller, and the type's invariant goes with it.
+LENT = re.compile(r"that the struct's ghost fields, or its `invariant`, hold")
+# An error of antt's: one without the name of a goal, or with one of these, says that it could not read a text.
+ERROR = re.compile(r"(?:\./)?(?P<path>\S+?):\d+:\d+: error: (?P<goal>`[^`]*`: )?(?P<said>.*)")
+UNREAD = re.compile(r"is not in scope|has no field|is no name|operand is missing|expected the end|cannot continue")
+# The work of a library that was proved over other libraries cannot be used.
+STALE = re.compile(r"module .Rattle-\w+-.*Run the lower steps again")
+# A function of a cycle of calls has no file of this name.
+RESERVED = re.compile(r"^(?:\./)?proofs/(?P<place>\S+)/Proof\.antt: error\[reserved-name\]", re.M)
+# The last line of a check that came to its end, of some functions or of a whole crate that is not proved.
+REACHED = re.compile(r"only=|logic=not-proved")
+REFUSED = ("not proved", "no proof")
+UNREFUSED = ("no holes", "depends on a hole")
+GONE_KIND = "a name that is gone"
+UNKNOWN_KIND = "nothing that is known"
+WRITTEN = ", at its written proof"
+LIMIT = ", at a limit of the search"
+
+
+@dataclasses.dataclass(frozen=True)
+class Refusal:
+    """Where a function was refused: what the goal asks, and its name."""
+
+    kind: str
+    goal: str
+
+    @property
+    def is_meant(self) -> bool:
+        """Whether it says something of the contract."""
+        return self.kind not in (GONE_KIND, UNKNOWN_KIND)
+
+    @property
+    def rank(self) -> int:
+        """How little it tells: least of what nothing is known, most where no proof was written."""
+        return 3 if not self.is_meant else 2 if self.kind.endswith(LIMIT) else 1 if self.kind.endswith(WRITTEN) else 0
+
+
+def kind_of(goal: str) -> str:
+    """What a goal asks, by its name."""
+    if "-requires" in goal:
+        return "a condition of what is called"
+    if goal.startswith("loop") or "-preserved" in goal or goal.endswith("-init") or "invariant_of" in goal:
+        return "an invariant"
+    if goal.startswith("returns") or "-clause-" in goal or "ensures" in goal:
+        return "a clause"
+    return "an operation"
+
+
+def of_answer(said: str) -> Refusal:
+    """What an error in a written proof says."""
+    named = NAMED.search(said)
+    goal = (named["first"] or named["last"]) if named else "?"
+    if GONE.search(said):
+        return Refusal(GONE_KIND, goal)
+    return Refusal(kind_of(goal) + WRITTEN if named else UNKNOWN_KIND, goal)
+
+
+def of_line(said: str) -> Refusal | None:
+    """What a goal that is open at a line of a source says."""
+    asked = ASKED.search(said)
+    if asked:
+        return Refusal(kind_of(asked["goal"]) + (LIMIT if "gave up at one of its limits" in said else ""), asked["goal"])
+    return Refusal("an invariant", "?") if LENT.match(said) else None
+
+
+def at_line(path: str, line: int, known: list[functions.Function]) -> list[str]:
+    """The function that has a line of a source, if one has."""
+    return [one.name for one in known if one.path == path and one.first < line <= one.last + 1][-1:]
+
+
+def holder(name: str) -> str:
+    """The path of a function or of what stands within one, as a closure, without the marks of closures and of cycles."""
+    return re.sub(r"(^|::)fn::", r"\1", name).replace("::+", "::").removeprefix("+")
+
+
+def is_of(name: str, function: str) -> bool:
+    """Whether a name that a check prints is a function's own, or that of a closure in it."""
+    inner = holder(name)
+    return inner == function or inner.startswith(f"{function}::")
+
+
+def cycles(output: str) -> set[str]:
+    """The functions that a check says are of a cycle of calls."""
+    return {found["place"].replace("/", "::") for found in RESERVED.finditer(output)}
+
+
+def is_unread(line: str, changed: set[str]) -> bool:
+    """Whether antt could not read a text of src/ or specs/, or of a file that an edit changes: so does `rt must-fail` ask."""
+    error = ERROR.match(line)
+    if not error or not (error["path"] in changed or error["path"].startswith(("src/", "specs/"))):
+        return False
+    return not error["goal"] or bool(UNREAD.search(re.sub(r"`[^`]*`", "", error["said"])))
+
+
+@dataclasses.dataclass(frozen=True)
+class Verdict:
+    """What one check said: whether it came to its end, what of each function, and where some goal had no proof."""
+
+    is_reached: bool
+    told: dict[str, str]
+    open: list[tuple[str, Refusal]]
+    first: str
+
+    def is_unrefused(self, function: str) -> bool:
+        """Whether a function, with all within it, is as good as proved."""
+        said = [text for name, text in self.told.items() if is_of(name, function)]
+        return self.is_reached and function in map(holder, self.told) and all(one.startswith(UNREFUSED) for one in said)
+
+    def refusal(self, wanted: frozenset[str]) -> Refusal | None:
+        """Where one of some functions was refused, or of all if none is named: at the goal that tells most."""
+        among = wanted or frozenset(map(holder, self.told))
+        refused = {one for one in among
+                   if any(is_of(name, one) and text.startswith(REFUSED) for name, text in self.told.items())}
+        found = [said for name, said in self.open if any(is_of(name, one) for one in refused)]
+        return min(found, key=lambda said: said.rank) if self.is_reached and found else None
+
+
+def read(output: str, known: list[functions.Function], changed: set[str]) -> Verdict:
+    """What the lines of a check say of a crate whose functions are known, and of whose files some are changed."""
+    lines = output.rstrip("\n").split("\n")
+    told: dict[str, str] = {}
+    found: list[tuple[str, Refusal]] = []
+    for line in lines:
+        answer, lined, function = ANSWER.match(line), AT_LINE.match(line), TOLD.match(line)
+        if answer:
+            found.append((answer["place"].replace("/", "::"), of_answer(answer["said"])))
+        said = of_line(lined["said"]) if lined else None
+        if lined and said:
+            found += [(name, said) for name in at_line(lined["path"], int(lined["line"]), known)]
+        if function:
+            told[function["name"]] = function["said"]
+            sought = SOUGHT.search(function["said"])
+            goals = re.findall(r"`([^`]+)`", sought["goals"]) if sought else []
+            lined_goals = {said.goal for name, said in found if is_of(function["name"], name)}
+            found += [(function["name"], Refusal(kind_of(goal), goal)) for goal in goals if goal not in lined_goals]
+    unread = next((line for line in lines if is_unread(line, changed) or STALE.search(line)), "")
+    first = unread or next((line for line in lines if "error: " in line or "error[" in line), lines[-1])
+    return Verdict(bool(REACHED.match(lines[-1])) and not unread, told, found, first)
