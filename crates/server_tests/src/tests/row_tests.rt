@@ -103,7 +103,7 @@ fn scripts_are_answered(rt: HostRuntime) -> Result<(), Fail> {
     Ok(())
 }
 
-// Caught: `outcomes_in_another_order` (in session_threads/src/running.rt the sessions are taken in from the last to the
+// Caught: `sessions_in_reverse` (in session_threads/src/running.rt the sessions are taken in from the last to the
 // first).
 #[test]
 fn each_reader_has_its_own_replies(rt: HostRuntime) -> Result<(), Fail> {
