@@ -196,6 +196,7 @@ class Iceland(FrontCase):
         )
 
     def test_an_extent_is_the_box_of_the_layer(self) -> None:
+        self.wait_for("both", "one", "none")
         for name in ("both", "one"):
             corners = [corner for polygon in self.polygons(name) for ring in polygon for corner in ring]
             xs, ys = zip(*corners)
@@ -223,6 +224,7 @@ class Iceland(FrontCase):
         self.assertEqual(found["places"]["iceland_110m"], "edge")
 
     def test_tiles_are_the_pieces_of_columns(self) -> None:
+        self.wait_for("both")
         found = self.client.get("/collections/both/tiles")
         self.assertEqual([tile["column"] for tile in found["tiles"]], list(range(limits.COLUMNS)))
         with self.server.session() as one:
@@ -345,14 +347,14 @@ class Changes(FrontCase):
         self.store.change([*lines, "DEFINE D = (A ^ B) & C"])
         seen = [tile["lines"] for tile in self.client.get("/collections/D/tiles?columns=31,32")["tiles"]]
         self.client.get("/collections/D")  # its extent, though it may be pending
-        with self.server.session(slow=True) as one:
-            one.wait("D")
+        self.wait_for("D")
         built = [tile["lines"] for tile in self.client.get("/collections/D/tiles?columns=31,32")["tiles"]]
         self.assertNotIn(None, built)
         self.assertTrue(all(one in (None, right) for one, right in zip(seen, built)))
 
     def test_of_a_layer_that_is_not_built_the_extent_is_that_of_what_it_reaches(self) -> None:
         self.store.change([f"PUT A {SQUARE}", f"PUT B {SHIFTED}", f"PUT C {BAR}", "DEFINE I = A & B"])
+        self.wait_for("I")
         whole = self.store.extent("I")
         self.assertEqual(whole, Box(*map(Fraction, (5, 5, 10, 10))))
         self.store.change([f"PUT A {SQUARE.replace('10', '11')}"])
@@ -360,6 +362,7 @@ class Changes(FrontCase):
         with pending as corners:
             corners.side_effect = lambda found: real(found) if found.layer.text else None
             self.assertEqual(self.store.extent("I"), Box(*map(Fraction, (0, 0, 15, 15))))
+        self.wait_for("I")
         self.assertEqual(self.store.extent("I"), Box(*map(Fraction, (5, 5, 11, 11))))
 
     def test_corners_are_written_with_the_digits_of_the_scale(self) -> None:

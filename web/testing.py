@@ -130,3 +130,10 @@ class FrontCase(unittest.TestCase):
         cls.addClassCleanup(cls.store.close)
         cls.front = Front(cls.store)
         cls.client = Client(cls.front)
+
+    @classmethod
+    def wait_for(cls, *names: str) -> None:
+        """Waits until derived layers are built, before what does not wait for them: their extents and their tiles."""
+        with cls.server.session(slow=True) as one:
+            for name in names:
+                one.wait(name)
