@@ -20,7 +20,7 @@ TYPE = re.compile(r"^(?:pub(?:\([^)]*\))? )?(?:struct|enum|union) (?P<name>\w+)"
 
 @dataclasses.dataclass(frozen=True)
 class Function:
-    """A function: its name, its file, and the lines, from 0, where its head, its body and it end begin.
+    """A function: its name, its file, and the lines, from 0, of its head, of the brace of its body and of its end.
 
     It has no proof of its own where a trait declares it; the `drop` of a type, and a function of two `impl` blocks, have
     names of the prover's.

@@ -1,10 +1,10 @@
 """What a check says of the functions of a crate: which are refused, and at which goal.
 
-A wrong body is refused for its meaning where a goal has no proof: a clause, an invariant, a condition of what is called,
-or that no operation goes wrong. `At its written proof` stands where it was one that was written for the text as it is:
-whether the goal could be proved otherwise, that does not tell; nor does `at a limit of the search`, where the prover gave
-up. Where it only finds that a written proof names what the edit has taken away, nothing is known of the contract: that is
-`a name that is gone`.
+A wrong body is refused for its meaning where a goal has no proof: a clause, an invariant, a condition of what is called.
+`At its written proof` stands where it was one that was written for the text as it is: whether the goal could be proved
+otherwise, that does not tell; nor does `at a limit of the search`, where the prover gave up. Nothing is known of the
+contract where it only finds that a written proof names what the edit has taken away (`a name that is gone`), that an
+operation may go wrong, or that a loop may not end.
 """
 
 from __future__ import annotations
@@ -37,6 +37,9 @@ REFUSED = ("not proved", "no proof")
 UNREFUSED = ("no holes", "depends on a hole")
 GONE_KIND = "a name that is gone"
 UNKNOWN_KIND = "nothing that is known"
+OPERATION_KIND = "an operation"
+END_KIND = "the end of a loop"
+UNMEANT = (GONE_KIND, UNKNOWN_KIND, OPERATION_KIND, END_KIND)
 WRITTEN = ", at its written proof"
 LIMIT = ", at a limit of the search"
 
@@ -51,23 +54,25 @@ class Refusal:
     @property
     def is_meant(self) -> bool:
         """Whether it says something of the contract."""
-        return self.kind not in (GONE_KIND, UNKNOWN_KIND)
+        return not self.kind.startswith(UNMEANT)
 
     @property
     def rank(self) -> int:
-        """How little it tells: least of what nothing is known, most where no proof was written."""
+        """How little it tells: least where it says nothing of the contract, most where no proof was written."""
         return 3 if not self.is_meant else 2 if self.kind.endswith(LIMIT) else 1 if self.kind.endswith(WRITTEN) else 0
 
 
 def kind_of(goal: str) -> str:
     """What a goal asks, by its name."""
+    if goal.endswith("-smaller"):
+        return END_KIND
     if "-requires" in goal:
         return "a condition of what is called"
     if goal.startswith("loop") or "-preserved" in goal or goal.endswith("-init") or "invariant_of" in goal:
         return "an invariant"
     if goal.startswith("returns") or "-clause-" in goal or "ensures" in goal:
         return "a clause"
-    return "an operation"
+    return OPERATION_KIND
 
 
 def of_answer(said: str) -> Refusal:
