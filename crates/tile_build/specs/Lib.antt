@@ -1,4 +1,3 @@
-pub mod Boundary
 pub mod Piece
 pub mod Tile
 pub mod Counted

@@ -1,7 +1,6 @@
 //! The tiles of a derived layer: its boundary, column by column.
 #![tactic(auto)]
 
-pub mod all_pairs;
 pub mod building;
 pub mod built;
 pub mod counted;
@@ -10,7 +9,6 @@ pub mod ends;
 pub mod piece;
 pub mod tile;
 
-pub use all_pairs::build_by_pairs;
 pub use building::build;
 pub use built::{Built, PIECES_MAX};
 pub use counted::Counted;

@@ -9,7 +9,6 @@ ghost use Rattle.crossing_sweep.specs.Crossed.{name_at, IsSpan};
 ghost use Rattle.crossing_sweep.specs.Rows.{row_ends};
 
 use crate::ends::{is_name_in, name_cmp};
-use arrange::Elementary;
 use crossing_sweep::Row;
 use exact_point::side::side;
 use exact_point::{HPoint, PointName, x_cmp};
@@ -43,7 +42,6 @@ impl Piece {
     ghost use Rattle.std.specs.Ordering.{is_lt};
     ghost use Rattle.overlay_terms.specs.Column.{is_in_column};
     ghost use Rattle.overlay_terms.specs.Tiles.{pair_cmp};
-    ghost use Rattle.tile_build.specs.Boundary.{named_of};
     ghost use Rattle.tile_build.specs.Piece.{IsBetween};
     ghost use Rattle.tile_laws.specs.SameTile.{same_pair, IsPositivePair};
 
@@ -93,18 +91,6 @@ impl Piece {
         ensures between { IsBetween self.now.support self.now.from self.now.to }
     {
         (self.from.known_point(), self.to.known_point())
-    }
-
-    /// The piece of the arrangement as a piece of the boundary.
-    pub(crate) fn of(piece: &Elementary) -> Piece
-        requires { IsBetween piece.now.support piece.now.from piece.now.to }
-        ensures { result ≡ named_of piece.now }
-    {
-        Piece {
-            support: piece.support,
-            from: piece.from,
-            to: piece.to,
-        }
     }
 
     /// The row of a pass over nodes with these names as a piece of the boundary.

@@ -9,7 +9,8 @@ use crate::tests::testing::{
 use arrange::TileInput;
 use std::alloc::Global;
 use std::process::Abort;
-use tile_build::{Tile, build, build_by_pairs, build_counted};
+use tile_build::{Tile, build, build_counted};
+use tile_by_pairs::build_by_pairs;
 
 /// How many pieces a tile holds.
 fn size_of(tile: &Tile) -> usize {
