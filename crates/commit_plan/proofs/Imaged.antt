@@ -1,7 +1,7 @@
 -- What is known of an image, as its layers take their tiles.
 use Rattle.std.proofs.Common.{List, Result, Ok, Err, IfOk}
 use Rattle.layer_book.specs.Layer.{IsBook}
-use Rattle.record_writing.specs.Image.{IsImage}
+use Rattle.record_writing.specs.Stored.{IsImage}
 use Rattle.store_terms.specs.Catalog.{Listed}
 use Rattle.store_terms.specs.Image.{Held}
 use Rattle.commit_plan.specs.Staying.{LiveContent}

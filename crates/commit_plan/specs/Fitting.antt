@@ -1,7 +1,7 @@
 -- Whether there is room for a commit.
 use Rattle.extent_map.specs.FirstFit.{IsFull}
 use Rattle.extent_map.specs.Taken.{taken_of}
-use Rattle.record_writing.specs.declared.image.Image.{Image}
+use Rattle.commit_plan.specs.declared.image.Image.{Image}
 use Rattle.commit_plan.specs.declared.live_records.LiveRecords.{LiveRecords}
 use Rattle.commit_plan.specs.Live.{live_content}
 use Rattle.commit_plan.specs.Next.{ArePlanned}

@@ -1,4 +1,6 @@
 pub mod Fault
+pub mod Image
+pub mod ImageHeld
 pub mod Kept
 pub mod Same
 pub mod Staying

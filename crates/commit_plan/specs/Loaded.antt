@@ -1,7 +1,7 @@
 -- What is read of a root, as what a file holds.
-use Rattle.record_writing.specs.Image.{table_held}
 use Rattle.record_writing.specs.Listing.{entries_of}
 use Rattle.store_terms.specs.Image.{Held}
+use Rattle.commit_plan.specs.Image.{table_held}
 use Rattle.commit_plan.specs.Kept.{Kept}
 use Rattle.commit_plan.specs.declared.loaded.Loaded.{Loaded}
 

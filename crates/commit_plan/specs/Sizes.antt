@@ -11,8 +11,8 @@ use Rattle.store_terms.specs.BaseRecord as bases
 use Rattle.store_terms.specs.TileRecord.{named_tile}
 use Rattle.store_terms.specs.declared.root.RecordExtent.{RecordExtent}
 use Rattle.store_terms.specs.Image.{Held}
-use Rattle.record_writing.specs.declared.image.Image.{Image}
 use Rattle.record_writing.specs.Tiles.{named_at}
+use Rattle.commit_plan.specs.declared.image.Image.{Image}
 use Rattle.commit_plan.specs.Staying.{LiveContent, layer_stays, tile_stays}
 
 -- a layer's own record: its rings, or its expression

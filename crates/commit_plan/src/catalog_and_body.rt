@@ -2,12 +2,12 @@
 ghost use Rattle.std.specs.Prelude.{◌≡◌, ◌⊎◌, ◌+◌, ◌^◌, ◌<◌, ◌++◌, ◌∷◌, [], ℕ, List, length, flat_map, All, IfOk, IfErr, IsErrOf};
 ghost use Rattle.overlay_terms.specs.Column.{column_count};
 ghost use Rattle.extent_map.specs.Taken.{limit_of};
-ghost use Rattle.record_writing.specs.ImageHeld.{image_held};
 ghost use Rattle.record_writing.specs.Listing.{entries_of, IsListable};
 ghost use Rattle.store_terms.specs.Catalog.{catalog};
 ghost use Rattle.store_terms.specs.Places.{extents_listed};
 ghost use Rattle.store_terms.specs.Roots.{sequence_max};
 ghost use Rattle.store_terms.specs.StandsFor.{body_at};
+ghost use Rattle.commit_plan.specs.ImageHeld.{image_held};
 ghost use Rattle.commit_plan.specs.Kept.{Kept, extents_in, other};
 ghost use Rattle.commit_plan.specs.Filed.{FiledLayer, filed_of};
 ghost use Rattle.commit_plan.specs.Staying.{LiveContent, kept_content, AreHeldApart};
@@ -17,12 +17,12 @@ ghost use Rattle.commit_plan.specs.Next.{ArePlanned, IsLaidOut, NextHolds, Spell
 
 use crate::draft::Draft;
 use crate::fault::{StoreFault, told};
+use crate::image::Image;
 use crate::live_records::LiveRecords;
 use crate::next::Next;
 use crate::write::Write;
 use record_writing::catalog::Listed;
 use record_writing::catalog_writing::write_catalog;
-use record_writing::image::Image;
 use record_writing::root_body::write_body;
 use std::alloc::Global;
 use store_terms::root::Root;

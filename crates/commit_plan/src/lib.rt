@@ -1,5 +1,5 @@
-//! What a root holds and takes, and what a commit will write, and where: the records of an image in free blocks, their
-//! catalog, and the body of the next root.
+//! Images, what a root holds and takes, and what a commit will write, and where: the records of an image in free blocks,
+//! their catalog, and the body of the next root.
 #![tactic(auto)]
 
 mod catalog_and_body;
@@ -7,6 +7,7 @@ mod draft;
 mod equality;
 pub mod fault;
 mod filed_record;
+pub mod image;
 pub mod laws;
 pub mod live_records;
 pub mod loaded;

@@ -3,8 +3,8 @@ ghost use Rattle.std.specs.Prelude.{◌≡◌, ◌⊎◌, ◌+◌, ◌<◌, leng
 ghost use Rattle.extent_map.specs.Taken.{taken_of, limit_of};
 ghost use Rattle.store_terms.specs.Roots.{sequence_max};
 ghost use Rattle.store_terms.specs.StandsFor.{body_at};
-ghost use Rattle.record_writing.specs.ImageHeld.{image_held};
 ghost use Rattle.root_reading.specs.RootRuns.{IsMapOf};
+ghost use Rattle.commit_plan.specs.ImageHeld.{image_held};
 ghost use Rattle.commit_plan.specs.Kept.{Kept, extents_in, other};
 ghost use Rattle.commit_plan.specs.Next.{IsLaidOut, NextHolds};
 ghost use Rattle.commit_plan.specs.Fitting.{HasRoom, HasNoRoom};
@@ -15,10 +15,10 @@ ghost use Rattle.commit_plan.specs.Sizes.{new_records, sizes_of};
 use crate::catalog_and_body::completed;
 use crate::draft::Draft;
 use crate::fault::StoreFault;
+use crate::image::Image;
 use crate::live_records::LiveRecords;
 use crate::record_places::file_layers;
 use crate::write::Write;
-use record_writing::image::Image;
 use std::alloc::Global;
 use store_terms::root::Root;
 

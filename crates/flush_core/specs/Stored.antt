@@ -4,8 +4,8 @@ use Rattle.overlay_terms.specs.Layers.{Name}
 use Rattle.overlay_terms.specs.Histories.{Version, tile_at}
 use Rattle.disk_model.specs.declared.disk.Disk.{Ghosts}
 use Rattle.store_terms.specs.Image.{Held}
-use Rattle.record_writing.specs.declared.image.Image.{Image}
-use Rattle.record_writing.specs.ImageHeld.{image_held}
+use Rattle.commit_plan.specs.ImageHeld.{image_held}
+use Rattle.commit_plan.specs.declared.image.Image.{Image}
 use Rattle.commit_plan.specs.declared.fault.StoreFault.{StoreFault}
 use Rattle.root_store.specs.declared.commit.Commit.{Commit}
 use Rattle.commit_plan.specs.Live.{live_content}

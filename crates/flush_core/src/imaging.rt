@@ -1,10 +1,10 @@
 //! Images of versions.
 ghost use Rattle.std.specs.Prelude.{◌≡◌, IfOk};
-ghost use Rattle.record_writing.specs.ImageHeld.{image_held};
+ghost use Rattle.commit_plan.specs.ImageHeld.{image_held};
 ghost use Rattle.flush_core.specs.Imaging.{version_held};
 ghost use Rattle.flush_core.specs.Stored.{IsImageOf};
 
-use record_writing::image::Image;
+use commit_plan::image::Image;
 use std::alloc::{AllocError, Global};
 use versions::Version;
 

@@ -5,8 +5,8 @@ use Rattle.disk_model.specs.Moments.{Leaves}
 use Rattle.overlay_terms.specs.Batches.{Batch}
 use Rattle.overlay_terms.specs.Histories.{Version, empty_version}
 use Rattle.store_terms.specs.declared.root.Root.{Root}
-use Rattle.record_writing.specs.declared.image.Image.{Image}
-use Rattle.record_writing.specs.ImageHeld.{image_held}
+use Rattle.commit_plan.specs.declared.image.Image.{Image}
+use Rattle.commit_plan.specs.ImageHeld.{image_held}
 use Rattle.root_store.specs.declared.open_fault.OpenFault.{OpenFault}
 use Rattle.root_store.specs.declared.commit.Commit.{Commit}
 use Rattle.root_store.specs.Creating.{nothing_kept, first_root, IsNewFile, MadeInPhases}

@@ -1,14 +1,14 @@
 //! Recovery of an engine from what a crash has left.
 ghost use Rattle.std.specs.Prelude.{◌≡◌, ◌↔◌, [], IfOk, MatchResult};
-ghost use Rattle.record_writing.specs.ImageHeld.{image_held};
+ghost use Rattle.commit_plan.specs.ImageHeld.{image_held};
 ghost use Rattle.root_store.specs.Running.{KeepsTo};
 ghost use Rattle.overlay_engine.specs.Covers.{version_of};
 ghost use Rattle.overlay_engine.specs.HonestEngine.{RecoversHonestly};
 
 use crate::engine::Engine;
+use commit_plan::image::Image;
 use disk_model::disk::Disk;
 use flush_core::flusher::Flusher;
-use record_writing::image::Image;
 use root_store::commit::Commit;
 use root_store::open_fault::OpenFault;
 use root_store::opening::open;

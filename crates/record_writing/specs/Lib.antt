@@ -1,7 +1,5 @@
 pub mod Answers
 pub mod Fault
-pub mod Image
-pub mod ImageHeld
 pub mod Listing
 pub mod Putting
 pub mod Stored

@@ -1,4 +1,4 @@
-//! The bytes of records, catalogs and bodies of roots written, the faults of their readers, and images.
+//! The bytes of records, catalogs and bodies of roots written, and the faults of their readers.
 #![tactic(auto)]
 
 pub mod base_writing;
@@ -7,7 +7,6 @@ pub mod catalog;
 pub mod catalog_writing;
 pub mod definition_writing;
 pub mod fault;
-pub mod image;
 pub mod laws;
 mod piece_writing;
 pub mod root_body;

@@ -5,8 +5,8 @@ use Rattle.disk_model.specs.declared.disk.Disk.{Ghosts}
 use Rattle.extent_map.specs.Taken.{taken_of}
 use Rattle.store_terms.specs.Places.{block_size}
 use Rattle.store_terms.specs.StandsFor.{body_at}
-use Rattle.record_writing.specs.declared.image.Image.{Image}
-use Rattle.record_writing.specs.ImageHeld.{image_held}
+use Rattle.commit_plan.specs.ImageHeld.{image_held}
+use Rattle.commit_plan.specs.declared.image.Image.{Image}
 use Rattle.commit_plan.specs.Next.{IsLaidOut}
 use Rattle.commit_plan.specs.Sizes.{sizes_of}
 use Rattle.commit_plan.specs.Kept.{other}

@@ -4,8 +4,8 @@ use Rattle.disk_model.specs.declared.disk.Disk.{Ghosts}
 use Rattle.disk_model.specs.Disk.{Fewer, Failed}
 use Rattle.disk_model.specs.Moments.{Leaves, LeavesOnly}
 use Rattle.store_terms.specs.StandsFor.{reading}
-use Rattle.record_writing.specs.declared.image.Image.{Image}
-use Rattle.record_writing.specs.ImageHeld.{image_held}
+use Rattle.commit_plan.specs.ImageHeld.{image_held}
+use Rattle.commit_plan.specs.declared.image.Image.{Image}
 use Rattle.commit_plan.specs.declared.fault.StoreFault.TheVariants as stores
 use Rattle.commit_plan.specs.Kept.{Kept}
 use Rattle.root_store.specs.declared.commit.Commit.{Commit}

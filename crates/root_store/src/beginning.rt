@@ -3,7 +3,7 @@ ghost use Rattle.std.specs.Prelude.{◌≡◌, ◌≢◌, ◌+◌, ◌<◌, ◌�
 ghost use Rattle.extent_map.specs.Taken.{limit_of};
 ghost use Rattle.store_terms.specs.Image.{Held};
 ghost use Rattle.store_terms.specs.Roots.{sequence_max};
-ghost use Rattle.record_writing.specs.ImageHeld.{image_held};
+ghost use Rattle.commit_plan.specs.ImageHeld.{image_held};
 ghost use Rattle.commit_plan.specs.Kept.{Kept};
 ghost use Rattle.root_store.specs.Running.{StoreStandsFor, Runs, LeadsTo, KeepsTo, calls_left, is_busy};
 ghost use Rattle.commit_plan.specs.Next.{NextHolds};
@@ -17,9 +17,9 @@ use crate::commit::Commit;
 use crate::phase::Phase;
 use crate::slots::other_body;
 use commit_plan::fault::StoreFault;
+use commit_plan::image::Image;
 use commit_plan::next::{Next, drafted};
 use disk_model::disk::Disk;
-use record_writing::image::Image;
 use std::alloc::Global;
 use store_terms::layout::NUMBER_MAX;
 

@@ -3,8 +3,8 @@
 ghost use Rattle.std.specs.Prelude.{ℕ};
 
 use commit_plan::fault::StoreFault;
+use commit_plan::image::Image;
 use disk_model::mem_disk::MemDisk;
-use record_writing::image::Image;
 use root_store::commit::Commit;
 use root_store::creating::create;
 use root_store::opening::open;

@@ -1,13 +1,13 @@
 //! Stores in memory, and commits of one layer, for the tests. What cannot be made ends the test.
 use crate::store::{Counts, Store, opened_disk};
 use commit_plan::fault::StoreFault;
+use commit_plan::image::Image;
 use disk_model::mem_disk::{Call, MemDisk};
 use layer_book::Layers;
 use layer_book::command::Command;
 use layer_expr::name::Name;
 use layer_expr::reading::read_expr;
 use plane_base::{BaseLayer, Pt, Ring};
-use record_writing::image::Image;
 use std::alloc::Global;
 use std::process::Abort;
 use std::sync::Arc;

@@ -1,10 +1,10 @@
 //! Calls that the program does not make: blocks planned for records, an image taken apart.
 use crate::tests::testing::{overlap, with_tile};
+use commit_plan::image::Image;
 use extent_map::extent::Extent;
 use extent_map::extents::Extents;
 use extent_map::fault::ExtentFault;
 use flush_core::imaging::image_of;
-use record_writing::image::Image;
 use std::alloc::Global;
 use std::process::Abort;
 use tile_build::Tile;

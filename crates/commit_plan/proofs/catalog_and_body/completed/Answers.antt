@@ -4,7 +4,6 @@ use Rattle.std.specs.List.{flat_map}
 use Rattle.std.proofs.lemmas.List.{length-append}
 use Rattle.extent_map.specs.FirstFit.{IsPlanned}
 use Rattle.overlay_terms.specs.Column.{column_count}
-use Rattle.record_writing.specs.ImageHeld.{image_held}
 use Rattle.record_writing.specs.Listing.{entries_of}
 use Rattle.store_terms.specs.declared.root.Root.{Root}
 use Rattle.store_terms.specs.Catalog.{Listed, catalog}
@@ -12,6 +11,7 @@ use Rattle.store_terms.specs.Places.{all_apart, extents_listed}
 use Rattle.store_terms.specs.Roots.{sequence_max}
 use Rattle.store_terms.specs.StandsFor.{body_at}
 use Rattle.root_reading.specs.RootRuns.{AllNear}
+use Rattle.commit_plan.specs.ImageHeld.{image_held}
 use Rattle.commit_plan.specs.declared.write.Write.{Write}
 use Rattle.commit_plan.specs.declared.next.Next.{Next}
 use Rattle.commit_plan.specs.Drafted.{Drafted, sizes_in}

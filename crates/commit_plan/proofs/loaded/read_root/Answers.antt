@@ -3,12 +3,12 @@ use Rattle.extent_map.specs.Taken.{taken_of}
 use Rattle.overlay_terms.specs.Layers.{Layer}
 use Rattle.overlay_terms.specs.Histories.{Finished}
 use Rattle.layer_tiles.specs.Table.{tiles_in, Tabled}
-use Rattle.record_writing.specs.Image.{table_held}
 use Rattle.record_writing.specs.Listing as listings
 use Rattle.store_terms.specs.Catalog.{Listed}
 use Rattle.store_terms.specs.Places.{extents_listed}
 use Rattle.store_terms.specs.Image.{Held, listing_of, layers_of, held_of}
 use Rattle.root_reading.specs.Looking.{Refuses}
+use Rattle.commit_plan.specs.Image.{table_held}
 use Rattle.commit_plan.specs.Staying.{read_content, LiveContent}
 use Rattle.commit_plan.specs.Loaded.{held_in}
 use Rattle.root_reading.specs.RootRuns.{IsMapOf}

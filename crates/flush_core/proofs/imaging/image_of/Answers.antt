@@ -1,6 +1,6 @@
 -- The image of a version holds its number, layers and tiles, since it has its very table.
 use Rattle.std.proofs.Common.{◌≡◌, refl, sym, subst, ◌∙◌}
-use Rattle.record_writing.specs.Image.{table_held}
+use Rattle.commit_plan.specs.Image.{table_held}
 use Rattle.flush_core.specs.Imaging.{version_held}
 use Rattle.flush_core.specs.Stored.{IsImageOf}
 use Rattle.flush_core.proofs.imaging.image_of.Goals as goal

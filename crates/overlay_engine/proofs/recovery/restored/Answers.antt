@@ -1,6 +1,6 @@
 use Rattle.std.proofs.Common.{◌≡◌, ◌≤◌, ℕ, sym, subst, ◌∙◌}
 use Rattle.overlay_terms.specs.Commands.{version_max}
-use Rattle.record_writing.specs.Image.{table_held}
+use Rattle.commit_plan.specs.Image.{table_held}
 use Rattle.overlay_engine.specs.Covers.{version_of}
 use Rattle.overlay_engine.proofs.recovery.restored.Goals as goal
 

@@ -2,7 +2,7 @@ use Rattle.std.proofs.Common.{rules, List, ℕ, refl, ap, sym, ◌∙◌, subst}
 use Rattle.extent_map.specs.Taken.{taken_of}
 use Rattle.store_terms.specs.StandsFor.{body_at}
 use Rattle.store_terms.specs.declared.root.Root.{Root}
-use Rattle.record_writing.specs.ImageHeld.{image_held}
+use Rattle.commit_plan.specs.ImageHeld.{image_held}
 use Rattle.commit_plan.specs.Next.{IsLaidOut}
 use Rattle.commit_plan.specs.Fitting.{HasNoRoom}
 use Rattle.commit_plan.specs.Kept.{other}

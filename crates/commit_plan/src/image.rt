@@ -4,7 +4,7 @@ ghost use Rattle.overlay_terms.specs.Commands.{version_max};
 ghost use Rattle.overlay_terms.specs.StoredTiles.{AreStored};
 ghost use Rattle.tile_build.specs.Tile.{finished_of};
 ghost use Rattle.layer_tiles.specs.Table.{laid, tiles_in, IsLaid};
-ghost use Rattle.record_writing.specs.Image.{held, table_held};
+ghost use Rattle.commit_plan.specs.Image.{held, table_held};
 
 use layer_book::Layers;
 use layer_expr::name::Name;
@@ -23,7 +23,7 @@ pub struct Image {
 }
 
 impl Image {
-    ghost use Rattle.record_writing.specs.ImageHeld.{image_held};
+    ghost use Rattle.commit_plan.specs.ImageHeld.{image_held};
 
     /// The image of a number, at most 2^62, of layers and of finished tiles, each with the name of its layer and its
     /// column: in the order of the layers, then of the columns. The tiles may be wrong, but have their form.

@@ -1,8 +1,6 @@
 -- Images: what one commit writes, and what opening a store gives back.
-use Rattle.std.specs.Prelude.{ℕ, ◌≤◌, List, map}
+use Rattle.std.specs.Prelude.{ℕ, List, map}
 use Rattle.overlay_terms.specs.Layers.{Name, Layer}
-use Rattle.overlay_terms.specs.Commands.{version_max}
-use Rattle.overlay_terms.specs.StoredTiles.{AreStored}
 use Rattle.tile_build.specs.declared.tile.Tile.{Tile}
 use Rattle.tile_build.specs.Tile.{finished_of}
 use Rattle.layer_tiles.specs.Table.{tiles_in, Tabled}
@@ -15,8 +13,3 @@ held number layers tiles = record { number = number; layers = layers; tiles = ma
 -- the same of a table; the names of the ends of its tiles' pieces are left out
 abbrev pub table_held : ℕ → Tabled → Held
 table_held number table = record { number = number; layers = table.layers; tiles = tiles_in table }
-
--- what a store may hold: no number that is too great, and tiles of their form in their order
-pub record IsImage (x : Held) : Type 0 where
-  pub small : x.number ≤ version_max
-  pub stored : AreStored x.layers x.tiles

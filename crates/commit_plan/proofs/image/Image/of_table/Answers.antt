@@ -1,7 +1,7 @@
 -- The tiles of a table may be stored.
 use Rattle.layer_tiles.proofs.Stored.{laid_is_stored}
 use Rattle.layer_tiles.specs.Table.{laid}
-use Rattle.record_writing.proofs.image.Image.of_table.Goals as goal
+use Rattle.commit_plan.proofs.image.Image.of_table.Goals as goal
 
 pub invariant_of-result-clause-stored : goal.invariant_of-result-clause-stored
 invariant_of-result-clause-stored c =
