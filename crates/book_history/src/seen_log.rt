@@ -75,13 +75,21 @@ impl<'a> Plain<Ask<'a>, Entry, u64> for Add {
 
 /// Which history it is. Each call of a program picks it.
 pub trait BookName {
+    ghost use Rattle.std.specs.Prelude.{ℕ, List};
     ghost use Rattle.logbook.specs.Pages.{Book};
+    ghost use Rattle.overlay_terms.specs.Histories as terms;
 
     ghost book: { Book };
+
+    /// Of which log which number is stored. Who adds an entry that tells a number durable has to prove it of that number.
+    ghost stored: { List terms.Entry → ℕ → Type 0 };
 }
 
 impl BookName for Brand {
     ghost book = { record { number = 0; log_name = 0; cells_name = 0 } };
+
+    // Where a call picks nothing, nothing is stored.
+    ghost stored = { λ log number. ⊥ };
 }
 
 /// The word of a history: how many entries follow the first.

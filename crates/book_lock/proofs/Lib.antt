@@ -1,4 +1,5 @@
 pub mod Beginning
 pub mod Growing
 pub mod SentLog
+pub mod Tellings
 pub mod Turning

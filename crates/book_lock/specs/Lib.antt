@@ -1,4 +1,5 @@
 pub mod Steps
+pub mod Telling
 pub mod Refused
 pub use Rattle.book_history.specs.Fault
 pub use Rattle.book_history.specs.Known

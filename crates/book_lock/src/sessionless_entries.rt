@@ -3,6 +3,7 @@ ghost use Rattle.std.specs.Prelude.{◌≡◌, ◌⊎◌, IfOk, IfErr};
 ghost use Rattle.book_history.specs.Fault.{no_memory};
 ghost use Rattle.book_history.specs.Logs.{newest_in};
 ghost use Rattle.book_lock.specs.Steps.{IsFinishedIn, IsReportedIn};
+ghost use Rattle.book_lock.specs.Telling.{MayTell};
 
 use crate::locked_log::LockedLog;
 use crate::room::Room;
@@ -38,6 +39,7 @@ impl<J: BookName, R: Wait + Drop> LockedLog<J, R> {
     /// Reports a number durable: the one entry that this adds, or nothing. It answers the durable number then. The memory
     /// for the entry's version is what was taken ahead for it, where there was some.
     pub fn report(&mut self, alloc: Global, room: &mut Room, number: u64) -> Result<u64, BookFault>
+        requires stored { MayTell J.stored self.old number }
         ensures ok { IfOk result (λ durable. IsReportedIn self.old number self.new
             × ((newest_in self.new).durable ≡ durable)) }
         ensures err { IfErr result (λ fault. (self.new ≡ self.old) × ((fault ≡ no_memory) ⊎ (fault ≡ BookFault.Gone))) }

@@ -1,9 +1,9 @@
 -- A store of the versions of a history: what is known of it between its calls, and what a run of its flusher makes of
 -- both.
-use Rattle.std.specs.Prelude.{◌≡◌, ◌≤◌}
+use Rattle.std.specs.Prelude.{◌≡◌, ◌≤◌, ℕ, List}
 use Rattle.disk_model.specs.declared.disk.Disk.{Ghosts}
 use Rattle.disk_model.specs.Moments.{Leaves, LeavesOnly}
-use Rattle.overlay_terms.specs.Histories.{History, BeginsWith, newest}
+use Rattle.overlay_terms.specs.Histories.{Entry, History, BeginsWith, newest}
 use Rattle.root_store.specs.declared.phase.Phase.{Phase}
 use Rattle.root_store.specs.declared.phase.Phase.TheVariants.{Idle, Close, Settle, Put, Open, Finish, Failed}
 use Rattle.commit_plan.specs.Kept.{Kept}
@@ -81,3 +81,24 @@ pub record KeepsTold {D : Type 0} (g : Ghosts D) (was : History) (old : Flusher 
 abbrev pub Keeps : {D : Type 0} (g : Ghosts D) → Heard → Flusher D g → Heard → Flusher D g → Type 0
 Keeps g was old now new =
     IsStoreOf g (history_of was.log) old → KeepsTold g (history_of was.log) old (history_of now.log) new
+
+-- a store was followed: its history went on, it is one of it, it stores nothing older, and a crash at any moment since
+-- leaves a version of the history that is no older than what was stored at first
+pub record IsFollowed {D : Type 0} (g : Ghosts D) (was : History) (old : Flusher D g) (now : History) (new : Flusher D g)
+    : Type 0 where
+  pub goes_on : BeginsWith now was
+  pub store : IsStoreOf g now new
+  pub no_less : old.commit.root.version ≤ new.commit.root.version
+  pub moments : LeavesOnly g old.commit.disk new.commit.disk (IsFileIn now old.commit.root.version)
+
+-- a number is stored of a log: that of the store, when it had been followed to that log
+pub record IsStored {D : Type 0} (g : Ghosts D) (was : History) (old : Flusher D g) (log : List Entry) (number : ℕ) : Type 0 where
+  pub store : Flusher D g
+  pub followed : IsFollowed g was old (history_of log) store
+  pub at : store.commit.root.version ≡ number
+
+-- a predicate holds of each number that is stored of a log, where a store of a history was followed to that log
+abbrev pub HoldsOfStored : {D : Type 0} (g : Ghosts D) → (List Entry → ℕ → Type 0) → History → Flusher D g → Type 0
+HoldsOfStored {D = D} g stored was old =
+    (log : List Entry) (f : Flusher D g) → (IsStoreOf g was old → IsFollowed g was old (history_of log) f)
+    → stored log f.commit.root.version

@@ -4,7 +4,7 @@ ghost use Rattle.overlay_terms.specs.Histories.{IsHistory, newest};
 ghost use Rattle.root_store.specs.Running.{is_busy};
 ghost use Rattle.root_store.specs.declared.phase.Phase.TheVariants as phases;
 ghost use Rattle.book_history.specs.Logs.{history_of};
-ghost use Rattle.store_flushing.specs.Storing.{IsStoreOf, Flushes};
+ghost use Rattle.store_flushing.specs.Storing.{HoldsOfStored, IsStoreOf, Flushes};
 ghost use Rattle.store_flushing.specs.Told.{KeepsTelling, TellsOn, told_in};
 
 use crate::keeper::Keeper;
@@ -30,7 +30,9 @@ pub fn flusher_loop<J: BookName, R: Wait + Drop, D: Disk, W: Wait>(
     flusher: Flusher<D>,
     told: ToldLog,
 ) -> (Reporter, Flusher<D>, ToldLog)
-    requires { reporter.book ≡ J.book }
+    requires book { reporter.book ≡ J.book }
+    // What this store holds may be told durable, whenever it is told.
+    requires stored { HoldsOfStored D.Disk J.stored (history_of reporter.log) flusher }
     ensures flushes { IsStoreOf D.Disk (history_of reporter.log) flusher
         → Flushes D.Disk (history_of reporter.log) flusher (history_of result.0.log) result.1 }
     ensures rests { is_busy result.1.commit.phase ≡ false }
@@ -59,7 +61,8 @@ fn flush<J: BookName, R: Wait + Drop, D: Disk, W: Wait>(
     shared: &Shared<J, R>,
     keeper: &mut Keeper<D>,
 )
-    requires { keeper.old.reporter.book ≡ J.book }
+    requires book { keeper.old.reporter.book ≡ J.book }
+    requires stored { HoldsOfStored D.Disk J.stored (history_of keeper.old.reporter.log) keeper.old.flusher }
     // What it stores it reports, and a crash at any moment leaves a version that the reporter has seen in the end, no
     // older than what was stored at first.
     ensures flushes { IsStoreOf D.Disk (history_of keeper.old.reporter.log) keeper.old.flusher
@@ -85,7 +88,8 @@ fn round<J: BookName, R: Wait + Drop, D: Disk, W: Wait>(
     shared: &Shared<J, R>,
     keeper: &mut Keeper<D>,
 ) -> bool
-    requires { keeper.old.reporter.book ≡ J.book }
+    requires book { keeper.old.reporter.book ≡ J.book }
+    requires stored { HoldsOfStored D.Disk J.stored (history_of keeper.old.reporter.log) keeper.old.flusher }
     ensures flushes { IsStoreOf D.Disk (history_of keeper.old.reporter.log) keeper.old.flusher
         → Flushes D.Disk (history_of keeper.old.reporter.log) keeper.old.flusher (history_of keeper.new.reporter.log) keeper.new.flusher }
     ensures tells { KeepsTelling D.Disk keeper.old keeper.new }
@@ -115,6 +119,7 @@ fn commit<J: BookName, R: Wait + Drop, D: Disk, W: Wait>(
     version: &Version,
 ) -> bool
     requires book { keeper.old.reporter.book ≡ J.book }
+    requires stored { HoldsOfStored D.Disk J.stored (history_of keeper.old.reporter.log) keeper.old.flusher }
     requires idle { is_busy keeper.old.flusher.commit.phase ≡ false }
     requires history { IsHistory (history_of keeper.old.reporter.log) }
     requires newest { version.now ≡ newest (history_of keeper.old.reporter.log) }
@@ -140,6 +145,7 @@ fn end_commit<J: BookName, R: Wait + Drop, D: Disk, W: Wait>(
     keeper: &mut Keeper<D>,
 ) -> bool
     requires book { keeper.old.reporter.book ≡ J.book }
+    requires stored { HoldsOfStored D.Disk J.stored (history_of keeper.old.reporter.log) keeper.old.flusher }
     ensures flushes { IsStoreOf D.Disk (history_of keeper.old.reporter.log) keeper.old.flusher
         → Flushes D.Disk (history_of keeper.old.reporter.log) keeper.old.flusher (history_of keeper.new.reporter.log) keeper.new.flusher }
     ensures tells { KeepsTelling D.Disk keeper.old keeper.new }

@@ -136,7 +136,8 @@ impl<D: Disk> Keeper<D> {
         alloc: Global,
         shared: &Shared<J, R>,
     )
-        requires { self.old.reporter.book ≡ J.book }
+        requires book { self.old.reporter.book ≡ J.book }
+        requires stored { J.stored self.old.reporter.log self.old.flusher.commit.root.version }
         ensures keeps { Keeps D.Disk self.old.reporter self.old.flusher self.new.reporter self.new.flusher }
         ensures tells { KeepsTelling D.Disk self.old self.new }
         ensures reported { IsStoreOf D.Disk (history_of self.old.reporter.log) self.old.flusher

@@ -22,7 +22,8 @@ pub(crate) fn report<J: BookName, R: Wait + Drop, W: Wait>(
     me: &mut Reporter,
     number: u64,
 )
-    requires { me.old.book ≡ J.book }
+    requires book { me.old.book ≡ J.book }
+    requires stored { J.stored me.old.log number }
     ensures goes_on { BeginsWith (history_of me.new.log) (history_of me.old.log) }
     ensures history { IsHistory (history_of me.old.log) }
     // It is durable, where there is such a version; and nothing but it, or what was durable before.

@@ -76,6 +76,10 @@ module _ (was now : Known) (log : List Entry) where
   looks_own (Ok n) h = looked_own was now log h
   looks_own (Err f) h = tt
 
+  pub looks_told : (r : Result ℕ BookFault) (P : List Entry → Type 0) → Looks r was log now → IfOk r (λ _. P log) → IfOk r (λ _. P now.log)
+  looks_told (Ok n) P h told = subst (λ (k : Known). P k.log) (sym h.knows) told
+  looks_told (Err f) P h told = tt
+
   pub looks_history : (r : Result ℕ BookFault) → Looks r was log now → IfOk r (λ _. IsHistory (seen now))
   looks_history (Ok n) h = subst (λ (k : Known). IsHistory (seen k)) (sym h.knows) (is_history log h.valid)
   looks_history (Err f) h = tt

@@ -9,6 +9,7 @@ ghost use Rattle.book_history.specs.Known.{seen, IsOwn, LeavesSession};
 ghost use Rattle.book_history.specs.Logs.{entry, history_of, newest_in, no_event, IsAccepted, IsLog};
 ghost use Rattle.book_history.specs.Rules.{head_of};
 ghost use Rattle.book_lock.specs.Steps.{beginners, HasAllOf, IsAcceptedIn, IsRefusedIn};
+ghost use Rattle.book_lock.specs.Telling.{IsToldIn};
 ghost use Rattle.version_book.specs.Heard.{HasHeard, IsReportedBy};
 ghost use Rattle.version_book.specs.Jobs.{IsFinishedBy, IsJob};
 ghost use Rattle.version_book.specs.Store.{has_store};
@@ -228,6 +229,7 @@ impl<J: BookName, R: Wait + Drop> Shared<J, R> {
         ensures goes_on { BeginsWith (seen me.new) (seen me.old) }
         ensures history { IfOk result (λ _. IsHistory (seen me.new)) }
         ensures ok { IfOk result (λ n. ((newest (seen me.new)).durable ≡ n) × ((newest (seen me.old)).number ≤ n)) }
+        ensures told { IfOk result (λ _. IsToldIn J.stored me.new.log) }
         ensures own { IfOk result (λ _. IsOwn me.new) }
         ensures err { IfErr result (LeavesSession BookFault.Gone me.old me.new) }
         ensures refused { IfErr result
@@ -284,6 +286,7 @@ impl<J: BookName, R: Wait + Drop> Shared<J, R> {
         number: u64,
     ) -> Result<u64, BookFault>
         requires book { me.old.book ≡ J.book }
+        requires stored { J.stored me.old.log number }
         ensures goes_on { BeginsWith (history_of me.new.log) (history_of me.old.log) }
         ensures history { IfOk result (λ _. IsHistory (history_of me.new.log)) }
         ensures ok { IfOk result (λ m. (newest_in me.new.log).durable ≡ m) }

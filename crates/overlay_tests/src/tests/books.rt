@@ -131,7 +131,8 @@ fn play_in<J: BookName + Send + Sync, R: Threads + Wait + Clock + Abort + Sync>(
     lists: &[&[Row]],
     last: u64,
 )
-    requires { opened.seen_log.book ≡ J.book }
+    requires book { opened.seen_log.book ≡ J.book }
+    requires anything { (log : _) (number : _) → J.stored log number }
 {
     let Opened {
         head,
@@ -164,7 +165,8 @@ fn play_lists<J: BookName + Send + Sync, R: Threads + Wait + Clock + Abort + Syn
     tokens: &mut Tokens,
     lists: &[&[Row]],
 )
-    requires { tokens.old.reporter.book ≡ J.book }
+    requires book { tokens.old.reporter.book ≡ J.book }
+    requires anything { (log : _) (number : _) → J.stored log number }
     ensures { tokens.new.reporter.book ≡ tokens.old.reporter.book }
 {
     'lists: for rows in lists {
@@ -181,7 +183,8 @@ fn play_rows<J: BookName + Send + Sync, R: Threads + Wait + Clock + Abort + Sync
     rows: &[Row],
     at: usize,
 )
-    requires { tokens.old.reporter.book ≡ J.book }
+    requires book { tokens.old.reporter.book ≡ J.book }
+    requires anything { (log : _) (number : _) → J.stored log number }
     ensures { tokens.new.reporter.book ≡ tokens.old.reporter.book }
 {
     let Some(row) = rows.get(at) else {
@@ -203,7 +206,8 @@ fn play_row<J: BookName + Send + Sync, R: Threads + Wait + Clock + Abort + Sync>
     row: &Row,
     at: usize,
 ) -> Option<(Job, bool)>
-    requires { tokens.old.reporter.book ≡ J.book }
+    requires book { tokens.old.reporter.book ≡ J.book }
+    requires anything { (log : _) (number : _) → J.stored log number }
     ensures same { tokens.new.reporter.book ≡ tokens.old.reporter.book }
     ensures job { IfSome result (λ taken. taken.0.book ≡ J.book) }
 {
@@ -277,7 +281,8 @@ fn ask_beside_stale<J: BookName + Send + Sync, R: Threads + Wait + Clock + Abort
     tokens: &mut Tokens,
     asked: &Call,
 ) -> Answer
-    requires { tokens.old.reporter.book ≡ J.book }
+    requires book { tokens.old.reporter.book ≡ J.book }
+    requires anything { (log : _) (number : _) → J.stored log number }
     ensures { tokens.new.reporter.book ≡ tokens.old.reporter.book }
 {
     let job = take(rt, alloc, shared).expect(rt, "no tile");
@@ -318,7 +323,8 @@ pub fn answer<J: BookName, R: Wait + Abort>(
     me: &mut Session,
     asked: &Call,
 ) -> Answer
-    requires { (reporter.old.book ≡ J.book) × (me.old.book ≡ J.book) }
+    requires book { (reporter.old.book ≡ J.book) × (me.old.book ≡ J.book) }
+    requires anything { (log : _) (number : _) → J.stored log number }
     ensures { (reporter.new.book ≡ reporter.old.book) × (me.new.book ≡ me.old.book) }
 {
     match asked {

@@ -216,7 +216,8 @@ pub fn wait_beside<J: BookName + Send + Sync, R: Threads + Wait + Clock + Abort 
     wait: &Work,
     asked: &Call,
 ) -> (Result<Vec<u64>, BookFault>, Answer)
-    requires { tokens.old.reporter.book ≡ J.book }
+    requires book { tokens.old.reporter.book ≡ J.book }
+    requires anything { (log : _) (number : _) → J.stored log number }
     ensures { tokens.new.reporter.book ≡ tokens.old.reporter.book }
 {
     let Tokens {
@@ -240,7 +241,8 @@ fn late<J: BookName, R: Wait + Clock + Abort>(
     other: &mut Session,
     asked: &Call,
 ) -> Answer
-    requires { (reporter.old.book ≡ J.book) × (other.old.book ≡ J.book) }
+    requires book { (reporter.old.book ≡ J.book) × (other.old.book ≡ J.book) }
+    requires anything { (log : _) (number : _) → J.stored log number }
     ensures { (reporter.new.book ≡ reporter.old.book) × (other.new.book ≡ other.old.book) }
 {
     sleep(rt, Duration::from_millis(100));
@@ -254,7 +256,8 @@ fn report_all<J: BookName, R: Wait + Abort>(
     shared: &Shared<J, &R>,
     reporter: &mut Reporter,
 ) -> Answer
-    requires { reporter.old.book ≡ J.book }
+    requires book { reporter.old.book ≡ J.book }
+    requires anything { (log : _) (number : _) → J.stored log number }
     ensures { reporter.new.book ≡ reporter.old.book }
 {
     let mut last = None;
@@ -308,7 +311,8 @@ pub fn submit_beside<J: BookName + Send + Sync, R: Threads + Wait + Clock + Abor
     first: Command,
     second: Command,
 ) -> (u64, Answer)
-    requires { tokens.old.reporter.book ≡ J.book }
+    requires book { tokens.old.reporter.book ≡ J.book }
+    requires anything { (log : _) (number : _) → J.stored log number }
     ensures { tokens.new.reporter.book ≡ tokens.old.reporter.book }
 {
     let Tokens {

@@ -23,6 +23,7 @@ pub(crate) fn report<J: BookName, R: Wait + Drop>(
     number: u64,
 ) -> Result<u64, BookFault>
     requires book { me.old.book ≡ J.book }
+    requires stored { J.stored me.old.log number }
     ensures ok { IfOk result (λ m. IsReportedIn locked.old.log number locked.new.log
         × ((newest_in locked.new.log).durable ≡ m)) }
     ensures seen { IfOk result (λ _. HasHeard locked.old.log me.old

@@ -4,6 +4,7 @@ ghost use Rattle.std.specs.Arc.{arc_value};
 ghost use Rattle.book_history.specs.Fault.{no_memory};
 ghost use Rattle.book_history.specs.Logs.{newest_in, IsLog};
 ghost use Rattle.book_lock.specs.Steps.{IsLevel};
+ghost use Rattle.book_lock.specs.Telling.{IsToldIn};
 ghost use Rattle.version_book.specs.Heard.{HasHeard};
 ghost use Rattle.version_book.specs.Waits.{IsAfterTold, IsBuilding, IsBuiltAt, IsIdle, IsQuiet, IsSyncRefusedAt};
 ghost use Rattle.version_book.specs.Waits.{IsWaitRefused, IsWriting, Looks, Waits};
@@ -120,6 +121,7 @@ pub(crate) fn tell_durable<J: BookName, R: Wait + Drop>(
     requires book { me.old.book ≡ J.book }
     requires ready { ¬ (IsWriting (newest_in locked.now.log) locked.now.state number) }
     ensures ok { IfOk result (λ n. ((newest_in locked.now.log).durable ≡ n) × (number ≤ n)) }
+    ensures told { IfOk result (λ _. IsToldIn J.stored locked.now.log) }
     ensures refused { IfErr result
         (λ fault. IsSyncRefusedAt locked.now.state (newest_in locked.now.log) number fault) }
     ensures seen { Looks result me.old locked.now.log me.new }

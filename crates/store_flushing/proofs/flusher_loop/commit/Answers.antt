@@ -4,6 +4,7 @@ use Rattle.version_book.specs.Heard.{Heard}
 use Rattle.store_flushing.specs.Storing.{Flushes}
 use Rattle.store_flushing.specs.declared.keeper.Keeper.{Keeper}
 use Rattle.store_flushing.specs.Told.{KeepsTelling}
+use Rattle.store_flushing.proofs.Following.{by_call, handed_on}
 use Rattle.store_flushing.proofs.Storage.{kept_on, then}
 use Rattle.store_flushing.proofs.ToldLemmas.{telling_then}
 use Rattle.store_flushing.proofs.flusher_loop.commit.Goals as goal
@@ -38,3 +39,12 @@ returns-in-Ok-clause-tells g c =
 pub returns-in-Err-clause-tells : goal.returns-in-Err-clause-tells
 returns-in-Err-clause-tells g c =
     subst (λ (k : Keeper g.row.D.Denot g.D.Disk). KeepsTelling g.D.Disk c.args.keeper.now k) (sym c.tell.ensures.nothing) c.begin.ensures.tells
+
+pub end_commit-requires-clause-stored : goal.end_commit-requires-clause-stored
+end_commit-requires-clause-stored g c =
+    let d = g.D.Disk in
+    let old = c.args.keeper.now in
+    let mid = c.begin.new.self in
+    let h = history_of old.reporter.log in
+    let m = history_of mid.reporter.log in
+    handed_on d g.J.BookName.stored h m old.flusher mid.flusher (λ is. by_call d h m old.flusher mid.flusher (c.begin.ensures.keeps is)) c.requires.stored

@@ -5,6 +5,7 @@ use Rattle.flush_core.specs.Stored.{stored_after}
 use Rattle.store_flushing.specs.Storing.{Flushes}
 use Rattle.store_flushing.specs.Told.{KeepsTelling}
 use Rattle.store_flushing.specs.declared.keeper.Keeper.{Keeper}
+use Rattle.store_flushing.proofs.Following.{by_call, by_run, further}
 use Rattle.store_flushing.proofs.Storage.{begun, kept_on, then, told_all}
 use Rattle.store_flushing.proofs.ToldLemmas.{telling_self, telling_then}
 use Rattle.store_flushing.proofs.flusher_loop.end_commit.Goals as goal
@@ -98,3 +99,18 @@ pub returns-in-Err-clause-tells : goal.returns-in-Err-clause-tells
 returns-in-Err-clause-tells g c =
     subst (λ (k : Keeper g.row.D.Denot g.D.Disk). KeepsTelling g.D.Disk c.args.keeper.now k) (sym c.tell.ensures.nothing)
     (telling_then g.D.Disk c.args.keeper.now c.calls.keeper c.step.new.self c.calls.invariant.2 (λ is. (c.calls.invariant.1 is).store) c.step.ensures.tells)
+
+pub report-requires-clause-stored : goal.report-requires-clause-stored
+report-requires-clause-stored g c =
+    let d = g.D.Disk in
+    let first = c.args.keeper.now in
+    let mid = c.calls.keeper in
+    let done = c.step.new.self in
+    let h = history_of first.reporter.log in
+    let m = history_of mid.reporter.log in
+    let n = history_of done.reporter.log in
+    c.requires.stored done.reporter.log done.flusher
+    (λ is.
+    let was = c.calls.invariant.1 is in
+    further d h m n first.flusher mid.flusher done.flusher (by_run d h m first.flusher mid.flusher was)
+    (by_call d m n mid.flusher done.flusher (c.step.ensures.keeps was.store)))

@@ -1,5 +1,6 @@
 use Rattle.std.proofs.Common.{refl, ◌∙◌}
 use Rattle.book_history.specs.Logs.{history_of}
+use Rattle.store_flushing.proofs.Following.{by_run, handed_on}
 use Rattle.store_flushing.proofs.Storage.{begun, then}
 use Rattle.store_flushing.proofs.ToldLemmas.{telling_self, telling_then}
 use Rattle.store_flushing.proofs.flusher_loop.flush.Goals as goal
@@ -37,3 +38,12 @@ returns-then-not-round-clause-flushes g c is =
 pub returns-then-not-round-clause-tells : goal.returns-then-not-round-clause-tells
 returns-then-not-round-clause-tells g c =
     telling_then g.D.Disk c.args.keeper.now c.rounds.keeper c.round.new.keeper c.rounds.invariant.2 (λ is. (c.rounds.invariant.1 is).store) c.round.ensures.tells
+
+pub round-requires-clause-stored : goal.round-requires-clause-stored
+round-requires-clause-stored g c =
+    let d = g.D.Disk in
+    let first = c.args.keeper.now in
+    let mid = c.rounds.keeper in
+    let h = history_of first.reporter.log in
+    let m = history_of mid.reporter.log in
+    handed_on d g.J.BookName.stored h m first.flusher mid.flusher (λ is. by_run d h m first.flusher mid.flusher (c.rounds.invariant.1 is)) c.requires.stored

@@ -1,6 +1,7 @@
 use Rattle.std.proofs.Common.{ap}
 use Rattle.flush_core.specs.declared.flusher.Flusher.{Flusher}
 use Rattle.book_history.specs.Logs.{history_of}
+use Rattle.store_flushing.proofs.Following.{by_call, handed_on}
 use Rattle.store_flushing.proofs.Storage.{kept_on, then}
 use Rattle.store_flushing.proofs.ToldLemmas.{telling_then}
 use Rattle.store_flushing.proofs.flusher_loop.round.Goals as goal
@@ -34,3 +35,12 @@ returns-in-Err-clause-flushes g c is =
 pub returns-in-Ok-Some-clause-tells : goal.returns-in-Ok-Some-clause-tells
 returns-in-Ok-Some-clause-tells g c =
     telling_then g.D.Disk c.args.keeper.now c.look.new.self c.commit.new.keeper c.look.ensures.tells (λ is. (c.look.ensures.keeps is).store) c.commit.ensures.tells
+
+pub commit-requires-clause-stored : goal.commit-requires-clause-stored
+commit-requires-clause-stored g c =
+    let d = g.D.Disk in
+    let old = c.args.keeper.now in
+    let mid = c.look.new.self in
+    let h = history_of old.reporter.log in
+    let m = history_of mid.reporter.log in
+    handed_on d g.J.BookName.stored h m old.flusher mid.flusher (λ is. by_call d h m old.flusher mid.flusher (c.look.ensures.keeps is)) c.requires.stored

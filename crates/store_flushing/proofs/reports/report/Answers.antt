@@ -6,6 +6,10 @@ use Rattle.version_book.specs.Heard.{Heard}
 use Rattle.store_flushing.proofs.ReportLemmas.{reported_durable}
 use Rattle.store_flushing.proofs.reports.report.Goals as goal
 
+pub report-requires-clause-stored : goal.report-requires-clause-stored
+report-requires-clause-stored g c =
+    subst (λ (h : Heard). g.J.BookName.stored h.log c.args.number) (sym c.tries.invariant) c.requires.stored
+
 pub returns-in-Ok-clause-goes_on : goal.returns-in-Ok-clause-goes_on
 returns-in-Ok-clause-goes_on g c =
     subst (λ (h : Heard). BeginsWith (history_of c.report.new.me.log) (history_of h.log)) c.tries.invariant c.report.ensures.goes_on

@@ -1,4 +1,4 @@
-use Rattle.std.proofs.Common.{length, ap, sym, ◌∙◌, subst, refl, arith}
+use Rattle.std.proofs.Common.{length, ap, sym, ◌∙◌, subst, refl, arith, inl, rules}
 use Rattle.overlay_terms.specs.Histories.{accepted, commands_of, FollowsBatch}
 use Rattle.book_history.specs.Logs.{newest_in}
 use Rattle.book_history.proofs.Owned.{own_le, own_then}
@@ -40,3 +40,6 @@ returns-clause-ok g c =
       own = own;
       valid = c.last-last.ensures.log;
     }
+
+pub add-requires : goal.add-requires
+add-requires g c = record { follows = search rules; seat = search rules; told = inl c.requires.follows.durable }

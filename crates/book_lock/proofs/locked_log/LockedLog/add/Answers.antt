@@ -1,10 +1,12 @@
-use Rattle.std.proofs.Common.{◌≡◌, ◌++◌, ◌∷◌, [], length, ap, sym, ◌∙◌, subst, arith, refl, rules}
+use Rattle.std.proofs.Common.{◌≡◌, ◌⊎◌, ◌++◌, ◌∷◌, [], length, ap, sym, ◌∙◌, subst, arith, refl, rules}
 use Rattle.overlay_terms.specs.Histories.{Follows}
 use Rattle.book_history.specs.Causes.{event_of}
 use Rattle.book_history.specs.Logs.{entry, newest_in}
 use Rattle.book_history.specs.BookLogs.{BookLog}
 use Rattle.book_history.proofs.Chains.{newest_more}
 use Rattle.book_history.proofs.Owned.{own_le, counts_more}
+use Rattle.book_lock.specs.Telling.{MayTell}
+use Rattle.book_lock.proofs.Tellings.{told_more}
 use Rattle.book_lock.proofs.locked_log.LockedLog.add.Goals as goal
 
 -- what is said of the log's copy is found by search, as it holds of a copy of that too
@@ -64,6 +66,11 @@ invariant_of-self g c =
       c.put_out.ensures.pending,
       (λ k low. counts_more k was.log c.put_out.new.publisher.desk.shown.value.seen_log.log e _ _
           (ap (λ (t : BookLog). t.log) (shown ∙ added) ∙ ap (λ (t : BookLog). t.log ++ e ∷ []) same) (i.3 k low) (c.counted-self-inside.ensures k low)),
+      told_more g.J.BookName.stored was.log c.put_out.new.publisher.desk.shown.value.seen_log.log e
+          (ap (λ (t : BookLog). t.log) (shown ∙ added) ∙ ap (λ (t : BookLog). t.log ++ e ∷ []) same)
+          (omega (arith, c.at.ensures.length, ap (λ (t : BookLog). length t.log) same)) i.4
+          (subst (λ l. (e.version.durable ≡ (newest_in l).durable) ⊎ MayTell g.J.BookName.stored l e.version.durable) (sym c.self.view_is)
+          (subst (λ v. (v.durable ≡ (newest_in c.args.self.now).durable) ⊎ MayTell g.J.BookName.stored c.args.self.now v.durable) (sym c.deref.ensures) c.requires.told)),
     )
 
 pub returns : goal.returns

@@ -39,7 +39,7 @@ add-requires g c =
     let old = c.deref-now.ensures ∙ c.last.ensures.version in
     let new = arc_value c.in-Some.version in
     let told = subst (λ v. FollowsTile v name input.column c.args.built.now.1 new) old (given _ _ _ c.in-Some.is c.in_ok-version.ensures.some).1 in
-    record { follows = subst (λ e. Follows last e new) (λ i. kept name (sym column i) (sym c.tile.ensures.value i)) told; seat = tt }
+    record { follows = subst (λ e. Follows last e new) (λ i. kept name (sym column i) (sym c.tile.ensures.value i)) told; seat = tt; told = inl told.durable }
 
 pub returns-in_err-add : goal.returns-in_err-add
 returns-in_err-add g c =

@@ -1,4 +1,4 @@
-use Rattle.std.proofs.Common.{ℕ, ◌≡◌, ◌≤◌, ◌⊎◌, ◌++◌, subst}
+use Rattle.std.proofs.Common.{ℕ, ◌≡◌, ◌≤◌, ◌⊎◌, ◌++◌, subst, sym}
 use Rattle.book_history.specs.Logs.{history_of, newest_in}
 use Rattle.book_history.proofs.Chains.{is_history}
 use Rattle.version_book.specs.Heard.{Heard}
@@ -6,6 +6,9 @@ use Rattle.store_flushing.specs.Told.{news_in, told_at, told_in}
 use Rattle.store_flushing.proofs.Storage.{all_told, report_kept, stored_level}
 use Rattle.store_flushing.proofs.ToldLemmas.{news_told}
 use Rattle.store_flushing.proofs.keeper.Keeper.report.Goals as goal
+
+pub report-requires-clause-stored : goal.report-requires-clause-stored
+report-requires-clause-stored g c = subst (g.J.BookName.stored c.args.self.now.reporter.log) (sym c.stored.ensures) c.requires.stored
 
 pub returns-clause-keeps : goal.returns-clause-keeps
 returns-clause-keeps g c is =

@@ -18,6 +18,12 @@ is_level-requires g c =
       durable = durable_there _ _ _ _ _ last.seen_log last.version c.deref.ensures c.durable.ensures.value;
     }
 
+pub report-requires : goal.report-requires
+report-requires g c =
+    let was = ap (λ t. t.log) c.last-last.ensures.seen_log in
+    let heard = subst (λ l. HasHeard l c.args.me.now) was (c.if-not-is_level.ensures.0 refl) in
+    record { stored = record { was = c.args.me.now.log; longer = heard.longer; holds = c.requires.stored } }
+
 pub move_on-requires : goal.move_on-requires
 move_on-requires g c =
     let last = c.last.ensures.seen_log in

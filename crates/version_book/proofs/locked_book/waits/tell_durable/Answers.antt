@@ -9,6 +9,7 @@ returns-in_err-show g c =
     let gone = c.in_err-show.ensures.err in
     record {
       ok = gone_ok r _ _ c.from_residual.ensures.1;
+      told = gone_ok r _ _ c.from_residual.ensures.1;
       refused = gone_err r _ _ c.from_residual.ensures.1 gone.0 tt;
       seen = gone_looks r _ _ _ _ c.from_residual.ensures.1 gone.0 gone.1;
       gone = λ _. c.in_err-show.ensures.behind;
@@ -19,6 +20,7 @@ returns-then-number-durable g c =
     let newest = ap (λ v. v.durable) (c.deref.ensures ∙ c.last.ensures.version) in
     record {
       ok = (sym (c.durable-durable.ensures.value ∙ newest), c.if-number-durable.true);
+      told = c.last.ensures.told;
       refused = tt;
       seen = c.in_ok-show.ensures.ok.0;
       gone = λ is. absurd (cc);
@@ -28,11 +30,11 @@ pub returns-in-Some : goal.returns-in-Some
 returns-in-Some g c =
     let newest = c.durable-durable.ensures.value ∙ ap (λ v. v.durable) (c.deref.ensures ∙ c.last.ensures.version) in
     let behind : (newest_in c.args.locked.now.log).durable < c.args.number = omega (arith, newest, c.if-number-durable.false) in
-    record { ok = tt; refused = (behind, c.in-Some.is); seen = inr (λ is. absurd (cc), c.in_ok-show.ensures.ok.0); gone = λ is. absurd (cc) }
+    record { ok = tt; told = tt; refused = (behind, c.in-Some.is); seen = inr (λ is. absurd (cc), c.in_ok-show.ensures.ok.0); gone = λ is. absurd (cc) }
 
 pub returns-in-None : goal.returns-in-None
 returns-in-None g c =
     let newest = c.durable-durable.ensures.value ∙ ap (λ v. v.durable) (c.deref.ensures ∙ c.last.ensures.version) in
     let behind : (newest_in c.args.locked.now.log).durable < c.args.number = omega (arith, newest, c.if-number-durable.false) in
     let closing = not_false _ (λ wide. c.requires.ready (record { behind = behind; sound = c.in-None.is; not_closing = wide })) in
-    record { ok = tt; refused = (behind, c.in-None.is, closing); seen = inr (λ is. absurd (cc), c.in_ok-show.ensures.ok.0); gone = λ is. absurd (cc) }
+    record { ok = tt; told = tt; refused = (behind, c.in-None.is, closing); seen = inr (λ is. absurd (cc), c.in_ok-show.ensures.ok.0); gone = λ is. absurd (cc) }

@@ -1,0 +1,15 @@
+-- Which numbers a log may tell durable.
+use Rattle.std.specs.Prelude.{◌≡◌, ◌⊎◌, ℕ, List}
+use mathlib.Core.List.{IsPrefix}
+use Rattle.overlay_terms.specs.Histories.{Entry}
+use Rattle.book_history.specs.Logs.{history_of, newest_in}
+
+-- a number was stored of a beginning of a log
+pub record MayTell (stored : List Entry → ℕ → Type 0) (log : List Entry) (number : ℕ) : Type 0 where
+  pub was : List Entry
+  pub longer : IsPrefix was log
+  pub holds : stored was number
+
+-- the number that a log tells durable is that of its first version, or was stored
+abbrev pub IsToldIn : (List Entry → ℕ → Type 0) → List Entry → Type 0
+IsToldIn stored log = ((newest_in log).durable ≡ (history_of log).start.durable) ⊎ MayTell stored log (newest_in log).durable

@@ -1,0 +1,12 @@
+use Rattle.std.proofs.Common.{subst, sym}
+use Rattle.flush_core.specs.declared.flusher.Flusher.{Flusher}
+use Rattle.book_history.specs.Logs.{history_of}
+use Rattle.version_book.specs.Heard.{Heard}
+use Rattle.store_flushing.specs.Storing.{HoldsOfStored}
+use Rattle.store_flushing.proofs.flusher_loop.flusher_loop.Goals as goal
+
+pub flush-requires-clause-stored : goal.flush-requires-clause-stored
+flush-requires-clause-stored g c =
+    let e = c.of-keeper.ensures in
+    subst (λ (r : Heard). HoldsOfStored g.D.Disk g.J.BookName.stored (history_of r.log) c.of-keeper.result.flusher) (sym e.reporter)
+    (subst (λ (f : Flusher g.row.D.Denot g.D.Disk). HoldsOfStored g.D.Disk g.J.BookName.stored (history_of c.args.reporter.log) f) (sym e.flusher) c.requires.stored)
