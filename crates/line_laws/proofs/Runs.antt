@@ -5,7 +5,7 @@ use Rattle.std.proofs.lemmas.List.{length-append}
 use Rattle.overlay_terms.specs.Batches.{Batch, BatchRefusal, batch_refusal_at}
 use Rattle.overlay_terms.specs.Histories.{Version, Entry, History, accepted, AllFollow, IsHistory, FollowsBatch, GoesOnBy, last_version, newest, accepted_in}
 use Rattle.script_form.specs.Replies.{ok_line}
-use Rattle.script_form.specs.Transcript.{IsAcceptedBy, IsTurn, IsTranscript}
+use Rattle.script_form.specs.Transcript.{BookStore, IsAcceptedBy, IsTurn, IsTranscript}
 use Rattle.script_form.specs.Turns.{Turn}
 use Rattle.line_laws.specs.Deciding.{Answered, history_after, turns_in, made_by, AreAnswered, AreTurnsOf, TranscriptsHaveTurns, is_from_outside, Decided, decided, decided_by, outside_of, GoAlike, LinesDecide}
 use Rattle.line_laws.proofs.Asking.{TurnAsks, turn_asks_one}
@@ -119,7 +119,7 @@ module _ (before after : History) (part : Turn) (made : List Batch) (reply : Lis
     }
 
 -- each turn of a session that was alone is such a step
-step : (stored : Bool) (session : ℕ) (before after : History) (part : Turn) (made : List Batch) (reply : List ℕ)
+step : (stored : BookStore) (session : ℕ) (before after : History) (part : Turn) (made : List Batch) (reply : List ℕ)
     → IsTurn stored session before part after made reply → IsHistory after → count after ≡ count before + length made → IsStep before after part made reply
 step stored session before after part made reply turn history alone =
     elim (comes stored session before after made reply part turn) [
@@ -143,12 +143,12 @@ grows session before after part made reply more (inr one) on =
     let only = ap length one.how.only in
     omega (arith, all, parts, only)
 
-turn_grows : (stored : Bool) (session : ℕ) (before : History) (turn : Answered) → IsTurn stored session before turn.turn turn.after turn.made turn.reply
+turn_grows : (stored : BookStore) (session : ℕ) (before : History) (turn : Answered) → IsTurn stored session before turn.turn turn.after turn.made turn.reply
     → count before + length turn.made ≤ count turn.after
 turn_grows stored session before turn is =
     grows session before turn.after turn.turn turn.made turn.reply is.goes_on.0 (comes stored session before turn.after turn.made turn.reply turn.turn is) is.goes_on.1
 
-pub turns_grow : (stored : Bool) (session : ℕ) (seen : History) (turns : List Answered) → AreAnswered stored session seen turns
+pub turns_grow : (stored : BookStore) (session : ℕ) (seen : History) (turns : List Answered) → AreAnswered stored session seen turns
     → count seen + length (made_by turns) ≤ count (history_after seen turns)
 turns_grow stored session seen [] told = nothing_made (count seen) where
   nothing_made : (n : ℕ) → n + 0 ≤ n
@@ -160,7 +160,7 @@ turns_grow stored session seen (turn ∷ turns) (first, others) =
     omega (arith, one, all, both)
 
 -- a history whose turns led to one
-history_back : (stored : Bool) (session : ℕ) (seen : History) (turns : List Answered) → AreAnswered stored session seen turns → IsHistory (history_after seen turns) → IsHistory seen
+history_back : (stored : BookStore) (session : ℕ) (seen : History) (turns : List Answered) → AreAnswered stored session seen turns → IsHistory (history_after seen turns) → IsHistory seen
 history_back stored session seen [] told history = history
 history_back stored session seen (turn ∷ turns) (first, others) history =
     history_front seen turn.after first.goes_on.0 first.goes_on.1 (history_back stored session turn.after turns others history)
@@ -170,7 +170,7 @@ record IsFirstAlone (seen : History) (turn : Answered) (turns : List Answered) :
   first : count turn.after ≡ count seen + length turn.made
   others : count (history_after turn.after turns) ≡ count turn.after + length (made_by turns)
 
-first_alone : (stored : Bool) (session : ℕ) (seen : History) (turn : Answered) (turns : List Answered) → AreAnswered stored session seen (turn ∷ turns)
+first_alone : (stored : BookStore) (session : ℕ) (seen : History) (turn : Answered) (turns : List Answered) → AreAnswered stored session seen (turn ∷ turns)
     → count (history_after turn.after turns) ≡ count seen + length (made_by (turn ∷ turns)) → IsFirstAlone seen turn turns
 first_alone stored session seen turn turns (first, others) alone =
     let one = turn_grows stored session seen turn first in
@@ -191,12 +191,12 @@ same_made before after other_before other_after part made other_made reply other
     a.2 ∙ ap (λ (d : Decided). made_at d a.0) same ∙ ap (made_at (decided (newest other_before))) (turn_asks_one part a.0 b.0 a.1 b.1) ∙ sym b.2
 
 -- a turn of a session, as a step of one that is the same
-step_of : (stored : Bool) (session : ℕ) (seen : History) (turn : Answered) (part : Turn) → turn.turn ≡ part → IsTurn stored session seen turn.turn turn.after turn.made turn.reply
+step_of : (stored : BookStore) (session : ℕ) (seen : History) (turn : Answered) (part : Turn) → turn.turn ≡ part → IsTurn stored session seen turn.turn turn.after turn.made turn.reply
     → IsHistory turn.after → count turn.after ≡ count seen + length turn.made → IsStep seen turn.after part turn.made turn.reply
 step_of stored session seen turn part is told history alone =
     subst (λ (p : Turn). IsStep seen turn.after p turn.made turn.reply) is (step stored session seen turn.after turn.turn turn.made turn.reply told history alone)
 
-module _ (stored other_stored : Bool) (session other : ℕ) where
+module _ (stored other_stored : BookStore) (session other : ℕ) where
   alike : (seen other_seen : History) (turns others : List Answered) → AreAnswered stored session seen turns → AreAnswered other_stored other other_seen others
       → IsHistory (history_after seen turns) → IsHistory (history_after other_seen others)
       → count (history_after seen turns) ≡ count seen + length (made_by turns) → count (history_after other_seen others) ≡ count other_seen + length (made_by others)
@@ -229,7 +229,7 @@ module _ (stored other_stored : Bool) (session other : ℕ) where
 counted : (seen after : History) (made : List Batch) → accepted_in after.entries ≡ accepted_in seen.entries ++ made → count after ≡ count seen + length made
 counted seen after made alone = ap length alone ∙ length-append (accepted_in seen.entries) made
 
-pub lines_decide : LinesDecide
+pub lines_decide : (stored other_stored : BookStore) → LinesDecide stored other_stored
 lines_decide stored other_stored session other seen other_seen turns others one two same lines from =
     alike stored other_stored session other seen other_seen turns others one.told two.told one.history two.history
     (counted seen (history_after seen turns) (made_by turns) one.alone) (counted other_seen (history_after other_seen others) (made_by others) two.alone)
@@ -237,7 +237,7 @@ lines_decide stored other_stored session other seen other_seen turns others one 
 
 -- ==== Transcripts
 
-told_in_turn : (stored : Bool) (session : ℕ) (seen : History) (turns : List Turn) (after : History) (made : List Batch) (replies : List ℕ)
+told_in_turn : (stored : BookStore) (session : ℕ) (seen : History) (turns : List Turn) (after : History) (made : List Batch) (replies : List ℕ)
     → IsTranscript stored session seen turns after made replies
     → AreTurnsOf stored session seen (record { turns = turns; after = after; made = made; replies = replies })
 told_in_turn stored session seen [] after made replies (same, none, empty) =
@@ -254,5 +254,5 @@ told_in_turn stored session seen (turn ∷ turns) after made replies (mid, first
       same_replies = ap (λ (bytes : List ℕ). reply ++ bytes) later.same_replies ∙ sym all_told;
     }
 
-pub transcripts_have_turns : TranscriptsHaveTurns
+pub transcripts_have_turns : (stored : BookStore) → TranscriptsHaveTurns stored
 transcripts_have_turns stored session seen run told = told_in_turn stored session seen run.turns run.after run.made run.replies told

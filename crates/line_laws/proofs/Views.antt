@@ -16,7 +16,7 @@ use Rattle.script_form.specs.declared.fault.CommandFault.{CommandFault}
 use Rattle.script_form.specs.declared.fault.CommandFault.TheVariants.{OutOfMemory, Closing, Gone}
 use Rattle.script_form.specs.Replies.{error_line}
 use Rattle.script_form.specs.Requests.{Request, nothing, too_long, malformed, put_text, define_text, remove_name, locate, grid, list_layers, edges, wait, verify, sync, batch}
-use Rattle.script_form.specs.Transcript.{IsRefused, IsAcceptedBy, IsSubmitted, IsSubmittedAll, IsRefusedBatch, IsAnswered, IsBatchAnswered, IsTurnAnswered, IsTurn, Asked, Drawn, IsEdgesTold, IsVerdictTold, IsBuiltTold, IsWaitClosed, asked_column}
+use Rattle.script_form.specs.Transcript.{BookStore, IsRefused, IsAcceptedBy, IsSubmitted, IsSubmittedAll, IsRefusedBatch, IsAnswered, IsBatchAnswered, IsTurnAnswered, IsTurn, Asked, Drawn, IsEdgesTold, IsVerdictTold, IsBuiltTold, IsWaitClosed, asked_column}
 use Rattle.script_form.specs.Turns.{Turn, alone, together, cut_off}
 use Rattle.line_laws.specs.Deciding.{is_from_outside}
 use Rattle.line_laws.proofs.Asking.{AsksFor, TurnAsks}
@@ -128,7 +128,7 @@ drawn_none None text made reply told = told.nothing_made
 
 -- ==== Each request
 
-module _ (stored : Bool) (session : ℕ) (before after : History) (made : List Batch) (reply : List ℕ) where
+module _ (stored : BookStore) (session : ℕ) (before after : History) (made : List Batch) (reply : List ℕ) where
   put_comes : (name text : List ℕ) → IsAnswered stored session before (put_text name text) after made reply → Comes session before (alone (put_text name text)) after made reply
   put_comes name text (inl (none, refused)) = inl (idle_line (put_text name text) after made reply (inl none) refused.nothing_made)
   put_comes name text (inr (named, inl (fault, wrong, refused))) = inl (idle_line (put_text name text) after made reply (inr (fault, wrong)) refused.nothing_made)

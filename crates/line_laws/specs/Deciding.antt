@@ -5,7 +5,7 @@ use Rattle.overlay_terms.specs.Batches.{Batch}
 use Rattle.overlay_terms.specs.Histories.{Version, History, IsHistory, newest, accepted_in}
 use Rattle.script_form.specs.declared.fault.CommandFault.TheVariants.{OutOfMemory, Closing, Gone}
 use Rattle.script_form.specs.Replies.{error_line}
-use Rattle.script_form.specs.Transcript.{IsTurn, IsTranscript}
+use Rattle.script_form.specs.Transcript.{BookStore, IsTurn, IsTranscript}
 use Rattle.script_form.specs.Turns.{Turn}
 
 -- a turn that was answered, of a line or of a batch with its lines: the history that it led to, the batches that its session
@@ -29,7 +29,7 @@ abbrev pub made_by : List Answered → List Batch
 made_by all = flat_map (λ (one : Answered). one.made) all
 
 -- turns of a session that were answered one after another, from what it had seen
-abbrev pub AreAnswered : Bool → ℕ → History → List Answered → Type 0
+abbrev pub AreAnswered : BookStore → ℕ → History → List Answered → Type 0
 AreAnswered stored session seen [] = Unit {0}
 AreAnswered stored session seen (one ∷ more) =
     IsTurn stored session seen one.turn one.after one.made one.reply × AreAnswered stored session one.after more
@@ -42,11 +42,11 @@ pub record Run : Type 0 where
   pub made : List Batch
   pub replies : List ℕ
 
-abbrev pub IsRun : Bool → ℕ → History → Run → Type 0
+abbrev pub IsRun : BookStore → ℕ → History → Run → Type 0
 IsRun stored session seen run = IsTranscript stored session seen run.turns run.after run.made run.replies
 
 -- the same, told turn by turn
-pub record AreTurnsOf (stored : Bool) (session : ℕ) (seen : History) (run : Run) : Type 0 where
+pub record AreTurnsOf (stored : BookStore) (session : ℕ) (seen : History) (run : Run) : Type 0 where
   pub all : List Answered
   pub told : AreAnswered stored session seen all
   pub same_turns : turns_in all ≡ run.turns
@@ -55,9 +55,9 @@ pub record AreTurnsOf (stored : Bool) (session : ℕ) (seen : History) (run : Ru
   pub same_replies : flat_map (λ (one : Answered). one.reply) all ≡ run.replies
 
 -- each transcript is told turn by turn
-abbrev pub TranscriptsHaveTurns : Type 0
-TranscriptsHaveTurns =
-    (stored : Bool) (session : ℕ) (seen : History) (run : Run) →
+abbrev pub TranscriptsHaveTurns : BookStore → Type 0
+TranscriptsHaveTurns stored =
+    (session : ℕ) (seen : History) (run : Run) →
     IsRun stored session seen run → AreTurnsOf stored session seen run
 
 -- whether a reply refuses a turn for what neither lines nor layers decide: memory ran out, the book closes or is behind
@@ -67,7 +67,7 @@ is_from_outside reply =
 
 -- turns of a session that was alone: they led to a history, and the batches that were accepted meanwhile are just those
 -- that they made
-pub record AreAlone (stored : Bool) (session : ℕ) (seen : History) (all : List Answered) : Type 0 where
+pub record AreAlone (stored : BookStore) (session : ℕ) (seen : History) (all : List Answered) : Type 0 where
   pub told : AreAnswered stored session seen all
   pub history : IsHistory (history_after seen all)
   pub alone : accepted_in (history_after seen all).entries ≡ accepted_in seen.entries ++ made_by all
@@ -95,9 +95,9 @@ pub record GoAlike (all others : List Answered) : Type 0 where
 
 -- two runs of the same turns from versions that are alike, of which the same were refused from outside, go alike; the turns
 -- are what the lines ask for, and so the same where the lines are
-abbrev pub LinesDecide : Type 0
-LinesDecide =
-    (stored other_stored : Bool) (session other : ℕ) (seen other_seen : History) (all others : List Answered) →
+abbrev pub LinesDecide : BookStore → BookStore → Type 0
+LinesDecide stored other_stored =
+    (session other : ℕ) (seen other_seen : History) (all others : List Answered) →
     AreAlone stored session seen all → AreAlone other_stored other other_seen others →
     decided (newest seen) ≡ decided (newest other_seen) → turns_in all ≡ turns_in others →
     outside_of all ≡ outside_of others → GoAlike all others

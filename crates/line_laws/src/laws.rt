@@ -1,15 +1,24 @@
 //! What lines decide: each function does nothing, and its contract is the law.
 
+ghost use Rattle.std.specs.Prelude.{Bool};
+ghost use Rattle.script_form.specs.Transcript.{store_by};
 ghost use Rattle.line_laws.specs.Deciding.{LinesDecide, TranscriptsHaveTurns};
+
+/// Of which history the transcripts of a law may tell the durable number.
+pub trait Tells {
+    ghost use Rattle.overlay_terms.specs.Histories.{History};
+
+    ghost told: { History → Type 0 };
+}
 
 /// Where no one else's command was accepted meanwhile, the number and the layers of the version after each line or batch,
 /// and what was made, are fixed by the version that was seen before, by the lines, and by which of them were refused
 /// because memory ran out, the book closed or was behind.
-pub fn lines_decide()
-    ensures { LinesDecide }
+pub fn lines_decide<A: Tells, B: Tells>()
+    ensures { (there other_there : Bool) → LinesDecide (store_by A.told there) (store_by B.told other_there) }
 {}
 
 /// Each transcript is told turn by turn: one for each line, and for each batch with its lines.
-pub fn transcripts_have_turns()
-    ensures { TranscriptsHaveTurns }
+pub fn transcripts_have_turns<A: Tells>()
+    ensures { (there : Bool) → TranscriptsHaveTurns (store_by A.told there) }
 {}

@@ -5,6 +5,7 @@ pub mod Listened
 pub mod Lists
 pub mod Parts
 mod Refusals
+pub mod Runs
 pub mod Sent
 pub mod SentStore
 pub mod ServedParts

@@ -16,6 +16,7 @@ use Rattle.overlay_terms.specs.Histories.{Version, Entry, commands_in}
 use Rattle.book_history.specs.Known.{Known}
 use Rattle.book_lock.specs.Steps.{beginners}
 use Rattle.script_form.specs.Lines.{script_max}
+use Rattle.server_session.specs.Stores.{any_store}
 use Rattle.server_session.specs.Session.{IsSessionWithin}
 use Rattle.session_threads.specs.declared.port.Finished.{Finished}
 use Rattle.session_threads.specs.declared.port.Port.{Port}
@@ -77,8 +78,8 @@ module _ {R : Type 0} where
           same = one.same;
           goes_on = one.goes_on;
           ran =
-              subst (λ (bytes : List ℕ). IsSessionWithin script_max stored p.finished.end p.session one.now (remaining p.port.reader) one.left (Some bytes) (Some p.finished.writer.items)) none
-              (subst (λ (n : ℕ). IsSessionWithin n stored p.finished.end p.session one.now (remaining p.port.reader) one.left (Some p.port.writer.items) (Some p.finished.writer.items)) most one.ran);
+              subst (λ (bytes : List ℕ). IsSessionWithin script_max (any_store stored) p.finished.end p.session one.now (remaining p.port.reader) one.left (Some bytes) (Some p.finished.writer.items)) none
+              (subst (λ (n : ℕ). IsSessionWithin n (any_store stored) p.finished.end p.session one.now (remaining p.port.reader) one.left (Some p.port.writer.items) (Some p.finished.writer.items)) most one.ran);
           own = one.own;
         },
         each_served stored remaining log ps (others_same _ _ _ _ limits) (others_same _ _ _ _ empty) served.1,

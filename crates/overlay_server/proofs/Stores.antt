@@ -1,5 +1,5 @@
 -- The store of a server through its runs, and what is left of it at the end.
-use Rattle.std.proofs.Common.{◌≡◌, ◌⊎◌, inl, inr, ⊎_elim, false, ℕ, ◌≤◌, List, [], Option, Some, None, IfSome, IfNone, MatchOption, All, refl, sym, ◌∙◌, ap, subst, arith}
+use Rattle.std.proofs.Common.{◌≡◌, ◌⊎◌, inl, inr, ⊎_elim, false, ℕ, ◌≤◌, List, [], Option, Some, None, IfSome, IfNone, MatchOption, All, refl, sym, ◌∙◌, ◌↔◌, ap, subst, arith}
 use Rattle.logbook.specs.Pages.{Book}
 use Rattle.disk_model.specs.declared.disk.Disk.{Ghosts}
 use Rattle.disk_model.specs.Moments.{Leaves, LeavesOnly}
@@ -15,14 +15,15 @@ use Rattle.version_book.specs.Heard.{Heard}
 use Rattle.store_flushing.specs.Among.{IsFileIn, IsFileExactlyIn}
 use Rattle.store_flushing.specs.Storing.{IsStoreOf}
 use Rattle.store_flushing.specs.Told.{StaysTold, TellsOn, told_in}
+use Rattle.store_flushing.proofs.Following.{by_run, handed_on}
 use Rattle.store_flushing.proofs.Histories.{file_more}
 use Rattle.store_flushing.proofs.Storage.{begun, store_leaves, then}
 use Rattle.store_flushing.proofs.ToldLemmas.{none_yet, tells_then}
 use Rattle.store_flushing.specs.declared.closed.Closed.{Closed}
 use Rattle.store_flushing.specs.declared.keeper.told_log.Told.{Told}
 use Rattle.overlay_server.specs.Moments.{HasOnlyNow}
-use Rattle.overlay_server.specs.Keeping.{AreFlushed, IsStoreKept}
-use Rattle.overlay_server.specs.Serving.{IsLeftOfStore, StoreComesBack, first_log}
+use Rattle.overlay_server.specs.Keeping.{AreFlushed, HoldsOfStore, IsStoreKept}
+use Rattle.overlay_server.specs.Serving.{IsLeftOfStore, IsStoredOf, StoreComesBack, first_log}
 use Rattle.overlay_server.specs.declared.storing.Store.{Store}
 
 -- no commit is under way
@@ -59,6 +60,22 @@ module _ {D : Type 0} (g : Ghosts D) where
     begun = second.begun;
     flushed = flushed_twice a.reporter b.reporter c.reporter (told_in a.told) (told_in b.told) (told_in c.told) a.flusher b.flusher c.flusher first.flushed second.flushed;
   }
+
+  -- ---- what may be told durable
+
+  -- what holds of all that the store of a book comes to hold
+  pub holds_first : (stored : List Entry → ℕ → Type 0) (start : Version) (store : Option (Flusher D g))
+      → ((log : List Entry) (number : ℕ) → stored log number ↔ IsStoredOf g start store log number) → HoldsOfStore g stored (first_log start) store
+  holds_first stored start None same = tt
+  holds_first stored start (Some f) same = λ log h on. (same log h.commit.root.version).1 (λ is. record { store = h; followed = on is; at = refl })
+
+  -- it holds after a run too
+  pub holds_on : (stored : List Entry → ℕ → Type 0) (a b : Heard) (x y : List Told) (f h : Option (Flusher D g)) → AreFlushed g a x f b y h
+      → HoldsOfStore g stored a.log f → HoldsOfStore g stored b.log h
+  holds_on stored a b x y f None run all = tt
+  holds_on stored a b x y None (Some v) run all = absurd run
+  holds_on stored a b x y (Some u) (Some v) run all =
+      handed_on g stored (history_of a.log) (history_of b.log) u v (λ is. by_run g (history_of a.log) (history_of b.log) u v (run.flushes is)) all
 
   -- ---- at the end of a book
 

@@ -7,6 +7,7 @@ use Rattle.book_history.specs.Logs.{history_of, IsLog}
 use Rattle.book_lock.specs.Steps.{HasAllOf}
 use Rattle.script_form.specs.Turns.{Turn}
 use Rattle.line_laws.specs.Deciding.{Answered, AreAlone, history_after, turns_in}
+use Rattle.server_session.specs.Stores.{any_store}
 use Rattle.server_session.specs.Session.{IsSharedRun}
 use Rattle.overlay_server.specs.Serving.{first_log}
 
@@ -18,7 +19,7 @@ first_session book start = record { book = book; session = 0; log = first_log st
 -- meanwhile are the batches that they made
 pub record WasAlone (stored : Bool) (was : Known) (turns : List Turn) (now : Known) (replies : List ℕ) : Type 0 where
   pub all : List Answered
-  pub alone : AreAlone stored was.session (seen was) all
+  pub alone : AreAlone (any_store stored) was.session (seen was) all
   pub same_turns : turns_in all ≡ turns
   pub same_after : history_after (seen was) all ≡ seen now
   pub same_replies : flat_map (λ (one : Answered). one.reply) all ≡ replies
@@ -28,4 +29,4 @@ abbrev pub OneSessionIsAlone : Type 0
 OneSessionIsAlone =
     (stored : Bool) (book : Book) (start : Version) (log : List Entry) (turns : List Turn) (now : Known) (replies : List ℕ) → IsLog log
     → All (λ c. c.0 < 1) (commands_in (history_of log).entries) → now.session ≡ 0 → HasAllOf log now
-    → IsSharedRun stored (first_session book start) turns now replies → WasAlone stored (first_session book start) turns now replies
+    → IsSharedRun (any_store stored) (first_session book start) turns now replies → WasAlone stored (first_session book start) turns now replies

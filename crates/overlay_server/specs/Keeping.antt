@@ -1,12 +1,13 @@
 -- What a store's thread leaves.
-use Rattle.std.specs.Prelude.{◌≡◌, ◌<◌, false, length, List, Option, Some, None}
+use Rattle.std.specs.Prelude.{◌≡◌, ◌<◌, ℕ, false, length, List, Option, Some, None}
 use Rattle.logbook.specs.Pages.{Book}
 use Rattle.disk_model.specs.declared.disk.Disk.{Ghosts}
+use Rattle.overlay_terms.specs.Histories.{Entry}
 use Rattle.root_store.specs.Running.{is_busy}
 use Rattle.flush_core.specs.declared.flusher.Flusher.{Flusher}
 use Rattle.book_history.specs.Logs.{history_of, IsLog}
 use Rattle.version_book.specs.Heard.{Heard}
-use Rattle.store_flushing.specs.Storing.{IsStoreOf, Flushes}
+use Rattle.store_flushing.specs.Storing.{IsStoreOf, Flushes, HoldsOfStored}
 use Rattle.store_flushing.specs.Told.{TellsOn, told_in}
 use Rattle.store_flushing.specs.declared.keeper.told_log.Told.{Told}
 use Rattle.overlay_server.specs.declared.storing.Store.{Store}
@@ -25,6 +26,11 @@ module _ {D : Type 0} (g : Ghosts D) where
   AreFlushed was told None now more (Some new) = ⊥
   AreFlushed was told (Some old) now more None = ⊥
   AreFlushed was told (Some old) now more (Some new) = IsFlushed was told old now more new
+
+-- a predicate holds of each number that a store comes to hold, where there is a store
+abbrev pub HoldsOfStore : {D : Type 0} (g : Ghosts D) → (List Entry → ℕ → Type 0) → List Entry → Option (Flusher D g) → Type 0
+HoldsOfStore g stored log None = Unit {0}
+HoldsOfStore g stored log (Some old) = HoldsOfStored g stored (history_of log) old
 
 -- the store's thread has returned: its reporter is of this book, and it committed versions of the book alone
 pub record IsStoreKept {D : Type 0} (book : Book) (g : Ghosts D) (old new : Store D g) : Type 0 where

@@ -4,5 +4,6 @@ pub mod Durability
 pub mod Keeping
 pub mod Listening
 pub mod Moments
+pub mod Runs
 pub mod Serving
 pub mod Working

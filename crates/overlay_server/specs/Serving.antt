@@ -14,9 +14,10 @@ use Rattle.overlay_engine.specs.declared.engine.Engine.{Engine}
 use Rattle.book_history.specs.Known.{Known, seen}
 use Rattle.book_history.specs.Logs.{entry, no_event, history_of, newest_in, IsLog}
 use Rattle.book_lock.specs.Steps.{beginners, HasAllOf}
+use Rattle.server_session.specs.Stores.{any_store}
 use Rattle.server_session.specs.Session.{IsSessionWithin, IsSharedSession}
 use Rattle.store_flushing.specs.Among.{IsFileIn, IsFileExactlyIn}
-use Rattle.store_flushing.specs.Storing.{IsStoreOf}
+use Rattle.store_flushing.specs.Storing.{IsStoreOf, IsStored}
 use Rattle.store_flushing.specs.Told.{StaysTold, told_in}
 use Rattle.store_flushing.specs.declared.closed.Closed.{Closed}
 use Rattle.store_flushing.specs.declared.keeper.told_log.Told.{Told}
@@ -57,7 +58,7 @@ pub record IsServed {R : Type 0} (stored : Bool) (remaining : R → Option (List
   pub left : Option (List ℕ)
   pub same : now.session ≡ part.session.session
   pub goes_on : BeginsWith (seen now) (seen part.session)
-  pub ran : IsSharedSession stored part.outcome.end part.session now (remaining part.reader) left (Some []) (Some part.outcome.bytes.items)
+  pub ran : IsSharedSession (any_store stored) part.outcome.end part.session now (remaining part.reader) left (Some []) (Some part.outcome.bytes.items)
   pub own : HasAllOf log now
 
 -- each reader has a session of the book that begins with a version, by their order, and was served
@@ -85,7 +86,7 @@ pub record IsPortServed {R W : Type 0} (stored : Bool) (remaining : R → Option
   pub left : Option (List ℕ)
   pub same : now.session ≡ part.session.session
   pub goes_on : BeginsWith (seen now) (seen part.session)
-  pub ran : IsSessionWithin part.port.most stored part.finished.end part.session now (remaining part.port.reader) left (contents part.port.writer) (contents part.finished.writer)
+  pub ran : IsSessionWithin part.port.most (any_store stored) part.finished.end part.session now (remaining part.port.reader) left (contents part.port.writer) (contents part.finished.writer)
   pub own : HasAllOf log now
 
 -- each port has a session of the book that begins with a version, by their order, and was served
@@ -147,6 +148,15 @@ module _ {D : Type 0} (g : Ghosts D) where
   abbrev pub StoreComesBack : Version → Option (Flusher D g) → Option D → Type 0
   StoreComesBack start None back = back ≡ None
   StoreComesBack start (Some old) back = ComesBack start old back
+
+-- ---- what is stored
+
+-- of which log which number is stored: what the first version's store held when it had been followed to that log; without
+-- a store, nothing is
+abbrev pub IsStoredOf : {D : Type 0} (g : Ghosts D) → Version → Option (Flusher D g) → List Entry → ℕ → Type 0
+IsStoredOf g start None log number = ⊥
+IsStoredOf g start (Some old) log number =
+    IsStoreOf g (history_of (first_log start)) old → IsStored g (history_of (first_log start)) old log number
 
 -- ---- the server
 

@@ -3,17 +3,20 @@ use Rattle.std.specs.Prelude.{◌≡◌, Bool, ℕ, List, length, All, Option, I
 use Rattle.std.specs.List.{AllZip}
 use Rattle.logbook.specs.Pages.{Book}
 use Rattle.disk_model.specs.declared.disk.Disk.{Ghosts}
+use Rattle.overlay_terms.specs.Histories.{Entry}
 use Rattle.session_threads.specs.Rooms.{HasRooms}
 use Rattle.session_threads.specs.Running.{IsRunOf}
 use Rattle.session_threads.specs.declared.running.Ended.{Ended}
 use Rattle.session_threads.specs.declared.running.Script.{Script}
-use Rattle.overlay_server.specs.Keeping.{IsStoreKept}
+use Rattle.overlay_server.specs.Keeping.{HoldsOfStore, IsStoreKept}
 use Rattle.overlay_server.specs.declared.threads.Returned.{Returned}
 use Rattle.overlay_server.specs.declared.threads.Work.{Work}
 
--- store and sessions are of this book, and there is room for what the sessions leave
-pub record IsReady {J R W D : Type 0} {g : Ghosts D} (book : Book) (work : Work J R W D g) : Type 0 where
+-- store and sessions are of this book, what the store comes to hold may be told durable, and there is room for what the
+-- sessions leave
+pub record IsReady {J R W D : Type 0} {g : Ghosts D} (book : Book) (stored : List Entry → ℕ → Type 0) (work : Work J R W D g) : Type 0 where
   pub store : work.store.reporter.book ≡ book
+  pub durable : HoldsOfStore g stored work.store.reporter.log work.store.flusher
   pub scripts : All (λ (script : Script R W). script.session.book ≡ book) work.scripts.items
   pub rooms : HasRooms work.rooms (length work.scripts.items)
 

@@ -1,13 +1,15 @@
 //! The book of a server, from its opening to its end.
-ghost use Rattle.std.specs.Prelude.{◌≡◌, ◌⊎◌, ◌<◌, ◌≤◌, ◌∷◌, [], None, length, IfOk, IfErr, is_some};
+ghost use Rattle.std.specs.Prelude.{◌≡◌, ◌⊎◌, ◌<◌, ◌≤◌, ◌∷◌, ◌↔◌, [], None, ℕ, List, length, IfOk, IfErr, is_some};
 ghost use Rattle.book_history.specs.Fault.{no_memory};
 ghost use Rattle.book_history.specs.Logs.{entry, no_event};
 ghost use Rattle.book_history.specs.Rules.{head_of};
 ghost use Rattle.book_lock.specs.Steps.{beginners};
+ghost use Rattle.overlay_terms.specs.Histories.{Entry};
 ghost use Rattle.version_book.specs.Store.{has_store};
 ghost use Rattle.store_flushing.specs.Told.{told_in};
 ghost use Rattle.overlay_server.specs.Answering.{answer_in, fault_of, refusal_code};
-ghost use Rattle.overlay_server.specs.Serving.{IsLeftFrom, IsRefusedFrom, IsServedFrom, first_log};
+ghost use Rattle.overlay_server.specs.Keeping.{HoldsOfStore};
+ghost use Rattle.overlay_server.specs.Serving.{IsLeftFrom, IsRefusedFrom, IsServedFrom, IsStoredOf, first_log};
 
 use crate::listening::{Listeners, gathered, listened};
 use crate::opening::{Begun, BookAnswer, open_book};
@@ -113,6 +115,7 @@ where
     G: Gate + Sync,
     Q: Threads + Wait + Sync,
     requires book { opened.seen_log.book ≡ J.book }
+    requires stored { (log : List Entry) (number : ℕ) → J.stored log number ↔ IsStoredOf D.Disk opened.version opened.flusher log number }
     requires readers { (0 < length readers.items) × (length readers.items ≤ 4) }
     ensures served { IfOk result (IsServedFrom R.remaining D.Disk opened.version opened.flusher readers.items) }
     ensures refused { IfErr result (IsRefusedFrom D.Disk opened.version opened.flusher) }
@@ -148,6 +151,7 @@ where
     G: Gate + Sync,
     Q: Threads + Wait + Sync,
     requires book { opened.seen_log.book ≡ J.book }
+    requires stored { (log : List Entry) (number : ℕ) → J.stored log number ↔ IsStoredOf D.Disk opened.version opened.flusher log number }
     requires ports { (0 < length ports.items) × (length ports.items ≤ 4) }
     ensures left { IfOk result (IsLeftFrom R.remaining W.contents D.Disk opened.version opened.flusher ports.items) }
     ensures refused { IfErr result (IsRefusedFrom D.Disk opened.version opened.flusher) }
@@ -180,6 +184,7 @@ where
         requires stored { IfOk self.begun (λ b. has_store b.0 ≡ is_some self.flusher) }
         requires reporter { IfOk self.begun (λ b. (b.1.book ≡ J.book) × (b.1.log ≡ first_log self.start.version.value)) }
         requires sessions { IfOk self.begun (λ b. b.2.items ≡ beginners (record { book = J.book; log = first_log self.start.version.value }) (length ports.items)) }
+        requires durable { HoldsOfStore D.Disk J.stored (first_log self.start.version.value) self.flusher }
         requires fault { IfErr self.begun (λ fault. (fault ≡ no_memory) ⊎ (fault ≡ BookFault.Gone)) }
         requires answer { answer_in self.answer ≡ fault_of self.begun }
         ensures left { IfOk result (IsLeftFrom R.remaining W.contents D.Disk self.start.version.value self.flusher ports.items) }
@@ -246,6 +251,7 @@ where
         requires stored { has_store self.shared ≡ is_some self.store.flusher }
         requires reporter { (self.store.reporter.book ≡ J.book) × (self.store.reporter.log ≡ first_log self.start.version.value) }
         requires told { told_in self.store.told ≡ [] }
+        requires durable { HoldsOfStore D.Disk J.stored self.store.reporter.log self.store.flusher }
         requires sessions { self.sessions.items ≡ beginners (record { book = J.book; log = first_log self.start.version.value }) (length self.ports.items) }
         ensures left { IfOk result (IsLeftFrom R.remaining W.contents D.Disk self.start.version.value self.store.flusher self.ports.items) }
         ensures refused { IfErr result (IsRefusedFrom D.Disk self.start.version.value self.store.flusher) }

@@ -1,6 +1,8 @@
 //! Laws over the definitions: each function does nothing, and its contract is the law.
 ghost use Rattle.overlay_server.specs.Alone.{OneSessionIsAlone};
+ghost use Rattle.overlay_engine.specs.Start.{Start};
 ghost use Rattle.overlay_server.specs.Durability.{FilesAreCovered, NewEnginesAreStores, VersionsAreExact};
+ghost use Rattle.overlay_server.specs.Runs.{RunsLoseNothing};
 
 use disk_model::disk::Disk;
 
@@ -24,4 +26,10 @@ pub fn versions_are_exact()
 /// So its lines decide the versions behind them (`lines_decide`).
 pub fn one_session_is_alone()
     ensures { OneSessionIsAlone }
+{}
+
+/// Through any number of runs, of which each is cut by a crash within a call of its store's keeper or came to its end, and of
+/// the openings between them, what was told durable at some moment stands at each later one.
+pub fn runs_lose_nothing<D: Disk>()
+    ensures { (start : Start) → RunsLoseNothing D.Disk start }
 {}

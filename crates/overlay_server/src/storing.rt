@@ -1,6 +1,6 @@
 //! The store in a thread of its own.
 ghost use Rattle.std.specs.Prelude.{◌≡◌, MatchResult};
-ghost use Rattle.overlay_server.specs.Keeping.{IsStoreKept};
+ghost use Rattle.overlay_server.specs.Keeping.{HoldsOfStore, IsStoreKept};
 
 use disk_model::disk::Disk;
 use flush_core::flusher::Flusher;
@@ -31,7 +31,7 @@ pub struct KeepsStore<J: BookName, D: Disk> {
 }
 
 impl<J: BookName, D: Disk> Promise<Store<D>> for KeepsStore<J, D> {
-    ghost use Rattle.overlay_server.specs.Keeping.{IsStoreKept};
+    ghost use Rattle.overlay_server.specs.Keeping.{HoldsOfStore, IsStoreKept};
 
     ghost kept_by = { λ p r. IsStoreKept J.book D.Disk p.begun.value r };
 }
@@ -49,7 +49,8 @@ where
     S: Wait + Drop + Send + 's,
     Q: Threads + Wait + Sync,
     D: Disk + Send + Drop + 's,
-    requires { store.reporter.book ≡ J.book }
+    requires book { store.reporter.book ≡ J.book }
+    requires stored { HoldsOfStore D.Disk J.stored store.reporter.log store.flusher }
     ensures { MatchResult result (λ h. h.promise.begun.value ≡ store) (λ after. IsStoreKept J.book D.Disk store after) }
 {
     let promise = KeepsStore {
@@ -59,7 +60,8 @@ where
     let started = scope.spawn_with(
         promise,
         move || -> Store<D>
-            requires { store.reporter.book ≡ J.book }
+            requires book { store.reporter.book ≡ J.book }
+            requires stored { HoldsOfStore D.Disk J.stored store.reporter.log store.flusher }
             ensures { IsStoreKept J.book D.Disk store result }
         { keep_store(rt, alloc, shared, store) },
     );
@@ -80,7 +82,9 @@ pub fn keep_store<J: BookName, S: Wait + Drop, Q: Wait, D: Disk>(
     shared: &Shared<J, S>,
     store: Store<D>,
 ) -> Store<D>
-    requires { store.reporter.book ≡ J.book }
+    requires book { store.reporter.book ≡ J.book }
+    // What the store comes to hold may be told durable.
+    requires stored { HoldsOfStore D.Disk J.stored store.reporter.log store.flusher }
     ensures { IsStoreKept J.book D.Disk store result }
 {
     let Store {

@@ -49,14 +49,14 @@ where
     R: Read + Send + Drop,
     W: Write + Send + Drop,
     D: Disk + Send + Drop,
-    requires { IsReady J.book work }
+    requires { IsReady J.book J.stored work }
     ensures { HasWorked J.book (has_store shared.now) R.remaining W.contents D.Disk work result }
 {
     thread::scope(
         thread::scope_env(),
         rt,
         |scope| -> Returned<R, W, D>
-            requires { IsReady J.book work }
+            requires { IsReady J.book J.stored work }
             ensures { HasWorked J.book (has_store shared.entry.now) R.remaining W.contents D.Disk work result }
         { run_in(scope, rt, alloc, gate, shared, work) },
     )
@@ -79,7 +79,7 @@ where
     R: Read + Send + Drop + 's,
     W: Write + Send + Drop + 's,
     D: Disk + Send + Drop + 's,
-    requires { IsReady J.book work }
+    requires { IsReady J.book J.stored work }
     ensures { HasWorked J.book (has_store shared.now) R.remaining W.contents D.Disk work result }
 {
     let Work {

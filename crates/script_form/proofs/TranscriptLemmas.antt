@@ -2,17 +2,17 @@
 use Rattle.std.proofs.Common.{ℕ, Bool, List, [], ◌∷◌, ◌++◌, refl, sym, ap, ◌∙◌, subst, append_assoc, append-nil}
 use Rattle.overlay_terms.specs.Batches.{Batch}
 use Rattle.overlay_terms.specs.Histories.{History}
-use Rattle.script_form.specs.Transcript.{IsTurn, IsTranscript}
+use Rattle.script_form.specs.Transcript.{BookStore, IsTurn, IsTranscript}
 use Rattle.script_form.specs.Turns.{Turn}
 
 -- one turn alone
-pub transcript-one : (stored : Bool) (session : ℕ) (seen : History) (turn : Turn) (after : History) (made : List Batch) (reply : List ℕ)
+pub transcript-one : (stored : BookStore) (session : ℕ) (seen : History) (turn : Turn) (after : History) (made : List Batch) (reply : List ℕ)
     → IsTurn stored session seen turn after made reply → IsTranscript stored session seen (turn ∷ []) after made reply
 transcript-one stored session seen turn after made reply taken =
     (after, made, [], reply, [], taken, (refl, refl, refl), sym (append-nil made), sym (append-nil reply))
 
 -- turns are answered at the history that the turns before have led to
-pub transcript-join : (stored : Bool) (session : ℕ) (seen : History) (turns : List Turn) (mid : History) (made : List Batch) (replies : List ℕ)
+pub transcript-join : (stored : BookStore) (session : ℕ) (seen : History) (turns : List Turn) (mid : History) (made : List Batch) (replies : List ℕ)
     → IsTranscript stored session seen turns mid made replies
     → (more : List Turn) (after : History) (others : List Batch) (rest : List ℕ) → IsTranscript stored session mid more after others rest
     → IsTranscript stored session seen (turns ++ more) after (made ++ others) (replies ++ rest)

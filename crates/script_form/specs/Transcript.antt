@@ -1,6 +1,6 @@
 -- The replies of a script: for each line, and for each batch of lines, a history that goes on from the one before, and the
 -- reply at its newest version.
--- `stored` says whether the book has a store.
+-- `stored` is what is known of the book's store.
 use Rattle.std.specs.Prelude.{◌≡◌, ◌<◌, ◌≤◌, ℕ, ℤ, pos, negsuc, ◌⊎◌, Bool, true, false, IsTrue, List, [], ◌∷◌, ◌++◌, Option, Some, None}
 use Rattle.overlay_terms.specs.Plane.{WholePoint, Point}
 use Rattle.overlay_terms.specs.Trees.{Tree}
@@ -37,6 +37,14 @@ use Rattle.script_form.specs.Fault.{of_grid}
 use Rattle.script_form.specs.Requests.{Request, nothing, too_long, malformed, put_text, define_text, remove_name, locate, grid, list_layers, edges, wait, verify, sync, batch}
 use Rattle.script_form.specs.Turns.{Turn, alone, together, cut_off}
 use Rattle.script_form.specs.Replies.{ok_line, error_line, refused_line, location_line, built_line, durable_line, verdict_line}
+
+-- what is known of the store of a book: whether there is one, and of which history the durable number may be told
+pub record BookStore : Type 1 where
+  pub there : Bool
+  pub told : History → Type 0
+
+abbrev pub store_by : (History → Type 0) → Bool → BookStore
+store_by told there = record { there = there; told = told }
 
 -- a refused line: nothing is made, and the reply is the fault
 pub record IsRefused (fault : CommandFault) (made : List Batch) (reply : List ℕ) : Type 0 where
@@ -149,11 +157,12 @@ abbrev pub IsOfStore : CommandFault → Type 0
 IsOfStore fault =
     (fault ≡ Device) ⊎ (fault ≡ Full) ⊎ (fault ≡ StoreFailed) ⊎ (fault ≡ SequenceLimit) ⊎ (fault ≡ OutOfMemory) ⊎ (fault ≡ Closing)
 
--- the version that had been seen is durable, and the reply is the durable number
-pub record IsDurableTold (asked : ℕ) (durable : ℕ) (made : List Batch) (reply : List ℕ) : Type 0 where
+-- the version that had been seen is durable, and the reply is the durable number, which may be told
+pub record IsDurableTold (stored : BookStore) (asked : ℕ) (after : History) (made : List Batch) (reply : List ℕ) : Type 0 where
   pub nothing_made : made ≡ []
-  pub reached : asked ≤ durable
-  pub told : reply ≡ durable_line durable
+  pub reached : asked ≤ (newest after).durable
+  pub may : stored.told after
+  pub told : reply ≡ durable_line (newest after).durable
 
 -- the version that had been seen is not durable, for what the store says
 pub record IsNotDurable (asked : ℕ) (durable : ℕ) (made : List Batch) (reply : List ℕ) : Type 0 where
@@ -163,16 +172,16 @@ pub record IsNotDurable (asked : ℕ) (durable : ℕ) (made : List Batch) (reply
   pub refused : IsRefused fault made reply
 
 -- whether the version that a session had seen is durable: where the book has no store, nobody can say
-abbrev pub IsSynced : Bool → ℕ → ℕ → List Batch → List ℕ → Type 0
-IsSynced stored asked durable made reply =
-    ((stored ≡ false) × IsRefused NoStore made reply)
+abbrev pub IsSynced : BookStore → ℕ → History → List Batch → List ℕ → Type 0
+IsSynced stored asked after made reply =
+    ((stored.there ≡ false) × IsRefused NoStore made reply)
     ⊎ IsGone made reply
-    ⊎ (IsTrue stored × IsDurableTold asked durable made reply)
-    ⊎ (IsTrue stored × IsNotDurable asked durable made reply)
+    ⊎ (IsTrue stored.there × IsDurableTold stored asked after made reply)
+    ⊎ (IsTrue stored.there × IsNotDurable asked (newest after).durable made reply)
 
 -- what a request makes of the history, what the session makes, and the reply. A BATCH line that begins no batch has no size
 -- of one
-abbrev pub IsAnswered : Bool → ℕ → History → Request → History → List Batch → List ℕ → Type 0
+abbrev pub IsAnswered : BookStore → ℕ → History → Request → History → List Batch → List ℕ → Type 0
 IsAnswered stored session before nothing after made reply = IsTold [] made reply
 IsAnswered stored session before too_long after made reply = IsRefused LineTooLong made reply
 IsAnswered stored session before malformed after made reply = IsRefused CommandSyntax made reply
@@ -212,7 +221,7 @@ IsAnswered stored session before (verify name k) after made reply =
     WithName name made reply
     (IsGone made reply
     ⊎ Asked (finished_refusal (newest after) name (asked_column k)) made reply (IsVerdictTold (newest after) name (asked_column k) made reply))
-IsAnswered stored session before sync after made reply = IsSynced stored (newest before).number (newest after).durable made reply
+IsAnswered stored session before sync after made reply = IsSynced stored (newest before).number after made reply
 IsAnswered stored session before (batch size) after made reply = IsRefused (Version (Layer BatchSize)) made reply
 
 -- the lines of a batch: refused for the first that is no command, or submitted
@@ -244,7 +253,7 @@ IsOutOfMemory request made reply = IsTrue (takes_memory request) × IsRefused Ou
 
 -- what a turn makes of the history, what the session makes, and the reply, or memory ran out for it; a batch that is cut
 -- off is refused
-abbrev pub IsTurnAnswered : Bool → ℕ → History → Turn → History → List Batch → List ℕ → Type 0
+abbrev pub IsTurnAnswered : BookStore → ℕ → History → Turn → History → List Batch → List ℕ → Type 0
 IsTurnAnswered stored session before (alone request) after made reply =
     IsOutOfMemory request made reply ⊎ IsAnswered stored session before request after made reply
 IsTurnAnswered stored session before (together requests) after made reply =
@@ -252,13 +261,13 @@ IsTurnAnswered stored session before (together requests) after made reply =
 IsTurnAnswered stored session before (cut_off requests) after made reply = IsRefused CommandSyntax made reply
 
 -- one turn: its history goes on from the one before, and it is answered there
-pub record IsTurn (stored : Bool) (session : ℕ) (before : History) (turn : Turn) (after : History) (made : List Batch) (reply : List ℕ) : Type 0 where
+pub record IsTurn (stored : BookStore) (session : ℕ) (before : History) (turn : Turn) (after : History) (made : List Batch) (reply : List ℕ) : Type 0 where
   pub goes_on : BeginsWith after before
   pub answered : IsTurnAnswered stored session before turn after made reply
 
 -- the turns one after another: the replies joined, and all that the session made, from what it had seen before to what it
 -- has seen then
-abbrev pub IsTranscript : Bool → ℕ → History → List Turn → History → List Batch → List ℕ → Type 0
+abbrev pub IsTranscript : BookStore → ℕ → History → List Turn → History → List Batch → List ℕ → Type 0
 IsTranscript stored session seen [] after made replies = (after ≡ seen) × (made ≡ []) × (replies ≡ [])
 IsTranscript stored session seen (turn ∷ turns) after made replies =
     (mid : History) × (first : List Batch) × (others : List Batch) × (reply : List ℕ) × (rest : List ℕ)

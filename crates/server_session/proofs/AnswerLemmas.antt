@@ -36,7 +36,7 @@ use Rattle.script_form.specs.Fault.{of_grid}
 use Rattle.script_form.specs.Reading.{IsMemory, IsNoName, SpellsPut, IsPutRefused, IsDefine, IsDefineRefused, IsRemove}
 use Rattle.script_form.specs.Replies.{ok_line, error_line, refused_line, location_line}
 use Rattle.script_form.specs.Requests.{Request, request, put_text, define_text, remove_name, locate, grid, list_layers, request_of}
-use Rattle.script_form.specs.Transcript.{IsRefused, IsRefusedBatch, IsSubmitted, IsSubmittedAll, IsAnswered, IsOutOfMemory, IsTold, Drawn, WithName}
+use Rattle.script_form.specs.Transcript.{BookStore, IsRefused, IsRefusedBatch, IsSubmitted, IsSubmittedAll, IsAnswered, IsOutOfMemory, IsTold, Drawn, WithName}
 use Rattle.script_form.specs.Turns.{Turn, alone, together}
 use Rattle.script_form.specs.Gathering.{AreRead, TakesLine}
 use Rattle.script_form.specs.declared.request.Request as code
@@ -58,12 +58,12 @@ module _ (was now : Known) (stays : Stays was now) (made : now.made ≡ was.made
   pub makes_nothing : now.made ≡ was.made ++ []
   makes_nothing = made ∙ sym (append-nil was.made)
 
-  pub answers_so : (stored : Bool) (request : Request) (reply : List ℕ)
+  pub answers_so : (stored : BookStore) (request : Request) (reply : List ℕ)
       → IsOutOfMemory request [] reply ⊎ IsAnswered stored was.session (seen was) request (seen now) [] reply → Answers stored was request now reply
   answers_so stored request reply answered = record { stays = stays; answered = record { made = []; answered = answered; only = makes_nothing } }
 
 -- a session that was asked nothing of its book
-pub answers_there : (stored : Bool) (me : Known) (request : Request) (reply : List ℕ)
+pub answers_there : (stored : BookStore) (me : Known) (request : Request) (reply : List ℕ)
     → IsOutOfMemory request [] reply ⊎ IsAnswered stored me.session (seen me) request (seen me) [] reply → Answers stored me request me reply
 answers_there stored me request reply answered = answers_so me me (stays_self me) refl stored request reply answered
 
@@ -206,7 +206,7 @@ answers_unread me fault reply is =
 
 -- ==== PUT, DEFINE, DROP
 
-pub answers_put : (stored : Bool) (was now : Known) (name text : List ℕ) (command : Command) (reply : List ℕ)
+pub answers_put : (stored : BookStore) (was now : Known) (name text : List ℕ) (command : Command) (reply : List ℕ)
     → SpellsPut name text command → Submits was command now reply → Answers stored was (put_text name text) now reply
 answers_put stored was now name text command reply is s = record {
   stays = s.stays;
@@ -221,7 +221,7 @@ answers_put stored was now name text command reply is s = record {
   };
 }
 
-pub answers_define : (stored : Bool) (was now : Known) (name text : List ℕ) (command : Command) (reply : List ℕ)
+pub answers_define : (stored : BookStore) (was now : Known) (name text : List ℕ) (command : Command) (reply : List ℕ)
     → IsDefine name text command → Submits was command now reply → Answers stored was (define_text name text) now reply
 answers_define stored was now name text command reply is s = record {
   stays = s.stays;
@@ -236,7 +236,7 @@ answers_define stored was now name text command reply is s = record {
   };
 }
 
-pub answers_remove : (stored : Bool) (was now : Known) (name : List ℕ) (command : Command) (reply : List ℕ)
+pub answers_remove : (stored : BookStore) (was now : Known) (name : List ℕ) (command : Command) (reply : List ℕ)
     → IsRemove name command → Submits was command now reply → Answers stored was (remove_name name) now reply
 answers_remove stored was now name command reply is s = record {
   stays = s.stays;
@@ -251,7 +251,7 @@ answers_remove stored was now name command reply is s = record {
   };
 }
 
-pub put_refused : (stored : Bool) (me : Known) (name text : List ℕ) (fault : CommandFault) → IsMemory name fault ⊎ IsPutRefused name text fault → Answers stored me (put_text name text) me (error_line fault)
+pub put_refused : (stored : BookStore) (me : Known) (name text : List ℕ) (fault : CommandFault) → IsMemory name fault ⊎ IsPutRefused name text fault → Answers stored me (put_text name text) me (error_line fault)
 put_refused stored me name text fault refused =
     answers_there stored me (put_text name text) (error_line fault)
     (elim refused [
@@ -263,7 +263,7 @@ put_refused stored me name text fault refused =
           ])
     ])
 
-pub define_refused : (stored : Bool) (me : Known) (name text : List ℕ) (fault : CommandFault) → IsMemory name fault ⊎ IsDefineRefused name text fault → Answers stored me (define_text name text) me (error_line fault)
+pub define_refused : (stored : BookStore) (me : Known) (name text : List ℕ) (fault : CommandFault) → IsMemory name fault ⊎ IsDefineRefused name text fault → Answers stored me (define_text name text) me (error_line fault)
 define_refused stored me name text fault refused =
     answers_there stored me (define_text name text) (error_line fault)
     (elim refused [
@@ -275,7 +275,7 @@ define_refused stored me name text fault refused =
           ])
     ])
 
-pub remove_refused : (stored : Bool) (me : Known) (name : List ℕ) (fault : CommandFault) → IsNoName name fault → Answers stored me (remove_name name) me (error_line fault)
+pub remove_refused : (stored : BookStore) (me : Known) (name : List ℕ) (fault : CommandFault) → IsNoName name fault → Answers stored me (remove_name name) me (error_line fault)
 remove_refused stored me name fault refused = answers_there stored me (remove_name name) (error_line fault) (inr (unnamed name fault _ refused))
 
 -- ==== LOCATE
@@ -290,10 +290,10 @@ point_read x y w x' y' w' p ex ey ew is =
     let P : ℤ → ℤ → ℤ → Type 0 = λ a b c. p ≡ record { x = a; y = b; w = c } in
     subst (λ (v : ℤ). P v y w) ex (subst (λ (v : ℤ). P x' v w) ey (subst (λ (v : ℤ). P x' y' v) ew is))
 
-pub locate_unnamed : (stored : Bool) (me : Known) (name : List ℕ) (x y w : ℤ) (fault : CommandFault) → IsNoName name fault → Answers stored me (locate name x y w) me (error_line fault)
+pub locate_unnamed : (stored : BookStore) (me : Known) (name : List ℕ) (x y w : ℤ) (fault : CommandFault) → IsNoName name fault → Answers stored me (locate name x y w) me (error_line fault)
 locate_unnamed stored me name x y w fault refused = answers_there stored me (locate name x y w) (error_line fault) (inr (unnamed name fault _ refused))
 
-pub locate_out_of_range : (stored : Bool) (me : Known) (name : List ℕ) (x y w : ℤ) → IsTrue (is_name name) → ¬ (IsQuery x y w) → Answers stored me (locate name x y w) me (error_line (Query PointRange))
+pub locate_out_of_range : (stored : BookStore) (me : Known) (name : List ℕ) (x y w : ℤ) → IsTrue (is_name name) → ¬ (IsQuery x y w) → Answers stored me (locate name x y w) me (error_line (Query PointRange))
 locate_out_of_range stored me name x y w named out =
     answers_there stored me (locate name x y w) (error_line (Query PointRange)) (inr (inr (named, inl (out, refused_so (Query PointRange)))))
 
@@ -317,11 +317,11 @@ points_read x y step nx ny x' y' step' nx' ny' g ex ey es ew eh is =
     (subst (λ (v : ℤ). P x' y' step' v ny) ew
     (subst (λ (v : ℤ). P x' y' step' nx' v) eh is))))
 
-pub grid_unnamed : (stored : Bool) (me : Known) (name : List ℕ) (x y step nx ny : ℤ) (fault : CommandFault) → IsNoName name fault
+pub grid_unnamed : (stored : BookStore) (me : Known) (name : List ℕ) (x y step nx ny : ℤ) (fault : CommandFault) → IsNoName name fault
     → Answers stored me (grid name x y step nx ny) me (error_line fault)
 grid_unnamed stored me name x y step nx ny fault refused = answers_there stored me (grid name x y step nx ny) (error_line fault) (inr (unnamed name fault _ refused))
 
-pub grid_of_no_size : (stored : Bool) (me : Known) (name : List ℕ) (x y step nx ny : ℤ) → IsTrue (is_name name) → ¬ (IsGridSize step nx ny)
+pub grid_of_no_size : (stored : BookStore) (me : Known) (name : List ℕ) (x y step nx ny : ℤ) → IsTrue (is_name name) → ¬ (IsGridSize step nx ny)
     → Answers stored me (grid name x y step nx ny) me (error_line GridSize)
 grid_of_no_size stored me name x y step nx ny named out =
     answers_there stored me (grid name x y step nx ny) (error_line GridSize) (inr (inr (named, inl (out, refused_so GridSize))))
@@ -340,11 +340,11 @@ pictured P version new known name g points is same asked h =
     subst (λ v. P v name points) is (subst (λ m. P version m points) same (subst (λ p. P version known p) asked h))
 
 module _ (was now : Known) (stays : Stays was now) (made : now.made ≡ was.made) where
-  pub locate_gone : (stored : Bool) (name : List ℕ) (x y w : ℤ) (fault : CommandFault) → IsTrue (is_name name) → IsQuery x y w → fault ≡ Gone → Answers stored was (locate name x y w) now (error_line fault)
+  pub locate_gone : (stored : BookStore) (name : List ℕ) (x y w : ℤ) (fault : CommandFault) → IsTrue (is_name name) → IsQuery x y w → fault ≡ Gone → Answers stored was (locate name x y w) now (error_line fault)
   locate_gone stored name x y w fault named query gone =
       answers_so was now stays made stored (locate name x y w) (error_line fault) (inr (inr (named, inr (inl (query, refused_as fault Gone gone)))))
 
-  pub locate_refused : (stored : Bool) (name known : List ℕ) (x y w : ℤ) (version : versions.Version) (wrong : VersionFault) → version ≡ newest (seen now)
+  pub locate_refused : (stored : BookStore) (name known : List ℕ) (x y w : ℤ) (version : versions.Version) (wrong : VersionFault) → version ≡ newest (seen now)
       → known ≡ name → IsTrue (is_name name) → IsQuery x y w → (wrong ≡ Layer layer_fault.UnknownLayer) × (stands version.layers known ≡ false)
       → Answers stored was (locate name x y w) now (error_line (Version wrong))
   locate_refused stored name known x y w version wrong is same named query unknown =
@@ -353,7 +353,7 @@ module _ (was now : Known) (stays : Stays was now) (made : now.made ≡ was.made
       answers_so was now stays made stored (locate name x y w) (error_line (Version wrong))
       (inr (inr (named, inr (inr (inl (query, there, record { nothing_made = refl; told = ap (λ f. error_line (Version f)) unknown.0 }))))))
 
-  pub locate_told : (stored : Bool) (name known : List ℕ) (x y w : ℤ) (p : Point) (version : versions.Version) (place : Location) → version ≡ newest (seen now)
+  pub locate_told : (stored : BookStore) (name known : List ℕ) (x y w : ℤ) (p : Point) (version : versions.Version) (place : Location) → version ≡ newest (seen now)
       → known ≡ name → p ≡ record { x = x; y = y; w = w } → IsTrue (is_name name) → IsQuery x y w → IsTrue (stands version.layers known)
       → place ≡ answer_at version.layers known p → Answers stored was (locate name x y w) now (location_line place)
   locate_told stored name known x y w p version place is same point named query stood right =
@@ -368,12 +368,12 @@ module _ (was now : Known) (stays : Stays was now) (made : now.made ≡ was.made
 
   -- ==== GRID
 
-  pub grid_gone : (stored : Bool) (name : List ℕ) (x y step nx ny : ℤ) (fault : CommandFault) → IsTrue (is_name name) → IsGridSize step nx ny → fault ≡ Gone
+  pub grid_gone : (stored : BookStore) (name : List ℕ) (x y step nx ny : ℤ) (fault : CommandFault) → IsTrue (is_name name) → IsGridSize step nx ny → fault ≡ Gone
       → Answers stored was (grid name x y step nx ny) now (error_line fault)
   grid_gone stored name x y step nx ny fault named size gone =
       answers_so was now stays made stored (grid name x y step nx ny) (error_line fault) (inr (inr (named, inr (inl (size, refused_as fault Gone gone)))))
 
-  pub grid_refused : (stored : Bool) (name known : List ℕ) (x y step nx ny : ℤ) (g : Grid) (version : versions.Version) (wrong : GridFault) → version ≡ newest (seen now)
+  pub grid_refused : (stored : BookStore) (name known : List ℕ) (x y step nx ny : ℤ) (g : Grid) (version : versions.Version) (wrong : GridFault) → version ≡ newest (seen now)
       → known ≡ name → g ≡ grid_with x y step nx ny → IsTrue (is_name name) → IsGridSize step nx ny
       → RefusedBy (picture.Layer layer_fault.OutOfMemory) (grid_refusal version.layers known g) wrong
       → Answers stored was (grid name x y step nx ny) now (error_line (of_grid wrong))
@@ -392,7 +392,7 @@ module _ (was now : Known) (stays : Stays was now) (made : now.made ≡ was.made
             ))
       ])
 
-  pub grid_told : (stored : Bool) (name known : List ℕ) (x y step nx ny : ℤ) (g : Grid) (version : versions.Version) (text : List ℕ) → version ≡ newest (seen now)
+  pub grid_told : (stored : BookStore) (name known : List ℕ) (x y step nx ny : ℤ) (g : Grid) (version : versions.Version) (text : List ℕ) → version ≡ newest (seen now)
       → known ≡ name → g ≡ grid_with x y step nx ny → IsTrue (is_name name) → IsGridSize step nx ny → grid_refusal version.layers known g ≡ None
       → text ≡ grid_text version.layers known g → Answers stored was (grid name x y step nx ny) now text
   grid_told stored name known x y step nx ny g version text is same points named size free told =
@@ -403,13 +403,13 @@ module _ (was now : Known) (stays : Stays was now) (made : now.made ≡ was.made
 
   -- ==== LAYERS
 
-  pub list_gone : (stored : Bool) (fault : CommandFault) → fault ≡ Gone → Answers stored was list_layers now (error_line fault)
+  pub list_gone : (stored : BookStore) (fault : CommandFault) → fault ≡ Gone → Answers stored was list_layers now (error_line fault)
   list_gone stored fault gone = answers_so was now stays made stored list_layers (error_line fault) (inr (inl (refused_as fault Gone gone)))
 
-  pub list_no_memory : (stored : Bool) → Answers stored was list_layers now (error_line OutOfMemory)
+  pub list_no_memory : (stored : BookStore) → Answers stored was list_layers now (error_line OutOfMemory)
   list_no_memory stored = answers_so was now stays made stored list_layers (error_line OutOfMemory) (inl (refl, refused_so OutOfMemory))
 
-  pub list_told : (stored : Bool) (version : versions.Version) (text : List ℕ) → version ≡ newest (seen now) → text ≡ layers_text version.layers → Answers stored was list_layers now text
+  pub list_told : (stored : BookStore) (version : versions.Version) (text : List ℕ) → version ≡ newest (seen now) → text ≡ layers_text version.layers → Answers stored was list_layers now text
   list_told stored version text is told =
       answers_so was now stays made stored list_layers text
       (inr (inr (record { nothing_made = refl; told = told ∙ ap (λ (v : versions.Version). layers_text v.layers) is })))
@@ -417,7 +417,7 @@ module _ (was now : Known) (stays : Stays was now) (made : now.made ≡ was.made
 -- ==== Lines
 
 -- a line that belongs to a batch, or begins one, has no reply
-pub takes_waiting : (stored : Bool) (me : Known) (old new : Option Gathering) (line : List ℕ) → TakesLine old (request_of line) new Waits → TakesTurn stored me old line me new []
+pub takes_waiting : (stored : BookStore) (me : Known) (old new : Option Gathering) (line : List ℕ) → TakesLine old (request_of line) new Waits → TakesTurn stored me old line me new []
 takes_waiting stored me old new line taken = record {
   stays = stays_self me;
   taken = λ waiting there.
@@ -426,7 +426,7 @@ takes_waiting stored me old new line taken = record {
 }
 
 -- a line alone is answered as what it asks for
-pub takes_alone : (stored : Bool) (was now : Known) (old new : Option Gathering) (line : List ℕ) (asked : code.Request) (reply : List ℕ)
+pub takes_alone : (stored : BookStore) (was now : Known) (old new : Option Gathering) (line : List ℕ) (asked : code.Request) (reply : List ℕ)
     → TakesLine old (request_of line) new (Alone asked) → Answers stored was (request asked) now reply → TakesTurn stored was old line now new reply
 takes_alone stored was now old new line asked reply taken answers = record {
   stays = answers.stays;
@@ -441,7 +441,7 @@ takes_alone stored was now old new line asked reply taken answers = record {
 }
 
 -- the last line of a batch is answered as all of its lines
-pub takes_whole : (stored : Bool) (was now : Known) (old new : Option Gathering) (line : List ℕ) (read : Result Batch LinesFault) (reply : List ℕ)
+pub takes_whole : (stored : BookStore) (was now : Known) (old new : Option Gathering) (line : List ℕ) (read : Result Batch LinesFault) (reply : List ℕ)
     → TakesLine old (request_of line) new (Whole read) → AnswersAll was read now reply → TakesTurn stored was old line now new reply
 takes_whole stored was now old new line read reply taken answers = record {
   stays = answers.stays;

@@ -20,9 +20,10 @@ use Rattle.server_session.specs.Talk.{HasTaken, turns_ended, turns_at_end, Answe
 use Rattle.server_session.specs.declared.talk.Talk.{Talk}
 use Rattle.server_session.proofs.Runs.{run-none, run-join, cut_behind}
 use Rattle.server_session.proofs.Steps.{turns_ended-behind, turns_at_end-behind}
+use Rattle.script_form.specs.Transcript.{BookStore}
 
 -- a session under way: what it took and wrote, and where it stands, a byte too many left out
-pub record IsUnderWay (most : ℕ) (stored : Bool) (was : Known) (input left output all : Option (List ℕ)) (count : ℕ) (talk : Talk) (now : Known) : Type 0 where
+pub record IsUnderWay (most : ℕ) (stored : BookStore) (was : Known) (input left output all : Option (List ℕ)) (count : ℕ) (talk : Talk) (now : Known) : Type 0 where
   pub taken : List ℕ
   pub as_many : length taken ≡ count
   pub reads : Consumes input left taken
@@ -36,28 +37,28 @@ in_limit : (most : ℕ) (taken : List ℕ) → length taken ≤ most → take mo
 in_limit most taken short = take_all most taken short
 
 -- the turns of a script that was taken so far, and those that its end ends, or more bytes
-to_end : (stored : Bool) (was old new : Known) (taken replies more : List ℕ) → Stays was old → IsSharedRun stored was (turns_of (ended_lines taken)) old replies
+to_end : (stored : BookStore) (was old new : Known) (taken replies more : List ℕ) → Stays was old → IsSharedRun stored was (turns_of (ended_lines taken)) old replies
     → IsSharedRun stored old (turns_at_end taken) new more → IsSharedRun stored was (all_turns_of (whole_lines taken)) new (replies ++ more)
 to_end stored was old new taken replies more stays run next =
     subst (λ (ts : List Turn). IsSharedRun stored was ts new (replies ++ more)) (sym (turns_at_end-behind taken)) (run-join stored was old new _ _ replies more stays run next)
 
-cut_at_end : (stored : Bool) (was old new : Known) (taken replies written : List ℕ) → Stays was old → IsSharedRun stored was (turns_of (ended_lines taken)) old replies
+cut_at_end : (stored : BookStore) (was old new : Known) (taken replies written : List ℕ) → Stays was old → IsSharedRun stored was (turns_of (ended_lines taken)) old replies
     → IsCutOff stored old new (turns_at_end taken) written → IsCutOff stored was new (all_turns_of (whole_lines taken)) (replies ++ written)
 cut_at_end stored was old new taken replies written stays run cut =
     subst (λ (ts : List Turn). IsCutOff stored was new ts (replies ++ written)) (sym (turns_at_end-behind taken)) (cut_behind stored was old new _ _ replies written stays run cut)
 
-further : (stored : Bool) (was old new : Known) (taken bytes replies more : List ℕ) → Stays was old → IsSharedRun stored was (turns_of (ended_lines taken)) old replies
+further : (stored : BookStore) (was old new : Known) (taken bytes replies more : List ℕ) → Stays was old → IsSharedRun stored was (turns_of (ended_lines taken)) old replies
     → IsSharedRun stored old (turns_ended taken bytes) new more → IsSharedRun stored was (turns_of (ended_lines (taken ++ bytes))) new (replies ++ more)
 further stored was old new taken bytes replies more stays run next =
     subst (λ (ts : List Turn). IsSharedRun stored was ts new (replies ++ more)) (sym (turns_ended-behind taken bytes)) (run-join stored was old new _ _ replies more stays run next)
 
-cut_further : (stored : Bool) (was old new : Known) (taken bytes replies written : List ℕ) → Stays was old → IsSharedRun stored was (turns_of (ended_lines taken)) old replies
+cut_further : (stored : BookStore) (was old new : Known) (taken bytes replies written : List ℕ) → Stays was old → IsSharedRun stored was (turns_of (ended_lines taken)) old replies
     → IsCutOff stored old new (turns_ended taken bytes) written → IsCutOff stored was new (turns_of (ended_lines (taken ++ bytes))) (replies ++ written)
 cut_further stored was old new taken bytes replies written stays run cut =
     subst (λ (ts : List Turn). IsCutOff stored was new ts (replies ++ written)) (sym (turns_ended-behind taken bytes)) (cut_behind stored was old new _ _ replies written stays run cut)
 
 -- at the end of the script
-pub ends-finished : (most : ℕ) (stored : Bool) (was : Known) (end : SessionEnd) (input left left_after output mid all : Option (List ℕ)) (count : ℕ) (talk : Talk) (old new : Known)
+pub ends-finished : (most : ℕ) (stored : BookStore) (was : Known) (end : SessionEnd) (input left left_after output mid all : Option (List ℕ)) (count : ℕ) (talk : Talk) (old new : Known)
     → IsUnderWay most stored was input left output mid count talk old → Stays was old → count ≤ most → Consumes left left_after [] → IsAtEnd left_after
     → Finishes stored end talk old new mid all → IsSessionWithin most stored end was new input left_after output all
 ends-finished most stored was End input left left_after output mid all count talk old new way stays within reads at_end finishes =
@@ -102,7 +103,7 @@ fault_line (Failed code) number line mid all (inl (is, appended)) = inl (ap Fail
 fault_line (Failed code) number line mid all (inr (is, front, short, appended)) = inr (ap Failed is, (front, short, appended))
 
 -- a read failed
-pub ends-at_read : (most : ℕ) (stored : Bool) (was : Known) (end : SessionEnd) (input left left_after output mid all : Option (List ℕ)) (count : ℕ) (talk : Talk) (now : Known) (text : List ℕ)
+pub ends-at_read : (most : ℕ) (stored : BookStore) (was : Known) (end : SessionEnd) (input left left_after output mid all : Option (List ℕ)) (count : ℕ) (talk : Talk) (now : Known) (text : List ℕ)
     → IsUnderWay most stored was input left output mid count talk now → count ≤ most → Keeps left left_after → text ≡ error_line Read → EndsBy end 48 text mid all
     → IsSessionWithin most stored end was now input left_after output all
 ends-at_read most stored was end input left left_after output mid all count talk now text way within kept is ends =
@@ -130,7 +131,7 @@ ends-at_read most stored was end input left left_after output mid all count talk
       }
 
 -- a byte too many was read
-pub ends-past_limit : (most : ℕ) (stored : Bool) (was : Known) (end : SessionEnd) (input left output mid all : Option (List ℕ)) (count : ℕ) (talk : Talk) (now : Known) (text : List ℕ)
+pub ends-past_limit : (most : ℕ) (stored : BookStore) (was : Known) (end : SessionEnd) (input left output mid all : Option (List ℕ)) (count : ℕ) (talk : Talk) (now : Known) (text : List ℕ)
     → IsUnderWay most stored was input left output mid count talk now → count ≡ most + 1 → text ≡ error_line ReadLimit → EndsBy end 47 text mid all
     → IsSessionWithin most stored end was now input left output all
 ends-past_limit most stored was end input left output mid all count talk now text way past is ends =
@@ -178,7 +179,7 @@ let_in most taken chunk count allowed short is =
     ∙ sym (take_of_append most taken (take count chunk) short)
 
 -- bytes are read and taken
-pub goes_on : (most : ℕ) (stored : Bool) (was : Known) (input left left_after output mid all : Option (List ℕ)) (count more allowed : ℕ) (chunk : List ℕ) (talk talk_then : Talk) (old new : Known)
+pub goes_on : (most : ℕ) (stored : BookStore) (was : Known) (input left left_after output mid all : Option (List ℕ)) (count more allowed : ℕ) (chunk : List ℕ) (talk talk_then : Talk) (old new : Known)
     → IsUnderWay most stored was input left output mid count talk old → Stays was old → count ≤ most → more ≤ length chunk → allowed ≡ min more (most - count)
     → Consumes left left_after (take more chunk) → ((taken : List ℕ) → HasTaken talk taken → HasTaken talk_then (taken ++ take allowed chunk))
     → ((taken : List ℕ) → HasTaken talk taken → AnswersTurns stored old (turns_ended taken (take allowed chunk)) new mid all)
@@ -200,7 +201,7 @@ goes_on most stored was input left left_after output mid all count more allowed 
     }
 
 -- bytes are read, and a write failed
-pub ends-stopped : (most : ℕ) (stored : Bool) (was : Known) (input left left_after output mid all : Option (List ℕ)) (count more allowed : ℕ) (chunk : List ℕ) (talk : Talk) (old new : Known)
+pub ends-stopped : (most : ℕ) (stored : BookStore) (was : Known) (input left left_after output mid all : Option (List ℕ)) (count more allowed : ℕ) (chunk : List ℕ) (talk : Talk) (old new : Known)
     → IsUnderWay most stored was input left output mid count talk old → Stays was old → count ≤ most → allowed ≡ min more (most - count)
     → Consumes left left_after (take more chunk) → ((taken : List ℕ) → HasTaken talk taken → AnswersInPart stored old (turns_ended taken (take allowed chunk)) new mid all)
     → IsSessionWithin most stored (Failed 49) was new input left_after output all
@@ -221,7 +222,7 @@ ends-stopped most stored was input left left_after output mid all count more all
     }
 
 -- a session begins with nothing taken and nothing written
-pub begins : (most : ℕ) (stored : Bool) (was : Known) (input output : Option (List ℕ)) (talk : Talk) → HasTaken talk [] → IsUnderWay most stored was input input output output 0 talk was
+pub begins : (most : ℕ) (stored : BookStore) (was : Known) (input output : Option (List ℕ)) (talk : Talk) → HasTaken talk [] → IsUnderWay most stored was input input output output 0 talk was
 begins most stored was input output talk begun = record {
   taken = [];
   as_many = refl;
@@ -233,7 +234,7 @@ begins most stored was input output talk begun = record {
 }
 
 -- a session that finds no memory for itself
-pub begins_not : (most : ℕ) (stored : Bool) (was : Known) (input output : Option (List ℕ)) → IsSessionWithin most stored (Failed 40) was was input input output output
+pub begins_not : (most : ℕ) (stored : BookStore) (was : Known) (input output : Option (List ℕ)) → IsSessionWithin most stored (Failed 40) was was input input output output
 begins_not most stored was input output = record {
   taken = [];
   written = [];

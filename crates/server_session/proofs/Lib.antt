@@ -4,4 +4,6 @@ pub mod Steps
 pub mod Endings
 pub mod BatchFaults
 pub mod AnswerLemmas
+pub mod Weaker
+pub mod Anywhere
 pub mod TileAnswers

@@ -7,7 +7,7 @@ use Rattle.book_history.specs.Known.{Known, seen}
 use Rattle.script_form.specs.declared.gathering.Gathering.{Gathering}
 use Rattle.script_form.specs.Gathering.{IsOpen}
 use Rattle.script_form.specs.Requests.{Request, request_of}
-use Rattle.script_form.specs.Transcript.{IsTurn, IsTranscript}
+use Rattle.script_form.specs.Transcript.{BookStore, IsTurn, IsTranscript}
 use Rattle.script_form.specs.Turns.{Turn, Waiting, alone, together, begun_by, unless_begun, ended_by, is_nothing, is_whole, waiting_after, with_line}
 use Rattle.script_form.specs.Writing.{IsCutShort}
 use Rattle.script_form.proofs.TranscriptLemmas.{transcript-one, transcript-join}
@@ -17,17 +17,17 @@ use Rattle.server_session.specs.Turn.{TakesTurn}
 use Rattle.server_session.proofs.Turns.{stays_self, stays_trans}
 
 -- no turn
-pub run-none : (stored : Bool) (me : Known) → IsSharedRun stored me [] me []
+pub run-none : (stored : BookStore) (me : Known) → IsSharedRun stored me [] me []
 run-none stored me = record { made = []; told = (refl, refl, refl); only = sym (append-nil me.made) }
 
 -- one turn
-pub run-one : (stored : Bool) (was now : Known) (turn : Turn) (made : List Batch) (reply : List ℕ)
+pub run-one : (stored : BookStore) (was now : Known) (turn : Turn) (made : List Batch) (reply : List ℕ)
     → IsTurn stored was.session (seen was) turn (seen now) made reply → now.made ≡ was.made ++ made → IsSharedRun stored was (turn ∷ []) now reply
 run-one stored was now turn made reply taken only =
     record { made = made; told = transcript-one stored was.session (seen was) turn (seen now) made reply taken; only = only }
 
 -- a run, and a run behind it
-pub run-join : (stored : Bool) (was mid now : Known) (turns more : List Turn) (replies rest : List ℕ) → Stays was mid
+pub run-join : (stored : BookStore) (was mid now : Known) (turns more : List Turn) (replies rest : List ℕ) → Stays was mid
     → IsSharedRun stored was turns mid replies → IsSharedRun stored mid more now rest → IsSharedRun stored was (turns ++ more) now (replies ++ rest)
 run-join stored was mid now turns more replies rest stays run next = record {
   made = run.made ++ next.made;
@@ -37,7 +37,7 @@ run-join stored was mid now turns more replies rest stays run next = record {
 }
 
 -- a line is taken as any other that asks for the same
-pub takes_turn-same : (stored : Bool) (line other : List ℕ) → request_of line ≡ request_of other → (was now : Known) (before after : Option Gathering) (reply : List ℕ)
+pub takes_turn-same : (stored : BookStore) (line other : List ℕ) → request_of line ≡ request_of other → (was now : Known) (before after : Option Gathering) (reply : List ℕ)
     → TakesTurn stored was before line now after reply → TakesTurn stored was before other now after reply
 takes_turn-same stored line other same was now before after reply takes = record {
   stays = takes.stays;
@@ -69,7 +69,7 @@ ended_one (Some waiting) request =
       one false = inl refl
 
 -- a reply that is cut short is that of one turn
-pub cut_one : (stored : Bool) (was now : Known) (turns : List Turn) (reply front : List ℕ) → (turns ≡ []) ⊎ ((turn : Turn) × (turns ≡ turn ∷ []))
+pub cut_one : (stored : BookStore) (was now : Known) (turns : List Turn) (reply front : List ℕ) → (turns ≡ []) ⊎ ((turn : Turn) × (turns ≡ turn ∷ []))
     → IsSharedRun stored was turns now reply → IsCutShort reply front → IsCutOff stored was now turns front
 cut_one stored was now turns reply front (inl none) run short =
     let nothing = subst (λ (ts : List Turn). IsSharedRun stored was ts now reply) none run in
@@ -89,7 +89,7 @@ cut_one stored was now turns reply front (inr (turn, one)) run short = record {
 }
 
 -- turns that are answered, and turns behind them on the way through which a write failed
-pub cut_behind : (stored : Bool) (was mid now : Known) (turns more : List Turn) (replies written : List ℕ) → Stays was mid → IsSharedRun stored was turns mid replies
+pub cut_behind : (stored : BookStore) (was mid now : Known) (turns more : List Turn) (replies written : List ℕ) → Stays was mid → IsSharedRun stored was turns mid replies
     → IsCutOff stored mid now more written → IsCutOff stored was now (turns ++ more) (replies ++ written)
 cut_behind stored was mid now turns more replies written stays run cut = record {
   before = turns ++ cut.before;
@@ -106,7 +106,7 @@ cut_behind stored was mid now turns more replies written stays run cut = record 
 }
 
 -- what was cut off among some turns was cut off among more
-pub cut_longer : (stored : Bool) (was now : Known) (turns more : List Turn) (written : List ℕ) → IsCutOff stored was now turns written → IsCutOff stored was now (turns ++ more) written
+pub cut_longer : (stored : BookStore) (was now : Known) (turns more : List Turn) (written : List ℕ) → IsCutOff stored was now turns written → IsCutOff stored was now (turns ++ more) written
 cut_longer stored was now turns more written cut = record {
   before = cut.before;
   last = cut.last;
@@ -123,10 +123,10 @@ cut_longer stored was now turns more written cut = record {
 
 -- ==== Turns that are answered at a writer
 
-pub answers_none : (stored : Bool) (me : Known) (output : Option (List ℕ)) → AnswersTurns stored me [] me output output
+pub answers_none : (stored : BookStore) (me : Known) (output : Option (List ℕ)) → AnswersTurns stored me [] me output output
 answers_none stored me output = record { replies = []; told = run-none stored me; appended = Appends-nil output }
 
-pub answers_join : (stored : Bool) (was mid now : Known) (turns more : List Turn) (output between all : Option (List ℕ)) → Stays was mid
+pub answers_join : (stored : BookStore) (was mid now : Known) (turns more : List Turn) (output between all : Option (List ℕ)) → Stays was mid
     → AnswersTurns stored was turns mid output between → AnswersTurns stored mid more now between all → AnswersTurns stored was (turns ++ more) now output all
 answers_join stored was mid now turns more output between all stays one two = record {
   replies = one.replies ++ two.replies;
@@ -134,7 +134,7 @@ answers_join stored was mid now turns more output between all stays one two = re
   appended = Appends-trans output between all one.replies two.replies one.appended two.appended;
 }
 
-pub stops_behind : (stored : Bool) (was mid now : Known) (turns more : List Turn) (output between all : Option (List ℕ)) → Stays was mid
+pub stops_behind : (stored : BookStore) (was mid now : Known) (turns more : List Turn) (output between all : Option (List ℕ)) → Stays was mid
     → AnswersTurns stored was turns mid output between → AnswersInPart stored mid more now between all → AnswersInPart stored was (turns ++ more) now output all
 stops_behind stored was mid now turns more output between all stays one two = record {
   written = one.replies ++ two.written;
@@ -142,15 +142,15 @@ stops_behind stored was mid now turns more output between all stays one two = re
   appended = Appends-trans output between all one.replies two.written one.appended two.appended;
 }
 
-pub stops_before : (stored : Bool) (was now : Known) (turns more : List Turn) (output all : Option (List ℕ)) → AnswersInPart stored was turns now output all
+pub stops_before : (stored : BookStore) (was now : Known) (turns more : List Turn) (output all : Option (List ℕ)) → AnswersInPart stored was turns now output all
     → AnswersInPart stored was (turns ++ more) now output all
 stops_before stored was now turns more output all part = record { written = part.written; cut = cut_longer stored was now turns more part.written part.cut; appended = part.appended }
 
 -- the same turns in other words
-pub answers_as : (stored : Bool) (was now : Known) (turns other : List Turn) (output all : Option (List ℕ)) → turns ≡ other
+pub answers_as : (stored : BookStore) (was now : Known) (turns other : List Turn) (output all : Option (List ℕ)) → turns ≡ other
     → AnswersTurns stored was turns now output all → AnswersTurns stored was other now output all
 answers_as stored was now turns other output all same answers = subst (λ (ts : List Turn). AnswersTurns stored was ts now output all) same answers
 
-pub stops_as : (stored : Bool) (was now : Known) (turns other : List Turn) (output all : Option (List ℕ)) → turns ≡ other
+pub stops_as : (stored : BookStore) (was now : Known) (turns other : List Turn) (output all : Option (List ℕ)) → turns ≡ other
     → AnswersInPart stored was turns now output all → AnswersInPart stored was other now output all
 stops_as stored was now turns other output all same part = subst (λ (ts : List Turn). AnswersInPart stored was ts now output all) same part

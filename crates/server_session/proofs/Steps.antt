@@ -23,6 +23,7 @@ use Rattle.server_session.specs.Turn.{IsLineTaken, TakesTurn}
 use Rattle.server_session.specs.declared.talk.Talk.{Talk}
 use Rattle.server_session.proofs.Runs.{run-one, takes_turn-same, ended_one, cut_one, answers_none, answers_join, answers_as, stops_behind, stops_before, stops_as}
 use Rattle.server_session.proofs.Turns.{stays_self}
+use Rattle.script_form.specs.Transcript.{BookStore}
 
 -- ==== The turns that bytes end
 
@@ -109,12 +110,12 @@ takes_other old new b other is same taken has =
           (subst (λ (o : Option Gathering). IsOpen (waiting_behind (ended_lines taken)) o) (sym same) has.waits);
     }
 
-pub answers_other : (stored : Bool) (me : Known) (b : ℕ) (output : Option (List ℕ)) → b ≢ 10 → (taken : List ℕ) → AnswersTurns stored me (turns_ended taken (b ∷ [])) me output output
+pub answers_other : (stored : BookStore) (me : Known) (b : ℕ) (output : Option (List ℕ)) → b ≢ 10 → (taken : List ℕ) → AnswersTurns stored me (turns_ended taken (b ∷ [])) me output output
 answers_other stored me b output other taken =
     answers_as stored me me [] (turns_ended taken (b ∷ [])) output output (sym (turns_ended-byte taken b (ne_eqb b 10 other))) (answers_none stored me output)
 
 -- a line feed: the line that is kept ends the turn that the whole line ends
-module _ (stored : Bool) (old : Talk) (was now : Known) (before after : Option Gathering) (ended reply : List ℕ) (same : before ≡ old.waiting) (is : ended ≡ without_cr old.line)
+module _ (stored : BookStore) (old : Talk) (was now : Known) (before after : Option Gathering) (ended reply : List ℕ) (same : before ≡ old.waiting) (is : ended ≡ without_cr old.line)
     (takes : TakesTurn stored was before ended now after reply) (taken : List ℕ) (has : HasTaken old taken) where
   fed_line : IsLineTaken stored was (waiting_behind (ended_lines taken)) (without_cr (unended taken)) now after reply
   fed_line =
@@ -139,7 +140,7 @@ module _ (stored : Bool) (old : Talk) (was now : Known) (before after : Option G
         appended = appended;
       })
 
-pub takes_feed : {A E : Type 0} (result : Result A E) (stored : Bool) (old new : Talk) (was now : Known) (before : Option Gathering) (ended : List ℕ) (b : ℕ) (output all : Option (List ℕ))
+pub takes_feed : {A E : Type 0} (result : Result A E) (stored : BookStore) (old new : Talk) (was now : Known) (before : Option Gathering) (ended : List ℕ) (b : ℕ) (output all : Option (List ℕ))
     → b ≡ 10 → new.line ≡ [] → before ≡ old.waiting → ended ≡ without_cr old.line → AnswersLine stored result was before ended now new.waiting output all
     → OnOk result ((taken : List ℕ) → HasTaken old taken → HasTaken new (taken ++ b ∷ []))
 takes_feed (Ok a) stored old new was now before ended b output all feed none same is (reply, takes, appended) = λ taken has.
@@ -149,7 +150,7 @@ takes_feed (Ok a) stored old new was now before ended b output all feed none sam
     })
 takes_feed (Err e) stored old new was now before ended b output all feed none same is answers = tt
 
-pub answers_feed : {A E : Type 0} (result : Result A E) (stored : Bool) (old : Talk) (was now : Known) (before after : Option Gathering) (ended : List ℕ) (b : ℕ) (output all : Option (List ℕ))
+pub answers_feed : {A E : Type 0} (result : Result A E) (stored : BookStore) (old : Talk) (was now : Known) (before after : Option Gathering) (ended : List ℕ) (b : ℕ) (output all : Option (List ℕ))
     → b ≡ 10 → before ≡ old.waiting → ended ≡ without_cr old.line → AnswersLine stored result was before ended now after output all
     → OnOk result ((taken : List ℕ) → HasTaken old taken → AnswersTurns stored was (turns_ended taken (b ∷ [])) now output all)
 answers_feed (Ok a) stored old was now before after ended b output all feed same is (reply, takes, appended) = λ taken has.
@@ -157,7 +158,7 @@ answers_feed (Ok a) stored old was now before after ended b output all feed same
     (fed_answers stored old was now before after ended reply same is takes taken has output all appended)
 answers_feed (Err e) stored old was now before after ended b output all feed same is answers = tt
 
-pub stops_feed : {A E : Type 0} (result : Result A E) (stored : Bool) (old : Talk) (was now : Known) (before after : Option Gathering) (ended : List ℕ) (b : ℕ) (output all : Option (List ℕ))
+pub stops_feed : {A E : Type 0} (result : Result A E) (stored : BookStore) (old : Talk) (was now : Known) (before after : Option Gathering) (ended : List ℕ) (b : ℕ) (output all : Option (List ℕ))
     → b ≡ 10 → before ≡ old.waiting → ended ≡ without_cr old.line → AnswersLine stored result was before ended now after output all
     → OnErr result ((taken : List ℕ) → HasTaken old taken → AnswersInPart stored was (turns_ended taken (b ∷ [])) now output all)
 stops_feed (Ok a) stored old was now before after ended b output all feed same is answers = tt
@@ -170,11 +171,11 @@ stops_feed (Err e) stored old was now before after ended b output all feed same 
 pub takes_none : (talk : Talk) (taken : List ℕ) → HasTaken talk taken → HasTaken talk (taken ++ [])
 takes_none talk taken has = subst (HasTaken talk) (sym (append-nil taken)) has
 
-pub answers_nothing : (stored : Bool) (me : Known) (output : Option (List ℕ)) (taken : List ℕ) → AnswersTurns stored me (turns_ended taken []) me output output
+pub answers_nothing : (stored : BookStore) (me : Known) (output : Option (List ℕ)) (taken : List ℕ) → AnswersTurns stored me (turns_ended taken []) me output output
 answers_nothing stored me output taken = answers_as stored me me [] (turns_ended taken []) output output (sym (turns_ended-nil taken)) (answers_none stored me output)
 
 -- bytes, and then more bytes
-module _ (stored : Bool) (first mid : Talk) (was between now : Known) (xs ys zs : List ℕ) (output middle all : Option (List ℕ)) (joined : xs ++ ys ≡ zs) (stays : Stays was between)
+module _ (stored : BookStore) (first mid : Talk) (was between now : Known) (xs ys zs : List ℕ) (output middle all : Option (List ℕ)) (joined : xs ++ ys ≡ zs) (stays : Stays was between)
     (takes : (taken : List ℕ) → HasTaken first taken → HasTaken mid (taken ++ xs))
     (answers : (taken : List ℕ) → HasTaken first taken → AnswersTurns stored was (turns_ended taken xs) between output middle) where
   pub takes_more : (end : Talk) → ((taken : List ℕ) → HasTaken mid taken → HasTaken end (taken ++ ys)) → (taken : List ℕ) → HasTaken first taken → HasTaken end (taken ++ zs)
@@ -193,7 +194,7 @@ module _ (stored : Bool) (first mid : Talk) (was between now : Known) (xs ys zs 
       (stops_behind stored was between now (turns_ended taken xs) (turns_ended (taken ++ xs) ys) output middle all stays (answers taken has) (next (taken ++ xs) (takes taken has)))
 
 -- a failed write: the bytes that were not looked at any more make no difference
-pub stops_there : (stored : Bool) (first mid : Talk) (was between now : Known) (xs ys rest all_bytes : List ℕ) (output middle all : Option (List ℕ)) → (xs ++ ys) ++ rest ≡ all_bytes → Stays was between
+pub stops_there : (stored : BookStore) (first mid : Talk) (was between now : Known) (xs ys rest all_bytes : List ℕ) (output middle all : Option (List ℕ)) → (xs ++ ys) ++ rest ≡ all_bytes → Stays was between
     → ((taken : List ℕ) → HasTaken first taken → HasTaken mid (taken ++ xs)) → ((taken : List ℕ) → HasTaken first taken → AnswersTurns stored was (turns_ended taken xs) between output middle)
     → ((taken : List ℕ) → HasTaken mid taken → AnswersInPart stored between (turns_ended taken ys) now middle all)
     → (taken : List ℕ) → HasTaken first taken → AnswersInPart stored was (turns_ended taken all_bytes) now output all
@@ -209,7 +210,7 @@ cut_off_none : (waiting : Option Waiting) → IsOpen waiting None → cut_off_in
 cut_off_none None waits = refl
 cut_off_none (Some waiting) waits = absurd waits
 
-cut_off_run : (stored : Bool) (me : Known) (waiting : Option Waiting) (gathering : Gathering) → IsOpen waiting (Some gathering)
+cut_off_run : (stored : BookStore) (me : Known) (waiting : Option Waiting) (gathering : Gathering) → IsOpen waiting (Some gathering)
     → IsSharedRun stored me (cut_off_in waiting) me (error_line CommandSyntax)
 cut_off_run stored me None gathering waits = absurd waits
 cut_off_run stored me (Some waiting) gathering waits =
@@ -221,17 +222,17 @@ cut_off_one None = inl refl
 cut_off_one (Some waiting) = inr (cut_off waiting.came, refl)
 
 pub ends_alone : (open_before : Option Gathering) (output : Option (List ℕ)) → is_some open_before ≡ false
-    → (stored : Bool) (me : Known) (waiting : Option Waiting) → IsOpen waiting open_before → AnswersTurns stored me (cut_off_in waiting) me output output
+    → (stored : BookStore) (me : Known) (waiting : Option Waiting) → IsOpen waiting open_before → AnswersTurns stored me (cut_off_in waiting) me output output
 ends_alone None output none stored me waiting waits =
     answers_as stored me me [] (cut_off_in waiting) output output (sym (cut_off_none waiting waits)) (answers_none stored me output)
 ends_alone (Some gathering) output none stored me waiting waits = absurd (true≢false none)
 
 pub ends_refused : {A E : Type 0} (result : Result A E) (open_before : Option Gathering) (output all : Option (List ℕ)) → is_some open_before ≡ true
-    → Writes result output all (error_line CommandSyntax) → EndsBatch result open_before output all
-ends_refused result None output all some writes = absurd (false≢true some)
-ends_refused (Ok a) (Some gathering) output all some appended = λ stored me waiting waits.
+    → Writes result output all (error_line CommandSyntax) → (stored : BookStore) → EndsBatch stored result open_before output all
+ends_refused result None output all some writes stored = absurd (false≢true some)
+ends_refused (Ok a) (Some gathering) output all some appended stored = λ me waiting waits.
     record { replies = error_line CommandSyntax; told = cut_off_run stored me waiting gathering waits; appended = appended }
-ends_refused (Err e) (Some gathering) output all some (front, short, appended) = λ stored me waiting waits. record {
+ends_refused (Err e) (Some gathering) output all some (front, short, appended) stored = λ me waiting waits. record {
   written = front;
   cut = cut_one stored me me (cut_off_in waiting) (error_line CommandSyntax) front (cut_off_one waiting) (cut_off_run stored me waiting gathering waits) short;
   appended = appended;
@@ -254,21 +255,21 @@ some_rest : (talk : Talk) (taken : List ℕ) → HasTaken talk taken → 0 < len
 some_rest talk taken has some = omega (arith, ap length has.line, length-take line_room (unended taken))
 
 -- the script ends behind a line feed
-module _ {A E : Type 0} (stored : Bool) (talk : Talk) (me : Known) (before : Option Gathering) (output all : Option (List ℕ)) (same : before ≡ talk.waiting) (none : length talk.line ≡ 0) where
-  pub answers_empty : (result : Result A E) → EndsBatch result before output all → OnOk result ((taken : List ℕ) → HasTaken talk taken → AnswersTurns stored me (turns_at_end taken) me output all)
+module _ {A E : Type 0} (stored : BookStore) (talk : Talk) (me : Known) (before : Option Gathering) (output all : Option (List ℕ)) (same : before ≡ talk.waiting) (none : length talk.line ≡ 0) where
+  pub answers_empty : (result : Result A E) → EndsBatch stored result before output all → OnOk result ((taken : List ℕ) → HasTaken talk taken → AnswersTurns stored me (turns_at_end taken) me output all)
   answers_empty (Ok a) ends = λ taken has.
       answers_as stored me me _ (turns_at_end taken) output all (sym (turns_at_end-empty taken (no_rest talk taken has none)))
-      (ends stored me (waiting_behind (ended_lines taken)) (subst (IsOpen (waiting_behind (ended_lines taken))) (sym same) has.waits))
+      (ends me (waiting_behind (ended_lines taken)) (subst (IsOpen (waiting_behind (ended_lines taken))) (sym same) has.waits))
   answers_empty (Err e) ends = tt
 
-  pub stops_empty : (result : Result A E) → EndsBatch result before output all → OnErr result ((taken : List ℕ) → HasTaken talk taken → AnswersInPart stored me (turns_at_end taken) me output all)
+  pub stops_empty : (result : Result A E) → EndsBatch stored result before output all → OnErr result ((taken : List ℕ) → HasTaken talk taken → AnswersInPart stored me (turns_at_end taken) me output all)
   stops_empty (Ok a) ends = tt
   stops_empty (Err e) ends = λ taken has.
       stops_as stored me me _ (turns_at_end taken) output all (sym (turns_at_end-empty taken (no_rest talk taken has none)))
-      (ends stored me (waiting_behind (ended_lines taken)) (subst (IsOpen (waiting_behind (ended_lines taken))) (sym same) has.waits))
+      (ends me (waiting_behind (ended_lines taken)) (subst (IsOpen (waiting_behind (ended_lines taken))) (sym same) has.waits))
 
 -- a last line
-module _ (stored : Bool) (talk : Talk) (was now : Known) (before after : Option Gathering) (bytes reply : List ℕ) (same : before ≡ talk.waiting) (is : bytes ≡ talk.line) (some : 0 < length talk.line)
+module _ (stored : BookStore) (talk : Talk) (was now : Known) (before after : Option Gathering) (bytes reply : List ℕ) (same : before ≡ talk.waiting) (is : bytes ≡ talk.line) (some : 0 < length talk.line)
     (takes : TakesTurn stored was before bytes now after reply) (taken : List ℕ) (has : HasTaken talk taken) where
   last_taken : IsLineTaken stored was (waiting_behind (ended_lines taken)) (unended taken) now after reply
   last_taken =
@@ -281,26 +282,26 @@ module _ (stored : Bool) (talk : Talk) (was now : Known) (before after : Option 
   last_answers : (output all : Option (List ℕ)) → Appends output all reply → AnswersTurns stored was (ended_by (waiting_behind (ended_lines taken)) (request_of (unended taken))) now output all
   last_answers output all appended = record { replies = reply; told = last_taken.answered; appended = appended }
 
-pub answers_last : {A E : Type 0} (result : Result A E) (stored : Bool) (talk : Talk) (was now : Known) (before after : Option Gathering) (bytes : List ℕ) (output middle all : Option (List ℕ))
+pub answers_last : {A E : Type 0} (result : Result A E) (stored : BookStore) (talk : Talk) (was now : Known) (before after : Option Gathering) (bytes : List ℕ) (output middle all : Option (List ℕ))
     → before ≡ talk.waiting → bytes ≡ talk.line → 0 < length talk.line → ((reply : List ℕ) × TakesTurn stored was before bytes now after reply × Appends output middle reply)
-    → EndsBatch result after middle all → OnOk result ((taken : List ℕ) → HasTaken talk taken → AnswersTurns stored was (turns_at_end taken) now output all)
+    → EndsBatch stored result after middle all → OnOk result ((taken : List ℕ) → HasTaken talk taken → AnswersTurns stored was (turns_at_end taken) now output all)
 answers_last (Ok a) stored talk was now before after bytes output middle all same is some (reply, takes, appended) ends = λ taken has.
     answers_as stored was now _ (turns_at_end taken) output all (last_turns stored talk was now before after bytes reply same is some takes taken has)
     (answers_join stored was now now _ _ output middle all takes.stays (last_answers stored talk was now before after bytes reply same is some takes taken has output middle appended)
-    (ends stored now _ (last_taken stored talk was now before after bytes reply same is some takes taken has).waits))
+    (ends now _ (last_taken stored talk was now before after bytes reply same is some takes taken has).waits))
 answers_last (Err e) stored talk was now before after bytes output middle all same is some told ends = tt
 
-pub stops_last : {A E : Type 0} (result : Result A E) (stored : Bool) (talk : Talk) (was now : Known) (before after : Option Gathering) (bytes : List ℕ) (output middle all : Option (List ℕ))
+pub stops_last : {A E : Type 0} (result : Result A E) (stored : BookStore) (talk : Talk) (was now : Known) (before after : Option Gathering) (bytes : List ℕ) (output middle all : Option (List ℕ))
     → before ≡ talk.waiting → bytes ≡ talk.line → 0 < length talk.line → ((reply : List ℕ) × TakesTurn stored was before bytes now after reply × Appends output middle reply)
-    → EndsBatch result after middle all → OnErr result ((taken : List ℕ) → HasTaken talk taken → AnswersInPart stored was (turns_at_end taken) now output all)
+    → EndsBatch stored result after middle all → OnErr result ((taken : List ℕ) → HasTaken talk taken → AnswersInPart stored was (turns_at_end taken) now output all)
 stops_last (Ok a) stored talk was now before after bytes output middle all same is some told ends = tt
 stops_last (Err e) stored talk was now before after bytes output middle all same is some (reply, takes, appended) ends = λ taken has.
     stops_as stored was now _ (turns_at_end taken) output all (last_turns stored talk was now before after bytes reply same is some takes taken has)
     (stops_behind stored was now now _ _ output middle all takes.stays (last_answers stored talk was now before after bytes reply same is some takes taken has output middle appended)
-    (ends stored now _ (last_taken stored talk was now before after bytes reply same is some takes taken has).waits))
+    (ends now _ (last_taken stored talk was now before after bytes reply same is some takes taken has).waits))
 
 -- a last line whose reply was cut short
-pub stops_at_last : (stored : Bool) (talk : Talk) (was now : Known) (before after : Option Gathering) (bytes : List ℕ) (output all : Option (List ℕ))
+pub stops_at_last : (stored : BookStore) (talk : Talk) (was now : Known) (before after : Option Gathering) (bytes : List ℕ) (output all : Option (List ℕ))
     → before ≡ talk.waiting → bytes ≡ talk.line → 0 < length talk.line
     → ((reply : List ℕ) × TakesTurn stored was before bytes now after reply × ((front : List ℕ) × IsCutShort reply front × Appends output all front))
     → (taken : List ℕ) → HasTaken talk taken → AnswersInPart stored was (turns_at_end taken) now output all

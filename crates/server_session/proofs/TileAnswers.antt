@@ -3,7 +3,7 @@ use Rattle.std.specs.Prelude.{IsErrAnd}
 use Rattle.std.proofs.Common.{◌≡◌, ◌≤◌, ℕ, ℤ, Bool, true, false, IsTrue, List, [], Option, Some, None, Result, Ok, Err, refl, sym, ap, subst, ◌∙◌, ◌⊎◌, inl, inr, ⊎_elim}
 use Rattle.overlay_terms.specs.Batches.{Batch}
 use Rattle.overlay_terms.specs.Histories as versions
-use Rattle.overlay_terms.specs.Histories.{BeginsWith, newest}
+use Rattle.overlay_terms.specs.Histories.{History, BeginsWith, newest}
 use Rattle.layer_expr.specs.Name.{is_name}
 use Rattle.layer_book.specs.Fault.{RefusedBy}
 use Rattle.layer_book.specs.declared.fault.LayerFault.TheVariants as layer_fault
@@ -23,7 +23,7 @@ use Rattle.script_form.specs.declared.fault.CommandFault.TheVariants.{Version, C
 use Rattle.script_form.specs.Reading.{IsNoName}
 use Rattle.script_form.specs.Replies.{error_line, built_line, durable_line, verdict_line}
 use Rattle.script_form.specs.Requests.{edges, wait, verify, sync}
-use Rattle.script_form.specs.Transcript.{Asked, asked_column, IsOutOfMemory, IsAnswered, IsOfStore}
+use Rattle.script_form.specs.Transcript.{BookStore, store_by, Asked, asked_column, IsOutOfMemory, IsAnswered, IsOfStore}
 use Rattle.server_session.specs.Answering.{Answers}
 use Rattle.server_session.specs.Fault.{fault_told, store_told}
 use Rattle.server_session.specs.Session.{Stays}
@@ -44,22 +44,22 @@ moved P version new known name n k is same number h =
 
 -- ==== Lines whose name is none
 
-pub edges_unnamed : (stored : Bool) (me : Known) (name : List ℕ) (k : ℤ) (fault : CommandFault) → IsNoName name fault → Answers stored me (edges name k) me (error_line fault)
+pub edges_unnamed : (stored : BookStore) (me : Known) (name : List ℕ) (k : ℤ) (fault : CommandFault) → IsNoName name fault → Answers stored me (edges name k) me (error_line fault)
 edges_unnamed stored me name k fault refused = answers_there stored me (edges name k) (error_line fault) (inr (unnamed name fault _ refused))
 
-pub verify_unnamed : (stored : Bool) (me : Known) (name : List ℕ) (k : ℤ) (fault : CommandFault) → IsNoName name fault → Answers stored me (verify name k) me (error_line fault)
+pub verify_unnamed : (stored : BookStore) (me : Known) (name : List ℕ) (k : ℤ) (fault : CommandFault) → IsNoName name fault → Answers stored me (verify name k) me (error_line fault)
 verify_unnamed stored me name k fault refused = answers_there stored me (verify name k) (error_line fault) (inr (unnamed name fault _ refused))
 
-pub wait_unnamed : (stored : Bool) (me : Known) (name : List ℕ) (fault : CommandFault) → IsNoName name fault → Answers stored me (wait name) me (error_line fault)
+pub wait_unnamed : (stored : BookStore) (me : Known) (name : List ℕ) (fault : CommandFault) → IsNoName name fault → Answers stored me (wait name) me (error_line fault)
 wait_unnamed stored me name fault refused = answers_there stored me (wait name) (error_line fault) (inr (unnamed name fault _ refused))
 
 module _ (was now : Known) (stays : Stays was now) (made : now.made ≡ was.made) where
   -- ==== EDGES
 
-  pub edges_gone : (stored : Bool) (name : List ℕ) (k : ℤ) (fault : CommandFault) → IsTrue (is_name name) → fault ≡ Gone → Answers stored was (edges name k) now (error_line fault)
+  pub edges_gone : (stored : BookStore) (name : List ℕ) (k : ℤ) (fault : CommandFault) → IsTrue (is_name name) → fault ≡ Gone → Answers stored was (edges name k) now (error_line fault)
   edges_gone stored name k fault named gone = answers_so was now stays made stored (edges name k) (error_line fault) (inr (inr (named, inl (refused_as fault Gone gone))))
 
-  pub edges_refused : (stored : Bool) (name known : List ℕ) (k : ℤ) (n : Option ℕ) (version : versions.Version) (wrong : VersionFault) → version ≡ newest (seen now)
+  pub edges_refused : (stored : BookStore) (name known : List ℕ) (k : ℤ) (n : Option ℕ) (version : versions.Version) (wrong : VersionFault) → version ≡ newest (seen now)
       → known ≡ name → n ≡ asked_column k → IsTrue (is_name name) → RefusedBy (Layer layer_fault.OutOfMemory) (edges_refusal version known n) wrong
       → Answers stored was (edges name k) now (error_line (Version wrong))
   edges_refused stored name known k n version wrong is same number named refused =
@@ -70,7 +70,7 @@ module _ (was now : Known) (stays : Stays was now) (made : now.made ≡ was.made
             inr (inr (named, inr (asked_some _ wrong _ (moved (λ v m c. edges_refusal v m c ≡ Some wrong) version (newest (seen now)) known name n (asked_column k) is same number by))))
       ])
 
-  pub edges_told : (stored : Bool) (name known : List ℕ) (k : ℤ) (n : Option ℕ) (version : versions.Version) (reply : List ℕ) → version ≡ newest (seen now)
+  pub edges_told : (stored : BookStore) (name known : List ℕ) (k : ℤ) (n : Option ℕ) (version : versions.Version) (reply : List ℕ) → version ≡ newest (seen now)
       → known ≡ name → n ≡ asked_column k → IsTrue (is_name name) → edges_refusal version known n ≡ None → AreEdges version known n reply → Answers stored was (edges name k) now reply
   edges_told stored name known k n version reply is same number named free told =
       answers_so was now stays made stored (edges name k) reply
@@ -82,10 +82,10 @@ module _ (was now : Known) (stays : Stays was now) (made : now.made ≡ was.made
 
   -- ==== VERIFY
 
-  pub verify_gone : (stored : Bool) (name : List ℕ) (k : ℤ) (fault : CommandFault) → IsTrue (is_name name) → fault ≡ Gone → Answers stored was (verify name k) now (error_line fault)
+  pub verify_gone : (stored : BookStore) (name : List ℕ) (k : ℤ) (fault : CommandFault) → IsTrue (is_name name) → fault ≡ Gone → Answers stored was (verify name k) now (error_line fault)
   verify_gone stored name k fault named gone = answers_so was now stays made stored (verify name k) (error_line fault) (inr (inr (named, inl (refused_as fault Gone gone))))
 
-  pub verify_refused : (stored : Bool) (name known : List ℕ) (k : ℤ) (n : Option ℕ) (version : versions.Version) (wrong : VersionFault) → version ≡ newest (seen now)
+  pub verify_refused : (stored : BookStore) (name known : List ℕ) (k : ℤ) (n : Option ℕ) (version : versions.Version) (wrong : VersionFault) → version ≡ newest (seen now)
       → known ≡ name → n ≡ asked_column k → IsTrue (is_name name) → RefusedBy (Layer layer_fault.OutOfMemory) (finished_refusal version known n) wrong
       → Answers stored was (verify name k) now (error_line (Version wrong))
   verify_refused stored name known k n version wrong is same number named refused =
@@ -96,7 +96,7 @@ module _ (was now : Known) (stays : Stays was now) (made : now.made ≡ was.made
             inr (inr (named, inr (asked_some _ wrong _ (moved (λ v m c. finished_refusal v m c ≡ Some wrong) version (newest (seen now)) known name n (asked_column k) is same number by))))
       ])
 
-  pub verify_told : (stored : Bool) (name known : List ℕ) (k : ℤ) (n : Option ℕ) (version : versions.Version) (verdict : Verdict) → version ≡ newest (seen now)
+  pub verify_told : (stored : BookStore) (name known : List ℕ) (k : ℤ) (n : Option ℕ) (version : versions.Version) (verdict : Verdict) → version ≡ newest (seen now)
       → known ≡ name → n ≡ asked_column k → IsTrue (is_name name) → finished_refusal version known n ≡ None → IsVerdict version known n verdict
       → Answers stored was (verify name k) now (verdict_line verdict)
   verify_told stored name known k n version verdict is same number named free right =
@@ -121,7 +121,7 @@ Waited was now = (now.book ≡ was.book) × (now.session ≡ was.session) × (no
 pub waited_stays : (was now : Known) → BeginsWith (seen now) (seen was) → Waited was now → Stays was now
 waited_stays was now on same = record { book = same.0; session = same.1; goes_on = on }
 
-wait_refused_so : (stored : Bool) (was now : Known) (name : List ℕ) (fault : BookFault) → IsTrue (is_name name) → IsWaitRefused true (newest (seen now)) name fault
+wait_refused_so : (stored : BookStore) (was now : Known) (name : List ℕ) (fault : BookFault) → IsTrue (is_name name) → IsWaitRefused true (newest (seen now)) name fault
     → IsOutOfMemory (wait name) [] (error_line (fault_told fault)) ⊎ IsAnswered stored was.session (seen was) (wait name) (seen now) [] (error_line (fault_told fault))
 wait_refused_so stored was now name (book.Version wrong) named (inl by) = inr (inr (named, inr (asked_some _ wrong _ by)))
 wait_refused_so stored was now name (book.Version wrong) named (inr memory) = inl (named, record { nothing_made = refl; told = ap (λ f. error_line (Version f)) memory.0 })
@@ -131,14 +131,14 @@ wait_refused_so stored was now name book.Gone named refused = inr (inr (named, i
 wait_refused_so stored was now name book.NoStore named refused = absurd refused
 wait_refused_so stored was now name (book.Store fault) named refused = absurd refused
 
-pub wait_refused : (stored : Bool) (was now : Known) (name known : List ℕ) (fault : BookFault) → BeginsWith (seen now) (seen was) → Waited was now → known ≡ name → IsTrue (is_name name)
+pub wait_refused : (stored : BookStore) (was now : Known) (name known : List ℕ) (fault : BookFault) → BeginsWith (seen now) (seen was) → Waited was now → known ≡ name → IsTrue (is_name name)
     → IsWaitRefused true (newest (seen now)) known fault → (told : CommandFault) → told ≡ fault_told fault → Answers stored was (wait name) now (error_line told)
 wait_refused stored was now name known fault on same is named refused told same_told =
     subst (λ (f : CommandFault). Answers stored was (wait name) now (error_line f)) (sym same_told)
     (answers_so was now (waited_stays was now on same) same.2 stored (wait name) (error_line (fault_told fault))
     (wait_refused_so stored was now name fault named (subst (λ n. IsWaitRefused true (newest (seen now)) n fault) is refused)))
 
-pub wait_told : (stored : Bool) (was now : Known) (name known : List ℕ) (number : ℕ) → BeginsWith (seen now) (seen was) → Waited was now → known ≡ name → IsTrue (is_name name)
+pub wait_told : (stored : BookStore) (was now : Known) (name known : List ℕ) (number : ℕ) → BeginsWith (seen now) (seen was) → Waited was now → known ≡ name → IsTrue (is_name name)
     → IsBuiltAt (newest (seen now)) known number → Answers stored was (wait name) now (built_line number)
 wait_told stored was now name known number on same is named built =
     let there = subst (λ n. IsBuiltAt (newest (seen now)) n number) is built in
@@ -155,47 +155,48 @@ of_store store.SequenceLimit = inr (inr (inr (inl refl)))
 of_store store.OutOfMemory = inr (inr (inr (inr (inl refl))))
 
 -- why a wait for a durable number is refused, and what that says of the store
-sync_refused_so : (stored : Bool) (was now : Known) (fault : BookFault) → IsSyncRefused (newest (seen was)).number (newest (seen now)) fault
-    → (fault ≡ book.NoStore → stored ≡ false) → (stored ≡ false → (fault ≡ book.NoStore) ⊎ (fault ≡ book.Gone))
-    → IsOutOfMemory sync [] (error_line (fault_told fault)) ⊎ IsAnswered stored was.session (seen was) sync (seen now) [] (error_line (fault_told fault))
-sync_refused_so stored was now (book.Version wrong) refused only without = absurd refused
-sync_refused_so true was now book.Closing refused only without =
+sync_refused_so : (told : History → Type 0) (there : Bool) (was now : Known) (fault : BookFault) → IsSyncRefused (newest (seen was)).number (newest (seen now)) fault
+    → (fault ≡ book.NoStore → there ≡ false) → (there ≡ false → (fault ≡ book.NoStore) ⊎ (fault ≡ book.Gone))
+    → IsOutOfMemory sync [] (error_line (fault_told fault)) ⊎ IsAnswered (store_by told there) was.session (seen was) sync (seen now) [] (error_line (fault_told fault))
+sync_refused_so told there was now (book.Version wrong) refused only without = absurd refused
+sync_refused_so told true was now book.Closing refused only without =
     inr (inr (inr (inr (refl, record { behind = refused; fault = Closing; of_store = inr (inr (inr (inr (inr refl)))); refused = refused_so Closing }))))
-sync_refused_so false was now book.Closing refused only without = absurd (⊎_elim (λ e. absurd (cc)) (λ e. absurd (cc)) (without refl))
-sync_refused_so stored was now book.Gone refused only without = inr (inr (inl (refused_so Gone)))
-sync_refused_so stored was now book.NoStore refused only without = inr (inl (only refl, refused_so NoStore))
-sync_refused_so true was now (book.Store fault) refused only without =
+sync_refused_so told false was now book.Closing refused only without = absurd (⊎_elim (λ e. absurd (cc)) (λ e. absurd (cc)) (without refl))
+sync_refused_so told there was now book.Gone refused only without = inr (inr (inl (refused_so Gone)))
+sync_refused_so told there was now book.NoStore refused only without = inr (inl (only refl, refused_so NoStore))
+sync_refused_so told true was now (book.Store fault) refused only without =
     inr (inr (inr (inr (refl, record { behind = refused; fault = store_told fault; of_store = of_store fault; refused = refused_so (store_told fault) }))))
-sync_refused_so false was now (book.Store fault) refused only without = absurd (⊎_elim (λ e. absurd (cc)) (λ e. absurd (cc)) (without refl))
+sync_refused_so told false was now (book.Store fault) refused only without = absurd (⊎_elim (λ e. absurd (cc)) (λ e. absurd (cc)) (without refl))
 
-pub sync_refused : (stored : Bool) (was now : Known) (result : Result ℕ BookFault) (fault : BookFault) → result ≡ Err fault → BeginsWith (seen now) (seen was) → Waited was now
-    → IsSyncRefused (newest (seen was)).number (newest (seen now)) fault → (result ≡ Err book.NoStore → stored ≡ false)
-    → (stored ≡ false → IsErrAnd result (λ f. (f ≡ book.NoStore) ⊎ (f ≡ book.Gone)))
+pub sync_refused : (stored : BookStore) (was now : Known) (result : Result ℕ BookFault) (fault : BookFault) → result ≡ Err fault → BeginsWith (seen now) (seen was) → Waited was now
+    → IsSyncRefused (newest (seen was)).number (newest (seen now)) fault → (result ≡ Err book.NoStore → stored.there ≡ false)
+    → (stored.there ≡ false → IsErrAnd result (λ f. (f ≡ book.NoStore) ⊎ (f ≡ book.Gone)))
     → (told : CommandFault) → told ≡ fault_told fault → Answers stored was sync now (error_line told)
 sync_refused stored was now result fault is on same refused only without told same_told =
     let P : BookFault → Type 0 = λ f. (f ≡ book.NoStore) ⊎ (f ≡ book.Gone) in
     subst (λ (f : CommandFault). Answers stored was sync now (error_line f)) (sym same_told)
     (answers_so was now (waited_stays was now on same) same.2 stored sync (error_line (fault_told fault))
-    (sync_refused_so stored was now fault refused (λ e. only (is ∙ ap Err e)) (λ none. subst (λ (r : Result ℕ BookFault). IsErrAnd r P) is (without none))))
+    (sync_refused_so stored.told stored.there was now fault refused (λ e. only (is ∙ ap Err e)) (λ none. subst (λ (r : Result ℕ BookFault). IsErrAnd r P) is (without none))))
 
 -- a book that tells a durable number has a store
-has_one : (stored : Bool) (result : Result ℕ BookFault) (number : ℕ) → result ≡ Ok number
-    → (stored ≡ false → IsErrAnd result (λ f. (f ≡ book.NoStore) ⊎ (f ≡ book.Gone))) → IsTrue stored
+has_one : (there : Bool) (result : Result ℕ BookFault) (number : ℕ) → result ≡ Ok number
+    → (there ≡ false → IsErrAnd result (λ f. (f ≡ book.NoStore) ⊎ (f ≡ book.Gone))) → IsTrue there
 has_one true result number is without = refl
 has_one false result number is without =
     let P : BookFault → Type 0 = λ f. (f ≡ book.NoStore) ⊎ (f ≡ book.Gone) in
     absurd (subst (λ (r : Result ℕ BookFault). IsErrAnd r P) is (without refl))
 
-pub sync_told : (stored : Bool) (was now : Known) (result : Result ℕ BookFault) (number : ℕ) → result ≡ Ok number → BeginsWith (seen now) (seen was) → Waited was now
-    → (stored ≡ false → IsErrAnd result (λ f. (f ≡ book.NoStore) ⊎ (f ≡ book.Gone)))
-    → ((newest (seen now)).durable ≡ number) × ((newest (seen was)).number ≤ number) → Answers stored was sync now (durable_line number)
-sync_told stored was now result number is on same without reached =
+pub sync_told : (stored : BookStore) (was now : Known) (result : Result ℕ BookFault) (number : ℕ) → result ≡ Ok number → BeginsWith (seen now) (seen was) → Waited was now
+    → (stored.there ≡ false → IsErrAnd result (λ f. (f ≡ book.NoStore) ⊎ (f ≡ book.Gone)))
+    → ((newest (seen now)).durable ≡ number) × ((newest (seen was)).number ≤ number) → stored.told (seen now) → Answers stored was sync now (durable_line number)
+sync_told stored was now result number is on same without reached may =
     answers_so was now (waited_stays was now on same) same.2 stored sync (durable_line number)
     (inr (inr (inr (inl (
-      has_one stored result number is without,
+      has_one stored.there result number is without,
       record {
         nothing_made = refl;
         reached = subst (λ n. (newest (seen was)).number ≤ n) (sym reached.0) reached.1;
+        may = may;
         told = ap durable_line (sym reached.0);
       },
     )))))

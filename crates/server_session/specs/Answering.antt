@@ -11,7 +11,7 @@ use Rattle.script_form.specs.Gathering.{AreRead}
 use Rattle.script_form.specs.Replies.{error_line}
 use Rattle.script_form.specs.LineReply.{reply_text}
 use Rattle.script_form.specs.Requests.{Request}
-use Rattle.script_form.specs.Transcript.{IsRefused, IsSubmitted, IsSubmittedAll, IsAnswered, IsBatchAnswered, IsOutOfMemory}
+use Rattle.script_form.specs.Transcript.{BookStore, IsRefused, IsSubmitted, IsSubmittedAll, IsAnswered, IsBatchAnswered, IsOutOfMemory}
 use Rattle.server_session.specs.Session.{Stays}
 
 -- the bytes that tell a reply or a fault
@@ -19,13 +19,13 @@ abbrev pub result_text : Result LineReply CommandFault → List ℕ
 result_text (Ok reply) = reply_text reply
 result_text (Err fault) = error_line fault
 
--- a request is answered, or memory ran out for it; `stored` says whether the book has a store
-pub record IsAnswerOf (stored : Bool) (was : Known) (request : Request) (now : Known) (reply : List ℕ) : Type 0 where
+-- a request is answered, or memory ran out for it; `stored` is what is known of the book's store
+pub record IsAnswerOf (stored : BookStore) (was : Known) (request : Request) (now : Known) (reply : List ℕ) : Type 0 where
   pub made : List Batch
   pub answered : IsOutOfMemory request made reply ⊎ IsAnswered stored was.session (seen was) request (seen now) made reply
   pub only : now.made ≡ was.made ++ made
 
-pub record Answers (stored : Bool) (was : Known) (request : Request) (now : Known) (reply : List ℕ) : Type 0 where
+pub record Answers (stored : BookStore) (was : Known) (request : Request) (now : Known) (reply : List ℕ) : Type 0 where
   pub stays : Stays was now
   pub answered : IsAnswerOf stored was request now reply
 

@@ -1,4 +1,5 @@
 pub mod Session
+pub mod Stores
 pub mod Fault
 pub mod Turn
 pub mod Answering

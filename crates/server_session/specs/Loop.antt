@@ -11,29 +11,30 @@ use Rattle.script_form.specs.Writing.{IsCutShort, Writes}
 use Rattle.server_session.specs.Talk.{HasTaken, turns_at_end, AnswersTurns, AnswersInPart}
 use Rattle.server_session.specs.Turn.{TakesTurn}
 use Rattle.server_session.specs.declared.talk.Talk.{Talk}
+use Rattle.script_form.specs.Transcript.{BookStore}
 
 -- a line is taken, and the reply of the turn that it ends is written
-abbrev pub AnswersLine : {A E : Type 0} → Bool → Result A E → Known → Option Gathering → List ℕ → Known → Option Gathering → Option (List ℕ) → Option (List ℕ) → Type 0
+abbrev pub AnswersLine : {A E : Type 0} → BookStore → Result A E → Known → Option Gathering → List ℕ → Known → Option Gathering → Option (List ℕ) → Option (List ℕ) → Type 0
 AnswersLine stored result was before line now after output all =
     (reply : List ℕ) × TakesTurn stored was before line now after reply × Writes result output all reply
 
 -- turns are answered, or a write failed on the way
-abbrev pub AnswersOrFails : {A E : Type 0} → Bool → Result A E → Known → List Turn → Known → Option (List ℕ) → Option (List ℕ) → Type 0
+abbrev pub AnswersOrFails : {A E : Type 0} → BookStore → Result A E → Known → List Turn → Known → Option (List ℕ) → Option (List ℕ) → Type 0
 AnswersOrFails stored result was turns now output all =
     MatchResult result (λ _. AnswersTurns stored was turns now output all) (λ _. AnswersInPart stored was turns now output all)
 
 -- behind the last line: a batch that waits is cut off
-abbrev pub EndsBatch : {A E : Type 0} → Result A E → Option Gathering → Option (List ℕ) → Option (List ℕ) → Type 0
-EndsBatch result open_before output all =
-    (stored : Bool) (me : Known) (waiting : Option Waiting) → IsOpen waiting open_before → AnswersOrFails stored result me (cut_off_in waiting) me output all
+abbrev pub EndsBatch : {A E : Type 0} → BookStore → Result A E → Option Gathering → Option (List ℕ) → Option (List ℕ) → Type 0
+EndsBatch stored result open_before output all =
+    (me : Known) (waiting : Option Waiting) → IsOpen waiting open_before → AnswersOrFails stored result me (cut_off_in waiting) me output all
 
 -- how a session ends that answers these turns, the last of its script
-abbrev pub EndsWith : Bool → SessionEnd → Known → List Turn → Known → Option (List ℕ) → Option (List ℕ) → Type 0
+abbrev pub EndsWith : BookStore → SessionEnd → Known → List Turn → Known → Option (List ℕ) → Option (List ℕ) → Type 0
 EndsWith stored End was turns now output all = AnswersTurns stored was turns now output all
 EndsWith stored (Failed code) was turns now output all = (code ≡ 49) × AnswersInPart stored was turns now output all
 
 -- the end of the script, whatever was taken of it
-abbrev pub Finishes : Bool → SessionEnd → Talk → Known → Known → Option (List ℕ) → Option (List ℕ) → Type 0
+abbrev pub Finishes : BookStore → SessionEnd → Talk → Known → Known → Option (List ℕ) → Option (List ℕ) → Type 0
 Finishes stored end talk was now output all =
     (taken : List ℕ) → HasTaken talk taken → EndsWith stored end was (turns_at_end taken) now output all
 

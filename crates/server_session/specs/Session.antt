@@ -1,5 +1,5 @@
 -- A session of a book that threads share: what it writes for what it reads, until its script ends or a fault ends it.
--- `stored` says whether the book has a store.
+-- `stored` is what is known of the book's store.
 use Rattle.std.specs.Prelude.{◌≡◌, ℕ, ◌+◌, ◌≤◌, ◌⊎◌, Bool, List, [], ◌∷◌, ◌++◌, take, length, Option}
 use Rattle.std.specs.Io.KnownBytes.{Appends, Consumes, IsAtEnd}
 use Rattle.overlay_terms.specs.Batches.{Batch}
@@ -11,7 +11,7 @@ use Rattle.script_form.specs.declared.session_end.SessionEnd.TheVariants.{End, F
 use Rattle.script_form.specs.Lines.{script_max, ended_lines, whole_lines}
 use Rattle.script_form.specs.Replies.{error_line}
 use Rattle.script_form.specs.Writing.{IsCutShort}
-use Rattle.script_form.specs.Transcript.{IsTranscript}
+use Rattle.script_form.specs.Transcript.{BookStore, IsTranscript}
 use Rattle.script_form.specs.Turns.{Turn, turns_of, all_turns_of}
 
 -- a session is of the same book under the same number, and what it has seen goes on
@@ -21,7 +21,7 @@ pub record Stays (was now : Known) : Type 0 where
   pub goes_on : BeginsWith (seen now) (seen was)
 
 -- the replies to these turns, by histories from what the session had seen to what it has seen then; it made just what they made
-pub record IsSharedRun (stored : Bool) (was : Known) (turns : List Turn) (now : Known) (replies : List ℕ) : Type 0 where
+pub record IsSharedRun (stored : BookStore) (was : Known) (turns : List Turn) (now : Known) (replies : List ℕ) : Type 0 where
   pub made : List Batch
   pub told : IsTranscript stored was.session (seen was) turns (seen now) made replies
   pub only : now.made ≡ was.made ++ made
@@ -29,35 +29,35 @@ pub record IsSharedRun (stored : Bool) (was : Known) (turns : List Turn) (now : 
 -- how a session ended, by what it had known and knows then, the bytes that it took, what the reader has left, and the
 -- bytes that it wrote; `most` is the limit of the script's bytes
 -- its script ended: each line, or the batch that it is of, has its reply
-pub record IsEnded (most : ℕ) (stored : Bool) (was now : Known) (taken : List ℕ) (left : Option (List ℕ)) (written : List ℕ) : Type 0 where
+pub record IsEnded (most : ℕ) (stored : BookStore) (was now : Known) (taken : List ℕ) (left : Option (List ℕ)) (written : List ℕ) : Type 0 where
   pub all_taken : IsAtEnd left
   pub short : length taken ≤ most
   pub told : IsSharedRun stored was (all_turns_of (whole_lines taken)) now written
 
 -- a byte too many came: the turns of the lines that were ended before it have their replies, and then this is written; a batch
 -- that waits has none
-pub record IsPastLimit (most : ℕ) (stored : Bool) (was now : Known) (taken line written : List ℕ) : Type 0 where
+pub record IsPastLimit (most : ℕ) (stored : BookStore) (was now : Known) (taken line written : List ℕ) : Type 0 where
   pub one_more : length taken ≡ most + 1
   pub replies : List ℕ
   pub told : IsSharedRun stored was (turns_of (ended_lines (take most taken))) now replies
   pub fault : written ≡ replies ++ line
 
 -- a read failed: the turns of the lines that were ended by then have their replies, and then this is written
-pub record IsReadFault (most : ℕ) (stored : Bool) (was now : Known) (taken line written : List ℕ) : Type 0 where
+pub record IsReadFault (most : ℕ) (stored : BookStore) (was now : Known) (taken line written : List ℕ) : Type 0 where
   pub short : length taken ≤ most
   pub replies : List ℕ
   pub told : IsSharedRun stored was (turns_of (ended_lines taken)) now replies
   pub fault : written ≡ replies ++ line
 
 -- a turn is run, and of its reply a front alone is written, which lacks at least the last byte
-pub record IsCutTurn (stored : Bool) (was now : Known) (turn : Turn) (front : List ℕ) : Type 0 where
+pub record IsCutTurn (stored : BookStore) (was now : Known) (turn : Turn) (front : List ℕ) : Type 0 where
   pub reply : List ℕ
   pub told : IsSharedRun stored was (turn ∷ []) now reply
   pub cut : IsCutShort reply front
 
 -- a write failed on the way through some turns: those before it have their replies whole, the one whose reply it was of has a
 -- front of it, and no later one is run
-pub record IsCutOff (stored : Bool) (was now : Known) (turns : List Turn) (written : List ℕ) : Type 0 where
+pub record IsCutOff (stored : BookStore) (was now : Known) (turns : List Turn) (written : List ℕ) : Type 0 where
   pub before : List Turn
   pub last : Turn
   pub later : List Turn
@@ -72,7 +72,7 @@ pub record IsCutOff (stored : Bool) (was now : Known) (turns : List Turn) (writt
 
 -- a write failed: on the way through the turns that were ended within the limit, or through those of the whole script where it
 -- was read to its end; or in the line of another fault, when all of them had their replies
-abbrev pub IsWriteFault : ℕ → Bool → Known → Known → List ℕ → Option (List ℕ) → List ℕ → Type 0
+abbrev pub IsWriteFault : ℕ → BookStore → Known → Known → List ℕ → Option (List ℕ) → List ℕ → Type 0
 IsWriteFault most stored was now taken left written =
     IsCutOff stored was now (turns_of (ended_lines (take most taken))) written
     ⊎ (IsAtEnd left × (length taken ≤ most) × IsCutOff stored was now (all_turns_of (whole_lines taken)) written)
@@ -85,7 +85,7 @@ pub record IsNotBegun (was now : Known) (taken written : List ℕ) : Type 0 wher
   pub nothing_written : written ≡ []
   pub nothing_seen : now ≡ was
 
-abbrev pub EndsSo : ℕ → Bool → SessionEnd → Known → Known → List ℕ → Option (List ℕ) → List ℕ → Type 0
+abbrev pub EndsSo : ℕ → BookStore → SessionEnd → Known → Known → List ℕ → Option (List ℕ) → List ℕ → Type 0
 EndsSo most stored End was now taken left written = IsEnded most stored was now taken left written
 EndsSo most stored (Failed code) was now taken left written =
     ((code ≡ 47) × IsPastLimit most stored was now taken (error_line ReadLimit) written)
@@ -94,7 +94,7 @@ EndsSo most stored (Failed code) was now taken left written =
 
 -- what was taken from the reader, what was appended to the writer, and how the session of a script of at most so many
 -- bytes ended
-pub record IsSessionWithin (most : ℕ) (stored : Bool) (end : SessionEnd) (was now : Known) (input left output all : Option (List ℕ)) : Type 0 where
+pub record IsSessionWithin (most : ℕ) (stored : BookStore) (end : SessionEnd) (was now : Known) (input left output all : Option (List ℕ)) : Type 0 where
   pub taken : List ℕ
   pub written : List ℕ
   pub reads : Consumes input left taken
@@ -102,5 +102,5 @@ pub record IsSessionWithin (most : ℕ) (stored : Bool) (end : SessionEnd) (was 
   pub ended : EndsSo most stored end was now taken left written
 
 -- the same of a script within the limit that scripts have
-abbrev pub IsSharedSession : Bool → SessionEnd → Known → Known → Option (List ℕ) → Option (List ℕ) → Option (List ℕ) → Option (List ℕ) → Type 0
+abbrev pub IsSharedSession : BookStore → SessionEnd → Known → Known → Option (List ℕ) → Option (List ℕ) → Option (List ℕ) → Option (List ℕ) → Type 0
 IsSharedSession stored end was now input left output all = IsSessionWithin script_max stored end was now input left output all

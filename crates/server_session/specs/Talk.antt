@@ -7,6 +7,7 @@ use Rattle.script_form.specs.Lines.{line_room, ended_lines, unended, whole_lines
 use Rattle.script_form.specs.Turns.{Turn, turns_of, all_turns_of, waiting_behind}
 use Rattle.server_session.specs.Session.{IsSharedRun, IsCutOff}
 use Rattle.server_session.specs.declared.talk.Talk.{Talk}
+use Rattle.script_form.specs.Transcript.{BookStore}
 
 -- whether its script ended, or a write failed
 abbrev pub has_ended : Talk → Bool
@@ -27,13 +28,13 @@ abbrev pub turns_at_end : List ℕ → List Turn
 turns_at_end taken = drop (length (turns_of (ended_lines taken))) (all_turns_of (whole_lines taken))
 
 -- these turns are run, and their replies and nothing else are appended
-pub record AnswersTurns (stored : Bool) (was : Known) (turns : List Turn) (now : Known) (output all : Option (List ℕ)) : Type 0 where
+pub record AnswersTurns (stored : BookStore) (was : Known) (turns : List Turn) (now : Known) (output all : Option (List ℕ)) : Type 0 where
   pub replies : List ℕ
   pub told : IsSharedRun stored was turns now replies
   pub appended : Appends output all replies
 
 -- a write failed on the way through these turns
-pub record AnswersInPart (stored : Bool) (was : Known) (turns : List Turn) (now : Known) (output all : Option (List ℕ)) : Type 0 where
+pub record AnswersInPart (stored : BookStore) (was : Known) (turns : List Turn) (now : Known) (output all : Option (List ℕ)) : Type 0 where
   pub written : List ℕ
   pub cut : IsCutOff stored was now turns written
   pub appended : Appends output all written

@@ -1,5 +1,5 @@
 //! The answer to one line.
-ghost use Rattle.std.specs.Prelude.{◌≡◌, Bool, IfOk, IfErr};
+ghost use Rattle.std.specs.Prelude.{◌≡◌, IfOk, IfErr};
 ghost use Rattle.std.specs.Arc.{arc_value};
 ghost use Rattle.overlay_terms.specs.Histories.{newest, IsHistory};
 ghost use Rattle.book_history.specs.Known.{seen};
@@ -7,6 +7,7 @@ ghost use Rattle.layer_book.specs.Command.{command};
 ghost use Rattle.script_form.specs.LineReply.{reply_text};
 ghost use Rattle.script_form.specs.Requests.{request, put_text, locate, grid, list_layers, edges, wait, verify, sync};
 ghost use Rattle.script_form.specs.Transcript.{asked_column};
+ghost use Rattle.server_session.specs.Stores.{no_store, store_of};
 ghost use Rattle.server_session.specs.Answering.{Answers, Submits, result_text};
 ghost use Rattle.server_session.specs.Session.{Stays};
 ghost use Rattle.server_session.specs.Turn.{TakesTurn};
@@ -43,7 +44,7 @@ pub fn answer<J: BookName, S: Wait + Drop, Q: Wait + Threads + Sync>(
     line: &[u8],
 ) -> LineReply
     requires { me.old.book ≡ J.book }
-    ensures { TakesTurn (has_store shared.now) me.old waiting.old line.now me.new waiting.new (reply_text result) }
+    ensures { TakesTurn (store_of J.stored (has_store shared.now)) me.old waiting.old line.now me.new waiting.new (reply_text result) }
 {
     match take_line(alloc, waiting, line) {
         LineTurn::Waits => LineReply::Nothing,
@@ -61,7 +62,7 @@ fn answer_alone<J: BookName, S: Wait + Drop, Q: Wait + Threads + Sync>(
     asked: Request<'_>,
 ) -> LineReply
     requires { me.old.book ≡ J.book }
-    ensures { Answers (has_store shared.now) me.old (request asked.entry) me.new (reply_text result) }
+    ensures { Answers (store_of J.stored (has_store shared.now)) me.old (request asked.entry) me.new (reply_text result) }
 {
     match answer_request(rt, alloc, shared, me, asked) {
         Ok(reply) => reply,
@@ -77,7 +78,7 @@ fn answer_request<J: BookName, S: Wait + Drop, Q: Wait + Threads + Sync>(
     asked: Request<'_>,
 ) -> Result<LineReply, CommandFault>
     requires { me.old.book ≡ J.book }
-    ensures { Answers (has_store shared.now) me.old (request asked.entry) me.new (result_text result) }
+    ensures { Answers (store_of J.stored (has_store shared.now)) me.old (request asked.entry) me.new (result_text result) }
 {
     match asked {
         Request::Nothing => Ok(LineReply::Nothing),
@@ -115,7 +116,7 @@ fn answer_put<J: BookName, S: Wait + Drop, Q: Wait>(
     text: &[u8],
 ) -> Result<LineReply, CommandFault>
     requires { me.old.book ≡ J.book }
-    ensures { Answers (has_store shared.now) me.old (put_text name.now text.now) me.new (result_text result) }
+    ensures { Answers (store_of J.stored (has_store shared.now)) me.old (put_text name.now text.now) me.new (result_text result) }
 {
     let change = read_put(alloc, name, text)?;
     submit(rt, alloc, shared, me, &change)
@@ -161,7 +162,7 @@ fn answer_locate(
     y: i64,
     w: i64,
 ) -> Result<LineReply, CommandFault>
-    ensures { (stored : Bool) → Answers stored me.old (locate name.now x y w) me.new (result_text result) }
+    ensures { Answers no_store me.old (locate name.now x y w) me.new (result_text result) }
 {
     let name = read_name(alloc, name)?;
     let query = QueryPoint::new(x, y, w)?;
@@ -182,7 +183,7 @@ fn answer_grid<Q: Threads + Sync>(
     nx: i64,
     ny: i64,
 ) -> Result<LineReply, CommandFault>
-    ensures { (stored : Bool) → Answers stored me.old (grid name.now x y step nx ny) me.new (result_text result) }
+    ensures { Answers no_store me.old (grid name.now x y step nx ny) me.new (result_text result) }
 {
     let name = read_name(alloc, name)?;
     let points = GridSpec::new(x, y, step, nx, ny)?;
@@ -192,7 +193,7 @@ fn answer_grid<Q: Threads + Sync>(
 }
 
 fn answer_list(alloc: Global, me: &mut Session) -> Result<LineReply, CommandFault>
-    ensures { (stored : Bool) → Answers stored me.old list_layers me.new (result_text result) }
+    ensures { Answers no_store me.old list_layers me.new (result_text result) }
 {
     let version = look(me)?;
     Ok(LineReply::Lines(version.layers().list(alloc)?))
@@ -205,7 +206,7 @@ fn answer_edges(
     name: &[u8],
     number: i64,
 ) -> Result<LineReply, CommandFault>
-    ensures { (stored : Bool) → Answers stored me.old (edges name.now number) me.new (result_text result) }
+    ensures { Answers no_store me.old (edges name.now number) me.new (result_text result) }
 {
     let name = read_name(alloc, name)?;
     let version = look(me)?;
@@ -222,7 +223,7 @@ fn answer_wait<J: BookName, S: Wait + Drop, Q: Wait>(
     name: &[u8],
 ) -> Result<LineReply, CommandFault>
     requires { me.old.book ≡ J.book }
-    ensures { Answers (has_store shared.now) me.old (wait name.now) me.new (result_text result) }
+    ensures { Answers (store_of J.stored (has_store shared.now)) me.old (wait name.now) me.new (result_text result) }
 {
     let name = read_name(alloc, name)?;
     match shared.wait_built(rt, me, &name) {
@@ -238,7 +239,7 @@ fn answer_verify(
     name: &[u8],
     number: i64,
 ) -> Result<LineReply, CommandFault>
-    ensures { (stored : Bool) → Answers stored me.old (verify name.now number) me.new (result_text result) }
+    ensures { Answers no_store me.old (verify name.now number) me.new (result_text result) }
 {
     let name = read_name(alloc, name)?;
     let version = look(me)?;
@@ -253,7 +254,7 @@ fn answer_sync<J: BookName, S: Wait + Drop, Q: Wait>(
     me: &mut Session,
 ) -> Result<LineReply, CommandFault>
     requires { me.old.book ≡ J.book }
-    ensures { Answers (has_store shared.now) me.old sync me.new (result_text result) }
+    ensures { Answers (store_of J.stored (has_store shared.now)) me.old sync me.new (result_text result) }
 {
     match shared.wait_durable(rt, me) {
         Ok(number) => Ok(LineReply::Durable(number)),

@@ -1,8 +1,9 @@
 //! A session of a book that threads share, from the bytes of a script to the bytes of its replies.
 ghost use Rattle.std.specs.Prelude.{◌≡◌, ◌<◌, ◌^◌, [], false, length, IfOk};
-ghost use Rattle.overlay_terms.specs.Histories.{BeginsWith};
+ghost use Rattle.overlay_terms.specs.Histories.{BeginsWith, IsHistory};
 ghost use Rattle.book_history.specs.Known.{seen};
 ghost use Rattle.version_book.specs.Store.{has_store};
+ghost use Rattle.server_session.specs.Stores.{store_of};
 ghost use Rattle.server_session.specs.Session.{IsSharedSession, IsSessionWithin, Stays};
 ghost use Rattle.server_session.specs.Talk.{has_ended, HasTaken};
 ghost use Rattle.server_session.specs.Loop.{Finishes, EndsBy};
@@ -32,9 +33,11 @@ pub fn session_run<J: BookName, S: Wait + Drop, Q: Wait + Threads + Sync, R: Rea
     writer: &mut W,
 ) -> SessionEnd
     requires { me.old.book ≡ J.book }
-    ensures run { IsSharedSession (has_store shared.now) result me.old me.new (R.remaining reader.old)
+    ensures run { IsSharedSession (store_of J.stored (has_store shared.now)) result me.old me.new (R.remaining reader.old)
         (R.remaining reader.new) (W.contents writer.old) (W.contents writer.new) }
     ensures goes_on { BeginsWith (seen me.new) (seen me.old) }
+    // Each version of which it tells is one of a history.
+    ensures history { IsHistory (seen me.new) }
     ensures same { (me.new.book ≡ me.old.book) × (me.new.session ≡ me.old.session) }
 {
     session_run_within(rt, alloc, shared, me, SCRIPT_MAX, reader, writer)
@@ -52,24 +55,34 @@ pub fn session_run_within<J: BookName, S: Wait + Drop, Q: Wait + Threads + Sync,
 ) -> SessionEnd
     requires book { me.old.book ≡ J.book }
     requires countable { most < 2 ^ 63 }
-    ensures run { IsSessionWithin most (has_store shared.now) result me.old me.new (R.remaining reader.old)
+    ensures run { IsSessionWithin most (store_of J.stored (has_store shared.now)) result me.old me.new (R.remaining reader.old)
         (R.remaining reader.new) (W.contents writer.old) (W.contents writer.new) }
     ensures goes_on { BeginsWith (seen me.new) (seen me.old) }
+    // Each version of which it tells is one of a history.
+    ensures history { IsHistory (seen me.new) }
     ensures same { (me.new.book ≡ me.old.book) × (me.new.session ≡ me.old.session) }
 {
     match rooms(alloc) {
-        Ok((mut talk, mut chunk)) => run(
-            rt,
-            alloc,
-            shared,
-            me,
-            most,
-            &mut talk,
-            chunk.as_mut_slice(),
-            reader,
-            writer,
-        ),
-        Err(_) => SessionEnd::Failed(40),
+        Ok((mut talk, mut chunk)) => {
+            let end = run(
+                rt,
+                alloc,
+                shared,
+                me,
+                most,
+                &mut talk,
+                chunk.as_mut_slice(),
+                reader,
+                writer,
+            );
+            // What it has seen is a log with a first entry: a clause rests on that.
+            let _ = me.seen_log().at();
+            end
+        }
+        Err(_) => {
+            let _ = me.seen_log().at();
+            SessionEnd::Failed(40)
+        }
     }
 }
 
@@ -100,7 +113,7 @@ fn run<J: BookName, S: Wait + Drop, Q: Wait + Threads + Sync, R: Read, W: Write>
     requires going { has_ended talk.old ≡ false }
     requires room { 0 < length chunk.old }
     requires countable { most < 2 ^ 63 }
-    ensures run { IsSessionWithin most (has_store shared.now) result me.old me.new (R.remaining reader.old)
+    ensures run { IsSessionWithin most (store_of J.stored (has_store shared.now)) result me.old me.new (R.remaining reader.old)
         (R.remaining reader.new) (W.contents writer.old) (W.contents writer.new) }
     ensures stays { Stays me.old me.new }
 {
@@ -132,7 +145,7 @@ fn finish<J: BookName, S: Wait + Drop, Q: Wait + Threads + Sync, W: Write>(
 ) -> SessionEnd
     requires book { me.old.book ≡ J.book }
     requires going { has_ended talk.old ≡ false }
-    ensures finishes { Finishes (has_store shared.now) result talk.old me.old me.new (W.contents writer.old)
+    ensures finishes { Finishes (store_of J.stored (has_store shared.now)) result talk.old me.old me.new (W.contents writer.old)
         (W.contents writer.new) }
     ensures stays { Stays me.old me.new }
 {

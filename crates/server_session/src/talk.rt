@@ -1,6 +1,9 @@
 //! A session on its way through its script.
-ghost use Rattle.std.specs.Prelude.{◌≡◌, ◌∷◌, ◌++◌, [], List, ℕ, false, true, is_err, IfOk, IfErr, OnOk, OnErr};
+ghost use Rattle.std.specs.Prelude.{◌≡◌, Bool, ◌∷◌, ◌++◌, [], List, ℕ, false, true, is_err, IfOk, IfErr, OnOk, OnErr};
+ghost use Rattle.overlay_terms.specs.Histories.{IsHistory};
+ghost use Rattle.book_history.specs.Known.{seen};
 ghost use Rattle.version_book.specs.Store.{has_store};
+ghost use Rattle.server_session.specs.Stores.{store_of};
 ghost use Rattle.server_session.specs.Session.{Stays};
 ghost use Rattle.server_session.specs.Talk.{has_ended, HasTaken, turns_ended, turns_at_end, AnswersTurns, AnswersInPart};
 ghost use Rattle.server_session.specs.Loop.{AnswersLine, EndsBatch};
@@ -59,9 +62,37 @@ impl Talk {
         requires going { has_ended self.old ≡ false }
         ensures takes { OnOk result ((taken : List ℕ) → HasTaken self.old taken → HasTaken self.new (taken ++ bytes.now)) }
         ensures answers { OnOk result ((taken : List ℕ) → HasTaken self.old taken
-            → AnswersTurns (has_store shared.now) me.old (turns_ended taken bytes.now) me.new (W.contents writer.old) (W.contents writer.new)) }
+            → AnswersTurns (store_of J.stored (has_store shared.now)) me.old (turns_ended taken bytes.now) me.new (W.contents writer.old) (W.contents writer.new)) }
         ensures stops { OnErr result ((taken : List ℕ) → HasTaken self.old taken
-            → AnswersInPart (has_store shared.now) me.old (turns_ended taken bytes.now) me.new (W.contents writer.old) (W.contents writer.new)) }
+            → AnswersInPart (store_of J.stored (has_store shared.now)) me.old (turns_ended taken bytes.now) me.new (W.contents writer.old) (W.contents writer.new)) }
+        ensures fault { IfErr result (λ fault. fault ≡ CommandFault.Write) }
+        ensures ended { has_ended self.new ≡ is_err result }
+        ensures stays { Stays me.old me.new }
+        // Each version of which a reply tells is one of a history.
+        ensures history { IsHistory (seen me.new) }
+    {
+        let told = self.answer_bytes(rt, alloc, shared, me, bytes, writer);
+        // What it has seen is a log with a first entry: a clause rests on that.
+        let _ = me.seen_log().at();
+        told
+    }
+
+    fn answer_bytes<J: BookName, S: Wait + Drop, Q: Wait + Threads + Sync, W: Write>(
+        &mut self,
+        rt: &Q,
+        alloc: Global,
+        shared: &Shared<J, S>,
+        me: &mut Session,
+        bytes: &[u8],
+        writer: &mut W,
+    ) -> Result<(), CommandFault>
+        requires book { me.old.book ≡ J.book }
+        requires going { has_ended self.old ≡ false }
+        ensures takes { OnOk result ((taken : List ℕ) → HasTaken self.old taken → HasTaken self.new (taken ++ bytes.now)) }
+        ensures answers { OnOk result ((taken : List ℕ) → HasTaken self.old taken
+            → AnswersTurns (store_of J.stored (has_store shared.now)) me.old (turns_ended taken bytes.now) me.new (W.contents writer.old) (W.contents writer.new)) }
+        ensures stops { OnErr result ((taken : List ℕ) → HasTaken self.old taken
+            → AnswersInPart (store_of J.stored (has_store shared.now)) me.old (turns_ended taken bytes.now) me.new (W.contents writer.old) (W.contents writer.new)) }
         ensures fault { IfErr result (λ fault. fault ≡ CommandFault.Write) }
         ensures ended { has_ended self.new ≡ is_err result }
         ensures stays { Stays me.old me.new }
@@ -85,9 +116,9 @@ impl Talk {
         requires going { has_ended self.old ≡ false }
         ensures takes { OnOk result ((taken : List ℕ) → HasTaken self.old taken → HasTaken self.new (taken ++ byte ∷ [])) }
         ensures answers { OnOk result ((taken : List ℕ) → HasTaken self.old taken
-            → AnswersTurns (has_store shared.now) me.old (turns_ended taken (byte ∷ [])) me.new (W.contents writer.old) (W.contents writer.new)) }
+            → AnswersTurns (store_of J.stored (has_store shared.now)) me.old (turns_ended taken (byte ∷ [])) me.new (W.contents writer.old) (W.contents writer.new)) }
         ensures stops { OnErr result ((taken : List ℕ) → HasTaken self.old taken
-            → AnswersInPart (has_store shared.now) me.old (turns_ended taken (byte ∷ [])) me.new (W.contents writer.old) (W.contents writer.new)) }
+            → AnswersInPart (store_of J.stored (has_store shared.now)) me.old (turns_ended taken (byte ∷ [])) me.new (W.contents writer.old) (W.contents writer.new)) }
         ensures fault { IfErr result (λ fault. fault ≡ CommandFault.Write) }
         ensures ended { has_ended self.new ≡ is_err result }
         ensures stays { Stays me.old me.new }
@@ -118,9 +149,33 @@ impl Talk {
         requires book { me.old.book ≡ J.book }
         requires going { has_ended self.old ≡ false }
         ensures answers { OnOk result ((taken : List ℕ) → HasTaken self.old taken
-            → AnswersTurns (has_store shared.now) me.old (turns_at_end taken) me.new (W.contents writer.old) (W.contents writer.new)) }
+            → AnswersTurns (store_of J.stored (has_store shared.now)) me.old (turns_at_end taken) me.new (W.contents writer.old) (W.contents writer.new)) }
         ensures stops { OnErr result ((taken : List ℕ) → HasTaken self.old taken
-            → AnswersInPart (has_store shared.now) me.old (turns_at_end taken) me.new (W.contents writer.old) (W.contents writer.new)) }
+            → AnswersInPart (store_of J.stored (has_store shared.now)) me.old (turns_at_end taken) me.new (W.contents writer.old) (W.contents writer.new)) }
+        ensures fault { IfErr result (λ fault. fault ≡ CommandFault.Write) }
+        ensures ended { has_ended self.new ≡ true }
+        ensures stays { Stays me.old me.new }
+        ensures history { IsHistory (seen me.new) }
+    {
+        let told = self.answer_end(rt, alloc, shared, me, writer);
+        let _ = me.seen_log().at();
+        told
+    }
+
+    fn answer_end<J: BookName, S: Wait + Drop, Q: Wait + Threads + Sync, W: Write>(
+        &mut self,
+        rt: &Q,
+        alloc: Global,
+        shared: &Shared<J, S>,
+        me: &mut Session,
+        writer: &mut W,
+    ) -> Result<(), CommandFault>
+        requires book { me.old.book ≡ J.book }
+        requires going { has_ended self.old ≡ false }
+        ensures answers { OnOk result ((taken : List ℕ) → HasTaken self.old taken
+            → AnswersTurns (store_of J.stored (has_store shared.now)) me.old (turns_at_end taken) me.new (W.contents writer.old) (W.contents writer.new)) }
+        ensures stops { OnErr result ((taken : List ℕ) → HasTaken self.old taken
+            → AnswersInPart (store_of J.stored (has_store shared.now)) me.old (turns_at_end taken) me.new (W.contents writer.old) (W.contents writer.new)) }
         ensures fault { IfErr result (λ fault. fault ≡ CommandFault.Write) }
         ensures ended { has_ended self.new ≡ true }
         ensures stays { Stays me.old me.new }
@@ -129,10 +184,10 @@ impl Talk {
         let mut waiting = self.waiting.take();
         let line = self.line.bytes();
         if line.is_empty() {
-            return end_batch(&waiting, writer);
+            return end_batch::<J, W>(&waiting, writer);
         }
         answer_line(rt, alloc, shared, me, &mut waiting, line, writer)?;
-        end_batch(&waiting, writer)
+        end_batch::<J, W>(&waiting, writer)
     }
 }
 
@@ -147,7 +202,7 @@ fn answer_line<J: BookName, S: Wait + Drop, Q: Wait + Threads + Sync, W: Write>(
     writer: &mut W,
 ) -> Result<(), CommandFault>
     requires { me.old.book ≡ J.book }
-    ensures answers { AnswersLine (has_store shared.now) result me.old waiting.old line.now me.new waiting.new
+    ensures answers { AnswersLine (store_of J.stored (has_store shared.now)) result me.old waiting.old line.now me.new waiting.new
         (W.contents writer.old) (W.contents writer.new) }
     ensures fault { IfErr result (λ fault. fault ≡ CommandFault.Write) }
 {
@@ -156,8 +211,11 @@ fn answer_line<J: BookName, S: Wait + Drop, Q: Wait + Threads + Sync, W: Write>(
 }
 
 /// Behind the last line: refuses a batch that waits.
-fn end_batch<W: Write>(waiting: &Option<Gathering>, writer: &mut W) -> Result<(), CommandFault>
-    ensures ends { EndsBatch result waiting.now (W.contents writer.old) (W.contents writer.new) }
+fn end_batch<J: BookName, W: Write>(
+    waiting: &Option<Gathering>,
+    writer: &mut W,
+) -> Result<(), CommandFault>
+    ensures ends { (there : Bool) → EndsBatch (store_of J.stored there) result waiting.now (W.contents writer.old) (W.contents writer.new) }
     ensures fault { IfErr result (λ fault. fault ≡ CommandFault.Write) }
 {
     if waiting.is_none() {

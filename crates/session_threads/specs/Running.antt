@@ -3,6 +3,7 @@ use Rattle.std.specs.Prelude.{◌≡◌, ◌<◌, ℕ, Bool, List, length, Optio
 use Rattle.logbook.specs.Pages.{Book}
 use Rattle.overlay_terms.specs.Histories.{BeginsWith}
 use Rattle.book_history.specs.Known.{seen}
+use Rattle.server_session.specs.Stores.{any_store}
 use Rattle.server_session.specs.Session.{IsSessionWithin}
 use Rattle.session_threads.specs.declared.running.Script.{Script}
 use Rattle.session_threads.specs.declared.running.Ended.{Ended}
@@ -14,5 +15,5 @@ pub record IsRunOf {R W : Type 0} (book : Book) (stored : Bool) (remaining : R �
   pub same : ended.session.session ≡ script.session.session
   pub begun : 0 < length ended.session.log
   pub goes_on : BeginsWith (seen ended.session) (seen script.session)
-  pub ran : IsSessionWithin script.port.most stored ended.end script.session ended.session
+  pub ran : IsSessionWithin script.port.most (any_store stored) ended.end script.session ended.session
       (remaining script.port.reader) (remaining ended.port.reader) (contents script.port.writer) (contents ended.port.writer)

@@ -1,5 +1,6 @@
+use Rattle.script_form.specs.Transcript.{store_by}
 use Rattle.line_laws.proofs.Runs.{lines_decide}
 use Rattle.line_laws.proofs.laws.lines_decide.Goals as goal
 
 pub returns : goal.returns
-returns c = lines_decide
+returns g c there other_there = lines_decide (store_by g.A.Tells.told there) (store_by g.B.Tells.told other_there)

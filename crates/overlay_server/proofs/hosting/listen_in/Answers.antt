@@ -1,10 +1,12 @@
-use Rattle.std.proofs.Common.{◌≡◌, Some, None, MatchOption, subst}
+use Rattle.std.proofs.Common.{◌≡◌, Some, None, MatchOption, subst, sym}
+use Rattle.overlay_terms.specs.Histories.{Version}
 use Rattle.session_threads.specs.Rooms.{IsReserved}
 use Rattle.overlay_server.specs.Answering.{answer_in}
-use Rattle.overlay_server.specs.Serving.{IsLeftFrom}
+use Rattle.overlay_server.specs.Keeping.{HoldsOfStore}
+use Rattle.overlay_server.specs.Serving.{IsLeftFrom, first_log}
 use Rattle.overlay_server.proofs.Listened.{as_many_left, held, listened_from}
 use Rattle.overlay_server.proofs.Refusals.{may_answer, refused_from}
-use Rattle.overlay_server.proofs.Stores.{stopped_at_once}
+use Rattle.overlay_server.proofs.Stores.{holds_first, stopped_at_once}
 use Rattle.overlay_server.proofs.hosting.listen_in.Goals as goal
 
 pub returns-in_default-clause-refused : goal.returns-in_default-clause-refused
@@ -35,3 +37,13 @@ returns-clause-served g c =
     listened_from g.D.Disk g.R.Read.remaining c.args.opened.version c.args.opened.flusher ports c.args.readers.items left c.gathered.result
     c.in-Some.ensures.readers c.in-Some.ensures.limits c.in-Some.ensures.empty
     c.gathered.ensures.sessions c.gathered.ensures.closed were
+
+pub serve-requires-clause-durable : goal.serve-requires-clause-durable
+serve-requires-clause-durable g c κs within =
+    let d = g.D.Disk in
+    let stored = g.J.BookName.stored in
+    let opened = c.args.opened in
+    let asked = c.ask_book-asked in
+    subst (λ (v : Version). HoldsOfStore d stored (first_log v) asked.result.flusher) (sym asked.ensures.start)
+    (subst (HoldsOfStore d stored (first_log opened.version)) (sym asked.ensures.flusher)
+    (holds_first d stored opened.version opened.flusher c.requires.stored))

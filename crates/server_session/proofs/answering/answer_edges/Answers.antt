@@ -2,31 +2,32 @@ use Rattle.std.proofs.Common.{ap, ◌∙◌, w64}
 use Rattle.std.proofs.lemmas.Int.{to_z-of_z}
 use Rattle.std.proofs.lemmas.Result.{err_from_is_err_and}
 use Rattle.script_form.specs.Transcript.{asked_column}
+use Rattle.server_session.specs.Stores.{no_store}
 use Rattle.server_session.proofs.TileAnswers.{edges_unnamed, edges_gone, edges_refused, edges_told}
 use Rattle.server_session.proofs.answering.answer_edges.Goals as goal
 
 pub returns-in_err-name : goal.returns-in_err-name
-returns-in_err-name c stored =
+returns-in_err-name c =
     let p = err_from_is_err_and c.from_residual.result c.from_residual.ensures.1 in
-    rw (p.1, p.2) (edges_unnamed stored c.args.me.now c.args.name.now c.args.number _ c.in_err-name.ensures.refused)
+    rw (p.1, p.2) (edges_unnamed no_store c.args.me.now c.args.name.now c.args.number _ c.in_err-name.ensures.refused)
 
 pub returns-in_err-version : goal.returns-in_err-version
-returns-in_err-version c stored =
+returns-in_err-version c =
     let p = err_from_is_err_and c.from_residual-in_err-version.result c.from_residual-in_err-version.ensures.1 in
     let e = c.look.ensures in
-    rw (p.1, p.2) (edges_gone c.args.me.now c.look.new.me e.stays e.made stored c.args.name.now c.args.number _ c.in_ok-name.ensures.ok.1 c.in_err-version.ensures.err)
+    rw (p.1, p.2) (edges_gone c.args.me.now c.look.new.me e.stays e.made no_store c.args.name.now c.args.number _ c.in_ok-name.ensures.ok.1 c.in_err-version.ensures.err)
 
 pub returns-in_err-lines : goal.returns-in_err-lines
-returns-in_err-lines c stored =
+returns-in_err-lines c =
     let p = err_from_is_err_and c.from_residual-in_err-lines.result c.from_residual-in_err-lines.ensures.1 in
     let named = c.in_ok-name.ensures.ok in
     let column = c.asked_column.ensures ∙ ap asked_column (to_z-of_z w64 c.args.number c.ranges.number) in
     let e = c.look.ensures in
-    rw (p.1, p.2) (edges_refused c.args.me.now c.look.new.me e.stays e.made stored c.args.name.now _ c.args.number _ _ _ (c.deref.ensures ∙ c.in_ok-version.ensures.newest) named.0 column named.1 c.in_err-lines.ensures.refused)
+    rw (p.1, p.2) (edges_refused c.args.me.now c.look.new.me e.stays e.made no_store c.args.name.now _ c.args.number _ _ _ (c.deref.ensures ∙ c.in_ok-version.ensures.newest) named.0 column named.1 c.in_err-lines.ensures.refused)
 
 pub returns : goal.returns
-returns c stored =
+returns c =
     let named = c.in_ok-name.ensures.ok in
     let column = c.asked_column.ensures ∙ ap asked_column (to_z-of_z w64 c.args.number c.ranges.number) in
     let e = c.look.ensures in
-    edges_told c.args.me.now c.look.new.me e.stays e.made stored c.args.name.now _ c.args.number _ _ _ (c.deref.ensures ∙ c.in_ok-version.ensures.newest) named.0 column named.1 c.in_ok-lines.ensures.accepted c.in_ok-lines.ensures.ok
+    edges_told c.args.me.now c.look.new.me e.stays e.made no_store c.args.name.now _ c.args.number _ _ _ (c.deref.ensures ∙ c.in_ok-version.ensures.newest) named.0 column named.1 c.in_ok-lines.ensures.accepted c.in_ok-lines.ensures.ok

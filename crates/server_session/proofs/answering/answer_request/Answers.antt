@@ -2,7 +2,9 @@ use Rattle.std.proofs.Common.{refl, inr, rules}
 use Rattle.std.proofs.lemmas.Int.{to_z-of_z}
 use Rattle.std.proofs.lemmas.Result.{err_from_is_err_and}
 use Rattle.version_book.specs.Store.{has_store}
+use Rattle.server_session.specs.Stores.{store_of}
 use Rattle.server_session.proofs.AnswerLemmas.{answers_define, answers_remove, answers_there, define_refused, refused_so, remove_refused}
+use Rattle.server_session.proofs.Anywhere.{edges_anywhere, grid_anywhere, list_anywhere, locate_anywhere, verify_anywhere}
 use Rattle.server_session.proofs.answering.answer_request.Goals as goal
 
 pub returns-in-Nothing : goal.returns-in-Nothing
@@ -33,16 +35,16 @@ returns-in_ok-change-in-Remove g c =
     rw c.in-Remove.is (answers_remove _ c.args.me.now c.submit-in-Remove.new.me c.in-Remove.name.now _ _ c.in_ok-change-in-Remove.ensures.ok c.submit-in-Remove.ensures)
 
 pub returns-in-Locate : goal.returns-in-Locate
-returns-in-Locate g c = rw c.in-Locate.is (search (rules, to_z-of_z, c.answer_locate.ensures (has_store c.args.shared.now)))
+returns-in-Locate g c = rw c.in-Locate.is (search (rules, to_z-of_z, locate_anywhere (store_of g.J.BookName.stored (has_store c.args.shared.now)) c.args.me.now c.answer_locate.new.me _ c.answer_locate.ensures))
 
 pub returns-in-Grid : goal.returns-in-Grid
-returns-in-Grid g c = rw c.in-Grid.is (search (rules, to_z-of_z, c.answer_grid.ensures (has_store c.args.shared.now)))
+returns-in-Grid g c = rw c.in-Grid.is (search (rules, to_z-of_z, grid_anywhere (store_of g.J.BookName.stored (has_store c.args.shared.now)) c.args.me.now c.answer_grid.new.me _ c.answer_grid.ensures))
 
 pub returns-in-ListLayers : goal.returns-in-ListLayers
-returns-in-ListLayers g c = rw c.in-ListLayers.is (c.answer_list.ensures _)
+returns-in-ListLayers g c = rw c.in-ListLayers.is (list_anywhere _ c.args.me.now c.answer_list.new.me _ c.answer_list.ensures)
 
 pub returns-in-Edges : goal.returns-in-Edges
-returns-in-Edges g c = rw c.in-Edges.is (search (rules, to_z-of_z, c.answer_edges.ensures (has_store c.args.shared.now)))
+returns-in-Edges g c = rw c.in-Edges.is (search (rules, to_z-of_z, edges_anywhere (store_of g.J.BookName.stored (has_store c.args.shared.now)) c.args.me.now c.answer_edges.new.me _ c.answer_edges.ensures))
 
 pub returns-in-Verify : goal.returns-in-Verify
-returns-in-Verify g c = rw c.in-Verify.is (search (rules, to_z-of_z, c.answer_verify.ensures (has_store c.args.shared.now)))
+returns-in-Verify g c = rw c.in-Verify.is (search (rules, to_z-of_z, verify_anywhere (store_of g.J.BookName.stored (has_store c.args.shared.now)) c.args.me.now c.answer_verify.new.me _ c.answer_verify.ensures))

@@ -1,8 +1,9 @@
+use Rattle.server_session.specs.Stores.{store_of}
 use Rattle.server_session.proofs.Steps.{ends_alone, ends_refused}
 use Rattle.server_session.proofs.talk.end_batch.Goals as goal
 
 pub returns-then-is_none-clause-ends : goal.returns-then-is_none-clause-ends
-returns-then-is_none-clause-ends g c = ends_alone _ _ c.if-is_none.ensures
+returns-then-is_none-clause-ends g c there = ends_alone _ _ c.if-is_none.ensures (store_of g.J.BookName.stored there)
 
 pub returns-clause-ends : goal.returns-clause-ends
-returns-clause-ends g c = ends_refused _ _ _ _ c.if-is_none.ensures c.write_reply.ensures.writes
+returns-clause-ends g c there = ends_refused _ _ _ _ c.if-is_none.ensures c.write_reply.ensures.writes (store_of g.J.BookName.stored there)

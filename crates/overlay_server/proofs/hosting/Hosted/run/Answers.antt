@@ -15,7 +15,7 @@ use Rattle.session_threads.proofs.Lists.{beside_length}
 use Rattle.overlay_server.specs.Serving.{first_log}
 use Rattle.overlay_server.proofs.Refusals.{MayAnswer, refused_from}
 use Rattle.overlay_server.proofs.Parts.{AreSeated, all_of_book, as_many, of_ended}
-use Rattle.overlay_server.proofs.Stores.{kept_twice, stopped_at_once, stopped_by}
+use Rattle.overlay_server.proofs.Stores.{holds_on, kept_twice, stopped_at_once, stopped_by}
 use Rattle.overlay_server.proofs.ServedParts.{served_from}
 use Rattle.overlay_server.proofs.hosting.Hosted.run.Goals as goal
 
@@ -38,9 +38,17 @@ run_threads-store-requires-after_bounds g c κs within =
     let seated : AreSeated g.J.BookName.book c.args.self.start.version.value c.args.self.ports.items seats.scripts.items = record { sessions = sessions ∙ c.requires.sessions; ports_are = ports } in
     record {
       store = c.requires.reporter.0;
+      durable = c.requires.durable;
       scripts = all_of_book g.J.BookName.book c.args.self.start.version.value c.args.self.ports.items seats.scripts.items seated;
       rooms = subst (HasRooms seats.rooms) (sym (as_many g.J.BookName.book c.args.self.start.version.value c.args.self.ports.items seats.scripts.items seated)) rooms;
     }
+
+pub keep_store-reporter-requires-clause-stored : goal.keep_store-reporter-requires-clause-stored
+keep_store-reporter-requires-clause-stored g c =
+    let old = c.args.self.store in
+    let after = c.run_threads-store.result.store in
+    holds_on g.D.Disk g.J.BookName.stored old.reporter after.reporter (told_in old.told) (told_in after.told) old.flusher after.flusher
+    c.run_threads-store.ensures.store.flushed c.requires.durable
 
 pub returns-in_default-ended-clause-refused : goal.returns-in_default-ended-clause-refused
 returns-in_default-ended-clause-refused g c =

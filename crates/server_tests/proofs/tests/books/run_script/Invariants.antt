@@ -1,5 +1,5 @@
--- The book is named by the history that was just opened.
+-- The book is named by the history that was just opened. It has no store, so nothing is stored.
 use Rattle.server_tests.proofs.tests.books.run_script.Given as goal
 
 abbrev pub ghosts-run_in : goal.ghosts-run_in
-ghosts-run_in g a = record { book = a.history.seen_log.book }
+ghosts-run_in g a = record { book = a.history.seen_log.book; stored = λ log number. ⊥ }

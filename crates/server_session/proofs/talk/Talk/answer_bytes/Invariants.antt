@@ -2,14 +2,15 @@
 use Rattle.std.proofs.Common.{◌≡◌, ℕ, false, List, ◌++◌, take}
 use Rattle.version_book.specs.Store.{has_store}
 use Rattle.server_session.specs.Session.{Stays}
+use Rattle.server_session.specs.Stores.{store_of}
 use Rattle.server_session.specs.Talk.{has_ended, HasTaken, turns_ended, AnswersTurns}
-use Rattle.server_session.proofs.talk.Talk.take.Given as goal
+use Rattle.server_session.proofs.talk.Talk.answer_bytes.Given as goal
 
 abbrev pub invariant-loop-byte : goal.invariant-loop-byte
 invariant-loop-byte g l = record {
   takes : (taken : List ℕ) → HasTaken l.initial.self taken → HasTaken l.self (taken ++ take l.byte-index l.bytes);
   answers : (taken : List ℕ) → HasTaken l.initial.self taken
-      → AnswersTurns (has_store l.shared) l.initial.me (turns_ended taken (take l.byte-index l.bytes)) l.me (g.W.Write.contents l.initial.writer) (g.W.Write.contents l.writer);
+      → AnswersTurns (store_of g.J.BookName.stored (has_store l.shared)) l.initial.me (turns_ended taken (take l.byte-index l.bytes)) l.me (g.W.Write.contents l.initial.writer) (g.W.Write.contents l.writer);
   going : has_ended l.self ≡ false;
   stays : Stays l.initial.me l.me;
 }

@@ -1,0 +1,37 @@
+use Rattle.std.proofs.Common.{◌+◌, ◌++◌, take, drop, sym, ap, ◌∙◌, take-append-drop}
+use Rattle.std.proofs.lemmas.List.{take_more}
+use Rattle.server_session.proofs.Steps.{takes_none, answers_nothing, takes_more, answers_more, stops_there, at_err}
+use Rattle.server_session.proofs.Turns.{stays_self, stays_trans}
+use Rattle.server_session.proofs.talk.Talk.answer_bytes.Goals as goal
+
+pub loop-byte-init : goal.loop-byte-init
+loop-byte-init g c = record {
+  takes = takes_none _;
+  answers = λ taken has. answers_nothing _ _ _ taken;
+  going = c.requires.going;
+  stays = stays_self _;
+}
+
+pub loop-byte-preserved : goal.loop-byte-preserved
+loop-byte-preserved g c =
+    let i = c.loop-byte.byte-index in
+    let bytes = c.args.bytes.now in
+    let here = c.loop-byte.invariant in
+    let next = c.in_ok-take_byte.ensures in
+    let joined = sym (take_more bytes i _ c.loop-byte-test.true) in
+    record {
+      takes = takes_more _ c.args.self.now c.loop-byte.self _ _ c.take_byte.new.me (take i bytes) _ _ _ _ (g.W.Write.contents c.take_byte.new.writer) joined here.stays here.takes here.answers c.take_byte.new.self next.takes;
+      answers = answers_more _ c.args.self.now c.loop-byte.self _ _ c.take_byte.new.me (take i bytes) _ _ _ _ (g.W.Write.contents c.take_byte.new.writer) joined here.stays here.takes here.answers next.answers;
+      going = next.ended;
+      stays = stays_trans _ _ _ here.stays next.stays;
+    }
+
+pub returns-in_err-take_byte-clause-stops : goal.returns-in_err-take_byte-clause-stops
+returns-in_err-take_byte-clause-stops g c =
+    let i = c.loop-byte.byte-index in
+    let bytes = c.args.bytes.now in
+    let here = c.loop-byte.invariant in
+    at_err _ _ _ c.from_residual.ensures.0
+    (stops_there _ c.args.self.now c.loop-byte.self _ _ _ (take i bytes) _ (drop (i + 1) bytes) _ _ _ _
+    (ap (λ l. l ++ drop (i + 1) bytes) (sym (take_more bytes i _ c.loop-byte-test.true)) ∙ take-append-drop (i + 1) bytes)
+    here.stays here.takes here.answers c.in_err-take_byte.ensures.stops)
