@@ -39,6 +39,7 @@ use Rattle.record_writing.specs.declared.catalog.Listed as code
 use Rattle.record_writing.specs.declared.catalog.Records.{Records}
 use Rattle.record_writing.specs.declared.catalog.Records.TheVariants.{Base, Derived}
 use Rattle.record_writing.specs.Tiles.{named_by}
+use Rattle.root_reading.proofs.RecordLengths.{few_steps, expression_length}
 use Rattle.commit_plan.proofs.CatalogSize.{extent_long, name_long}
 
 -- ---- base layers: eight bytes a point, and there are few steps
@@ -67,16 +68,6 @@ rings_long (r ∷ rs) =
     length-append (ring.text r) (flat_map ring.text rs) in
     omega (arith, both, count, ring_long r, rings_long rs)
 
-so_then : (b : Bool) (x : PlaneFault) → cond b None (Some x) ≡ None → b ≡ true
-so_then true x e = refl
-so_then false x e = absurd cc
-
-few_steps : (rs : List (List WholePoint)) → rings_fault rs ≡ None → ring_step_count rs ≤ steps_max
-few_steps rs good =
-    leb-true (ring_step_count rs) steps_max (so_then (nat_le (ring_step_count rs) steps_max) TooManySegments
-    (both_absent (first_ring_fault 0 rs)
-    (cond (nat_le (ring_step_count rs) steps_max) None (Some TooManySegments)) good).second)
-
 pub base_short : (rs : List (List WholePoint)) → rings_fault rs ≡ None → length (rings.text rs) < 2 ^ 32
 base_short rs good =
     let both : length (rings.text rs) ≡ length (big_bytes 2 (length rs)) + length (flat_map ring.text rs) =
@@ -85,46 +76,8 @@ base_short rs good =
 
 -- ---- definitions: few tokens, and no name is long
 
-bracketed : (b : Bool) (w : Written) → length (written_text w) ≤ 35 * length (written_kinds w)
-    → length (written_text (bracketed_if b w)) ≤ 35 * length (written_kinds (bracketed_if b w))
-bracketed false w so = so
-bracketed true w so =
-    omega (arith, so, length-append (written_text w) (41 ∷ []), length-append (written_kinds w) (close_bracket ∷ []))
-
-sign_long : (o : Operation) → length (operation_text o) ≡ 3
-sign_long intersection = refl
-sign_long union = refl
-sign_long difference = refl
-sign_long sym_difference = refl
-
-name_short : (n : List ℕ) → is_name n ≡ true → length n ≤ 32
-name_short n is =
-    leb-true (length n) 32
-    (and_parts (first_is_letter n) (nat_le (length n) 32)
-    (and_parts (first_is_letter n && nat_le (length n) 32) (list_all is_name_byte n) is).0).1
-
-tree_short : (t : Tree (List ℕ)) → list_all is_name (leaves t) ≡ true
-    → length (expression_text t) ≤ 35 * length (written_kinds (canonical t))
-tree_short (leaf n) are = omega (arith, name_short n (and_parts (is_name n) true are).0)
-tree_short (combine o l r) are =
-    let names = and_parts (list_all is_name (leaves l)) (list_all is_name (leaves r))
-    (sym (list_all-append is_name (leaves l) (leaves r)) ∙ are) in
-    let left = bracketed_if (left_needs_brackets o (level_of (canonical l))) (canonical l) in
-    let right = bracketed_if (right_needs_brackets o (level_of (canonical r))) (canonical r) in
-    let first = bracketed (left_needs_brackets o (level_of (canonical l))) (canonical l) (tree_short l names.0) in
-    let second = bracketed (right_needs_brackets o (level_of (canonical r))) (canonical r) (tree_short r names.1) in
-    omega (
-      arith,
-      first,
-      second,
-      sign_long o,
-      length-append (written_text left) (operation_text o ++ written_text right),
-      length-append (operation_text o) (written_text right),
-      length-append (written_kinds left) (operator o ∷ written_kinds right),
-    )
-
 pub definition_short : (t : Tree (List ℕ)) → IsExpression t → length (expression_text t) < 2 ^ 32
-definition_short t is = omega (arith, is.1, tree_short t is.0)
+definition_short t is = omega (arith, expression_length t is)
 
 -- ---- tiles: at most 82 bytes a piece
 

@@ -11,7 +11,7 @@ use Rattle.store_terms.specs.DefinitionRecord.{definition_of_record}
 use Rattle.store_terms.specs.TileRecord.{tile_of_record}
 use Rattle.store_terms.specs.Catalog.{Records, Listed}
 use Rattle.store_terms.specs.Places.{blocks, bytes_of, is_placed, some_extents, extents_of_records, extents_listed}
-use Rattle.store_terms.specs.Image.{◌>>=◌, or_fault, placed_bytes, with_layer, tiles_of, layer_of, layers_of, listing_of}
+use Rattle.store_terms.specs.Image.{or_fault, placed_bytes, with_layer, tiles_of, layer_of, layers_of, listing_of}
 use Rattle.store_terms.proofs.HeldLemmas.{ok_bound as bound}
 use Rattle.root_reading.specs.RootRuns.{IsNear, AllNear}
 

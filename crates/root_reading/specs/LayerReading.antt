@@ -1,5 +1,5 @@
 -- What opening reads of the records of a root, one behind another.
-use Rattle.std.specs.Prelude.{ℕ, List, ◌++◌, Result, Ok}
+use Rattle.std.specs.Prelude.{ℕ, suc, List, ◌++◌, take, Result, Ok}
 use Rattle.overlay_terms.specs.Plane.{WholePoint}
 use Rattle.overlay_terms.specs.Trees.{Tree}
 use Rattle.overlay_terms.specs.Layers.{Name, derived, Layer}
@@ -11,6 +11,10 @@ use Rattle.store_terms.specs.BaseRecord.{base_of_record}
 use Rattle.store_terms.specs.DefinitionRecord.{definition_of_record}
 use Rattle.store_terms.specs.TileRecord.{tile_of_record}
 use Rattle.store_terms.specs.Image.{◌>>=◌, or_fault, placed_bytes, with_layer}
+
+-- the bytes of a record in an extent; of one that is longer than any of its form, as many as show it
+abbrev pub front_of : ℕ → Damage → List ℕ → RecordExtent → Result (List ℕ) Damage
+front_of most damage file e = placed_bytes damage file e >>= λ bytes. Ok (take (suc most) bytes)
 
 -- the rings of the base record in an extent
 abbrev pub rings_at : List ℕ → RecordExtent → Result (List (List WholePoint)) Damage

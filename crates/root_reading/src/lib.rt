@@ -4,6 +4,7 @@
 pub mod contents;
 mod kept_layers;
 pub mod load_fault;
+mod longest;
 pub mod record_bytes;
 pub mod records;
 pub mod root_runs;

@@ -1,8 +1,9 @@
 //! Records as the disk has them.
-ghost use Rattle.std.specs.Prelude.{◌≡◌, ◌↔◌, ◌+◌, ◌*◌, ◌/◌, ◌&&◌, nat_le, length};
+ghost use Rattle.std.specs.Prelude.{◌≡◌, ◌↔◌, ◌+◌, ◌*◌, ◌/◌, ◌<◌, ◌^◌, ◌&&◌, ◌≤◌, nat_le, length, IfOk, IfErr};
+ghost use Rattle.disk_model.specs.Disk.{part};
 ghost use Rattle.store_terms.specs.Places.{blocks};
-ghost use Rattle.store_terms.specs.Image.{placed_bytes};
-ghost use Rattle.root_reading.specs.Looking.{Gives, Looks, Causes};
+ghost use Rattle.root_reading.specs.LayerReading.{front_of};
+ghost use Rattle.root_reading.specs.Looking.{Gives, Looks, Causes, IsUndamaged};
 
 use crate::load_fault::LoadFault;
 use disk_model::disk::Disk;
@@ -20,24 +21,46 @@ fn is_within(extent: RecordExtent, whole: u64) -> bool
         && blocks_of(extent.size) <= whole - extent.block
 }
 
-/// The bytes of a record in a file of this size; the damage where it is not placed in it.
+/// The bytes of a record in a file of this size; the damage where it is not placed in it. Where a record is longer than any
+/// of its form can be, they end one byte after that length: by these it is known, and no length that a file claims asks for
+/// more memory.
 pub(crate) fn fetch<D: Disk>(
     alloc: Global,
     disk: &mut D,
     size: usize,
     extent: RecordExtent,
     damage: Damage,
+    most: usize,
 ) -> Result<Vec<u8>, LoadFault>
-    requires { D.is_honest disk.old → size ≡ length (D.seen disk.old) }
+    requires size { D.is_honest disk.old → size ≡ length (D.seen disk.old) }
+    requires most { most < 2 ^ 32 }
     ensures honest { D.is_honest disk.new ↔ D.is_honest disk.old }
     ensures looks { D.is_honest disk.old → Looks D.Disk disk.old disk.new }
-    ensures gives { D.is_honest disk.old → Gives (λ v. v.items) result (placed_bytes damage (D.seen disk.old) extent) }
+    ensures gives { D.is_honest disk.old → Gives (λ v. v.items) result (front_of most damage (D.seen disk.old) extent) }
     ensures cause { D.is_honest disk.old → Causes result (D.faults disk.old) (D.faults disk.new) }
 {
     if !is_within(extent, (size / BLOCK) as u64) {
         return Err(LoadFault::Damaged(damage));
     }
-    let mut bytes = vec![in alloc; 0; extent.size as usize]?;
-    disk.read(extent.block as usize * BLOCK, &mut bytes)?;
+    let count = usize::min(extent.size as usize, most + 1);
+    read_part(alloc, disk, extent.block as usize * BLOCK, count)
+}
+
+/// So many bytes of the disk from a place on.
+fn read_part<D: Disk>(
+    alloc: Global,
+    disk: &mut D,
+    at: usize,
+    count: usize,
+) -> Result<Vec<u8>, LoadFault>
+    requires { D.is_honest disk.old → at + count ≤ length (D.seen disk.old) }
+    ensures honest { D.is_honest disk.new ↔ D.is_honest disk.old }
+    ensures looks { D.is_honest disk.old → Looks D.Disk disk.old disk.new }
+    ensures part { D.is_honest disk.old → IfOk result (λ v. v.items ≡ part (D.seen disk.old) at count) }
+    ensures undamaged { IfErr result IsUndamaged }
+    ensures cause { D.is_honest disk.old → Causes result (D.faults disk.old) (D.faults disk.new) }
+{
+    let mut bytes = vec![in alloc; 0; count]?;
+    disk.read(at, &mut bytes)?;
     Ok(bytes)
 }

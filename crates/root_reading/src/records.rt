@@ -1,11 +1,16 @@
 //! The records that a root names, as the disk has them.
 ghost use Rattle.std.specs.Prelude.{◌↔◌, length, ◌≡◌};
+ghost use Rattle.record_writing.specs.Answers.{Reads};
 ghost use Rattle.record_writing.specs.Listing as listings;
-ghost use Rattle.store_terms.specs.Image.{listing_of};
+ghost use Rattle.store_terms.specs.Fields.{AreBytes};
+ghost use Rattle.store_terms.specs.Catalog.{catalog_of_record};
+ghost use Rattle.store_terms.specs.declared.damage.Damage.TheVariants.{CatalogForm};
+ghost use Rattle.store_terms.specs.Image.{listing_of, or_fault};
 ghost use Rattle.root_reading.specs.Looking.{Gives, Looks, Causes};
 ghost use Rattle.root_reading.specs.LayerReading.{rings_at, expression_at};
 
 use crate::load_fault::LoadFault;
+use crate::longest::{BASE_MAX, CATALOG_MAX, DEFINITION_MAX};
 use crate::record_bytes::fetch;
 use disk_model::disk::Disk;
 use layer_expr::Expr;
@@ -14,6 +19,7 @@ use record_reading::base_record::read_base;
 use record_reading::catalog_record::read_catalog;
 use record_reading::definition_record::read_definition;
 use record_writing::catalog::Listed;
+use record_writing::fault::RecordFault;
 use std::alloc::Global;
 use store_terms::damage::Damage;
 use store_terms::root::{RecordExtent, Root};
@@ -33,9 +39,24 @@ pub fn listing_at<D: Disk>(
         → Gives (λ v. listings.entries_of v.items) result (listing_of (D.seen disk.old) root) }
     ensures cause { D.is_honest disk.old → Causes result (D.faults disk.old) (D.faults disk.new) }
 {
-    let bytes = fetch(alloc, disk, size, root.catalog, Damage::CatalogPlace)?;
-    let listing = read_catalog(alloc, root.is_old, &bytes)?;
+    let bytes = fetch(
+        alloc,
+        disk,
+        size,
+        root.catalog,
+        Damage::CatalogPlace,
+        CATALOG_MAX,
+    )?;
+    let listing = read_front(alloc, root.is_old, &bytes)?;
     Ok(listing)
+}
+
+/// The layers that the front of a catalog lists. Its counts are of bytes, and so are small.
+fn read_front(alloc: Global, is_old: bool, bytes: &[u8]) -> Result<Vec<Listed>, RecordFault>
+    ensures reads { Reads (λ v. listings.entries_of v.items) result (or_fault CatalogForm (catalog_of_record is_old bytes.now)) }
+    ensures bytes { AreBytes bytes.now }
+{
+    read_catalog(alloc, is_old, bytes)
 }
 
 /// The base layer whose record lies in an extent.
@@ -51,7 +72,7 @@ pub(crate) fn base_at<D: Disk>(
     ensures gives { D.is_honest disk.old → Gives (λ layer. layer) result (rings_at (D.seen disk.old) extent) }
     ensures cause { D.is_honest disk.old → Causes result (D.faults disk.old) (D.faults disk.new) }
 {
-    let bytes = fetch(alloc, disk, size, extent, Damage::RecordPlace)?;
+    let bytes = fetch(alloc, disk, size, extent, Damage::RecordPlace, BASE_MAX)?;
     let rings = read_base(alloc, &bytes)?;
     Ok(rings)
 }
@@ -70,7 +91,14 @@ pub(crate) fn expression_at<D: Disk>(
         → Gives (λ expression. expression) result (expression_at (D.seen disk.old) extent) }
     ensures cause { D.is_honest disk.old → Causes result (D.faults disk.old) (D.faults disk.new) }
 {
-    let bytes = fetch(alloc, disk, size, extent, Damage::RecordPlace)?;
+    let bytes = fetch(
+        alloc,
+        disk,
+        size,
+        extent,
+        Damage::RecordPlace,
+        DEFINITION_MAX,
+    )?;
     let expression = read_definition(alloc, &bytes)?;
     Ok(expression)
 }

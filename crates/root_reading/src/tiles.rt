@@ -11,6 +11,7 @@ ghost use Rattle.root_reading.specs.LayerReading.{tile_at, then_tiles};
 ghost use Rattle.root_reading.specs.Stored.{IsNextTo};
 
 use crate::load_fault::LoadFault;
+use crate::longest::TILE_MAX;
 use crate::record_bytes::fetch;
 use disk_model::disk::Disk;
 use layer_expr::name::Name;
@@ -39,7 +40,7 @@ fn tile_at<D: Disk>(
     ensures gives { D.is_honest disk.old
         → Gives (λ x. tile_of x.1) result (tile_at (D.seen disk.old) column extent) }
 {
-    let bytes = fetch(alloc, disk, size, extent, Damage::RecordPlace)?;
+    let bytes = fetch(alloc, disk, size, extent, Damage::RecordPlace, TILE_MAX)?;
     let Some(known) = Column::new(column as u64) else {
         return Err(LoadFault::Damaged(Damage::TileForm));
     };
