@@ -1,1 +1,2 @@
+pub mod Descriptor
 pub mod Nowhere

@@ -1,30 +1,38 @@
 //! A disk in a file of the operating system, of which nothing is claimed.
-ghost use Rattle.std.specs.Prelude.{[]};
+ghost use Rattle.std.specs.Prelude.{[], ◌≤ℤ◌, IfOk, pos};
+ghost use Rattle.std.specs.Fd.{file_raw_fd};
+ghost use Rattle.file_disk.specs.Descriptor.{IsOwn};
 
 use disk_model::disk::Disk;
 use disk_model::fault::DiskFault;
 use std::fs::{File, OpenOptions, TryLockError};
+use std::os::fd::{AsRawFd, RawFd};
 use std::os::unix::fs::FileExt;
 use std::rt::Files;
 use std::{fs, io};
 
-/// A plain file. That it is honest is claimed nowhere: what it does is shown by tests.
+/// A plain file, which is open, and whose lock is held, as long as the disk is there. That it is honest is claimed nowhere:
+/// what it does is shown by tests.
 #[derive(Debug, Drop)]
 pub struct FileDisk {
+    file: File,
     access: Access,
 }
 
 /// What may be done with a file.
-#[derive(Debug, Drop)]
+#[derive(Clone, Copy, Debug)]
 enum Access {
     /// It is read and written.
-    Whole(File),
+    Whole,
     /// It is read alone: each write is an error.
-    Reading(File),
+    Reading,
     /// Nothing, once a write or a sync has failed, until the file is opened anew. After a sync that failed, what was
-    /// written may be gone although the system takes the next sync as done.
+    /// written may be gone although the system takes the next sync as done. No other program is to have it meanwhile.
     Failed,
 }
+
+/// The least number of an open file that is none of a standard stream's.
+const FIRST_OWN: RawFd = 3;
 
 impl FileDisk {
     /// The file at a path. Where it is absent it is made if `make` says so, and else that is an error, as is a folder, a
@@ -35,27 +43,33 @@ impl FileDisk {
         rt: &R,
         path: &str,
         make: bool,
-    ) -> io::Result<FileDisk> {
+    ) -> io::Result<FileDisk>
+        // The file has no standard stream's number.
+        ensures own { IfOk result IsOwn }
+    {
         let file = opened(rt, path, make)?;
         Ok(FileDisk {
-            access: Access::Whole(file),
+            file,
+            access: Access::Whole,
         })
     }
 
     /// The file at a path, to be read alone: it may be one that cannot be written. Others may read it meanwhile, and no
     /// program has it to write; that one has it is an error.
-    pub fn reading<R: Files<File = File>>(rt: &R, path: &str) -> io::Result<FileDisk> {
+    pub fn reading<R: Files<File = File>>(rt: &R, path: &str) -> io::Result<FileDisk>
+        ensures own { IfOk result IsOwn }
+    {
         let file = opened_to_read(rt, path)?;
         Ok(FileDisk {
-            access: Access::Reading(file),
+            file,
+            access: Access::Reading,
         })
     }
 
     /// The file, as long as no write or sync has failed.
     fn file(&self) -> Result<&File, DiskFault> {
-        match &self.access {
-            Access::Whole(file) => Ok(file),
-            Access::Reading(file) => Ok(file),
+        match self.access {
+            Access::Whole | Access::Reading => Ok(&self.file),
             Access::Failed => Err(DiskFault::Device),
         }
     }
@@ -70,10 +84,13 @@ impl FileDisk {
 }
 
 /// The plain file at a path. One that may have been made is entered in its folder for good.
-fn opened<R: Files<File = File> + AllocGlobal>(rt: &R, path: &str, make: bool) -> io::Result<File> {
+fn opened<R: Files<File = File> + AllocGlobal>(rt: &R, path: &str, make: bool) -> io::Result<File>
+    ensures { IfOk result (λ file. pos 3 ≤ℤ file_raw_fd file) }
+{
     let mut how = OpenOptions::new();
     how.read(true).write(true).create(make);
     let file = how.open(rt, path)?;
+    expect_own(&file)?;
     expect_plain(file.metadata()?.is_file())?;
     held(file.try_lock())?;
     if make {
@@ -84,12 +101,29 @@ fn opened<R: Files<File = File> + AllocGlobal>(rt: &R, path: &str, make: bool) -
 
 /// The plain file at a path, to be read. It is looked at before it is opened as well, since the opening of a pipe would
 /// wait for who writes to it.
-fn opened_to_read<R: Files<File = File>>(rt: &R, path: &str) -> io::Result<File> {
+fn opened_to_read<R: Files<File = File>>(rt: &R, path: &str) -> io::Result<File>
+    ensures { IfOk result (λ file. pos 3 ≤ℤ file_raw_fd file) }
+{
     expect_plain(fs::metadata(rt, path)?.is_file())?;
     let file = File::open(rt, path)?;
+    expect_own(&file)?;
     expect_plain(file.metadata()?.is_file())?;
     held(file.try_lock_shared())?;
     Ok(file)
+}
+
+/// Of a file with a standard stream's number nothing is kept: what is printed there would be written over it.
+fn expect_own(file: &File) -> io::Result<()>
+    ensures { IfOk result (λ _. pos 3 ≤ℤ file_raw_fd file.now) }
+{
+    if file.as_raw_fd() >= FIRST_OWN {
+        Ok(())
+    } else {
+        Err(io::Error::new(
+            io::ErrorKind::InvalidInput,
+            "it has the number of a standard stream",
+        ))
+    }
 }
 
 /// Of a folder, a device or a pipe nothing is kept.
@@ -97,7 +131,7 @@ fn expect_plain(is_file: bool) -> io::Result<()> {
     if is_file {
         Ok(())
     } else {
-        Err(io::Error::from(io::ErrorKind::InvalidInput))
+        Err(io::Error::new(io::ErrorKind::InvalidInput, "not a plain file"))
     }
 }
 
@@ -106,7 +140,10 @@ fn expect_plain(is_file: bool) -> io::Result<()> {
 fn held(answer: Result<(), TryLockError>) -> io::Result<()> {
     match answer {
         Ok(()) => Ok(()),
-        Err(TryLockError::WouldBlock) => Err(io::Error::from(io::ErrorKind::WouldBlock)),
+        Err(TryLockError::WouldBlock) => Err(io::Error::new(
+            io::ErrorKind::WouldBlock,
+            "it is in use",
+        )),
         Err(TryLockError::Error(error)) if has_no_locks(&error) => Ok(()),
         Err(TryLockError::Error(error)) => Err(error),
     }
@@ -189,18 +226,17 @@ impl Disk for FileDisk {
     }
 
     fn write_at(&mut self, at: usize, bytes: &[u8]) -> Result<(), DiskFault> {
-        let answer = match &self.access {
-            Access::Whole(file) => told(file.write_all_at(bytes, at as u64)),
-            Access::Reading(_) => return Err(DiskFault::Device),
-            Access::Failed => return Err(DiskFault::Device),
+        let answer = match self.access {
+            Access::Whole => told(self.file.write_all_at(bytes, at as u64)),
+            Access::Reading | Access::Failed => return Err(DiskFault::Device),
         };
         self.after(answer)
     }
 
     fn sync(&mut self) -> Result<(), DiskFault> {
-        let answer = match &self.access {
-            Access::Whole(file) => told(file.sync_data()),
-            Access::Reading(file) => told(synced_to_read(file)),
+        let answer = match self.access {
+            Access::Whole => told(self.file.sync_data()),
+            Access::Reading => told(synced_to_read(&self.file)),
             Access::Failed => return Err(DiskFault::Device),
         };
         self.after(answer)

@@ -6,14 +6,28 @@ mod ports;
 mod running;
 mod texts;
 
-use crate::running::run;
+use crate::running::{read_asked, run};
 use program_store::ending::exit_status;
+use program_store::fault::ProgramFault;
+use program_store::refusal::Refusal;
 use std::process::ExitCode;
 
 fn main(rt: HostRuntime) -> ExitCode {
-    let ending = run(&rt, rt.stdin(), rt.stdout());
-    if let Err(fault) = ending {
-        let _printed = eprintln!(rt; "error {} {}", fault.code(), fault.text());
+    let asked = read_asked(&rt);
+    let ending = match &asked {
+        Ok(asked) => run(&rt, rt.stdin(), rt.stdout(), rt.stderr(), asked),
+        Err(fault) => Err(Refusal::from(*fault)),
+    };
+    ExitCode::from(exit_status(told(&rt, ending)))
+}
+
+/// The end of a run, once its fault is printed with the file that it is about.
+fn told(rt: &HostRuntime, ending: Result<bool, Refusal<'_>>) -> Result<bool, ProgramFault> {
+    match ending {
+        Ok(complete) => Ok(complete),
+        Err(refusal) => {
+            let _printed = eprintln!(rt; "{}", refusal);
+            Err(refusal.fault)
+        }
     }
-    ExitCode::from(exit_status(ending))
 }

@@ -2,6 +2,8 @@
 ghost use Rattle.std.specs.Prelude.{◌≡◌, ◌<◌, ◌≤◌, ◌^◌, length, max, IfOk};
 
 use program_store::fault::ProgramFault;
+use program_store::refusal::Refusal;
+use program_store::store::is_store;
 use session_threads::port::Port;
 use std::fs::{File, OpenOptions, TryLockError};
 use std::io::{ErrorKind, Read, Stdin, Stdout, Write};
@@ -54,13 +56,13 @@ impl Write for Replies {
 /// Opens the pairs of paths in their order, of each first where its lines come from: of a named pipe each opening waits
 /// for the other end. Without a pair there is that of standard input and output. The fault is `Script` where a path
 /// can't be opened for another reason than want of memory, or is a plain file that is in use: lines are read from none
-/// that somebody writes, and replies go into none that somebody has, as the store or another pair.
-pub fn open_ports<Q: Files<File = File> + AllocGlobal>(
+/// that somebody writes, and replies go into none that somebody has, as the store or another pair, and into no store.
+pub fn open_ports<'p, Q: Files<File = File> + AllocGlobal>(
     rt: &Q,
     input: Stdin,
     output: Stdout,
-    pairs: &[(String, String)],
-) -> Result<Vec<Port<Lines, Replies>>, ProgramFault>
+    pairs: &'p [(String, String)],
+) -> Result<Vec<Port<Lines, Replies>>, Refusal<'p>>
     requires { length pairs.now ≤ 4 }
     ensures each { IfOk result (λ ports. length ports.items ≡ max 1 (length pairs.now)) }
     ensures some { IfOk result (λ ports. 0 < length ports.items) }
@@ -73,8 +75,8 @@ pub fn open_ports<Q: Files<File = File> + AllocGlobal>(
     }
     'pairs: for pair in pairs {
         let (from, to) = pair;
-        let reader = answered(open_to_read(rt, from))?;
-        let writer = answered(open_to_write(rt, to))?;
+        let reader = answered(open_to_read(rt, from), from)?;
+        let writer = answered(open_to_write(rt, to), to)?;
         ports.push(port(Lines::File(reader), Replies::File(writer)))?;
     }
     Ok(ports)
@@ -100,40 +102,57 @@ fn open_to_read<Q: Files<File = File>>(rt: &Q, path: &str) -> io::Result<File> {
     Ok(file)
 }
 
-/// The file at a path, to be written from its beginning: one that is there is emptied, once nobody else has it.
+/// The file at a path, to be written from its beginning: one that is there is emptied, once nobody else has it, where it
+/// is no store.
 fn open_to_write<Q: Files<File = File>>(rt: &Q, path: &str) -> io::Result<File> {
     let file = there_or_made(rt, path)?;
     if file.metadata()?.is_file() {
         expect_free(file.try_lock())?;
+        expect_no_store(&file)?;
         file.set_len(0)?;
     }
     Ok(file)
 }
 
-/// The file at a path as it is, or a new one. A pipe that is there is not asked to be made, which the system may refuse
-/// where it belongs to somebody else.
+/// The file at a path as it is, or a new one. A plain file can be read as well, for what is in it. A pipe that is there is
+/// not asked to be made, which the system may refuse where it belongs to somebody else.
 fn there_or_made<Q: Files<File = File>>(rt: &Q, path: &str) -> io::Result<File> {
-    match OpenOptions::new().write(true).open(rt, path) {
-        Err(error) if error.kind() == ErrorKind::NotFound => {
-            OpenOptions::new().write(true).create(true).open(rt, path)
-        }
-        opened => opened,
+    match fs::metadata(rt, path) {
+        Ok(found) => OpenOptions::new()
+            .read(found.is_file())
+            .write(true)
+            .open(rt, path),
+        Err(error) if error.kind() == ErrorKind::NotFound => OpenOptions::new()
+            .read(true)
+            .write(true)
+            .create(true)
+            .open(rt, path),
+        Err(error) => Err(error),
     }
+}
+
+/// A store is not written over.
+fn expect_no_store(file: &File) -> io::Result<()> {
+    if is_store(file)? {
+        return Err(io::Error::new(ErrorKind::InvalidInput, "it is a store"));
+    }
+    Ok(())
 }
 
 /// That somebody has a lock on a file is an error. Where the system has no locks on it, nobody is kept out.
 fn expect_free(lock: Result<(), TryLockError>) -> io::Result<()> {
     match lock {
-        Err(TryLockError::WouldBlock) => Err(io::Error::from(ErrorKind::WouldBlock)),
+        Err(TryLockError::WouldBlock) => {
+            Err(io::Error::new(ErrorKind::WouldBlock, "it is in use"))
+        }
         _ => Ok(()),
     }
 }
 
-/// What the system answered, as a fault of the program's.
-fn answered(opened: io::Result<File>) -> Result<File, ProgramFault> {
+/// What the system answered about a path of a pair, as a fault of the program's.
+fn answered<'p>(opened: io::Result<File>, path: &'p str) -> Result<File, Refusal<'p>> {
     match opened {
         Ok(file) => Ok(file),
-        Err(error) if error.kind() == ErrorKind::OutOfMemory => Err(ProgramFault::OutOfMemory),
-        Err(_) => Err(ProgramFault::Script),
+        Err(reason) => Err(Refusal::of_file(ProgramFault::Script, path, reason)),
     }
 }

@@ -11,7 +11,7 @@ use program_store::ending::exit_status;
 use std::process::ExitCode;
 
 fn main(rt: HostRuntime) -> ExitCode {
-    let ending = run(&rt, rt.stdin(), &mut rt.stdout());
+    let ending = run(&rt, rt.stdin(), rt.stdout(), rt.stderr());
     if let Err(fault) = ending {
         let _printed = eprintln!(rt; "error {} {}", fault.code(), fault.text());
     }

@@ -7,11 +7,12 @@ use overlay_server::serving::serve;
 use program_store::ending::end_run;
 use program_store::fault::ProgramFault;
 use program_store::store::open_store;
+use program_store::streams::keep_streams;
 use program_words::own::own_words;
 use program_words::reading::read_words;
 use std::env::Env;
 use std::fs::File;
-use std::io::{Stdin, Write};
+use std::io::{Stderr, Stdin, Stdout};
 use std::rt::Files;
 use std::sync::Wait;
 use std::thread::Threads;
@@ -23,9 +24,11 @@ use tile_workers::gate::OpenGate;
 pub fn run<Q: Env + Files<File = File> + Threads + Wait + Sync + AllocGlobal>(
     rt: &Q,
     input: Stdin,
-    output: &mut impl Write,
+    mut output: Stdout,
+    errors: Stderr,
 ) -> Result<bool, ProgramFault> {
     let (keeping, paths) = read_words(rt.alloc(), &own_words(rt)?)?.into_parts();
+    keep_streams(rt, &input, &output, &errors)?;
     let scripts = open_scripts(rt, input, &paths)?;
     let engine = open_store(rt, &keeping)?;
     let options = ServeOptions {
@@ -33,7 +36,7 @@ pub fn run<Q: Env + Files<File = File> + Threads + Wait + Sync + AllocGlobal>(
     };
     match serve(rt, rt.alloc(), options, &OpenGate, engine, scripts) {
         Ok(Served { sessions, closed }) => {
-            let printed = print_all(output, &sessions).is_ok();
+            let printed = print_all(&mut output, &sessions).is_ok();
             end_run(&keeping, &closed, printed, ends_of(&sessions))
         }
         Err(refused) => Err(ProgramFault::of_server(refused.code)),

@@ -3,4 +3,6 @@
 
 pub mod ending;
 pub mod fault;
+pub mod refusal;
 pub mod store;
+pub mod streams;

@@ -6,20 +6,23 @@ ghost use Rattle.root_store.specs.Running.{KeepsTo};
 ghost use Rattle.root_store.specs.declared.phase.Phase.TheVariants.{Idle};
 
 use crate::fault::ProgramFault;
+use crate::refusal::Refusal;
 use commit_plan::fault::StoreFault;
 use file_disk::file_disk::FileDisk;
 use overlay_engine::engine::Engine;
 use program_words::keeping::{Keeping, Opening};
 use std::fs::File;
-use std::io::ErrorKind;
+use std::io;
+use std::os::unix::fs::FileExt;
 use std::rt::Files;
+use store_terms::layout::{BODY, MAGIC, SLOTS_END};
 
 /// Makes or opens the store that the words name. None comes where they name none. Nothing is claimed of what the file
 /// holds.
-pub fn open_store<Q: Files<File = File> + AllocGlobal>(
+pub fn open_store<'k, Q: Files<File = File> + AllocGlobal>(
     rt: &Q,
-    keeping: &Keeping,
-) -> Result<Option<Engine<FileDisk>>, ProgramFault>
+    keeping: &'k Keeping,
+) -> Result<Option<Engine<FileDisk>>, Refusal<'k>>
     // There is an engine just where the words name a store. Where they name none, nothing is refused.
     ensures named { IfOk result (λ opened. is_some opened ≡ is_some keeping.now.store) }
     ensures memory { is_some keeping.now.store ≡ false → IsOk result }
@@ -32,7 +35,14 @@ pub fn open_store<Q: Files<File = File> + AllocGlobal>(
     let Some(path) = &keeping.store else {
         return Ok(None);
     };
-    let disk = open_disk(rt, path, keeping.opening)?;
+    let disk = match open_disk(rt, path, keeping.opening) {
+        Ok(disk) => disk,
+        Err(reason) => return Err(Refusal::of_file(
+            ProgramFault::Store(StoreFault::Device),
+            path,
+            reason,
+        )),
+    };
     let opened = match keeping.opening {
         Opening::New => Engine::create(rt.alloc(), disk, keeping.max_blocks),
         Opening::Existing | Opening::ReadOnly => {
@@ -41,7 +51,7 @@ pub fn open_store<Q: Files<File = File> + AllocGlobal>(
     };
     match opened {
         Ok(engine) => Ok(Some(engine)),
-        Err(refused) => Err(ProgramFault::Store(refused.fault)),
+        Err(refused) => Err(Refusal::about(ProgramFault::Store(refused.fault), path)),
     }
 }
 
@@ -50,15 +60,26 @@ fn open_disk<Q: Files<File = File> + AllocGlobal>(
     rt: &Q,
     path: &str,
     opening: Opening,
-) -> Result<FileDisk, ProgramFault> {
-    let opened = match opening {
+) -> io::Result<FileDisk> {
+    match opening {
         Opening::Existing => FileDisk::at(rt, path, false),
         Opening::New => FileDisk::at(rt, path, true),
         Opening::ReadOnly => FileDisk::reading(rt, path),
-    };
-    match opened {
-        Ok(disk) => Ok(disk),
-        Err(error) if error.kind() == ErrorKind::OutOfMemory => Err(ProgramFault::OutOfMemory),
-        Err(_) => Err(ProgramFault::Store(StoreFault::Device)),
+    }
+}
+
+/// Whether a file has a store's magic in one of its two root slots, so that it must not be written over. What a crash left
+/// of a store has it too.
+pub fn is_store(file: &File) -> io::Result<bool> {
+    Ok(has_magic(file, BODY as u64)? || has_magic(file, (SLOTS_END / 2 + BODY) as u64)?)
+}
+
+/// Whether a file has the magic at a place. A shorter file has not.
+fn has_magic(file: &File, at: u64) -> io::Result<bool> {
+    let mut found = [0; 8];
+    match file.read_exact_at(&mut found, at) {
+        Ok(()) => Ok(&found[..] == MAGIC),
+        Err(error) if error.kind() == io::ErrorKind::UnexpectedEof => Ok(false),
+        Err(error) => Err(error),
     }
 }
