@@ -1,0 +1,1 @@
+"""Overlay of maps of any size: the modules of overlay_maps.py."""

@@ -1,0 +1,71 @@
+"""Edges that are longer than a slot has room for: told with the words to type, or bent at whole points.
+
+An edge is bent at points that are at most half a unit off it, the same ones whichever way it is run, so that a border
+of two features stays common. A feature that has only a part of the edge is bent otherwise: slivers of up to half a
+unit. """
+
+from dataclasses import dataclass
+from fractions import Fraction
+
+import limits
+from maps.whole_maps import MapFault, Point, Ring
+from scale import decimals
+
+EDGE_MAX = 2**19
+
+
+def reach(a: Point, b: Point) -> int:
+    """How far an edge goes, along the axis on which it goes farther."""
+    return max(abs(b[0] - a[0]), abs(b[1] - a[1]))
+
+
+def way_points(a: Point, b: Point) -> list[Point]:
+    """The whole points at which an edge is bent, in its direction; none where it is short enough."""
+    count = -(-reach(a, b) // EDGE_MAX)
+    return [nearest(a, b, part, count) for part in range(1, count)]
+
+
+def nearest(a: Point, b: Point, part: int, count: int) -> Point:
+    """The whole point nearest to a place on an edge, so many parts of it from a; the same one from b."""
+    x, y = ((2 * (one * (count - part) + other * part) + count) // (2 * count) for one, other in zip(a, b))
+    return x, y
+
+
+def bent(ring: Ring) -> Ring:
+    """The ring with its long edges bent."""
+    return [point for a, b in zip(ring, ring[1:] + ring[:1]) for point in (a, *way_points(a, b))]
+
+
+@dataclass
+class Longest:
+    """The longest edge of a map, and how many are longer than EDGE_MAX."""
+
+    length: int = 0
+    feature: str = ""
+    count: int = 0
+
+    def look(self, feature: str, ring: Ring) -> None:
+        for a, b in zip(ring, ring[1:] + ring[:1]):
+            length = reach(a, b)
+            self.count += length > EDGE_MAX
+            if length > self.length:
+                self.length, self.feature = length, feature
+
+    def check(self, factor: Fraction) -> None:
+        """Refuses a map with an edge that is too long."""
+        if self.count:
+            raise MapFault(f"{self.feature}: an edge of {self.length} units, the longest of {self.count} of more than "
+                           f"{EDGE_MAX}; say --factor {fitting(factor, self.length)}, or --bend")
+
+
+def fitting(factor: Fraction, length: int) -> str:
+    """A factor of few digits by which an edge of such a length is short enough."""
+    most = factor * (EDGE_MAX - 1) / (length + 1)
+    digits = 0
+    while most * 10**digits < 10:
+        digits += 1
+    return decimals(Fraction(most.numerator * 10**digits // most.denominator, 10**digits), digits)
+
+
+if __name__ == "__main__":
+    limits.tell(__doc__)

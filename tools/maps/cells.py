@@ -1,0 +1,169 @@
+"""A job as it fits slots: whole where it does, else in cells, each half of a larger one.
+
+A cell that no edge meets has one answer, which is told without the program: nothing, or the whole cell.
+"""
+
+from collections.abc import Iterator
+from dataclasses import dataclass
+from fractions import Fraction
+
+import limits
+from maps import box_pairs
+from maps.drawing_in import Drawn, drawn, is_inside
+from maps.slots import CORE_MAX, Laid, ring_of, steps_of
+from maps.task_form import ALONE, COMMON, GAPS
+from maps.whole_maps import NOWHERE, Box, Ring
+from sessions import Piece
+
+MANY = 100  # of more boxes the pairs are found by grids
+LAYERS_OF_JOB = limits.LAYERS_MAX // 2 - 2  # two sets of layers, each with the cores and the definition
+
+
+class TooDense(Exception):
+    """More features, or more of their edges, meet a unit square than a slot has room for."""
+
+    def __init__(self, core: Box) -> None:
+        super().__init__(core)
+        self.core = core
+
+    def told(self, factor: Fraction) -> str:
+        """Where it is, in the world's coordinates, and what to do."""
+        x, y = (float(Fraction(one) / factor) for one in self.core[:2])
+        return (f"at {x!r} {y!r} more than {LAYERS_OF_JOB} features that lie on each other, or {limits.STEPS_MAX} "
+                "edges, meet a square of one unit; say a greater --factor, or take features out there")
+
+
+@dataclass(frozen=True)
+class Cell:
+    """A cell of a job that lies in the answer as a whole."""
+
+    job: int
+    core: Box
+
+    def border(self) -> list[Piece]:
+        a, b, c, d = [(x, y, 1) for x, y in ring_of(self.core)]
+        return [(a, b), (b, c), (d, c), (a, d)]
+
+
+def halved(core: Box) -> list[Box]:
+    """Both halves of a core along its longer side; none of a unit square."""
+    left, under, right, over = core
+    x, y = (left + right) // 2, (under + over) // 2
+    if right - left >= over - under:
+        return [(left, under, x, over), (x, under, right, over)] if left < x else []
+    return [(left, under, right, y), (left, y, right, over)] if under < y else []
+
+
+def extent(rings: list[Ring], core: Box) -> Box:
+    """The box of rings, as far as it is in a core."""
+    xs, ys = [x for ring in rings for x, _ in ring], [y for ring in rings for _, y in ring]
+    return box_pairs.common((min(xs), min(ys), max(xs), max(ys)), core) if xs else NOWHERE
+
+
+def met_before(boxes: list[Box]) -> dict[int, list[int]]:
+    """For each box those before it with which it has an area in common."""
+    if len(boxes) > MANY:
+        pairs = box_pairs.pairs_within(boxes)
+    else:
+        pairs = [(i, j) for j, (left, under, right, over) in enumerate(boxes)
+                 for i, (x0, y0, x1, y1) in enumerate(boxes[:j])
+                 if x0 < right and left < x1 and y0 < over and under < y1]
+    found: dict[int, list[int]] = {}
+    for i, j in pairs:
+        found.setdefault(j, []).append(i)
+    return found
+
+
+def in_layers(features: list[list[Ring]], core: Box) -> list[list[Ring]]:
+    """The features in as few layers as come so, since two that lie on each other cannot be in one."""
+    meets = met_before([extent(rings, core) for rings in features])
+    places: list[int] = []
+    layers: list[list[Ring]] = []
+    for number, rings in enumerate(features):
+        taken = {places[other] for other in meets.get(number, ())}
+        place = next(place for place in range(len(taken) + 1) if place not in taken)
+        places.append(place)
+        layers += [[]] * (place == len(layers))
+        layers[place] = layers[place] + rings
+    return layers
+
+
+def united(features: list[list[Ring]], core: Box) -> list[list[Ring]]:
+    """Layers whose union is that of the features. Where they are too many, features that stand twice are taken once."""
+    live = [rings for rings in features if rings]
+    layers = in_layers(live, core)
+    return layers if len(layers) < LAYERS_OF_JOB else in_layers(without_repeats(live), core)
+
+
+def without_repeats(features: list[list[Ring]]) -> list[list[Ring]]:
+    """One of those features that have the same steps, wherever their rings begin and whichever way they run."""
+    kept = {tuple(sorted((min(a, b), max(a, b)) for ring in rings for a, b in zip(ring, ring[1:] + ring[:1]))): rings
+            for rings in features}
+    return list(kept.values())
+
+
+def has_answer(kind: str, near: Drawn) -> bool:
+    """Whether a core that no edge meets lies in the answer."""
+    x, y = near.core[:2]
+    inside = [is_inside(rings, x, y) for rings in near.features]
+    if kind == COMMON:
+        return all(inside)
+    if kind == ALONE:
+        return inside[0] and not any(inside[1:])
+    return not any(inside)
+
+
+def layers_of(kind: str, near: Drawn) -> list[list[Ring]]:
+    """What lies in each layer. Where it is one of the answer's sides that has nothing near the core: no layer at
+    all."""
+    if kind == COMMON:
+        return near.features if all(near.features) else []
+    if kind == ALONE:
+        own, *others = near.features
+        return [own, *united(others, near.core)] if own else []
+    return united(near.features, near.core)
+
+
+def fits(near: Drawn, layers: list[list[Ring]]) -> bool:
+    left, under, right, over = near.core
+    return (max(right - left, over - under) <= CORE_MAX and len(layers) <= LAYERS_OF_JOB
+            and all(steps_of(rings) <= limits.STEPS_MAX for rings in layers))
+
+
+def halves_of(kind: str, near: Drawn) -> list[Drawn]:
+    """Both halves of a core with what is near them."""
+    features = [rings for number, rings in enumerate(near.features) if rings or number == 0 or kind == COMMON]
+    halves = halved(near.core)
+    if not halves:
+        raise TooDense(near.core)
+    return [drawn(half, features) for half in halves]
+
+
+def parted(kind: str, job: int, near: Drawn) -> Iterator[Laid | Cell]:
+    """What has to be asked of a job, and what is known: laid out for slots, or cells that lie in the answer."""
+    yield from parted_from(kind, job, [(near, kind == GAPS)])
+
+
+def parted_again(kind: str, laid: Laid) -> Iterator[Laid | Cell]:
+    """The halves of what was laid out, where the program has no room for its boundary."""
+    halves = halved(laid.core)
+    if not halves:
+        raise TooDense(laid.core)
+    yield from parted_from(kind, laid.job, [(drawn(half, laid.layers), True) for half in halves])
+
+
+def parted_from(kind: str, job: int, stack: list[tuple[Drawn, bool]]) -> Iterator[Laid | Cell]:
+    while stack:
+        near, is_cut = stack.pop()
+        layers = layers_of(kind, near)
+        if near.is_plain:
+            if has_answer(kind, near):
+                yield Cell(job, near.core)
+        elif layers and fits(near, layers):
+            yield Laid(job, near.core, near.frame, layers, is_cut)
+        elif layers:
+            stack += [(half, True) for half in halves_of(kind, near)[::-1]]
+
+
+if __name__ == "__main__":
+    limits.tell(__doc__)

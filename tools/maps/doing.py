@@ -1,0 +1,129 @@
+"""Has the tasks of a question done as the words of the call say, and gives what they found in their order.
+
+    --jobs N        N processes of this machine; 0 only writes the tasks, which `overlay_maps.py task FOLDER N..` does
+    --dask [AT]     workers of Dask
+    --work FOLDER   tasks and results stay there, and the same call goes on with them
+"""
+
+import argparse
+import contextlib
+import os
+import pathlib
+import tempfile
+from collections.abc import Iterable, Iterator
+from typing import Any
+
+import ending
+import limits
+from maps import dask_engine, engines, progress, spooled, tasks, work
+from maps.dask_engine import DaskFault
+from maps.engines import Engine, TaskFault
+from maps.task_form import Found, Task
+from maps.tasks import FolderFault, TaskFolder
+from maps.whole_maps import MapFault
+from maps.work import ByProgram
+from sessions import Unusable
+
+INPUTS = ("first", "second")  # the words that name maps
+# What no task knows of.
+ELSEWHERE = ("jobs", "dask", "work", "program", "out", "exact", "a_id", "b_id", "stage", "say")
+RELEASED_AFTER = 100  # tasks
+OUTPUTS = ("pieces", "gaps")  # of these tasks know whether they are wanted
+
+
+def add_words(parser: argparse.ArgumentParser) -> None:
+    """The words of who does the tasks, and where they stand."""
+    parser.add_argument("--jobs", type=number_of_jobs, metavar="N", default=os.cpu_count() or 1,
+                        help="processes of this machine (default: %(default)s); 0: the tasks are only written")
+    parser.add_argument("--dask", nargs="?", const="", metavar="ADDRESS",
+                        help="workers of Dask: of the scheduler there, or of this machine where none is named")
+    parser.add_argument("--work", type=pathlib.Path, metavar="FOLDER",
+                        help="keeps tasks and results there; the same call goes on with them")
+
+
+def number_of_jobs(text: str) -> int:
+    if not (text.isascii() and text.isdigit() and len(text) < 5):
+        raise ValueError(text)
+    return int(text)
+
+
+number_of_jobs.__name__ = "number"
+
+
+def add_task_words(parser: argparse.ArgumentParser) -> None:
+    """The words of `task`."""
+    parser.add_argument("folder", type=pathlib.Path, metavar="FOLDER", help="one of a question's folders within --work")
+    parser.add_argument("numbers", type=int, nargs="+", metavar="N", help="the numbers of tasks, from 0")
+    parser.add_argument("--program", metavar="PATH", help="overlay_live (default: as the other tools find it)")
+
+
+def do_tasks(words: argparse.Namespace, *_: object) -> int:
+    """Does the tasks of a folder that are named: for xargs, GNU parallel, Slurm, or by hand."""
+    with told_faults(words.folder):
+        try:
+            tasks.do_numbers(ByProgram(words.program), words.folder, words.numbers)
+        finally:
+            work.close_all()
+    return 0
+
+
+def found_of(stage: str, made: Iterable[Task], words: argparse.Namespace) -> Iterator[Found]:
+    """What the tasks of one stage of a question find, in their order. They are made where they do not stand yet."""
+    if words.jobs == 0 and words.dask is None and words.work is None:
+        raise MapFault("--jobs 0 leaves the tasks to others: say --work FOLDER, where they find them")
+    with contextlib.ExitStack() as ends:
+        ends.enter_context(told_faults(words.work))
+        top = words.work or pathlib.Path(ends.enter_context(tempfile.TemporaryDirectory(prefix="overlay_maps.")))
+        ends.enter_context(tasks.held(top / stage))
+        folder = tasks.begin(top / stage, asked_of(words), written(made))
+        ends.callback(work.close_all)
+        doing = ByProgram(os.path.abspath(words.program))
+        engines.run(engine_of(words, folder), doing, folder, progress.Progress(f"{words.question} {stage}", words.say))
+        for result in folder.results():
+            yield Found.of_bytes(result)
+
+
+def written(made: Iterable[Task]) -> Iterator[bytes]:
+    """Tasks as their files hold them."""
+    for number, task in enumerate(made):
+        yield task.to_bytes()
+        if number % RELEASED_AFTER == 0:
+            spooled.release()
+
+
+def asked_of(words: argparse.Namespace) -> dict[str, Any]:
+    """What a call asks, as far as tasks know it."""
+    asked: dict[str, Any] = {"maps": [tasks.stamp(path) for name in INPUTS if (path := getattr(words, name, None))]}
+    for name, value in vars(words).items():
+        if name in OUTPUTS:
+            asked[name] = value is not None
+        elif name not in (*ELSEWHERE, *INPUTS):
+            asked[name] = value if isinstance(value, bool | int | None) else str(value)
+    return asked
+
+
+def engine_of(words: argparse.Namespace, folder: TaskFolder) -> Engine:
+    if words.dask is not None:
+        return dask_engine.by_dask(words.dask or None, words.jobs or 1)
+    if words.jobs == 0:
+        return engines.only_planned
+    jobs = min(words.jobs, len(folder.left()))
+    return engines.by_processes(jobs) if jobs > 1 else engines.in_process
+
+
+@contextlib.contextmanager
+def told_faults(folder: pathlib.Path | None) -> Iterator[None]:
+    """Faults as the tool ends with them: a folder that cannot serve as a map that cannot, all else as what failed."""
+    try:
+        yield
+    except FolderFault as fault:
+        raise MapFault(str(fault)) from fault
+    except (TaskFault, DaskFault) as fault:
+        kept = f"; what is done is kept in {folder}: say the same again" if folder else ""
+        raise Unusable(f"{fault}{kept}") from fault
+    except OSError as fault:
+        raise Unusable(ending.told(fault.filename or folder or tempfile.gettempdir(), fault)) from fault
+
+
+if __name__ == "__main__":
+    limits.tell(__doc__)

@@ -1,0 +1,207 @@
+"""Reads and writes maps by GDAL: GeoPackage, FlatGeobuf, Shapefile, and whatever else its Python opens.
+
+It needs Debian's python3-gdal and python3-numpy. Geometry goes as Well-Known Binary, and the points of many features
+into one array, so no feature costs more than its way through GDAL.
+"""
+
+import struct
+from collections.abc import Iterable, Iterator
+from dataclasses import dataclass, field
+from fractions import Fraction
+from typing import Any
+
+import limits
+from maps.spooled import Gathered, Spool
+from maps.whole_maps import MapFault, ReadMap, Told
+
+BATCH = 1 << 16  # features that are taken apart at once
+LARGE = 10_000_000  # points of a map above which it stays in files
+POLYGON, MULTIPOLYGON = 3, 6
+NEEDED = "apt-get install python3-gdal python3-numpy, and run this by /usr/bin/python3"
+NAMED_MAX = 20  # properties or layers that a refusal names
+
+
+def modules(path: str) -> tuple[Any, Any, Any]:
+    """GDAL, its OGR and numpy; where one is missing, the refusal for a file."""
+    try:
+        import numpy
+        from osgeo import gdal, ogr
+    except ImportError as fault:
+        raise MapFault(f"{path}: {fault.name} is missing, which opens it: {NEEDED}; GeoJSON needs neither") from None
+    gdal.UseExceptions()
+    ogr.UseExceptions()
+    return gdal, ogr, numpy
+
+
+@dataclass
+class Flat:
+    """Features one behind the other: xs and ys of all points, the closing point of each ring among them."""
+
+    path: str = ""
+    ids: list[str] = field(default_factory=list)
+    labels: list[str] = field(default_factory=list)  # what a fault calls them
+    rings_of_feature: list[int] = field(default_factory=list)
+    ring_sizes: list[int] = field(default_factory=list)
+    is_outer: list[bool] = field(default_factory=list)
+    points: list[bytes] = field(default_factory=list)
+
+    def add(self, name: str, label: str, wkb: bytes) -> None:
+        before = len(self.ring_sizes)
+        self._take(wkb, 0)
+        self.ids.append(name)
+        self.labels.append(label)
+        self.rings_of_feature.append(len(self.ring_sizes) - before)
+
+    def _take(self, wkb: bytes, at: int) -> int:
+        """Takes a polygon or multipolygon in that begins at a byte; where it ends."""
+        kind, count = struct.unpack_from("<II", wkb, at + 1)
+        at += 9
+        for number in range(count):
+            if kind == MULTIPOLYGON:
+                at = self._take(wkb, at)
+                continue
+            (size,) = struct.unpack_from("<I", wkb, at)
+            self.points.append(wkb[at + 4 : at + 4 + 16 * size])
+            self.ring_sizes.append(size)
+            self.is_outer.append(number == 0)
+            at += 4 + 16 * size
+        return at
+
+    def feature_of_ring(self, ring: int) -> str:
+        """What the feature of a ring is called."""
+        for label, count in zip(self.labels, self.rings_of_feature):
+            if ring < count:
+                return label
+            ring -= count
+        raise IndexError(ring)
+
+    def arrays(self, numpy: Any) -> tuple[Any, Any, Any, Any, Any]:
+        """xs, ys, ring_sizes, is_outer, rings_of_feature. A ring that is not closed, or has what is no number, is a
+        MapFault."""
+        xy = numpy.frombuffer(b"".join(self.points), "<f8").reshape(-1, 2)
+        sizes = numpy.array(self.ring_sizes, numpy.int64)
+        ends = numpy.cumsum(sizes)
+        full = sizes > 0
+        wrong = numpy.zeros(len(sizes), bool)
+        if full.any():
+            wrong[full] = (xy[(ends - sizes)[full]] != xy[ends[full] - 1]).any(axis=1)  # also where there is no number
+            odd = numpy.flatnonzero(~numpy.isfinite(xy).all(axis=1))
+            wrong[numpy.searchsorted(ends, odd, "right")] = True
+        if wrong.any():
+            label = self.feature_of_ring(int(numpy.flatnonzero(wrong)[0]))
+            raise MapFault(f"{self.path}: {label}: a ring that is not closed, or a coordinate that is no number; mend it "
+                           "there")
+        rings_of_feature = numpy.array(self.rings_of_feature, numpy.int64)
+        return xy[:, 0], xy[:, 1], sizes, numpy.array(self.is_outer, bool), rings_of_feature
+
+
+@dataclass
+class Source:
+    """A layer of a file, and what calls its features."""
+
+    path: str
+    id_field: str | None = None
+    layer: str | None = None
+    told: Told = field(default_factory=Told)
+
+    def __post_init__(self) -> None:
+        self.gdal, self.ogr, self.numpy = modules(self.path)
+        try:
+            self.file = self.gdal.OpenEx(self.path, self.gdal.OF_VECTOR)
+        except RuntimeError as fault:
+            raise MapFault(f"{self.path}: {fault}") from None
+        self.table = self._table()
+        self.place = -1 if self.id_field is None else self.table.GetLayerDefn().GetFieldIndex(self.id_field)
+        if self.id_field is not None and self.place < 0:
+            raise MapFault(f"{self.path}: no property {self.id_field}; say one of: {self._properties()}")
+
+    def _table(self) -> Any:
+        names = [self.file.GetLayer(number).GetName() for number in range(self.file.GetLayerCount())]
+        if self.layer is None and len(names) != 1:
+            raise MapFault(f"{self.path}: {len(names)} layers, {named(names)}; name one by --a-layer, or of B by --b-layer")
+        found = self.file.GetLayer(0) if self.layer is None else self.file.GetLayerByName(self.layer)
+        if found is None:
+            raise MapFault(f"{self.path}: no layer {self.layer}; say one of: {named(names)}")
+        return found
+
+    def _properties(self) -> str:
+        definition = self.table.GetLayerDefn()
+        return named([definition.GetFieldDefn(k).GetName() for k in range(definition.GetFieldCount())])
+
+    def crs(self) -> str | None:
+        """As EPSG:25832 where it has such a number, else as Well-Known Text."""
+        system = self.table.GetSpatialRef()
+        if system is None:
+            return None
+        name, code = system.GetAuthorityName(None), system.GetAuthorityCode(None)
+        return f"{name}:{code}" if name and code else str(system.ExportToWkt())
+
+    def batches(self) -> Iterator[Flat]:
+        """The polygons of the layer, so many features at once; others are left out, and told."""
+        flat = Flat(self.path)
+        for feature in self._features():
+            self._add(flat, feature)
+            if len(flat.ids) == BATCH:
+                yield flat
+                flat = Flat(self.path)
+        if flat.ids:
+            yield flat
+
+    def _features(self) -> Iterator[Any]:
+        try:
+            yield from self.table
+        except RuntimeError as fault:
+            raise MapFault(f"{self.path}: {fault}") from None
+
+    def _add(self, flat: Flat, feature: Any) -> None:
+        name = feature.GetFieldAsString(self.place) if self.place >= 0 else str(feature.GetFID())
+        label = f"feature {feature.GetFID()}" + (f" ({name})" if self.place >= 0 else "")
+        shape = feature.GetGeometryRef()
+        if shape is None:
+            self.told.skipped.append(f"{label}: a feature without a geometry")
+            return
+        if self.place >= 0 and not feature.IsFieldSetAndNotNull(self.place):
+            raise MapFault(f"{self.path}: feature {feature.GetFID()}: no {self.id_field}; say another property")
+        wkb = bytes(shape.ExportToWkb(self.ogr.wkbNDR))
+        if wkb[1] not in (POLYGON, MULTIPOLYGON) or wkb[2:5] != b"\0\0\0":
+            if self.ogr.GT_Flatten(shape.GetGeometryType()) not in (POLYGON, MULTIPOLYGON):
+                self.told.skipped.append(f"{label}: a {shape.GetGeometryName()}, no polygon")
+                return
+            shape.FlattenTo2D()
+            wkb = bytes(shape.ExportToWkb(self.ogr.wkbNDR))
+        flat.add(name, label, wkb)
+
+
+def named(names: list[str]) -> str:
+    """Names in a row, the first of many."""
+    return ", ".join(names[:NAMED_MAX]) + (", .." if len(names) > NAMED_MAX else "") or "nothing"
+
+
+def read(path: str, factor: Fraction, id_field: str | None, layer: str | None, bend: bool) -> ReadMap:
+    """A map of a file in whole numbers, features called by a property, or by the numbers that GDAL gives them. Of a
+    large one nothing stays in memory."""
+    source = Source(path, id_field, layer)
+    from maps.numpy_maps import whole_of_doubles
+
+    told = source.told
+    kept: Gathered | Spool = Gathered()
+    for flat in source.batches():
+        own = Told()
+        kept.add(whole_of_doubles(path, flat.ids, *flat.arrays(source.numpy), factor, bend, own))
+        add_told(told, own)
+        if isinstance(kept, Gathered) and told.points > LARGE:
+            kept = kept.spooled()
+    return ReadMap(kept.whole(), told, source.crs())
+
+
+def add_told(told: Told, more: Told) -> None:
+    """Adds what reading did to further features."""
+    told.features += more.features
+    told.points += more.points
+    told.moved = max(told.moved, more.moved)
+    told.collapsed += more.collapsed
+    told.bent += more.bent
+
+
+if __name__ == "__main__":
+    limits.tell(__doc__)

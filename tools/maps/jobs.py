@@ -1,0 +1,211 @@
+"""Does a task: draws its jobs in, asks the program in rounds of slots, sews what was asked in cells, and measures."""
+
+import struct
+from collections.abc import Callable, Iterable, Iterator
+from dataclasses import dataclass, field
+from fractions import Fraction
+from itertools import islice
+
+import limits
+from maps import boundaries, box_pairs, exact_area, touching
+from maps.boundaries import Loop, Outline, Polygon
+from maps.cells import Cell, TooDense, parted, parted_again
+from maps.drawing_in import Drawn, drawn
+from maps.rounds import Oversize, Program
+from maps.sewing import sewn
+from maps.slots import Laid, Slots, packed, round_of
+from maps.task_form import ALONE_TOLD, COMMON, GAP, GAPS, NOBODY, OVERLAPS, TOUCHES, Found, Row, ShapeOf, Task
+from maps.whole_maps import Box
+from sessions import Corner, Piece, Unusable
+
+AT_ONCE = 4096  # jobs and cells that are laid out before the next are
+Drawing = Callable[[Task, range], Iterator[Drawn]]
+MULTIPOLYGON, POLYGON = 6, 3
+HEAD = struct.Struct("<BII")
+
+
+def plain_drawing(task: Task, jobs: range) -> Iterator[Drawn]:
+    """Jobs of a task drawn in, one by one: of each the own feature, where it has one, then the others."""
+    for job in jobs:
+        own = [] if task.kind == GAPS else [task.own_map.rings(task.own[job])]
+        yield drawn(task.core(job), own + [task.other_map.rings(other) for other in task.others_of(job)])
+
+
+@dataclass
+class Answers:
+    """What is known of a task's jobs: rings of those that were asked whole, pieces of those in cells."""
+
+    task: Task
+    program: Program
+    outlines: dict[int, list[list[Outline]]] = field(default_factory=dict)  # by job: its connected parts
+    pieces: dict[int, list[Piece]] = field(default_factory=dict)
+    near: dict[int, Drawn] = field(default_factory=dict)  # jobs that may have found nothing but a touch
+    rounds: int = 0
+    cells: int = 0
+
+    def ask(self, jobs: Iterable[Laid | Cell]) -> None:
+        """Asks for jobs and cells, so many at once."""
+        left = iter(jobs)
+        while some := list(islice(left, AT_ONCE)):
+            self.cells += sum(isinstance(one, Cell) or one.is_cut for one in some)
+            for one in some:
+                if isinstance(one, Cell):
+                    self.pieces.setdefault(one.job, []).extend(one.border())
+            self._ask_rounds(packed(one for one in some if isinstance(one, Laid)))
+
+    def _ask_rounds(self, rounds: Iterable[Slots]) -> None:
+        """One round is built while the next is prepared."""
+        begun: tuple[Slots, int, list[int]] | None = None
+        for slots in rounds:
+            asked = round_of(slots, self.task.kind)
+            number = self.program.begin(asked)
+            if begun:
+                self._end(*begun)
+            begun = slots, number, asked.columns
+        if begun:
+            self._end(*begun)
+
+    def _end(self, slots: Slots, number: int, columns: list[int]) -> None:
+        self.rounds += 1
+        try:
+            pieces = self.program.end(number, columns)
+        except Oversize:
+            self._ask_less(slots)
+        else:
+            self._take(slots, pieces)
+
+    def _ask_less(self, slots: Slots) -> None:
+        """Asks once more: half of the jobs, or of one job its halves."""
+        half = len(slots.laid) // 2
+        if half:
+            for some in (slots.laid[:half], slots.laid[half:]):
+                self._ask_rounds(packed(some))
+        else:
+            self.ask(parted_again(self.task.kind, slots.laid[0]))
+
+    def _take(self, slots: Slots, pieces: list[Piece]) -> None:
+        """Takes in the boundary of a round, each connected part moved back to where its job is."""
+        if slots.laid[0].is_cut:
+            for piece in pieces:
+                at = slots.find(piece[0])
+                a, b = piece
+                moved = moved_back(a, slots.moves[at]), moved_back(b, slots.moves[at])
+                self.pieces.setdefault(slots.laid[at].job, []).append(moved)
+            return
+        for part in boundaries.parts_of(pieces):
+            at = slots.find(part[0].loop[0])
+            dx, dy = slots.moves[at]
+            moved_part = [Outline([(x - dx * w, y - dy * w, w) for x, y, w in one.loop], one.top, one.bottom)
+                          for one in part]
+            self.outlines.setdefault(slots.laid[at].job, []).append(moved_part)
+
+    def outlines_of(self, job: int) -> list[Outline]:
+        """The rings of a job, with the inside on their left."""
+        if job in self.pieces:
+            return boundaries.outlines_of(sewn(self.pieces[job]))
+        return boundaries.righted(self.outlines.get(job, []) or [[]])
+
+
+def moved_back(corner: Corner, move: tuple[int, int]) -> Corner:
+    x, y, w = corner
+    return x - move[0] * w, y - move[1] * w, w
+
+
+def asked_of(task: Task, answers: Answers, drawing: Drawing) -> Iterator[Laid | Cell]:
+    """All jobs of a task, as they are asked."""
+    for job, near in enumerate(drawing(task, range(len(task)))):
+        if task.kind == COMMON and not box_pairs.has_area(near.core):
+            answers.near[job] = near
+            continue
+        if task.touches:
+            answers.near[job] = near
+        yield from parted(task.kind, job, near)
+
+
+def run(task: Task, program: Program, drawing: Drawing = plain_drawing) -> Found:
+    """What a task finds, in the order of its jobs."""
+    answers = Answers(task, program)
+    try:
+        answers.ask(asked_of(task, answers, drawing))
+    except TooDense as fault:
+        raise Unusable(fault.told(task.factor)) from fault
+    found = Found(task.label, jobs=len(task), rounds=answers.rounds, cells=answers.cells)
+    for job in range(len(task)):
+        add_found(found, task, job, answers)
+    return found
+
+
+def add_found(found: Found, task: Task, job: int, answers: Answers) -> None:
+    """Adds what one job has found."""
+    outlines = answers.outlines_of(job)
+    if task.kind == GAPS:
+        for polygon in boundaries.polygons_of(outlines):
+            add_gap(found, task, job, polygon)
+    elif outlines:
+        add_row(found, task, row_of(task, job, outlines), lambda: boundaries.polygons_of(outlines))
+    elif task.touches and touching.touch(answers.near[job]):
+        left, under, _, _ = task.core(job)
+        found.rows.append(Row(*numbers_of(task, job), Fraction(0), 0.0, left, under, TOUCHES))
+
+
+def add_row(found: Found, task: Task, row: Row, polygons: Callable[[], list[Polygon]]) -> None:
+    if task.shapes:
+        found.shapes.append(ShapeOf(len(found.rows), well_known(polygons(), task.factor)))
+    found.rows.append(row)
+
+
+def add_gap(found: Found, task: Task, job: int, polygon: Polygon) -> None:
+    """A gap within its cell is known; of one that reaches the border of the cell others have a part."""
+    if reaches(polygon[0], task.core(job)):
+        found.open_pieces += [(*a, *b) for loop in polygon for a, b in boundaries.pieces_of(loop)]
+    else:
+        add_row(found, task, gap_row(polygon), lambda: [polygon])
+
+
+def gap_row(polygon: Polygon) -> Row:
+    top, bottom = exact_area.total(map(exact_area.twice_area, polygon))
+    return Row(NOBODY, (), Fraction(top, 2 * bottom), *shape_of(polygon), GAP)
+
+
+def reaches(loop: list[Corner], core: Box) -> bool:
+    left, under, right, over = core
+    return any(x == left * w or x == right * w or y == under * w or y == over * w for x, y, w in loop)
+
+
+def numbers_of(task: Task, job: int) -> tuple[int, tuple[int, ...]]:
+    """The numbers of the features of a job in their whole maps."""
+    others = tuple(task.other_numbers[other] for other in task.others_of(job)) if task.kind == COMMON else ()
+    return task.own_numbers[task.own[job]], others
+
+
+def row_of(task: Task, job: int, outlines: list[Outline]) -> Row:
+    relation = OVERLAPS if task.kind == COMMON else ALONE_TOLD
+    loops = [outline.loop for outline in outlines]
+    return Row(*numbers_of(task, job), boundaries.area_of(outlines), *shape_of(loops), relation)
+
+
+def shape_of(loops: list[Loop]) -> tuple[float, int, int]:
+    """The length of rings, and a whole point near the first."""
+    x, y, w = loops[0][0]
+    return sum(map(exact_area.length, loops)), x // w, y // w
+
+
+def well_known(polygons: list[Polygon], factor: Fraction) -> bytes:
+    """Well-Known Binary of a multipolygon in the world's coordinates."""
+    parts = [HEAD.pack(1, MULTIPOLYGON, len(polygons))]
+    for polygon in polygons:
+        parts.append(HEAD.pack(1, POLYGON, len(polygon)))
+        parts += [ring_bytes(loop, factor) for loop in polygon]
+    return b"".join(parts)
+
+
+def ring_bytes(loop: list[Corner], factor: Fraction) -> bytes:
+    """A closed ring without the corners on straight lines, each number the double nearest to the exact one."""
+    kept = boundaries.without_straight(loop)
+    top, bottom = factor.numerator, factor.denominator
+    given = [number for x, y, w in kept + kept[:1] for number in (x * bottom / (w * top), y * bottom / (w * top))]
+    return struct.pack(f"<I{len(given)}d", len(given) // 2, *given)
+
+
+if __name__ == "__main__":
+    limits.tell(__doc__)

@@ -1,0 +1,128 @@
+"""Reads the maps that words name, has tasks done, and writes files whole."""
+
+import argparse
+import contextlib
+import os
+import pathlib
+from collections.abc import Callable, Iterable, Iterator
+from typing import TextIO
+
+import asking
+import ending
+import limits
+import scale as scales
+import writing
+from maps import doing, gdal_maps, geojson_maps
+from maps.task_form import Found, Task
+from maps.whole_maps import MapFault, ReadMap, Told
+from rounding import shown
+from sessions import Unusable
+
+Say = Callable[[str], None]
+TEXTS = (".geojson", ".json", ".wkt", ".txt")
+DEGREES = {"EPSG:4326": scales.CRS84}
+NAMED_MAX = 10  # so many features are named where something is told of them
+
+
+def read_map(path: str, id_field: str | None, words: argparse.Namespace, say: Say, layer: str | None = None) -> ReadMap:
+    """A map, and what reading did to it told. What is no text of GeoJSON is read by GDAL."""
+    if layer is None and path.endswith(TEXTS):
+        read = geojson_maps.read(path, words.factor, id_field, words.bend)
+    else:
+        read = gdal_maps.read(path, words.factor, id_field, layer, words.bend)
+    if not len(read.whole):
+        skipped = read.told.skipped
+        raise MapFault(f"{path}: no polygon in it" + (f"; left out, {len(skipped)}: {some(skipped)}" if skipped else ""))
+    for line in told_lines(path, read.told):
+        say(line)
+    return read
+
+
+def told_lines(path: str, told: Told) -> Iterator[str]:
+    moved = f"largest move {shown(told.moved)}" if told.moved else "nothing is rounded"
+    yield f"{path}: {told.features} features, {told.points} points, {moved}"
+    if told.bent:
+        yield f"{path}: {told.bent} long edges bent at whole points"
+    if told.skipped:
+        yield f"left out, {len(told.skipped)}: {some(told.skipped)}"
+    if told.collapsed:
+        yield f"rings that collapsed, {len(told.collapsed)}: {some(told.collapsed)}"
+
+
+def some(names: list[str]) -> str:
+    """The first names, and how many more there are."""
+    more = f"; and {len(names) - NAMED_MAX} more" if len(names) > NAMED_MAX else ""
+    return "; ".join(names[:NAMED_MAX]) + more
+
+
+def check_crs(first: ReadMap, second: ReadMap, words: argparse.Namespace) -> None:
+    """Refuses maps that name different coordinate systems. Files of EPSG:4326 have longitudes first, as CRS84 says."""
+    named = {DEGREES.get(read.crs, read.crs) for read in (first, second) if read.crs}
+    if len(named) > 1:
+        raise MapFault(f"{words.first} has coordinates of {first.crs}, {words.second} of {second.crs}: bring one to "
+                       "those of the other, as by ogr2ogr -t_srs")
+
+
+def found_of(tasks: Iterable[Task], words: argparse.Namespace) -> Iterator[Found]:
+    """What tasks find, in their order; each call is a further stage of the question."""
+    words.stage = getattr(words, "stage", 0) + 1
+    yield from doing.found_of(str(words.stage), tasks, words)
+
+
+@contextlib.contextmanager
+def written(path: str | None, output: TextIO) -> Iterator[TextIO]:
+    """A file that appears whole or not at all, or the output where no file is named."""
+    if path is None:
+        yield output
+        return
+    try:
+        with writing.whole(pathlib.Path(path)) as file:
+            yield file
+    except OSError as fault:
+        raise Unusable(ending.told(path, fault)) from fault
+
+
+def check_outputs(words: argparse.Namespace) -> None:
+    """Refuses files that cannot be written, or that would take the place of a map, a store or one another, before there
+    is anything to write."""
+    taken = {f"the map {path}": pathlib.Path(path) for name in doing.INPUTS if (path := getattr(words, name, None))}
+    for name in ("out", *doing.OUTPUTS):
+        given = getattr(words, name, None)
+        if given is None:
+            continue
+        told, path = f"--{name} {given}", pathlib.Path(given)
+        try:
+            reason = not_writable(given, path) or next((f"this is {other}; take another name" for other, one in
+                                                        taken.items() if is_one(path, one)), None)
+        except OSError as fault:
+            raise MapFault(ending.told(told, fault)) from fault
+        if reason:
+            raise MapFault(f"{told}: {reason}")
+        taken[f"--{name} too"] = path
+
+
+def not_writable(given: str, path: pathlib.Path) -> str | None:
+    """Why a file cannot be written, or should not be."""
+    if not given:
+        return "no name of a file"
+    if path.is_dir():
+        return "a folder; say a file in it"
+    if asking.is_store(path):
+        return "a store of layers; take another name"
+    if path.exists() and not path.is_file():
+        return None  # a pipe, or a device
+    folder = path.resolve().parent
+    if not folder.is_dir():
+        return f"{folder} is no folder" if folder.exists() else f"no folder {folder}"
+    return None if os.access(folder, os.W_OK | os.X_OK) else f"nothing can be written in {folder}"
+
+
+def is_one(path: pathlib.Path, other: pathlib.Path) -> bool:
+    """Whether two names are of one file, which need not be there yet. All may write to one pipe or device."""
+    if path.exists() and not path.is_file():
+        return False
+    return path.resolve() == other.resolve() or (path.exists() and other.exists() and path.samefile(other))
+
+
+if __name__ == "__main__":
+    limits.tell(__doc__)

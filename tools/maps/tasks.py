@@ -1,0 +1,157 @@
+"""Tasks as numbered files of a folder, and what came of each as a file beside it.
+
+    run.json         what the run asks, and how many tasks there are; it appears when the last task is written
+    000017.task      what task 17 is given
+    000017.result    what came of it; it appears whole, by a rename
+    lock             held by the run that has the folder in hand
+
+So whoever can name a file can do a task, several at once and on several machines, and a run that was broken off goes on
+where it was: nothing is known but what stands in files.
+"""
+
+import contextlib
+import fcntl
+import json
+import os
+import pathlib
+import uuid
+from collections.abc import Callable, Iterable, Iterator, Mapping
+from dataclasses import dataclass
+from typing import Any
+
+Work = Callable[[bytes], bytes]
+"""What does a task: from what a task file holds to what its result file holds. It can be pickled."""
+
+FORM = 1  # of the folder, of tasks and of results; a folder of another one is another run's
+
+
+class FolderFault(Exception):
+    """Why a folder cannot serve a run: one line with the folder and what to do."""
+
+
+@dataclass(frozen=True)
+class TaskFolder:
+    """A folder of tasks."""
+
+    path: pathlib.Path
+
+    def task(self, number: int) -> pathlib.Path:
+        return self.path / f"{number:06d}.task"
+
+    def result(self, number: int) -> pathlib.Path:
+        return self.path / f"{number:06d}.result"
+
+    @property
+    def plan(self) -> pathlib.Path:
+        return self.path / "run.json"
+
+    def count(self) -> int:
+        """How many tasks there are, all of them written."""
+        return int(self._planned()["tasks"])
+
+    def run(self) -> dict[str, Any]:
+        """What the run asks."""
+        return dict(self._planned()["run"])
+
+    def _planned(self) -> dict[str, Any]:
+        try:
+            told = json.loads(self.plan.read_bytes())
+        except FileNotFoundError:
+            raise FolderFault(f"{self.path}: no tasks of a run: run.json appears when all are written") from None
+        except (OSError, ValueError) as fault:
+            raise FolderFault(f"{self.plan}: {getattr(fault, 'strerror', None) or fault}; remove the folder") from None
+        if not isinstance(told, dict) or told.get("form") != FORM:
+            raise FolderFault(f"{self.path}: tasks of another release of this tool; take another folder")
+        return told
+
+    def left(self) -> list[int]:
+        """The numbers of the tasks without a result."""
+        with os.scandir(self.path) as entries:
+            done = {entry.name for entry in entries if entry.name.endswith(".result")}
+        return [number for number in range(self.count()) if self.result(number).name not in done]
+
+    def results(self) -> Iterator[bytes]:
+        """What came of each task, in the order of their numbers."""
+        for number in range(self.count()):
+            yield self.result(number).read_bytes()
+
+
+def put(path: pathlib.Path, data: bytes) -> None:
+    """Writes a file that appears whole or not at all, whoever else writes it meanwhile."""
+    beside = path.with_name(f"{path.name}.{uuid.uuid4().hex}.new")
+    try:
+        with beside.open("xb") as file:
+            file.write(data)
+            file.flush()
+            os.fsync(file.fileno())
+        os.replace(beside, path)
+    except BaseException:
+        beside.unlink(missing_ok=True)
+        raise
+
+
+def begin(path: pathlib.Path, run: Mapping[str, Any], tasks: Iterable[bytes]) -> TaskFolder:
+    """The folder with the tasks of a run: they are written where they do not all stand yet, else none is looked at.
+
+    run: what is asked, as JSON has it; a folder that has tasks of anything else is refused.
+    """
+    folder = TaskFolder(path)
+    path.mkdir(parents=True, exist_ok=True)
+    wanted = json.loads(json.dumps(run))
+    if folder.plan.exists():
+        _same_run(folder, wanted)
+        return folder
+    foreign = sorted(entry.name for entry in path.iterdir() if not _is_ours(entry.name))
+    if foreign:
+        raise FolderFault(f"{path}: {foreign[0]} is no task; take an empty folder, or one that is not there yet")
+    count = 0
+    for count, task in enumerate(tasks, 1):
+        put(folder.task(count - 1), task)
+    put(folder.plan, json.dumps({"form": FORM, "tasks": count, "run": wanted}, indent=1).encode() + b"\n")
+    return folder
+
+
+def _same_run(folder: TaskFolder, wanted: dict[str, Any]) -> None:
+    had = folder.run()
+    for name in sorted({*had, *wanted}):
+        if had.get(name) != wanted.get(name):
+            raise FolderFault(f"{folder.path}: tasks of another run ({name}: {had.get(name)!r} there, "
+                              f"{wanted.get(name)!r} here); take another folder, or remove this one")
+
+
+def _is_ours(name: str) -> bool:
+    return name in ("run.json", "lock") or name.endswith((".task", ".result", ".new"))
+
+
+@contextlib.contextmanager
+def held(path: pathlib.Path) -> Iterator[None]:
+    """Keeps the folder for this process, as long as it lives; a folder that another one has is refused."""
+    path.mkdir(parents=True, exist_ok=True)
+    with (path / "lock").open("a+b") as lock:
+        try:
+            fcntl.lockf(lock, fcntl.LOCK_EX | fcntl.LOCK_NB)
+        except OSError:
+            raise FolderFault(f"{path}: another run is at work in it; wait, or take another folder") from None
+        yield
+
+
+def do(work: Work, folder: TaskFolder, number: int) -> None:
+    """Does one task, where it has no result yet."""
+    if not folder.result(number).exists():
+        put(folder.result(number), work(folder.task(number).read_bytes()))
+
+
+def do_numbers(work: Work, path: pathlib.Path, numbers: Iterable[int]) -> None:
+    """Does some tasks of a folder: for whatever hands out numbers, as xargs, GNU parallel, Slurm, make."""
+    folder = TaskFolder(path)
+    count = folder.count()
+    for number in numbers:
+        if not 0 <= number < count:
+            raise FolderFault(f"{path}: no task {number}: they are 0 to {count - 1}")
+        do(work, folder, number)
+
+
+def stamp(path: str | os.PathLike[str]) -> list[Any]:
+    """What tells one input file from another, or from itself after a change: its path, size and time."""
+    told = os.stat(path)
+    return [os.path.abspath(path), told.st_size, told.st_mtime_ns]

@@ -1,0 +1,99 @@
+"""Maps of whole points: features with ids, and their rings in flat arrays of 64-bit numbers.
+
+Coordinates of the world become whole numbers once, here: the whole number nearest to x * factor. All after it is exact.
+A ring does not repeat its first point, has at least three points, and no two equal ones next to each other. The outer
+ring of each polygon runs counter-clockwise and its holes clockwise, so that where no rings cross, the area of a feature
+is the sum of those of its rings with their signs.
+"""
+
+from array import array
+from collections.abc import Iterable, Sequence
+from dataclasses import dataclass, field
+
+Point = tuple[int, int]
+Ring = list[Point]
+Box = tuple[int, int, int, int]
+"""Least x, least y, greatest x, greatest y. A map's box of nothing is NOWHERE."""
+
+NOWHERE: Box = (1, 1, 0, 0)
+FARTHEST = 2**52  # a coordinate is no greater than this either way, so that a double has it exactly
+
+
+def numbers(given: Iterable[int] = ()) -> array:
+    """An array of 64-bit numbers; numpy reads it without a copy, by numpy.frombuffer(.., numpy.int64)."""
+    return array("q", given)
+
+
+@dataclass
+class WholeMap:
+    """Feature k is called ids[k] and has rings feature_at[k] up to feature_at[k + 1]; ring r has points ring_at[r] up
+    to ring_at[r + 1], at xs and ys."""
+
+    ids: list[str] = field(default_factory=list)
+    xs: array = field(default_factory=numbers)
+    ys: array = field(default_factory=numbers)
+    ring_at: array = field(default_factory=lambda: numbers([0]))
+    feature_at: array = field(default_factory=lambda: numbers([0]))
+
+    def __len__(self) -> int:
+        return len(self.feature_at) - 1
+
+    def add(self, name: str, rings: Iterable[Sequence[Point]]) -> None:
+        """One feature more, behind those that stand."""
+        for ring in rings:
+            self.xs.extend(x for x, _ in ring)
+            self.ys.extend(y for _, y in ring)
+            self.ring_at.append(len(self.xs))
+        self.feature_at.append(len(self.ring_at) - 1)
+        self.ids.append(name)
+
+    def rings(self, feature: int) -> list[Ring]:
+        """The rings of a feature, as points."""
+        at = self.ring_at
+        return [list(zip(self.xs[at[ring] : at[ring + 1]], self.ys[at[ring] : at[ring + 1]]))
+                for ring in range(self.feature_at[feature], self.feature_at[feature + 1])]
+
+    def span(self, feature: int) -> tuple[int, int]:
+        """Where the points of a feature begin and end in xs and ys."""
+        return self.ring_at[self.feature_at[feature]], self.ring_at[self.feature_at[feature + 1]]
+
+    def take(self, features: Iterable[int]) -> "WholeMap":
+        """Some of the features, in the order given."""
+        found = WholeMap()
+        for feature in features:
+            found.add(self.ids[feature], self.rings(feature))
+        return found
+
+    def box(self, feature: int) -> Box:
+        begin, end = self.span(feature)
+        if begin == end:
+            return NOWHERE
+        xs, ys = self.xs[begin:end], self.ys[begin:end]
+        return min(xs), min(ys), max(xs), max(ys)
+
+
+@dataclass
+class Told:
+    """What reading has done to a map, to be told: how far the farthest coordinate moved, in the map's unit, and the
+    names of what was left out or changed."""
+
+    features: int = 0
+    points: int = 0
+    moved: float = 0.0
+    skipped: list[str] = field(default_factory=list)
+    collapsed: list[str] = field(default_factory=list)
+    bent: int = 0
+
+
+@dataclass(frozen=True)
+class ReadMap:
+    """A map in whole numbers, what reading did to it, and the name of its coordinate system, where one is named: as
+    EPSG:25832 where it has such a number, else Well-Known Text or whatever the file says."""
+
+    whole: WholeMap
+    told: Told
+    crs: str | None
+
+
+class MapFault(Exception):
+    """Why a map cannot be overlaid: one line with the file, the feature and what to do."""
