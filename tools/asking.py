@@ -16,11 +16,12 @@ import subprocess
 import sys
 import tempfile
 from collections.abc import Callable, Iterator
-from dataclasses import dataclass
+from dataclasses import dataclass, field
 from fractions import Fraction
 from typing import BinaryIO, TextIO
 
 import ending
+import features
 import limits
 import scale as scales
 import sessions
@@ -60,11 +61,12 @@ def ran(program: str, words: list[str], script: bytes) -> bytes:
 
 
 def outcome(program: str, words: list[str], script: bytes) -> tuple[int, bytes, str]:
+    """The status of a run, its replies, and its fault: the first line alone, as the second names a file of the tool's own."""
     try:
         done = subprocess.run([program, *words], input=script, capture_output=True, check=False)
     except OSError as fault:
         raise Unusable(ending.told(program, fault)) from fault
-    return done.returncode, done.stdout, done.stderr.decode("utf-8", "replace").strip()
+    return done.returncode, done.stdout, done.stderr.decode("utf-8", "replace").strip().partition("\n")[0]
 
 
 def begins_as_store(data: bytes) -> bool:
@@ -154,6 +156,7 @@ class Map:
     layers: list[str]
     scale: scales.Scale
     scaled_by: pathlib.Path | None = None
+    notes: list[str] = field(default_factory=list)
 
 
 def add_words(parser: argparse.ArgumentParser, many: bool = False) -> None:
@@ -208,11 +211,10 @@ def scale_of(words: argparse.Namespace, parser: argparse.ArgumentParser) -> tupl
             parser.error("a factor is greater than 0")
         x, y = words.origin or (Fraction(0), Fraction(0))
         return scales.with_digits(scales.Scale(factor, factor_y, (x, y)), words.digits), None
-    named = words.store or words.script
-    file = words.scale or (scales.beside(named) if named else None)
-    if file is None or not (words.scale or file.is_file()):
-        return scales.with_digits(scales.Scale(), words.digits), None
     try:
+        file = words.scale or scales.beside(words.store or words.script)
+        if not (words.scale or file.is_file()):
+            return scales.with_digits(scales.Scale(), words.digits), None
         return scales.with_digits(scales.read(file), words.digits), file
     except scales.ScaleFault as fault:
         raise Unusable(str(fault)) from fault
@@ -304,6 +306,14 @@ def of_script(words: argparse.Namespace, many: bool, grid: GridFor | None) -> tu
     return session, layers
 
 
+def base_of(words: argparse.Namespace, program: str) -> dict[str, list[list[tuple[int, int]]]]:
+    """The base layers of a store or a script, each with its rings; nothing is asked of their boundaries."""
+    if words.store:
+        return sessions.read(b"LAYERS\n", store_replies(program, words.store, b"LAYERS\n"), 0).base
+    script = content(words.script, "script", f"say --store {words.script}")
+    return sessions.read(script, ran(program, [], script)).base
+
+
 def printed(script: bytes) -> tuple[Session, list[str]]:
     sys.stdout.write(script.decode())
     sys.exit(0)
@@ -326,7 +336,24 @@ def map_of(words: argparse.Namespace, parser: argparse.ArgumentParser, many: boo
     for name in layers:
         if name not in session.order:
             raise Missing(name, session)
-    return Map(session, layers, scale, file)
+    notes = [f"coordinates of the world by {file}"] if file else []
+    if file and not words.scale:
+        notes += other_layers(words.store or words.script, session, file, scale)
+    return Map(session, layers, scale, file, notes)
+
+
+def other_layers(path: pathlib.Path, session: Session, file: pathlib.Path, scale: scales.Scale) -> list[str]:
+    """Tells where a store, or a script, has other base layers than those that the scale beside it was written for."""
+    known = features.layers_of(path, session.base)  # which change with their features
+    own = {name: sessions.digest_of(rings) for name, rings in session.base.items() if name not in known}
+    changed = [[name for name, digest in one.items() if own.get(name, digest) != digest] for one in scale.layers]
+    is_strange = not known and not any(own.keys() & one.keys() for one in scale.layers)
+    if not scale.layers or (not is_strange and [] in changed):
+        return []
+    names = min(changed, key=len)
+    changed_since = f"layers that are changed since ({', '.join(names)}), or of another map"
+    what = changed_since if names else "layers of another map"
+    return [f"{path}: {what}: {file} was written for other ones"]
 
 
 def tell_refusals(session: Session, errors: TextIO) -> int:
@@ -341,8 +368,8 @@ def worked(make: Callable[[], Map], write: Callable[[Map], int], errors: TextIO)
     try:
         made = make()
         told = tell_refusals(made.session, errors)
-        if made.scaled_by:
-            print(f"coordinates of the world by {made.scaled_by}", file=errors)
+        for note in made.notes:
+            print(note, file=errors)
         return max(told, write(made))
     except Unusable as fault:
         if isinstance(fault, Missing):

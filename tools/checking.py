@@ -1,18 +1,27 @@
-"""Exact areas of expressions over a script's layers, and by them whether features of coded layers overlap.
+"""Exact areas of expressions over a script's layers, and which features of a map overlap.
 
 A module for to_script.py and bench/; it is no tool of its own.
 """
 
+import pathlib
+from collections.abc import Iterator
+from dataclasses import dataclass
 from fractions import Fraction
 
 import asking
 import layering
 import limits
+import progress
 import sessions
 import to_rings
-from layering import Group, Store
+from areas import area_of_all
+from layering import Group
+from maps import bending, box_pairs, jobs, planning, rounds, task_form
+from maps.whole_maps import Box, WholeMap
 
 ASKED = "asked"
+RUN_MAX = 100  # pairs of layers that one script can have
+Pair = tuple[int, int]
 Step = tuple[list[str], str]  # lines that make or change layers, and an expression over what stands then
 
 
@@ -27,8 +36,18 @@ def areas(program: str, steps: list[Step]) -> list[Fraction]:
             if not reply.startswith("ok "):
                 raise sessions.Unusable(f"{sessions.shortened(lines[place])}: {reply}")
         pieces, at = pieces_from(replies, at + len(lines), text)
-        found.append(to_rings.area_of_all(to_rings.polygons_of(pieces)))
+        found.append(area_of_all(to_rings.polygons_of(pieces)))
     return found
+
+
+def pieces(program: str, lines: list[str], name: str) -> list[sessions.Piece]:
+    """The boundary of a name that lines make, in memory."""
+    script = [*lines, f"DEFINE {ASKED} = {name}", *sessions.questions([ASKED]).decode().splitlines()]
+    replies = sessions.lines_of(asking.ran(program, [], "".join(line + "\n" for line in script).encode()))
+    for line, reply in zip(lines, replies):
+        if not reply.startswith("ok "):
+            raise sessions.Unusable(f"{sessions.shortened(line)}: {reply}")
+    return pieces_from(replies, len(lines), name)[0]
 
 
 def pieces_from(replies: list[str], at: int, text: str) -> tuple[list[sessions.Piece], int]:
@@ -43,26 +62,77 @@ def pieces_from(replies: list[str], at: int, text: str) -> tuple[list[sessions.P
     return pieces, at
 
 
-def areas_of_groups(program: str, groups: list[Group]) -> list[Fraction]:
-    """The area of what stands under each name, by even-odd, whether or not rings cross."""
-    layouts = [layering.split("f", group.polygons, layering.Names(), False) for group in groups]
-    whole = iter(areas(program, [(layout.lines(), "f") for layout in layouts if not layout.expression]))
-    return [areas(program, [(layout.lines(), "f")])[0] if layout.expression else next(whole) for layout in layouts]
+@dataclass(frozen=True)
+class Overlap:
+    """Two features by their places among those given, and the area that they have in common, in whole numbers' unit."""
+
+    first: int
+    second: int
+    area: Fraction
 
 
-def overlapping(program: str, store: Store) -> list[str]:
-    """The features of a store whose place in the coded layers has another area than they have themselves.
+def whole_map(groups: list[Group]) -> WholeMap:
+    """Features as maps/ takes them."""
+    found = WholeMap()
+    for group in groups:
+        found.add(group.wish, [ring[:-1] for polygon in group.polygons for ring in polygon])
+    return found
 
-    None does exactly where no two features have a common place, but for one without an area.
-    """
-    if store.count() == limits.LAYERS_MAX:
-        raise sessions.Unusable(f"{limits.LAYERS_MAX} layers leave no room for --check")
-    texts = [layering.expression_of(number, len(store.features)) for number in range(1, len(store.features) + 1)]
-    lines = [line for layout in store.layouts for line in layout.lines()]
-    steps: list[Step] = [([] if place else lines, text) for place, text in enumerate(texts)]
-    coded = areas(program, steps)
-    own = areas_of_groups(program, store.features)
-    return [group.wish for group, one, other in zip(store.features, coded, own, strict=True) if one != other]
+
+def has_long_step(group: Group) -> bool:
+    """Whether a step is longer than maps/ has room for."""
+    return any(bending.reach(*step) > bending.EDGE_MAX for polygon in group.polygons for ring in polygon
+               for step in zip(ring, ring[1:]))
+
+
+def slotted(program: str, whole: WholeMap, boxes: list[Box], pairs: list[Pair]) -> Iterator[Overlap]:
+    """What pairs of features have in common, many of them asked in one definition."""
+    question = planning.Question("check", task_form.COMMON, whole, whole, Fraction(1))
+    with rounds.Program(program) as asked, progress.Progress("checking pairs", len(pairs)) as told:
+        for task in planning.tasks_of(question, planning.jobs_of_pairs(boxes, boxes, pairs)):
+            for row in jobs.run(task, asked).rows:
+                yield Overlap(row.own, row.others[0], row.area)
+            told.step(len(task))
+
+
+def step_of(one: Group, other: Group) -> Step:
+    """What two features have in common, as a step of `areas`."""
+    names = layering.Names()
+    both = [layering.split(name, group.polygons, names, False) for name, group in (("f", one), ("g", other))]
+    return [line for layout in both for line in layout.lines()], " & ".join(layout.name for layout in both)
+
+
+def runs(asked: list[tuple[Pair, Step]]) -> Iterator[list[tuple[Pair, Step]]]:
+    """What one run of the program can take: some of those that only put f and g, or one that does more."""
+    plain = [one for one in asked if len(one[1][0]) == 2]
+    for at in range(0, len(plain), RUN_MAX):
+        yield plain[at : at + RUN_MAX]
+    yield from ([one] for one in asked if len(one[1][0]) != 2)
+
+
+def one_by_one(program: str, groups: list[Group], pairs: list[Pair]) -> Iterator[Overlap]:
+    """The same, a definition for each pair, which holds features with steps of any length."""
+    for run in runs([(pair, step_of(groups[pair[0]], groups[pair[1]])) for pair in pairs]):
+        for (pair, _), area in zip(run, areas(program, [step for _, step in run]), strict=True):
+            if area:
+                yield Overlap(*pair, area)
+
+
+def overlapping(program: str, groups: list[Group]) -> list[Overlap]:
+    """The pairs of features that have an area in common, the largest first. A feature is even-odd over its rings."""
+    whole = whole_map(groups)
+    boxes = planning.boxes_of(whole)
+    is_long = [has_long_step(group) for group in groups]
+    is_batched = pathlib.Path(program).name != asking.LIVE
+    slow: list[Pair] = []
+    quick: list[Pair] = []
+    for i, j in box_pairs.pairs_within(boxes):
+        (slow if is_batched or is_long[i] or is_long[j] else quick).append((i, j))
+    try:
+        found = [*slotted(program, whole, boxes, quick), *one_by_one(program, groups, slow)]
+    except (rounds.ProgramEnded, rounds.ProgramRefused) as fault:
+        raise sessions.Unusable(str(fault)) from fault
+    return sorted(found, key=lambda one: (-one.area, one.first, one.second))
 
 
 if __name__ == "__main__":

@@ -1,4 +1,5 @@
-"""Ends a tool: with one line where standard output cannot be written, quietly where the reader of it went away.
+"""Ends a tool: with one line where something went wrong that it does not foresee, or standard output cannot be written;
+quietly where the reader of it went away, or who called it has stopped it.
 
 A module for the tools; it is no tool of its own.
 """
@@ -9,10 +10,14 @@ import io
 import os
 import pathlib
 import sys
+import traceback
 from collections.abc import Callable
 from typing import NoReturn, TextIO
 
 import limits
+
+INTERRUPTED = 130  # as shells tell it of a program that was stopped from the keyboard
+TEXT_MAX = 200
 
 
 def told(of: object, fault: Exception) -> str:
@@ -27,15 +32,37 @@ def buffered(stream: TextIO) -> TextIO:
     return open(stream.fileno(), "w", encoding=stream.encoding, errors=stream.errors, closefd=False)
 
 
+def unforeseen(fault: Exception) -> str:
+    """One line on what a tool does not foresee, with the place in its text."""
+    place = traceback.extract_tb(fault.__traceback__)[-1]
+    text = " ".join(str(fault).split())[:TEXT_MAX]
+    at = f"{pathlib.Path(place.filename).name}, line {place.lineno}"
+    return f"{type(fault).__name__}: {text} ({at}): a defect of this tool; python3 -X dev tells more"
+
+
+def status_of(main: Callable[[list[str]], int]) -> int | str | None:
+    """The status of a tool: 1 where it raises what it does not foresee, which is told."""
+    try:
+        return main(sys.argv[1:])
+    except SystemExit as ended:
+        return ended.code
+    except KeyboardInterrupt:
+        return INTERRUPTED
+    except OSError:
+        raise
+    except Exception as fault:
+        if sys.flags.dev_mode:
+            raise
+        print(f"{pathlib.Path(sys.argv[0]).name}: {unforeseen(fault)}", file=sys.stderr)
+        return 1
+
+
 def flushed(main: Callable[[list[str]], int]) -> int | str | None:
     """The status of a tool, all of whose output is written."""
     if sys.stdout is None:
         raise OSError(errno.EBADF, os.strerror(errno.EBADF))
     sys.stdout = buffered(sys.stdout)
-    try:
-        status: int | str | None = main(sys.argv[1:])
-    except SystemExit as ended:
-        status = ended.code
+    status = status_of(main)
     sys.stdout.flush()
     return status
 

@@ -6,12 +6,14 @@ runs joined by ^ are the ring, with no new corner and nothing rounded.
 A module for to_script.py; it is no tool of its own.
 """
 
+from collections.abc import Iterator
 from dataclasses import dataclass, field
 from fractions import Fraction
 
 import limits
 import rounding
 import wkt
+from maps import box_pairs
 from rounding import Polygon, Ring
 
 Box = tuple[int, int, int, int]
@@ -19,33 +21,37 @@ Box = tuple[int, int, int, int]
 
 @dataclass
 class Group:
-    """What is to stand under one name: polygons, what rounding did to them, and its number where it is coded."""
+    """What is to stand under one name: polygons, those of each source, what rounding did to them, and its number where
+    it is coded. A source is a file's number and what a feature is called there."""
 
     wish: str
     polygons: list[Polygon] = field(default_factory=list)
     tally: rounding.Tally = field(default_factory=rounding.Tally)
+    sources: dict[tuple[int, str], list[Polygon]] = field(default_factory=dict)
 
-    def add(self, polygons: list[Polygon], tally: rounding.Tally) -> None:
+    def add(self, polygons: list[Polygon], tally: rounding.Tally, source: tuple[int, str]) -> None:
         self.polygons.extend(polygons)
         self.tally.add(tally)
+        self.sources.setdefault(source, []).extend(polygons)
 
     def steps(self) -> int:
         return rounding.steps_of(self.polygons)
 
     def overlaps(self) -> int:
         """How many pairs of polygons have boxes with a common part."""
-        boxes = [box_of(polygon) for polygon in self.polygons]
-        return sum(meet(one, other) for i, one in enumerate(boxes) for other in boxes[:i])
+        return len(box_pairs.pairs_within([box_of(polygon) for polygon in self.polygons]))
 
 
 @dataclass
 class Layout:
-    """The layers of one name: base layers, and where they are several the expression that joins them."""
+    """The layers of one name: base layers, where they are several the expression that joins them, and what stands
+    under the name, where that is one group."""
 
     name: str
     base: list[tuple[str, list[Polygon]]]
     expression: str | None = None
     chords: int = 0
+    group: Group | None = None
 
     def count(self) -> int:
         return len(self.base) + (self.expression is not None)
@@ -206,17 +212,21 @@ def bit_layers(features: list[Group], may_split: bool) -> list[Layout] | None:
     return layouts if sum(layout.count() for layout in layouts) <= limits.LAYERS_MAX else None
 
 
-def coded(features: list[Group], may_split: bool) -> list[Store]:
+def coded(features: list[Group], may_split: bool) -> Iterator[Store]:
     """All features in coded layers, as many in each store as it can hold; each of them fits a store by itself."""
-    stores, left = [], features
+    left = features
     while left:
         low, high = 1, len(left)
         while low < high:
             half = (low + high + 1) // 2
             low, high = (half, high) if bit_layers(left[:half], may_split) else (low, half - 1)
-        stores.append(Store(bit_layers(left[:low], may_split) or [], left[:low]))
+        yield Store(bit_layers(left[:low], may_split) or [], left[:low])
         left = left[low:]
-    return stores
+
+
+def bits_of(number: int) -> list[str]:
+    """The coded layers that hold the feature of a number."""
+    return [f"b{bit}" for bit in range(number.bit_length()) if number >> bit & 1]
 
 
 def expression_of(number: int, features: int) -> str:

@@ -1,5 +1,7 @@
 """Reads GeoJSON and Well-Known Text into shapes, and tells the names of their coordinates.
 
+GeoJSON is one object, or a feature on each line (GeoJSON text sequences). Other forms are read by gdal_files.py.
+
 A module for to_script.py; it is no tool of its own.
 """
 
@@ -13,11 +15,15 @@ from decimal import Decimal
 from fractions import Fraction
 from typing import Any
 
+import gdal_files
 import limits
 import scale as scales
 import wkt
 
 COLLECTIONS = ("FeatureCollection", "GeometryCollection")
+MARK = "\x1e"  # before each object of a text sequence, where they are not told by their lines
+BEFORE = MARK + " \t\r\n"
+HALVES = re.compile("[\ud800-\udfff]")  # JSON can spell the halves of a character without each other
 BEYOND = 200  # a number with more digits than so many before or behind its point is no coordinate
 
 
@@ -27,7 +33,10 @@ class Refused(Exception):
 
 @dataclass(frozen=True)
 class Shape:
-    """One geometry: what it is called, the layer it asks for, type, coordinates, the feature and file it is from."""
+    """One geometry: what it is called, the layer it asks for, type, coordinates, the feature and file it is from.
+
+    A fault says why there is none.
+    """
 
     label: str
     wish: str | None
@@ -36,9 +45,12 @@ class Shape:
     feature: str
     file: int
     stem: str
+    fault: str = ""
 
     def polygons(self) -> list[Any]:
         """Its polygons, each a list of rings of positions."""
+        if self.fault:
+            raise Refused(self.fault)
         found = wkt.polygons_of(self.kind, self.coordinates)
         if found is None:
             raise Refused(f"no polygon: {self.kind}")
@@ -46,18 +58,33 @@ class Shape:
 
 
 @dataclass(frozen=True)
+class Described:
+    """What a source says of a feature beside its outline."""
+
+    id: Any
+    properties: dict[str, Any]
+    kind: str
+
+
+@dataclass(frozen=True)
 class Source:
-    """A file: its number among the words, what its shapes are called, the property that names their layers, and all
-    properties that its features have, as keys."""
+    """A file: its number among the words, what its shapes are called, the property that names their layers, all
+    properties that its features have, as keys, and what it says of each feature, by what its shapes say of it."""
 
     number: int
     name: str
     stem: str
     name_by: str | None
     properties: dict[str, None] = field(default_factory=dict)
+    described: dict[str, Described] = field(default_factory=dict)
+    systems: list[str] = field(default_factory=list)  # the numbers behind SRID= in Well-Known Text
 
     def shape(self, label: str, wish: str | None, kind: str, coordinates: Any, feature: str) -> Shape:
         return Shape(label, wish, kind, coordinates, feature, self.number, self.stem)
+
+    def none(self, label: str, fault: str) -> list[Shape]:
+        """What stands for a geometry that cannot be read."""
+        return [Shape(label, None, "", None, label, self.number, self.stem, fault)]
 
     def of_geojson(self, value: Any, label: str, wish: str | None, feature: str) -> list[Shape]:
         """All shapes in a GeoJSON value, collections taken apart."""
@@ -68,7 +95,10 @@ class Source:
             return self.of_feature(value, label, wish)
         if kind in COLLECTIONS:
             key, called = ("features", "feature") if kind == "FeatureCollection" else ("geometries", "member")
-            return [shape for number, member in enumerate(value.get(key) or [], 1)
+            members = value.get(key) or []
+            if not isinstance(members, list):
+                return self.none(label, f'"{key}" that are no list')
+            return [shape for number, member in enumerate(members, 1)
                     for shape in self.of_geojson(member, f"{label}, {called} {number}", wish, feature)]
         return [self.shape(label, wish, str(kind).upper(), value.get("coordinates"), feature or label)]
 
@@ -78,7 +108,12 @@ class Source:
         self.properties.update(dict.fromkeys(properties))
         if self.name_by and properties.get(self.name_by) is not None:
             wish = str(properties[self.name_by])
+            if HALVES.search(wish):
+                return self.none(label, f'property "{self.name_by}" has half of a character, {wish!a}: no UTF-8')
         called = f"{label} ({wish})" if self.name_by and wish else label
+        geometry = value.get("geometry")
+        kind = str(geometry.get("type")) if isinstance(geometry, dict) else ""
+        self.described[called] = Described(value.get("id"), properties, kind)
         if value.get("geometry") is None:
             return [self.shape(called, wish, "a feature without a geometry", None, called)]
         return self.of_geojson(value["geometry"], called, wish, called)
@@ -91,14 +126,36 @@ class Source:
 
     def read(self, text: str) -> tuple[list[Shape], str | None]:
         """All shapes of a text, and the name of its coordinates; GeoJSON where it begins as an object."""
-        if text.lstrip().startswith("{"):
-            value = json.loads(text, parse_float=Decimal)
+        if text.lstrip(BEFORE).startswith("{"):
+            value = object_of(text)
             label = f"{self.name}, feature 1" if value.get("type") == "Feature" else self.name
             return self.of_geojson(value, label, None, ""), crs_of(value)
-        texts = enumerate(wkt.read_all(text), 1)
-        labelled = ((f"{self.name}, text {number}", kind, coordinates) for number, (kind, coordinates) in texts)
+        texts, systems = wkt.read_with_systems(text)
+        self.systems.extend(systems)
+        labelled = ((f"{self.name}, text {number}", kind, coordinates)
+                    for number, (kind, coordinates) in enumerate(texts, 1))
         return [shape for label, kind, coordinates in labelled
                 for shape in self.of_wkt(label, kind, coordinates, label)], None
+
+
+def object_of(text: str) -> Any:
+    """The object of a text of GeoJSON: of several, each on a line or behind a mark, a collection of them."""
+    try:
+        return json.loads(text, parse_float=Decimal)
+    except json.JSONDecodeError as fault:
+        if not text.startswith(MARK) and not fault.msg.startswith("Extra data"):
+            raise
+    return {"type": "FeatureCollection", "features": list(sequence(text))}
+
+
+def sequence(text: str) -> Iterator[Any]:
+    """The objects of a text sequence."""
+    for number, part in enumerate(text.split(MARK if MARK in text else "\n"), 1):
+        if part.strip():
+            try:
+                yield json.loads(part, parse_float=Decimal)
+            except json.JSONDecodeError as fault:
+                raise ValueError(f"{'record' if MARK in text else 'line'} {number}: {fault.msg}") from fault
 
 
 def crs_of(value: dict[str, Any]) -> str | None:
@@ -131,13 +188,22 @@ def positions_of(shape: Shape) -> Iterator[tuple[Fraction, Fraction]]:
             for ring in polygon:
                 for position in ring:
                     yield number_of(position[0]), number_of(position[1])
-    except (Refused, TypeError, IndexError, KeyError):
+    except (Refused, TypeError, IndexError, KeyError, RecursionError):
         return
 
 
-def content(name: str) -> bytes:
-    """What a file has, or standard input for -."""
-    return sys.stdin.buffer.read() if name == "-" else pathlib.Path(name).read_bytes()
+def content(name: str, layer: str | None = None) -> bytes:
+    """The GeoJSON or Well-Known Text of a file, or of standard input for -. Of other forms a layer may be named."""
+    path = pathlib.Path(name)
+    given = sys.stdin.buffer.read() if name == "-" else None
+    form = gdal_files.form_of(path, gdal_files.begin_of(path) if given is None else given)
+    if form and given is not None:
+        raise gdal_files.GdalFault(f"{form} is read by its name, and not from standard input")
+    if layer is not None and not form:
+        raise gdal_files.GdalFault("GeoJSON and Well-Known Text have no layers; --source-layer is for other files")
+    if form:
+        return gdal_files.as_geojson(path, layer).encode()
+    return path.read_bytes() if given is None else given
 
 
 if __name__ == "__main__":

@@ -3,6 +3,9 @@
     {"title": "Boroughs", "factor": 10, "factor_y": 10, "origin": [985000, 189000], "unit": "ft", "crs": "EPSG:2263",
      "digits": 5}
 
+Where to_script.py wrote it, `layers` has of each store's base layers a digest, by which tools tell that a store beside
+it has other ones.
+
 world = stored / factor + origin, for x and for y; `digits` is how many stand behind the point where a number of the
 world is written. Numbers are exact: one that a double cannot hold is written as a text. Without `crs` (null) the
 numbers are those of a plane that is nowhere on the earth.
@@ -14,6 +17,7 @@ import json
 import math
 import pathlib
 import re
+import sys
 from dataclasses import dataclass, replace
 from decimal import Decimal
 from fractions import Fraction
@@ -64,6 +68,16 @@ def decimals(number: Fraction | int, digits: int) -> str:
     return ("-" if scaled < 0 else "") + whole + ("." + rest if rest else "")
 
 
+def spelled_exactly(number: Fraction | int) -> str:
+    """A fraction with all its digits; Python spells a number of over 4,300 digits only where it is told to."""
+    most = sys.get_int_max_str_digits()
+    sys.set_int_max_str_digits(0)
+    try:
+        return str(number)
+    finally:
+        sys.set_int_max_str_digits(most)
+
+
 def spelled(number: Fraction) -> str:
     """A number as JSON has it: its digits, in quotes where a reader's double would lose some of them."""
     digits = decimal_digits(number)
@@ -84,6 +98,7 @@ class Scale:
     unit: str = "1"
     crs: str | None = None
     digits: int = 6
+    layers: tuple[dict[str, str], ...] = ()
 
     def world(self, corner: tuple[int, int, int]) -> tuple[Fraction, Fraction]:
         """The place in the world of a stored one, (X, Y, W) for the point (X / W, Y / W)."""
@@ -107,10 +122,11 @@ class Scale:
 
     def text(self) -> str:
         """The file that says it."""
+        layers = f',\n "layers": {json.dumps(self.layers)}' if self.layers else ""
         return (f'{{"title": {json.dumps(self.title)}, "factor": {spelled(self.factor)}, '
                 f'"factor_y": {spelled(self.factor_y)},\n'
                 f' "origin": [{spelled(self.origin[0])}, {spelled(self.origin[1])}], "unit": {json.dumps(self.unit)}, '
-                f'"crs": {json.dumps(self.crs)}, "digits": {self.digits}}}\n')
+                f'"crs": {json.dumps(self.crs)}, "digits": {self.digits}{layers}}}\n')
 
 
 def enough_digits(factor: Fraction) -> int:
@@ -132,8 +148,11 @@ def of_value(given: Any) -> Scale:
         raise ScaleFault("a factor is greater than 0, an origin has two numbers")
     if isinstance(digits, bool) or not isinstance(digits, int) or not 0 <= digits <= DIGITS_MAX:
         raise ScaleFault(f"digits are 0 to {DIGITS_MAX}")
+    layers = given.get("layers", [])
+    if not isinstance(layers, list) or not all(isinstance(one, dict) for one in layers):
+        raise ScaleFault("layers are a list of objects")
     return Scale(factor, factor_y, (exact(origin[0]), exact(origin[1])), str(given.get("title", "")),
-                 str(given.get("unit", "1")), None if crs is None else str(crs), digits)
+                 str(given.get("unit", "1")), None if crs is None else str(crs), digits, tuple(layers))
 
 
 def read(path: pathlib.Path) -> Scale:
@@ -148,6 +167,8 @@ def read(path: pathlib.Path) -> Scale:
 
 def beside(path: pathlib.Path) -> pathlib.Path:
     """Where the scale of a script or a store NAME.* lies: NAME.scale.json beside it, one for NAME.1.*, NAME.2.* too."""
+    if not path.name:
+        raise ScaleFault(f"{path}: a folder, and no file")
     own = path.with_name(path.stem + ".scale.json")
     shared = path.with_name(re.sub(r"\.[0-9]+$", "", path.stem) + ".scale.json")
     return own if own.exists() else shared

@@ -3,7 +3,9 @@
 A module for the tools; it is no tool of its own.
 """
 
+import hashlib
 import re
+from collections.abc import Iterable
 from dataclasses import dataclass
 from decimal import Decimal
 from typing import Any
@@ -237,6 +239,12 @@ class Session:
             name, _, rest = line.partition(" ")
             if name not in self.order:
                 self.answered_line(as_command(line), [])
+
+
+def digest_of(rings: Iterable[Iterable[tuple[int, int]]]) -> str:
+    """What tells the rings of a base layer from those of another."""
+    text = ";".join(",".join(f"{x} {y}" for x, y in ring) for ring in rings)
+    return hashlib.sha256(text.encode()).hexdigest()[:16]
 
 
 def matched(pattern: str | re.Pattern[str], text: str) -> tuple[Any, ...]:

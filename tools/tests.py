@@ -4,10 +4,12 @@
     tools/tests.py [PROGRAM [LIVE]]
 
 PROGRAM is the built overlayd, LIVE the built overlay_live. Without them the tests of the tools over a program and its
-stores are left out, and how many is told. The last line is 'N passed, M failed'.
+stores are left out, and so are those of packages that are not installed; how many is told. The last line is 'N passed,
+M failed'.
 """
 
 import argparse
+import collections
 import importlib
 import pathlib
 import sys
@@ -18,7 +20,8 @@ from testing.common import Programs
 
 MODULES = (
     "helps", "endings", "scales", "scripts", "layouts", "replies", "rings", "pictures", "overlays", "stores",
-    "maps", "pages",
+    "maps", "feature_files", "first_maps", "map_steps", "map_words", "numpy_forms", "map_tasks", "gdal_maps", "pages",
+    "corners", "sidecars", "inputs", "forms", "progresses",
 )
 
 
@@ -36,8 +39,8 @@ def main(arguments: list[str]) -> int:
     suite = unittest.TestSuite(load(importlib.import_module(f"testing.{name}")) for name in MODULES)
     result = unittest.TextTestRunner(stream=sys.stdout, verbosity=1).run(suite)
     failed = len({test.id() for test, _ in result.failures + result.errors})
-    if result.skipped:
-        print(f"left out: {len(result.skipped)} tests of a built program; they run by tools/tests.py PROGRAM LIVE")
+    for reason, count in collections.Counter(reason for _, reason in result.skipped).items():
+        print(f"left out: {count} tests: {reason}")
     print(f"{result.testsRun - failed - len(result.skipped)} passed, {failed} failed")
     return 1 if failed else 0
 

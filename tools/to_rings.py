@@ -12,10 +12,11 @@ columns among them. The text is rounded to --digits; --exact writes the fraction
     polygon 1 outer 3       the number of the polygon, outer or hole, and how many corners (the first is not repeated)
     3 5/3                   x and y of a corner
 
---areas writes the area of each ring and of all, exactly and rounded:
+--areas writes the area of each ring and of all, rounded, and exactly where the fraction has at most 60 digits, or
+with --exact:
 
-    polygon 1 outer area 25/3 8.333333
-    area 25/3 8.333333
+    polygon 1 outer area 8.333333 25/3
+    area 8.333333 25/3
 
 Coordinates and areas are those of the world where a scale is there. A base layer has the boundary of its even-odd
 inside. Status 0: all rings are written; 1: a line of the script was refused (each is told), a column is missing or
@@ -24,121 +25,21 @@ oversize, a reply is of another form, or the output cannot be written.
 
 import argparse
 import functools
-import sys
 from collections.abc import Iterator
-from fractions import Fraction
-from typing import TextIO
+from typing import Any, TextIO
 
+import areas
 import asking
 import ending
 import sessions
 import wkt
+from areas import Ring
 from asking import Map
-from scale import decimals
+from scale import Scale, decimals, spelled_exactly
 from sessions import Corner, Piece, Session
+from sweeping import Boundary, grouped, swept, turn, uncollected
 
-
-def turn(a: Corner, b: Corner, c: Corner) -> int:
-    """Greater than 0 where c lies to the left of the line from a to b, less where to the right, 0 on it."""
-    return (
-        a[0] * (b[1] * c[2] - b[2] * c[1])
-        - a[1] * (b[0] * c[2] - b[2] * c[0])
-        + a[2] * (b[0] * c[1] - b[1] * c[0])
-    )
-
-
-def compare(a: Corner, b: Corner) -> int:
-    """The order of points: by x, then by y."""
-    across = a[0] * b[2] - b[0] * a[2]
-    return across if across else a[1] * b[2] - b[1] * a[2]
-
-
-ORDER = functools.cmp_to_key(compare)
-
-
-def is_vertical(piece: Piece) -> bool:
-    (a, b) = piece
-    return a[0] * b[2] == b[0] * a[2]
-
-
-def middle(piece: Piece) -> Corner:
-    (a, b) = piece
-    return a[0] * b[2] + b[0] * a[2], a[1] * b[2] + b[1] * a[2], 2 * a[2] * b[2]
-
-
-class Status:
-    """The pieces that a line in x meets, from the lowest up, just right of it."""
-
-    def __init__(self) -> None:
-        self.pieces: list[Piece] = []
-
-    def place(self, piece: Piece) -> int:
-        """How many pieces pass under the left end of a piece, or start there and rise less."""
-        low, high = 0, len(self.pieces)
-        while low < high:
-            half = (low + high) // 2
-            other = self.pieces[half]
-            side = turn(*other, piece[0]) or turn(*other, piece[1])
-            if other == piece or side < 0:
-                high = half
-            elif side > 0:
-                low = half + 1
-            else:
-                raise sessions.Unusable("two pieces lie on each other")
-        return low
-
-    def below(self, point: Corner) -> int:
-        """How many pieces pass under a point that is on none of them."""
-        low, high = 0, len(self.pieces)
-        while low < high:
-            half = (low + high) // 2
-            if turn(*self.pieces[half], point) > 0:
-                low = half + 1
-            else:
-                high = half
-        return low
-
-    def insert(self, piece: Piece) -> None:
-        self.pieces.insert(self.place(piece), piece)
-
-    def remove(self, piece: Piece) -> None:
-        at = self.below(piece[1])
-        while self.pieces[at] != piece:
-            at += 1
-        del self.pieces[at]
-
-
-def groups(pieces: list[Piece], end: int) -> Iterator[list[Piece]]:
-    """The pieces by the x of one of their ends, in the order of x."""
-    ordered = sorted(pieces, key=lambda piece: ORDER(piece[end]))
-    group: list[Piece] = []
-    for piece in ordered:
-        if group and group[0][end][0] * piece[end][2] != piece[end][0] * group[0][end][2]:
-            yield group
-            group = []
-        group.append(piece)
-    if group:
-        yield group
-
-
-def directed(pieces: list[Piece]) -> list[Piece]:
-    """Each piece as (from, to) with the inside on its left."""
-    status = Status()
-    found: list[Piece] = []
-    slanted = [piece for piece in pieces if not is_vertical(piece)]
-    ends = list(groups(slanted, 1))[::-1]
-    for group in groups(pieces, 0):
-        x, w = group[0][0][0], group[0][0][2]
-        while ends and ends[-1][0][1][0] * w <= x * ends[-1][0][1][2]:
-            for piece in ends.pop():
-                status.remove(piece)
-        for piece in group:
-            if not is_vertical(piece):
-                status.insert(piece)
-        for piece in group:
-            count = status.below(middle(piece)) if is_vertical(piece) else status.place(piece)
-            found.append((piece[1], piece[0]) if count % 2 else piece)
-    return found
+Walk = list[int]  # numbers of pieces that go round, each from where the one before it ends
 
 
 def half_plane(direction: tuple[int, int]) -> int:
@@ -162,104 +63,126 @@ def counter_clockwise(a: tuple[int, int], b: tuple[int, int]) -> int:
 ANGLE = functools.cmp_to_key(counter_clockwise)
 
 
-def followers(pieces: list[Piece]) -> dict[Piece, Piece]:
-    """For each directed piece the one that goes on with the same inside: the sharpest left turn at its end."""
-    leaving: dict[Corner, list[Piece]] = {}
-    arriving: dict[Corner, list[Piece]] = {}
-    for piece in pieces:
-        leaving.setdefault(piece[0], []).append(piece)
-        arriving.setdefault(piece[1], []).append(piece)
-    if {node: len(found) for node, found in leaving.items()} != {node: len(found) for node, found in arriving.items()}:
+def round_corner(boundary: Boundary, corner: int, arriving: list[int], leaving: list[int]) -> list[tuple[int, int]]:
+    """Each piece that arrives at a corner, and the one that goes on with the same inside: the sharpest left turn."""
+    if len(arriving) == len(leaving) == 1:
+        return [(arriving[0], leaving[0])]
+
+    def angle(piece: int) -> Any:
+        other = boundary.right[piece] if boundary.left[piece] == corner else boundary.left[piece]
+        return ANGLE(direction(boundary.corners[corner], boundary.corners[other]))
+
+    # By angle, clockwise: after each piece that arrives comes the one that leaves with the same inside.
+    spokes = [(angle(piece), piece, False) for piece in arriving] + [(angle(piece), piece, True) for piece in leaving]
+    spokes.sort(key=lambda spoke: spoke[0], reverse=True)
+    pairs = list(zip(spokes, spokes[1:] + spokes[:1]))
+    if any(one[2] == other[2] for one, other in pairs):
+        raise sessions.Unusable("the sides of the pieces do not alternate round a node")
+    return [(piece, after) for (_, piece, leaves), (_, after, _) in pairs if not leaves]
+
+
+def followers(boundary: Boundary) -> list[int]:
+    """For each piece the one that goes on after it."""
+    begins, ends = boundary.directed()
+    if sorted(begins) != sorted(ends):
         raise sessions.Unusable("the pieces close to no rings: they are not those of one version and all columns")
-    follows = {}
-    for node, found in arriving.items():
-        # Round the node by angle; after each piece that arrives comes, clockwise, the one that leaves.
-        spokes = [(ANGLE(direction(node, piece[0])), piece, False) for piece in found]
-        spokes += [(ANGLE(direction(node, piece[1])), piece, True) for piece in leaving[node]]
-        spokes.sort(key=lambda spoke: spoke[0], reverse=True)
-        for number, (_, piece, leaves) in enumerate(spokes):
-            _, after, goes_on = spokes[(number + 1) % len(spokes)]
-            if leaves == goes_on:
-                raise sessions.Unusable("the sides of the pieces do not alternate round a node")
-            if not leaves:
-                follows[piece] = after
-    return follows
+    found, count = [0] * len(begins), len(boundary.corners)
+    arriving, leaving = grouped(range(len(ends)), ends, count), grouped(range(len(begins)), begins, count)
+    for corner, (come, go) in enumerate(zip(arriving, leaving)):
+        for piece, after in round_corner(boundary, corner, come, go):
+            found[piece] = after
+    return found
 
 
-def loops(pieces: list[Piece]) -> Iterator[list[Piece]]:
-    """The pieces as closed walks that pass no node twice."""
-    follows, left = followers(pieces), dict.fromkeys(pieces)
-    while left:
-        walk: list[Piece] = []
-        stands: dict[Corner, int] = {}
-        piece = next(iter(left))
-        while piece in left:
-            del left[piece]
-            stands[piece[0]] = len(walk)
+def loops(boundary: Boundary) -> Iterator[Walk]:
+    """The pieces as closed walks that pass no corner twice."""
+    follows, (begins, ends) = followers(boundary), boundary.directed()
+    passed = [False] * len(follows)
+    for piece in range(len(follows)):
+        walk: Walk = []
+        stands: dict[int, int] = {}
+        while not passed[piece]:
+            passed[piece] = True
+            stands[begins[piece]] = len(walk)
             walk.append(piece)
-            if piece[1] in stands:
-                begin = stands[piece[1]]
-                yield walk[begin:]
-                for passed in walk[begin:]:
-                    del stands[passed[0]]
-                del walk[begin:]
+            if ends[piece] in stands:
+                first = stands[ends[piece]]
+                yield walk[first:]
+                for one in walk[first:]:
+                    del stands[begins[one]]
+                del walk[first:]
             piece = follows[piece]
 
 
-def without_straight_corners(nodes: list[Corner]) -> list[Corner]:
-    count = len(nodes)
-    return [node for i, node in enumerate(nodes) if turn(nodes[i - 1], node, nodes[(i + 1) % count])]
+def ring_of(corners: list[Corner]) -> Ring:
+    """The ring through corners, the least of which is the first; those on a straight line are dropped."""
+    after = corners[1:] + corners[:1]
+    kept = [corner for i, corner in enumerate(corners) if turn(corners[i - 1], corner, after[i])]
+    return Ring(kept, turn(kept[-1], kept[0], kept[1]) > 0)
 
 
-class Ring:
-    """A ring with the inside on its left, begun at its least corner; probe is a place on it and on no other."""
+class Rings:
+    """The rings of a boundary, and how they lie in each other."""
 
-    def __init__(self, walk: list[Piece]) -> None:
-        corners = without_straight_corners([piece[0] for piece in walk])
-        first = min(range(len(corners)), key=lambda i: ORDER(corners[i]))
-        self.corners = corners[first:] + corners[:first]
-        self.outer = turn(self.corners[-1], self.corners[0], self.corners[1]) > 0
-        self.probe = middle(walk[0])
-        self.low = min(self.corners, key=lambda point: Fraction(point[1], point[2]))
-        self.high = max(self.corners, key=lambda point: Fraction(point[1], point[2]))
-        self.last = max(self.corners, key=ORDER)
+    def __init__(self, boundary: Boundary) -> None:
+        self.boundary = boundary
+        self.rings: list[Ring] = []
+        self.lowest: list[int] = []  # of a hole the lower one of the pieces at its least corner
+        self.ring_with = [0] * len(boundary.left)  # of each piece the number of its ring
+        begins = boundary.directed()[0]
+        for walk in loops(boundary):
+            places = [begins[piece] for piece in walk]
+            first = places.index(min(places))
+            self.lowest.append(walk[first - 1])
+            for piece in walk:
+                self.ring_with[piece] = len(self.rings)
+            self.rings.append(ring_of([boundary.corners[place] for place in places[first:] + places[:first]]))
 
-    def contains(self, point: Corner) -> bool:
-        """Whether an odd number of its edges are below the point, which is on none of them."""
-        if compare(point, self.corners[0]) <= 0 or compare(point, self.last) >= 0:
-            return False
-        if point[1] * self.low[2] <= self.low[1] * point[2] or point[1] * self.high[2] >= self.high[1] * point[2]:
-            return False
-        odd = False
-        for a, b in zip(self.corners, self.corners[1:] + self.corners[:1]):
-            left, right = (a, b) if compare(a, b) < 0 else (b, a)
-            if left[0] * point[2] <= point[0] * left[2] and point[0] * right[2] < right[0] * point[2]:
-                odd ^= turn(left, right, point) > 0
-        return odd
+    def homes(self) -> list[int]:
+        """For each ring the number of the outer ring of its polygon.
+
+        Just below the least corner of a hole is a piece of its polygon: of the outer ring, or of a hole that begins at
+        an earlier corner, or lower at the same one.
+        """
+        found = {number: number for number, ring in enumerate(self.rings) if ring.outer}
+        for number in range(len(self.rings)):
+            passed: list[int] = []
+            while number not in found:
+                passed.append(number)
+                below = self.boundary.below[self.lowest[number]]
+                if below is None:
+                    raise sessions.Unusable("a hole lies in no outer ring")
+                number = self.ring_with[below]
+            found.update(dict.fromkeys(passed, found[number]))
+        return [found[number] for number in range(len(self.rings))]
+
+    def polygons(self) -> list[list[Ring]]:
+        """Each outer ring with its holes, in the order of their least corners."""
+        number_of = {corner: number for number, corner in enumerate(self.boundary.corners)}
+        order = [(number_of[ring.corners[0]], number_of[ring.corners[1]]) for ring in self.rings]
+        in_order = sorted(range(len(self.rings)), key=order.__getitem__)
+        homes = self.homes()
+        found = {number: [self.rings[number]] for number in in_order if self.rings[number].outer}
+        for number in in_order:
+            if not self.rings[number].outer:
+                found[homes[number]].append(self.rings[number])
+        return list(found.values())
 
 
-def innermost(polygons: list[list[Ring]]) -> list[Ring]:
-    """Of polygons whose outer rings lie in each other, the one that lies in all others."""
-    def depth(polygon: list[Ring]) -> int:
-        return sum(other[0].contains(polygon[0].probe) for other in polygons if other is not polygon)
-    return max(polygons, key=depth)
+def loops_of(pieces: list[Piece]) -> list[list[Corner]]:
+    """The nodes of each ring that pieces bound, with the inside on the left; those on straight lines among them."""
+    boundary = swept(pieces)
+    begins = boundary.directed()[0]
+    return [[boundary.corners[begins[piece]] for piece in walk] for walk in loops(boundary)]
 
 
 def polygons_of(pieces: list[Piece]) -> list[list[Ring]]:
     """The polygons that the pieces bound: each an outer ring and its holes, in the order of their least corners."""
     try:
-        rings = [Ring(walk) for walk in loops(directed(pieces))]
+        with uncollected():
+            return Rings(swept(pieces)).polygons()
     except (IndexError, ValueError) as fault:
         raise sessions.Unusable("the pieces cross or lie on each other: they are not those of one version") from fault
-    rings.sort(key=lambda ring: (ORDER(ring.corners[0]), ORDER(ring.corners[1])))
-    polygons = [[ring] for ring in rings if ring.outer]
-    for hole in rings:
-        if not hole.outer:
-            round_it = [polygon for polygon in polygons if polygon[0].contains(hole.probe)]
-            if not round_it:
-                raise sessions.Unusable("a hole lies in no outer ring")
-            innermost(round_it).append(hole)
-    return polygons
 
 
 def layer_polygons(session: Session, layer: str) -> list[list[Ring]]:
@@ -271,22 +194,6 @@ def layer_polygons(session: Session, layer: str) -> list[list[Ring]]:
     return polygons_of(pieces)
 
 
-def area_of(ring: Ring) -> Fraction:
-    """The area of a ring in whole numbers' unit, greater than 0 for holes too."""
-    points = [(Fraction(x, w), Fraction(y, w)) for x, y, w in ring.corners]
-    twice = sum(ax * by - bx * ay for (ax, ay), (bx, by) in zip(points, points[1:] + points[:1]))
-    return abs(Fraction(twice)) / 2
-
-
-def area_of_polygon(polygon: list[Ring]) -> Fraction:
-    """The area of an outer ring without its holes."""
-    return area_of(polygon[0]) - sum(area_of(hole) for hole in polygon[1:])
-
-
-def area_of_all(polygons: list[list[Ring]]) -> Fraction:
-    return sum((area_of_polygon(polygon) for polygon in polygons), Fraction(0))
-
-
 def heads(polygons: list[list[Ring]]) -> Iterator[tuple[str, Ring]]:
     """Each ring and what it is called."""
     for number, polygon in enumerate(polygons, 1):
@@ -294,24 +201,27 @@ def heads(polygons: list[list[Ring]]) -> Iterator[tuple[str, Ring]]:
             yield f"polygon {number} {'outer' if ring.outer else 'hole'}", ring
 
 
-def exact_lines(polygons: list[list[Ring]], found: Map) -> Iterator[str]:
+def exact_lines(polygons: list[list[Ring]], found: Map, _words: argparse.Namespace) -> Iterator[str]:
     yield f"polygons {len(polygons)}"
     for head, ring in heads(polygons):
         yield f"{head} {len(ring.corners)}"
         for corner in ring.corners:
-            x, y = found.scale.world(corner)
-            yield f"{x} {y}"
+            yield " ".join(map(spelled_exactly, found.scale.world(corner)))
 
 
-def area_lines(polygons: list[list[Ring]], found: Map) -> Iterator[str]:
+def area_line(head: str, rings: list[Ring], scale: Scale, exact: bool) -> str:
+    area, fraction = areas.in_world(rings, scale, exact)
+    told = [decimals(abs(area), scale.digits), *([fraction.removeprefix("-")] if fraction else [])]
+    return f"{head} {' '.join(told)}"
+
+
+def area_lines(polygons: list[list[Ring]], found: Map, words: argparse.Namespace) -> Iterator[str]:
     for head, ring in heads(polygons):
-        area = found.scale.area(area_of(ring))
-        yield f"{head} area {area} {decimals(area, found.scale.digits)}"
-    area = found.scale.area(area_of_all(polygons))
-    yield f"area {area} {decimals(area, found.scale.digits)}"
+        yield area_line(f"{head} area", [ring], found.scale, words.exact)
+    yield area_line("area", [ring for polygon in polygons for ring in polygon], found.scale, words.exact)
 
 
-def text_lines(polygons: list[list[Ring]], found: Map) -> Iterator[str]:
+def text_lines(polygons: list[list[Ring]], found: Map, _words: argparse.Namespace) -> Iterator[str]:
     closed = [[[found.scale.world(corner) for corner in ring.corners + ring.corners[:1]] for ring in polygon]
               for polygon in polygons]
     yield wkt.write(closed, lambda number: decimals(number, found.scale.digits))
@@ -320,18 +230,17 @@ def text_lines(polygons: list[list[Ring]], found: Map) -> Iterator[str]:
 def parser_of() -> argparse.ArgumentParser:
     parser = argparse.ArgumentParser(description=__doc__, formatter_class=argparse.RawDescriptionHelpFormatter)
     asking.add_words(parser)
-    form = parser.add_mutually_exclusive_group()
-    form.add_argument("--exact", action="store_true", help="fractions in place of Well-Known Text")
-    form.add_argument("--areas", action="store_true", help="areas in place of Well-Known Text")
+    parser.add_argument("--exact", action="store_true",
+                        help="fractions in place of Well-Known Text; with --areas each of them, however long")
+    parser.add_argument("--areas", action="store_true", help="areas in place of Well-Known Text")
     asking.add_scale_words(parser)
     return parser
 
 
 def write(found: Map, words: argparse.Namespace, output: TextIO, errors: TextIO) -> int:
     polygons = layer_polygons(found.session, found.layers[0])
-    lines = exact_lines if words.exact else area_lines if words.areas else text_lines
-    for line in lines(polygons, found):
-        print(line, file=output)
+    lines = area_lines if words.areas else exact_lines if words.exact else text_lines
+    output.write("".join(line + "\n" for line in list(lines(polygons, found, words))))
     holes = sum(len(polygon) - 1 for polygon in polygons)
     print(f"outer rings {len(polygons)} (counter-clockwise), holes {holes} (clockwise); inside on the left",
           file=errors)

@@ -1,5 +1,5 @@
 #!/usr/bin/env python3
-"""Makes PUT lines for overlayd of GeoJSON or Well-Known Text with fractions.
+"""Makes PUT lines for overlayd of GeoJSON or Well-Known Text with fractions, and of what else GDAL reads.
 
     tools/to_script.py map.geojson --fit --name-by name --output map.txt
     tools/to_script.py boroughs.geojson --fit --split --name-by BoroName --output ny.txt
@@ -25,39 +25,48 @@ by more than a 1000th of the extent, or are out of range, nothing is written, an
           own, joined by |. Without it a layer is even-odd.
 --coded   features are numbered from 1, and layer b0, b1 .. holds those whose number has that bit, so that 7 layers
           carry 127 features. NAME.names.csv has numbers, names, the expression of each feature, and areas;
-          tools/which.py tells names by it. Where features overlap their numbers are mixed: --check tells whether they
-          do, exactly, by areas that the program is asked for.
---output  NAME.txt is the script, and NAME.scale.json says what its numbers mean, for the other tools and for web/.
+          tools/which.py tells names by it. Where features overlap their numbers are mixed: --check tells which pairs
+          do, and the area that they have in common, the largest first, as the program has it exactly.
+--output  NAME.txt is the script, NAME.scale.json says what its numbers mean, for the other tools and for web/, and
+          NAME.features.json has the features of GeoJSON with all their properties (docs/FEATURES.md).
           Where one store of 32 layers does not suffice, NAME.1.txt, NAME.2.txt .. are each the script of a store.
 
 Status 0: all was written; 1: something was refused, the rest was written, features overlap, no layer came of the files
-and nothing was written, or standard output or an open standard error cannot be written; 2: a file could not be read, the factor does not
-fit, no feature has the property of --name-by, or what would be written over is a store or an input, and nothing was
-written.
+and nothing was written, or standard output or an open standard error cannot be written; 2: a file could not be read,
+the factor does not fit, no feature has the property of --name-by, or what would be written over is a store, an input,
+or a scale, names or features that a store beside it needs, and nothing was written.
 """
 
 import argparse
 import csv
+import io
+import math
 import pathlib
 import re
 import sys
 import unicodedata
 from collections.abc import Callable
-from dataclasses import replace
+from dataclasses import dataclass, field, replace
 from fractions import Fraction
 from typing import TextIO
 
 import asking
 import checking
+import describing
 import ending
+import features
 import fitting
+import keeping
 import layering
 import limits
 import map_reading
+import progress
 import rounding
 import scale as scales
 import sessions
 import wkt
+import writing
+from describing import Described
 from layering import Group, Layout, Store
 from map_reading import Refused, Shape
 from scale import Scale
@@ -104,7 +113,7 @@ class Reader:
                 rings, own = self.rounding.polygon(polygon, lambda reason: self.refuse(shape.label, reason))
                 found.extend([rings] if rings else [])
                 tally.add(own)
-        except (Refused, TypeError) as fault:
+        except (Refused, TypeError, RecursionError) as fault:
             self.refuse(shape.label, str(fault) if isinstance(fault, Refused) else "coordinates of another form")
             return
         if not found:
@@ -114,37 +123,38 @@ class Reader:
             return
         key: object = shape.wish or ((shape.file, shape.feature) if by_feature else shape.file)
         wish = shape.wish or (shape.feature if by_feature else shape.stem)
-        self.groups.setdefault((type(key), key), Group(wish)).add(found, tally)
+        self.groups.setdefault((type(key), key), Group(wish)).add(found, tally, (shape.file, shape.feature))
 
     def furthest(self) -> Fraction:
         return max((group.tally.furthest for group in self.groups.values()), default=Fraction(0))
 
 
-def content(name: str) -> str:
+def content(name: str, layer: str | None) -> str:
     """The text of a file, or of standard input for -; where it is a store the words to type are told."""
-    data = map_reading.content(name)
+    data = map_reading.content(name, layer)
     if asking.begins_as_store(data):
         raise Stopped(f"{name}: a store, and no map; its layers as a script: dump_store.py {name}, as GeoJSON: "
                       f"to_geojson.py --store {name}")
     return data.decode("utf-8-sig")
 
 
-def read_shapes(words: argparse.Namespace) -> tuple[list[Shape], set[str | None]]:
-    """The shapes of all files, and the names of their coordinates."""
-    shapes, names, properties = [], set(), dict[str, None]()
+def read_shapes(words: argparse.Namespace) -> tuple[list[Shape], set[str | None], Described]:
+    """The shapes of all files, the names of their coordinates, and what files say of their features."""
+    shapes, names, properties, described = [], set(), dict[str, None](), Described()
     for number, name in enumerate(words.files):
         stem = words.name or ("L" if name == "-" else pathlib.Path(name).stem)
         source = map_reading.Source(number, name, stem, words.name_by)
         try:
-            own, crs = source.read(content(name))
+            own, crs = source.read(content(name, words.source_layer))
         except (OSError, ValueError, ArithmeticError, RecursionError, wkt.WktFault) as fault:
             raise Stopped(ending.told(f"{name}: not read", fault)) from fault
         shapes += own
         names.add(crs)
         properties |= source.properties
+        described |= {(number, called): one for called, one in source.described.items()}
     if shapes and words.name_by is not None and words.name_by not in properties:
         raise Stopped(f"--name-by {words.name_by}: no feature has this property; {listed(list(properties))}")
-    return shapes, names
+    return shapes, names, described
 
 
 def listed(properties: list[str]) -> str:
@@ -216,7 +226,7 @@ class Planner:
         given = [(self.names.give(fitted_name(group.wish)), group) for group in groups]
         layouts = []
         for name, group in given:
-            layout = layering.split(name, group.polygons, self.names, self.words.union)
+            layout = replace(layering.split(name, group.polygons, self.names, self.words.union), group=group)
             reason = self.unfit(layout, group)
             if reason:
                 self.refuse(f"layer {name}", reason)
@@ -255,7 +265,11 @@ class Planner:
             else:
                 more = "" if self.words.split else "; --split writes them exactly, over several layers"
                 self.refuse(group.wish, f"too many steps: {group.steps()}{more}")
-        stores = layering.coded(kept, self.words.split)
+        with progress.Progress("laying out features", len(kept)) as told:
+            stores = []
+            for store in layering.coded(kept, self.words.split):
+                stores.append(store)
+                told.step(len(store.features))
         for store in stores:
             self.tell_coded(store)
         return stores
@@ -290,15 +304,21 @@ def spelled_area(area: Fraction) -> str:
     return str(area) if digits is None else scales.decimals(area, digits)
 
 
-def write_names(path: pathlib.Path, stores: list[Store], scale: Scale) -> None:
+def names_text(stores: list[Store], scale: Scale) -> str:
     """The table of numbered features."""
-    with path.open("w", encoding="utf-8", newline="") as file:
-        table = csv.writer(file, lineterminator="\n")
-        table.writerow(["store", "number", "name", "expression", "area"])
-        for place, store in enumerate(stores, 1):
-            for number, group in enumerate(store.features, 1):
-                table.writerow([place, number, group.wish, layering.expression_of(number, len(store.features)),
-                                spelled_area(scale.area(layering.area_of(group)))])
+    rows: list[list[object]] = [["store", "number", "name", "expression", "area"]]
+    for place, store in enumerate(stores, 1):
+        for number, group in enumerate(store.features, 1):
+            rows.append([place, number, group.wish, layering.expression_of(number, len(store.features)),
+                         spelled_area(scale.area(layering.area_of(group)))])
+    return "".join(map(table_line, rows))
+
+
+def table_line(row: list[object]) -> str:
+    """A row and the end of its line; a name with either end of a line is quoted, as csv does by its own one alone."""
+    text = io.StringIO()
+    csv.writer(text, lineterminator="\r\n").writerow(row)
+    return text.getvalue().removesuffix("\r\n") + "\n"
 
 
 def read_by(words: argparse.Namespace) -> list[pathlib.Path]:
@@ -316,55 +336,114 @@ def check_targets(paths: list[pathlib.Path], inputs: list[pathlib.Path]) -> None
                 raise Stopped(f"--output: {path} is the input {given}, which is not written over")
 
 
-def write_files(words: argparse.Namespace, stores: list[Store], scale: Scale) -> list[str]:
-    """Writes the scripts and what goes with them, and tells how to make stores of them."""
+def scripts_of(output: pathlib.Path, stores: list[Store]) -> list[pathlib.Path]:
+    """The script of each store."""
+    if len(stores) == 1:
+        return [output]
+    base = output.with_suffix("")
+    return [pathlib.Path(f"{base}.{place}{output.suffix}") for place in range(1, len(stores) + 1)]
+
+
+def scale_text(words: argparse.Namespace, stores: list[Store], scale: Scale) -> bytes:
+    """The scale, with digests of the layers that it is written for."""
+    layers = tuple(keeping.digests({name: [ring for polygon in polygons for ring in polygon]
+                                    for layout in store.layouts for name, polygons in layout.base})
+                   for store in stores)
     try:
-        text = replace(scale, title=words.title or scale.title).text()
+        return replace(scale, title=words.title or scale.title, layers=layers).text().encode()
     except scales.ScaleFault as fault:
         raise Stopped(f"--output: {fault}") from fault
-    base, told = words.output.with_suffix(""), []
-    scripts = [words.output]
-    if len(stores) > 1:
-        scripts = [pathlib.Path(f"{base}.{place}{words.output.suffix}") for place in range(1, len(stores) + 1)]
-    sidecar, names = pathlib.Path(f"{base}.scale.json"), pathlib.Path(f"{base}.names.csv")
+
+
+@dataclass
+class Beside:
+    """Files that say what the numbers of scripts mean, the scale first, and what to tell of each."""
+
+    texts: dict[pathlib.Path, bytes] = field(default_factory=dict)
+    told: list[str] = field(default_factory=list)
+
+    def add(self, path: pathlib.Path, text: bytes, told: str) -> None:
+        self.texts[path] = text
+        self.told.append(f"{told} in {path}")
+
+
+def beside(words: argparse.Namespace, stores: list[Store], scale: Scale, described: Described) -> Beside:
+    """What goes with the scripts of stores."""
+    base, found = words.output.with_suffix(""), Beside()
+    found.add(pathlib.Path(f"{base}.scale.json"), scale_text(words, stores, scale), "factor and origin")
+    if words.coded:
+        text = names_text(stores, scale).encode("utf-8", "backslashreplace")
+        found.add(pathlib.Path(f"{base}.names.csv"), text, "names")
+    tables = describing.tables(stores, described, base.name, words.name_by, words.union) if described else ()
     try:
-        targets = [*scripts, *([names] if words.coded else [])]
-        check_targets([*targets, sidecar], read_by(words))
-        check_targets(targets, [words.scale] if words.scale else [])
-        if words.scale and (words.title or scale.title) != scale.title:
-            check_targets([sidecar], [words.scale])  # under the same title it says the same scale again
-        for script, store in zip(scripts, stores):
-            script.write_bytes("".join(line + "\n" for line in lines_of(store)).encode())
-            made = script.with_suffix(".store" if script.suffix == ".db" else ".db")
-            told.append(f"{script}: {store.count()} layers; overlayd --store {made} --create {script}")
-        sidecar.write_bytes(text.encode())
-        if words.coded:
-            write_names(names, stores, scale)
-            told.append(f"names in {names}")
+        for script, table in zip(scripts_of(words.output, stores), tables):
+            told = f"{len(table.features)} features with all properties"
+            found.add(features.beside(script), table.text().encode(), told)
+    except features.FeaturesFault as fault:
+        raise Stopped(str(fault)) from fault
+    return found
+
+
+def check_output(words: argparse.Namespace, scripts: list[pathlib.Path], files: Beside, scale: Scale) -> None:
+    """Refuses to write over a store, over what was read, and over what a store needs."""
+    sidecar, *others = files.texts
+    targets = [*scripts, *others]
+    check_targets([*targets, sidecar], read_by(words))
+    check_targets(targets, [words.scale] if words.scale else [])
+    if words.scale and (words.title or scale.title) != scale.title:
+        check_targets([sidecar], [words.scale])  # under the same title it says the same scale again
+    try:
+        for script in scripts:
+            keeping.check_apart(script)
+        keeping.check(words.output, files.texts)
+    except keeping.StoreStands as fault:
+        raise Stopped(f"--output: {fault}") from fault
+
+
+def write_files(words: argparse.Namespace, stores: list[Store], scale: Scale, described: Described) -> list[str]:
+    """Writes the scripts and what goes with them, whole or not at all, and tells how to make stores of them."""
+    scripts, files, told = scripts_of(words.output, stores), beside(words, stores, scale, described), []
+    texts = {}
+    for script, store in zip(scripts, stores):
+        texts[script] = "".join(line + "\n" for line in lines_of(store)).encode()
+        made = script.with_suffix(".store" if script.suffix == ".db" else ".db")
+        told.append(f"{script}: {store.count()} layers; overlayd --store {made} --create {script}")
+    try:
+        check_output(words, scripts, files, scale)
+        writing.write_all(texts | files.texts)
     except OSError as fault:
         raise Stopped(ending.told(fault.filename or words.output, fault)) from fault
-    return [f"factor and origin in {sidecar}"] + told
+    return files.told[:1] + told + files.told[1:]
 
 
-def overlaps(words: argparse.Namespace, stores: list[Store], say: Callable[[str], None]) -> int:
-    """Tells whether features of coded layers overlap: 1 where some do, or nobody can say, else 0."""
-    status = 0
+def overlaps(words: argparse.Namespace, stores: list[Store], scale: Scale, say: Callable[[str], None]) -> int:
+    """Tells which features overlap, and by how much, the largest area first: 1 where some do, or nobody can say."""
+    features_of_all = [group for store in stores for group in store.features]
     try:
-        program = words.program or asking.found_program((asking.BATCHED, asking.LIVE))
-        for store in stores:
-            names = checking.overlapping(program, store)
-            status = 1 if names else status
-            mixed = f"features overlap, and numbers are mixed: in the layers another area have {', '.join(names)}"
-            say(mixed if names else f"of {len(store.features)} features no two overlap")
+        program = words.program or asking.found_program((asking.LIVE, asking.BATCHED))
+        found = checking.overlapping(program, features_of_all)
     except sessions.Unusable as fault:
         say(f"--check: {fault}")
         return 1
-    return status
+    for one in found:
+        first, second = (features_of_all[place].wish for place in (one.first, one.second))
+        say(f"overlap: {first}, {second}, {told_area(scale.area(one.area))}")
+    several = f"{len(found)} pairs overlap, and their numbers are mixed" if found else "no two overlap"
+    say(f"of {len(features_of_all)} features {several}")
+    return 1 if found else 0
+
+
+def told_area(area: Fraction) -> str:
+    """An area with two digits behind the point, or where it is small with three that are not 0."""
+    return scales.decimals(area, max(2, 2 - math.floor(math.log10(area))))
 
 
 def words_of(arguments: list[str]) -> argparse.Namespace:
     parser = argparse.ArgumentParser(description=__doc__, formatter_class=argparse.RawDescriptionHelpFormatter)
-    parser.add_argument("files", metavar="FILE", nargs="+", help="GeoJSON or Well-Known Text; - is standard input")
+    parser.add_argument("files", metavar="FILE", nargs="+",
+                        help="GeoJSON or Well-Known Text; where gdal-bin is installed a GeoPackage, a Shapefile, a "
+                        "FlatGeobuf, GML, or CSV with Well-Known Text too; - is standard input")
+    parser.add_argument("--source-layer", metavar="NAME", help="the layer of files that have several, as GeoPackages")
     parser.add_argument("--factor", type=scales.number, help="default 1")
     parser.add_argument("--factor-y", type=scales.number, help="another factor for y (default: that of x)")
     parser.add_argument("--origin", type=scales.number, nargs=2, metavar=("X", "Y"),
@@ -378,7 +457,7 @@ def words_of(arguments: list[str]) -> argparse.Namespace:
     parser.add_argument("--split", action="store_true", help="spread what is too long for a layer over several")
     parser.add_argument("--union", action="store_true", help="polygons of one layer may overlap")
     parser.add_argument("--coded", action="store_true", help="number the features over few layers (needs --output)")
-    parser.add_argument("--check", action="store_true", help="tell whether the features of --coded overlap")
+    parser.add_argument("--check", action="store_true", help="tell which features of --coded overlap, and by how much")
     parser.add_argument("--program", metavar="PATH", help="the program that --check asks (default: as the other tools)")
     parser.add_argument("--output", metavar="NAME.txt", type=pathlib.Path, help="in the place of standard output")
     parser.add_argument("--title", help="for the scale's file (default: the output's name)")
@@ -393,16 +472,18 @@ def words_of(arguments: list[str]) -> argparse.Namespace:
         parser.error("--coded needs --output NAME.txt, as it writes names too, and no --union")
     if words.check and not words.coded:
         parser.error("--check is of --coded features")
+    if words.output and (not words.output.name or words.output.is_dir()):
+        parser.error(f"--output: {words.output} is a folder, and no file")
     return words
 
 
 def work(words: argparse.Namespace, output: TextIO, say: Callable[[str], None]) -> int:
     """Reads, lays out and writes; the status."""
-    shapes, names = read_shapes(words)
+    shapes, names, described = read_shapes(words)
     box = fitting.box_of(shapes)
     scale = scale_for(words, box, crs_for(words, names, box))
     reader = Reader(scale, words.fit)
-    for shape in shapes:
+    for shape in progress.over(shapes, "rounding features", len(shapes)):
         reader.take(shape, words.coded)
     given = words.fit or words.scale or words.factor or words.factor_y
     told = check_scale(reader, box, scale, bool(given))
@@ -411,7 +492,7 @@ def work(words: argparse.Namespace, output: TextIO, say: Callable[[str], None]) 
     stores = planner.coded(groups) if words.coded else planner.named(groups)
     written = [] if stores else ["no layer: nothing is written"]
     if words.output and stores:
-        written = write_files(words, stores, scale)
+        written = write_files(words, stores, scale, described)
     else:
         stores = one_store(stores, reader.refuse)
         for line in (line for store in stores for line in lines_of(store)):
@@ -421,7 +502,7 @@ def work(words: argparse.Namespace, output: TextIO, say: Callable[[str], None]) 
         say(f"{fitting.words(scale.factor, scale.origin)}; {moved if reader.furthest() else 'nothing is rounded'}")
     for text in planner.told + reader.told + told + written:
         say(text)
-    overlap = overlaps(words, stores, say) if words.check else 0
+    overlap = overlaps(words, stores, scale, say) if words.check else 0
     return 1 if reader.refusals or not stores else overlap
 
 

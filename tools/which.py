@@ -2,13 +2,15 @@
 """Tells which layers, or which features of coded layers, have a point.
 
     tools/which.py --store map.db 7 7
-    tools/which.py --store nc.db --names nc.names.csv -78.64 35.77
+    tools/which.py --store nc.db -78.64 35.77
     tools/which.py --store nc.db --names nc.names.csv --points points.txt
 
-Without --names the layers are those that no definition names, and each that has the point is told. With --names the
-answers of layers b0, b1 .. spell the number of the feature in the table that to_script.py --coded wrote; --store may
-stand once for each of its stores, in their order. The point is in coordinates of the world where a scale is there;
-where it cannot be asked exactly the nearest one that can is asked, and told. A store is read and not changed.
+Where NAME.features.json lies beside a store NAME.* of coded layers, the answers of layers b0, b1 .. are told as the
+names of its features, also where features overlap; it must be of the store. With --names they spell the number of the
+feature in the table that to_script.py --coded wrote. Else, and with --layers, the layers are those that no definition
+names, and each that has the point is told. --store may stand once for each store of a map, in their order. The point is
+in coordinates of the world where a scale is there; where it cannot be asked exactly the nearest one that can is asked,
+and told. A store is read and not changed.
 
 A file of points has one on each line, two numbers apart by blanks, a comma or a semicolon; blank lines and those that
 begin with # are passed over.
@@ -16,7 +18,9 @@ begin with # are passed over.
 For each point a line: the name, or names with a tab between, or nothing where no layer or feature has it; behind `edge`
 and a tab, where it lies on a segment, those that it may belong to: of coded layers all whose numbers fit, the
 neighbours among them; behind `error` and a tab, where it cannot be answered, the point as it was typed and the reason,
-while all others are answered. Status 0: all points are answered; 1: one is not, or the output cannot be written.
+while all others are answered. Within a name, or what was typed, a tab or the end of a line is a blank.
+
+Status 0: all points are answered; 1: one is not, or the output cannot be written.
 """
 
 import argparse
@@ -30,14 +34,18 @@ from typing import TextIO
 
 import asking
 import ending
+import features
 import limits
 import scale as scales
 import sessions
+from features import FeaturesFault, Outline, Table
 from scale import Scale
 from sessions import Corner, Session, Unusable
 
 OUTSIDE = 0
+BLANKS = dict.fromkeys(map(ord, "\t\n\v\f\r\x1c\x1d\x1e\x85\u2028\u2029"), " ")  # what ends a line or a column
 TYPED_MAX = 80  # so much of a point that was typed is told
+Numbered = Table | dict[int, str] | None  # the features of coded layers, the names of their numbers, or plain layers
 
 
 @dataclass(frozen=True)
@@ -58,8 +66,8 @@ class Answer:
     fault: str | None = None
 
     def text(self) -> str:
-        found = "\t".join(self.within)
-        return found if self.edge is None else "\t".join(["edge", *self.edge, *self.within])
+        told = self.within if self.edge is None else ["edge", *self.edge, *self.within]
+        return "\t".join(name.translate(BLANKS) for name in told)
 
 
 def of_layers(names: list[str], answers: list[str]) -> Answer:
@@ -80,6 +88,29 @@ def of_bits(table: dict[int, str], answers: list[str]) -> Answer:
         return Answer([table[number]] if number != OUTSIDE else [])
     mask = sum(1 << bit for bit in sure)
     return Answer([], [name for one, name in table.items() if one & mask == number])
+
+
+def of_features(outlines: list[Outline], corner: Corner, answers: list[str]) -> Answer:
+    """The answer of coded layers as their features have it: off all outlines both must spell one number."""
+    within, edge = features.at(outlines, corner)
+    number = 0 if edge else features.spelled_by(within)
+    told = {"in": 1, "out": 0}
+    if any(told.get(answer, number >> bit & 1) != number >> bit & 1 for bit, answer in enumerate(answers) if not edge):
+        return Answer(fault="the features there are not those of the layers' answers")
+    names = [feature.name for feature in within]
+    return Answer(names, [feature.name for feature in edge] or None)
+
+
+def table_beside(store: pathlib.Path) -> Table | None:
+    """The features of a store of coded layers, where their file lies beside it."""
+    try:
+        path = features.beside(store)
+        if not path.is_file():
+            return None
+        table = features.read(path)
+    except FeaturesFault as fault:
+        raise Unusable(str(fault)) from fault
+    return table if table.coded else None
 
 
 def read_table(path: pathlib.Path) -> dict[int, dict[int, str]]:
@@ -108,10 +139,12 @@ def asked(program: str, store: pathlib.Path, names: list[str], points: list[Corn
         yield replies[at : at + len(names)]
 
 
-def names_of(session: Session, table: dict[int, str] | None, store: pathlib.Path) -> list[str]:
+def names_of(session: Session, table: Numbered, store: pathlib.Path) -> list[str]:
     """The layers to ask: those of the bits, or all that no definition names."""
     if table is None:
         return session.unnamed()
+    if isinstance(table, Table):
+        return [f"b{bit}" for bit in range(len(table.layers))]
     names = [f"b{bit}" for bit in range(max(table, default=0).bit_length())]
     for name in names:
         if name not in session.order:
@@ -119,14 +152,28 @@ def names_of(session: Session, table: dict[int, str] | None, store: pathlib.Path
     return names
 
 
-def answers_of(program: str, store: pathlib.Path, table: dict[int, str] | None,
-               points: list[Corner]) -> list[Answer]:
-    """The answers of one store for all points."""
+def standing(session: Session, table: Table, store: pathlib.Path) -> Table:
+    """The features of a table as they stand in a store, which must be the one of the table."""
+    try:
+        return features.resolved(table, features.held_rings(session.base), features.beside(store))
+    except FeaturesFault as fault:
+        raise Unusable(str(fault)) from fault
+
+
+def answers_of(program: str, store: pathlib.Path, table: Numbered, points: list[Corner],
+               check: Callable[[pathlib.Path, Session], None]) -> list[Answer]:
+    """The answers of one store for all points; check is told its session."""
     session = sessions.read(b"LAYERS\n", asking.store_replies(program, store, b"LAYERS\n"), 0)
+    check(store, session)
+    if isinstance(table, Table):
+        table = standing(session, table, store)
     names = names_of(session, table, store)
     if not names:
         return [Answer() for _ in points]
     found = asked(program, store, names, points)
+    if isinstance(table, Table):
+        outlines = features.outlines(table, features.held_rings(session.base))
+        return [of_features(outlines, corner, own) for corner, own in zip(points, found, strict=True)]
     return [of_layers(names, own) if table is None else of_bits(table, own) for own in found]
 
 
@@ -175,7 +222,8 @@ def question(x: Fraction, y: Fraction, scale: Scale, say: Callable[[str], None])
 
 
 def shortened(typed: str) -> str:
-    return typed if len(typed) <= TYPED_MAX else typed[:TYPED_MAX] + " .."
+    told = typed.translate(BLANKS)
+    return told if len(told) <= TYPED_MAX else told[:TYPED_MAX] + " .."
 
 
 def texts(points: list[Point], corners: list[Corner | None], answers: Iterator[Answer]) -> Iterator[tuple[str, bool]]:
@@ -193,7 +241,9 @@ def parser_of() -> argparse.ArgumentParser:
     parser.add_argument("numbers", metavar="X Y", nargs="*", help="a point")
     parser.add_argument("--store", metavar="FILE", type=pathlib.Path, action="append", required=True,
                         help="a store; it is not changed")
-    parser.add_argument("--names", metavar="FILE", type=pathlib.Path, help="NAME.names.csv of to_script.py --coded")
+    told = parser.add_mutually_exclusive_group()
+    told.add_argument("--names", metavar="FILE", type=pathlib.Path, help="NAME.names.csv of to_script.py --coded")
+    told.add_argument("--layers", action="store_true", help="tell layers, also where features are known")
     parser.add_argument("--points", metavar="FILE", type=pathlib.Path,
                         help="a point on each line; blank lines and # lines are passed over; - is standard input")
     parser.add_argument("--scale", metavar="FILE", type=pathlib.Path,
@@ -202,11 +252,13 @@ def parser_of() -> argparse.ArgumentParser:
     return parser
 
 
-def scale_for(words: argparse.Namespace) -> Scale:
-    """The scale that is given, or that lies beside the first store, else that of whole numbers."""
-    file = words.scale or scales.beside(words.store[0])
+def scale_for(words: argparse.Namespace) -> tuple[Scale, pathlib.Path | None]:
+    """The scale that is given, or that lies beside the first store, and then its file; else that of whole numbers."""
     try:
-        return scales.read(file) if words.scale or file.is_file() else Scale()
+        file = words.scale or scales.beside(words.store[0])
+        if not (words.scale or file.is_file()):
+            return Scale(), None
+        return scales.read(file), None if words.scale else file
     except scales.ScaleFault as fault:
         raise Unusable(str(fault)) from fault
 
@@ -215,13 +267,19 @@ def work(words: argparse.Namespace, output: TextIO, errors: TextIO) -> int:
     """Asks for all points and writes a line for each; the status."""
     points = read_points(words)
     program = words.program or asking.found_program((asking.LIVE, asking.BATCHED))
-    tables = read_table(words.names) if words.names else {}
+    tables: dict[int, Numbered] = {**read_table(words.names)} if words.names else {}
+    if not words.names and not words.layers:
+        tables = {place: table_beside(store) for place, store in enumerate(words.store, 1)}
     if words.names and len(tables) != len(words.store):
         raise Unusable(f"{words.names} is of {len(tables)} stores, and {len(words.store)} are given")
-    scale, told = scale_for(words), list[str]()
+    (scale, file), told = scale_for(words), list[str]()
     corners = [question(*point.place, scale, told.append) if point.place else None for point in points]
     asking_for = [corner for corner in corners if corner is not None]
-    found = [answers_of(program, store, tables.get(place) if words.names else None, asking_for)
+
+    def check(store: pathlib.Path, session: Session) -> None:
+        told.extend(asking.other_layers(store, session, file, scale) if file else [])
+
+    found = [answers_of(program, store, tables.get(place), asking_for, check)
              for place, store in enumerate(words.store, 1)]
     for text in told:
         print(text, file=errors)

@@ -22,6 +22,7 @@ class Reader:
 
     def __init__(self, text: str) -> None:
         self.text, self.at = text, 0
+        self.systems: dict[str, None] = {}  # the numbers that stand behind SRID=, as keys
         self.kind: int | None = None
         self.word: Any = None
         self.advance()
@@ -83,19 +84,34 @@ class Reader:
         return kind, self.items(self.geometry if kind == "GEOMETRYCOLLECTION" else self.nested)
 
 
+    def system(self) -> None:
+        """The number of a coordinate system before a geometry, where it has one; 0 is none."""
+        if self.kind == 1 and self.word.upper() == "SRID":
+            self.advance()
+            self.take("=")
+            if self.kind != 2 or not self.word.isdigit():
+                raise WktFault(f"a number expected before character {self.at}")
+            if number := self.word.lstrip("0"):
+                self.systems[number] = None
+            self.advance()
+            self.take(";")
+
+
 def read_all(text: str) -> list[tuple[str, list[Any]]]:
     """The geometries of a text, one behind the other; an SRID before one is passed over."""
+    return read_with_systems(text)[0]
+
+
+def read_with_systems(text: str) -> tuple[list[tuple[str, list[Any]]], list[str]]:
+    """The geometries of a text, and the numbers of coordinate systems that SRIDs before them give, each once."""
     reader, found = Reader(text), []
     try:
         while reader.kind is not None:
-            if reader.kind == 1 and reader.word.upper() == "SRID":
-                for _ in range(3):
-                    reader.advance()
-                reader.take(";")
+            reader.system()
             found.append(reader.geometry())
     except (InvalidOperation, RecursionError) as fault:
         raise WktFault("a number or a nesting beyond all bounds") from fault
-    return found
+    return found, list(reader.systems)
 
 
 def polygons_of(kind: str, coordinates: Any) -> list[Any] | None:

@@ -70,7 +70,7 @@ class WithProgram(InFolder):
     def setUp(self) -> None:
         super().setUp()
         if Programs.batched is None:
-            self.skipTest("no program was given")
+            self.skipTest("no program was given; they run by tools/tests.py PROGRAM LIVE")
         self.program: str = Programs.batched
 
     def readers(self) -> list[str]:

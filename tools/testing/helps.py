@@ -1,5 +1,6 @@
 """Each file of tools/ says by --help what it is, and tools/README.md names it."""
 
+import re
 import subprocess
 import sys
 import unittest
@@ -18,3 +19,10 @@ class Helps(unittest.TestCase):
             self.assertTrue(done.stdout.startswith("usage: "), file.name)
             self.assertGreater(len(done.stdout.split()), 20, file.name)
             self.assertIn(f"`{file.name}`", page)
+
+    def test_each_file_is_told_once(self) -> None:
+        page = (TOOLS / "README.md").read_text()
+        rows = re.findall(r"^\| `(\w+\.py)` \|", page, re.M)
+        told = re.findall(r"`(\w+\.py)`", page[page.index("Modules, no tools"):page.index("`data/`")])
+        modules = [name for name in told if name not in rows]
+        self.assertEqual(sorted([*rows, *modules]), sorted(path.name for path in TOOLS.glob("*.py")))

@@ -2,6 +2,7 @@
 
 import collections
 import csv
+import hashlib
 import json
 import random
 import unittest
@@ -102,7 +103,9 @@ class Fitting(InFolder):
         told = self.sidecar(text, "--factor", "0.5", "--factor-y", 2, "--origin", "5000.5", 7000, "--unit", "ft",
                             "--title", "Plan")
         self.assertEqual(told, {"title": "Plan", "factor": 0.5, "factor_y": 2, "origin": [5000.5, 7000], "unit": "ft",
-                                "crs": "EPSG:2263", "digits": 4})
+                                "crs": "EPSG:2263", "digits": 4, "layers": [{"plan": "694928869914538f"}]})
+        rings = "0 0,4 0,4 18,0 18,0 0"
+        self.assertEqual(hashlib.sha256(rings.encode()).hexdigest()[:16], "694928869914538f")
         self.assertEqual((self.folder / "out.txt").read_text(), "PUT plan POLYGON ((0 0, 4 0, 4 18, 0 18, 0 0))\n")
 
     def test_names_of_coordinates(self) -> None:

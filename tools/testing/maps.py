@@ -70,7 +70,7 @@ class RoundTrips(WithProgram):
         for name, area in areas.items():
             self.assertEqual(Fraction(features[name]["properties"]["area_exact"]), area / unit)
             told = outcome(to_rings, "--store", store, "--program", self.program, "--layer", name, "--areas")[1]
-            self.assertEqual(Fraction(told.split()[-2]), area / unit)
+            self.assertEqual(Fraction(told.split()[-1]), area / unit)
         again = self.back()
         self.assertEqual(area_of_script(again), areas)
         other = self.store("again.db", again)
@@ -159,29 +159,35 @@ class Counties(WithProgram):
                        self.program, "--output", self.folder / "again.txt")
         self.assertEqual((told[0], told[2].splitlines()[-1]), (0, "of 100 features no two overlap"))
         told = outcome(to_rings, script, "--program", self.program, "--layer", "any", "--areas")
-        self.assertEqual(Fraction(told[1].split()[-2]), sum(areas.values()))
+        self.assertEqual(Fraction(told[1].split()[-1]), sum(areas.values()))
         told = outcome(to_geojson, script, "--program", self.program, *(f"--layer=c{n}" for n in range(1, 21)))
         found = [Fraction(one["properties"]["area_exact"]) for one in json.loads(told[1])["features"]]
         self.assertEqual(found, list(areas.values())[:20])
         layer = outcome(to_rings, "--store", self.db, "--program", self.program, "--layer", "b2", "--areas")[1]
-        self.assertEqual(Fraction(layer.split()[-2]) * 10**10,
+        self.assertEqual(Fraction(layer.split()[-1]) * 10**10,
                          sum(areas[row["name"]] for row in self.rows if int(row["number"]) & 4))
 
 
+def rectangle(left: int, low: int, right: int, high: int) -> str:
+    return f"{left} {low}, {right} {low}, {right} {high}, {left} {high}, {left} {low}"
+
+
 class Overlaps(WithProgram):
-    def checked(self, *texts: str) -> tuple[int, str]:
-        """The status of --check, and the last line that it tells."""
+    def checked(self, *texts: str, words: tuple[object, ...] = ("--factor", 1)) -> tuple[int, list[str]]:
+        """The status of --check, and the lines that it tells, which are the same by each program."""
         file = self.file("plan.wkt", " ".join(f"POLYGON (({text}))" for text in texts))
-        status, _, errors = outcome(to_script, file, "--coded", "--check", "--program", self.program, "--factor", 1,
-                                    "--output", self.folder / "plan.txt")
-        return status, errors.splitlines()[-1].replace(str(file), "FILE")
+        given = [file, "--coded", "--check", *words, "--output", self.folder / "plan.txt"]
+        found = [outcome(to_script, *given, "--program", program) for program in self.readers()]
+        self.assertEqual([one for one in found if one != found[0]], [])
+        lines = found[0][2].replace(f"{file}, text ", "").splitlines()
+        return found[0][0], [line for line in lines if line.startswith(("overlap", "of "))]
 
     def test_features_that_overlap_are_told(self) -> None:
         squares = [f"{x} 0, {x + 10} 0, {x + 10} 10, {x} 10, {x} 0" for x in (0, 10, 20, 29)]
-        self.assertEqual(self.checked(*squares[:3]), (0, "of 3 features no two overlap"))
+        self.assertEqual(self.checked(*squares[:3]), (0, ["of 3 features no two overlap"]))
         # Between 29 and 30 lie features 3 and 4, and together they spell 7, which is nobody's.
-        self.assertEqual(self.checked(*squares), (1, "features overlap, and numbers are mixed: in the layers another "
-                                                     "area have FILE, text 3, FILE, text 4"))
+        self.assertEqual(self.checked(*squares), (1, ["overlap: 3, 4, 10", "of 4 features 1 pairs overlap, and their "
+                                                                           "numbers are mixed"]))
         words = ["--store", self.store("plan.db", (self.folder / "plan.txt").read_bytes()), "--names",
                  self.folder / "plan.names.csv", "--program", self.program]
         points = self.file("points.txt", "29.5 5\n25 5\n")  # a point that nobody can answer takes no other along
@@ -193,8 +199,39 @@ class Overlaps(WithProgram):
     def test_rings_that_cross_have_the_area_of_their_inside(self) -> None:
         # A bow tie has no area by the sum over its corners; what lies in one of its halves overlaps it.
         bow, within = "0 0, 4 4, 4 0, 0 4, 0 0", "0 1, 1 2, 0 3, 0 1"
-        self.assertEqual(self.checked(bow, "10 0, 14 0, 14 4, 10 0"), (0, "of 2 features no two overlap"))
-        self.assertEqual(self.checked(bow, within)[0], 1)
+        self.assertEqual(self.checked(bow, "10 0, 14 0, 14 4, 10 0"), (0, ["of 2 features no two overlap"]))
+        self.assertEqual(self.checked(bow, within)[1][0], "overlap: 1, 2, 1")
+
+    def test_one_table_with_the_largest_first(self) -> None:
+        plan = [rectangle(0, 0, 100, 100), rectangle(90, 0, 200, 100), rectangle(190, 50, 300, 99),
+                rectangle(0, 99, 300, 200), rectangle(299, 0, 400, 51)]
+        wanted = ["overlap: 1, 2, 1000", "overlap: 2, 3, 490", "overlap: 2, 4, 110", "overlap: 1, 4, 100",
+                  "overlap: 3, 5, 1", "of 5 features 5 pairs overlap, and their numbers are mixed"]
+        self.assertEqual(self.checked(*plan), (1, wanted))
+        # In the world's unit, here of a hundred whole numbers, and with digits where an area is small.
+        small = self.checked(*plan, words=("--factor", 100, "--factor-y", 100))
+        self.assertEqual(small, (1, wanted))
+
+    def test_areas_are_those_of_the_world(self) -> None:
+        texts = ["0 0, 2.5 0, 2.5 1, 0 1, 0 0", "2.25 0, 4 0, 4 1, 2.25 1, 2.25 0", "3.99 0.5, 5 0.5, 5 1, 3.99 0.5"]
+        status, lines = self.checked(*texts, words=("--factor", 100))
+        # The third has of the second what is left of x = 4: a triangle of 0.01 by 0.01 * 0.5 / 1.01.
+        small = Fraction(1, 100) ** 2 / Fraction("2.02") / 2
+        self.assertEqual((status, lines[:2]), (1, ["overlap: 1, 2, 0.25", f"overlap: 2, 3, {float(small):.7f}"]))
+
+    def test_steps_of_any_length(self) -> None:
+        far = 1000000
+        plan = [rectangle(-far, -far, far, 10), rectangle(-far, 5, far, far), rectangle(0, far - 7, 3, far)]
+        self.assertEqual(self.checked(*plan)[1][:2], [f"overlap: 1, 2, {2 * far * 5}", "overlap: 2, 3, 21"])
+
+    def test_many_features(self) -> None:
+        plan = [rectangle(20 * i, 20 * j, 20 * i + 20, 20 * j + 20) for i in range(40) for j in range(30)]
+        self.assertEqual(self.checked(*plan), (0, ["of 1200 features no two overlap"]))
+        plan[615] = rectangle(20 * 20 - 3, 20 * 15 - 2, 20 * 20 + 20, 20 * 15 + 20)
+        # 615 is column 20, row 15; below it is 614, left of it 585, and 584 is left below.
+        self.assertEqual(self.checked(*plan), (1, [
+            "overlap: 586, 616, 60", "overlap: 615, 616, 40", "overlap: 585, 616, 6",
+            "of 1200 features 3 pairs overlap, and their numbers are mixed"]))
 
 
 class LargeMaps(WithProgram):
@@ -204,7 +241,7 @@ class LargeMaps(WithProgram):
         self.assertEqual(outcome(to_script, file, "--split", "--name-by", "name", "--output", script)[0], 0)
         store = self.store("long.db", script.read_bytes())
         words = ["--store", store, "--program", self.program, "--layer", "Long"]
-        area = Fraction(outcome(to_rings, *words, "--areas")[1].split()[-2])
+        area = Fraction(outcome(to_rings, *words, "--areas")[1].split()[-1])
         self.assertEqual(area, abs(Fraction(area_twice(ring[:-1]), 2)))
         # One ring, and its corners are those at which the given one turns.
         told = outcome(to_rings, *words, "--exact")[1].splitlines()

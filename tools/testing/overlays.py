@@ -1,7 +1,9 @@
 """Tests of the joining of pieces, over random layers and the plain overlay, and of the program beside it."""
 
 import random
+import time
 import unittest
+import unittest.mock
 from collections.abc import Callable
 from fractions import Fraction
 from typing import Any
@@ -10,14 +12,35 @@ import asking
 import sessions
 import to_rings
 import wkt
+from areas import Ring, area_of
 from testing.common import WithProgram
-from testing.plain import OPERATIONS, area_twice, below, on, overlay, random_rings, segments_of
+from testing.plain import OPERATIONS, area_twice, below, homogeneous, on, overlay, random_rings, segments_of
+
+
+def contains(ring: Ring, point: sessions.Corner) -> bool:
+    """Whether an odd number of a ring's edges are below a point that is on none of them."""
+    x, y = Fraction(point[0], point[2]), Fraction(point[1], point[2])
+    corners = [(Fraction(cx, w), Fraction(cy, w)) for cx, cy, w in ring.corners]
+    edges = [sorted(pair) for pair in zip(corners, corners[1:] + corners[:1])]
+    return sum(ax <= x < bx and ay + (by - ay) * (x - ax) / (bx - ax) < y for (ax, ay), (bx, by) in edges) % 2 == 1
+
+
+def check_holes(test: unittest.TestCase, polygons: list[list[Ring]]) -> None:
+    """Each hole is of the polygon whose outer ring is the least of those that it lies in."""
+    for polygon in polygons:
+        for hole in polygon[1:]:
+            (ax, ay), (bx, by) = [(Fraction(x, w), Fraction(y, w)) for x, y, w in hole.corners[:2]]
+            part = Fraction(144, 377)
+            place = homogeneous(ax + part * (bx - ax), ay + part * (by - ay))
+            round_it = [other for other in polygons if contains(other[0], place)]
+            test.assertIs(min(round_it, key=lambda other: area_of(other[0])), polygon)
 
 
 def check(test: unittest.TestCase, layers: list[Any], inside: Callable[..., bool],
-          polygons: list[list[to_rings.Ring]]) -> None:
+          polygons: list[list[Ring]]) -> None:
     """Corners turn, no ring passes a place twice, areas are of their sign, and places have the right answer."""
     lists = [segments_of(rings) for rings in layers]
+    check_holes(test, polygons)
     for polygon in polygons:
         test.assertEqual([ring.outer for ring in polygon], [True] + [False] * (len(polygon) - 1))
         for ring in polygon:
@@ -26,15 +49,13 @@ def check(test: unittest.TestCase, layers: list[Any], inside: Callable[..., bool
             test.assertTrue(all(to_rings.turn(*three) for three in zip(
                 ring.corners[-1:] + ring.corners[:-1], ring.corners, ring.corners[1:] + ring.corners[:1])))
             test.assertEqual(area_twice(corners) > 0, ring.outer)
-            if not ring.outer:
-                test.assertTrue(polygon[0].contains(ring.probe))
     for x in range(-14, 15, 3):
         for y in range(-14, 15, 3):
             point = 77 * x + 11, 77 * y + 7, 77
             if any(on(segments, point) for segments in lists):
                 continue
             expected = inside(*(below(segments, point) % 2 == 1 for segments in lists))
-            within = [polygon[0].contains(point) and not any(ring.contains(point) for ring in polygon[1:])
+            within = [contains(polygon[0], point) and not any(contains(ring, point) for ring in polygon[1:])
                       for polygon in polygons]
             test.assertEqual(sum(within), 1 if expected else 0)
 
@@ -47,6 +68,53 @@ class PlainOverlay(unittest.TestCase):
             layers = [random_rings(source, reach), random_rings(source, reach)]
             inside = OPERATIONS["&|-^"[number % 4]]
             check(self, layers, inside, to_rings.polygons_of(overlay(layers, inside)))
+
+
+    def test_random_layers_in_a_status_of_short_blocks(self) -> None:
+        source = random.Random(22)
+        with unittest.mock.patch("sweeping.BLOCK_MAX", 2):
+            for number in range(60):
+                layers = [random_rings(source, 9), random_rings(source, 9)]
+                inside = OPERATIONS["&|-^"[number % 4]]
+                check(self, layers, inside, to_rings.polygons_of(overlay(layers, inside)))
+
+
+def ring_pieces(corners: list[tuple[int, int]]) -> list[sessions.Piece]:
+    """The pieces of a ring that nothing else meets."""
+    pairs = [sorted(pair) for pair in zip(corners, corners[1:] + corners[:1])]
+    return [((ax, ay, 1), (bx, by, 1)) for (ax, ay), (bx, by) in pairs]
+
+
+def square(x: int, y: int, half: int) -> list[tuple[int, int]]:
+    return [(x - half, y - half), (x + half, y - half), (x + half, y + half), (x - half, y + half)]
+
+
+def diamond(x: int, y: int, half: int) -> list[tuple[int, int]]:
+    return [(x - half, y), (x, y - half), (x + half, y), (x, y + half)]
+
+
+class ManyRings(unittest.TestCase):
+    """Rings in numbers for which comparing each with each would take minutes: processor seconds are looked at."""
+
+    def polygons(self, rings: list[list[tuple[int, int]]]) -> list[list[Ring]]:
+        pieces = [piece for ring in rings for piece in ring_pieces(ring)]
+        begin = time.process_time()
+        found = to_rings.polygons_of(pieces)
+        self.assertLess(time.process_time() - begin, 10)
+        return found
+
+    def test_nested_rings(self) -> None:
+        for shape in (square, diamond):
+            polygons = self.polygons([shape(0, 0, half) for half in range(1, 1201)])
+            halves = [[max(x for x, _, _ in ring.corners) for ring in polygon] for polygon in polygons]
+            self.assertEqual(halves, [[half, half - 1] for half in range(1200, 0, -2)])
+
+    def test_scattered_holes_and_islands(self) -> None:
+        places = [(8 * i, 8 * j) for i in range(60) for j in range(60)]
+        rings = [shape(x, y, half) for x, y in places for shape, half in ((square, 3), (diamond, 2))]
+        polygons = self.polygons([square(240, 240, 300), *rings])
+        self.assertEqual(sorted(len(polygon) for polygon in polygons), [1] * 3600 + [3601])
+        self.assertEqual([len(polygon) for polygon in polygons if polygon[0].corners[0] == (-60, -60, 1)], [3601])
 
 
 class ProgramBeside(WithProgram):

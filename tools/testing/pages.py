@@ -5,9 +5,10 @@ import pathlib
 import re
 import subprocess
 
-from testing.common import TOP, WithProgram
+from testing.common import TOP, Programs, WithProgram
 
 PAGES = ("tasks.md", "beside-geos.md")
+PAGES_OF_LIVE = ("maps.md",)
 
 
 def commands_of(text: str) -> list[tuple[str, str]]:
@@ -25,14 +26,15 @@ class Pages(WithProgram):
         """The folder has what the pages ask for, and the program stands on the path."""
         programs = self.folder / "programs"
         programs.mkdir()
-        (programs / "overlayd").symlink_to(self.program)
-        for name in ("tools", "examples"):
+        for program in filter(None, (Programs.batched, Programs.live)):
+            (programs / pathlib.Path(program).name).symlink_to(program)
+        for name in ("tools", "examples", "docs"):
             (self.folder / name).symlink_to(TOP / name)
         return os.environ | {"PATH": f"{programs}:{os.environ['PATH']}"}
 
     def test_the_commands_write_what_the_pages_say(self) -> None:
         environment = self.environment()
-        for page in PAGES:
+        for page in PAGES + (PAGES_OF_LIVE if Programs.live else ()):
             commands = commands_of(pathlib.Path(TOP, "examples", page).read_text())
             self.assertGreater(len(commands), 2)
             for command, wanted in commands:

@@ -7,7 +7,6 @@ from fractions import Fraction
 from typing import Any
 
 import limits
-import to_rings
 
 
 Place = tuple[Fraction, Fraction]
@@ -69,7 +68,7 @@ def overlay(layers: list[Any], inside: Callable[..., bool]) -> list[tuple[Corner
             over = [state ^ (on(segments, middle) % 2 == 1) for state, segments in zip(under, lists)]
             if inside(*under) != inside(*over):
                 found.add((homogeneous(ax, ay), homogeneous(bx, by)))
-    return sorted(found, key=lambda piece: (to_rings.ORDER(piece[0]), to_rings.ORDER(piece[1])))
+    return sorted(found, key=lambda piece: [(Fraction(x, w), Fraction(y, w)) for x, y, w in piece])
 
 
 def homogeneous(x: Fraction, y: Fraction) -> Corner:

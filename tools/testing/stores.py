@@ -42,12 +42,12 @@ class OverScripts(InFolder):
 
     def test_areas_of_rings(self) -> None:
         status, output, _ = self.asked(to_rings, CUT, "--areas")
-        self.assertEqual((status, output), (0, "polygon 1 outer area 4/3 1.333333\narea 4/3 1.333333\n"))
+        self.assertEqual((status, output), (0, "polygon 1 outer area 1.333333 4/3\narea 1.333333 4/3\n"))
         output = self.asked(to_rings, FRAME, "--areas")[1]
         self.assertEqual(output, "polygon 1 outer area 900 900\npolygon 1 hole area 100 100\npolygon 2 outer area 4 4\n"
                                  "area 804 804\n")
         output = self.asked(to_rings, CUT, "--areas", "--factor", 10, "--factor-y", 5, "--digits", 3)[1]
-        self.assertEqual(output.splitlines()[1], "area 2/75 0.027")
+        self.assertEqual(output.splitlines()[1], "area 0.027 2/75")
 
     def test_each_refused_line_is_told_by_all_tools(self) -> None:
         text = f"PUT A {SQUARE}\nDEFINE I = A\n\nPUT A POLYGON ((0 0, 20.5 0, 10 10, 0 0))\nBATCH 2\nDROP I\nDROP Q\n"
@@ -101,7 +101,7 @@ class OverScripts(InFolder):
         text = "POLYGON ((500.1 -19.9667, 500.3 -19.9, 500.1 -19.8333, 500.1 -19.9667))\n"
         self.assertEqual((status, output), (0, text))
         self.assertIn(f"coordinates of the world by {scale}", errors)
-        self.assertIn("area 1/75 0.0133", self.asked(to_rings, CUT, "--areas")[1])
+        self.assertIn("area 0.0133 1/75", self.asked(to_rings, CUT, "--areas")[1])
         self.assertEqual(self.asked(to_rings, CUT, "--factor", 1, "--digits", 2)[1],
                          "POLYGON ((1 0.33, 3 1, 1 1.67, 1 0.33))\n")
         self.assertIn(" m; lower left ", self.asked(to_svg, CUT)[1])
@@ -229,7 +229,7 @@ class OverStores(WithProgram):
         text = f"#!/bin/sh\n[ $1 = --read-only ] && echo error 30 device >&2 && exit 1\nexec '{self.program}' \"$@\"\n"
         store, program = self.store("plan.db", CUT), self.file("overlay_live", text, 0o700)
         before = store.read_bytes()
-        self.assertEqual(outcome(to_rings, "--store", store, "--program", program, "--areas")[1].split()[-2], "4/3")
+        self.assertEqual(outcome(to_rings, "--store", store, "--program", program, "--areas")[1].split()[-1], "4/3")
         self.assertEqual(store.read_bytes(), before)
 
     def test_files_that_are_no_store(self) -> None:

@@ -1,0 +1,279 @@
+#!/usr/bin/env python3
+"""Makes a store of a map and shows it: fits, makes the store, starts the front, and prints its address.
+
+    ./overlay city.geojson
+    ./overlay parcels.geojson --with zones.geojson
+    ./overlay city.gpkg --writable --folder maps
+
+The features of one map are numbered over few layers and served with their names and properties, called by the property
+`name`, or by the first that tells them apart; --name-by says another. --with adds further maps on the same scale: each
+is a layer of its file's name then, and `both` is what all of them have in common.
+
+It writes CITY.txt, CITY.db and what goes with them in --folder (default: where it is called). A store that stands there
+is served as it is; --again makes it anew. One without its CITY.txt, which this did not make, and one that another
+program has, as a front that runs, are refused and stay. Where one store does not suffice each has a front of its own. A
+browser is opened where there is a screen, but for --no-browser. The front runs until it is interrupted.
+
+Status 0: ended by SIGTERM or an interrupt, or made by --only-make; 1: a line was refused, a program is not there,
+another has the store, or a front ended by a fault; 2: wrong words, a file that cannot be read, or one that would be
+written over.
+"""
+
+import argparse
+import contextlib
+import fcntl
+import io
+import os
+import pathlib
+import re
+import signal
+import subprocess
+import sys
+import tempfile
+import threading
+import webbrowser
+from collections.abc import Iterable, Mapping
+from typing import TextIO
+
+import asking
+import ending
+import sessions
+import to_script
+from describing import Described
+
+FRONT = asking.TOP / "web" / "overlay_web.py"
+NAMED = "both"
+ENDING = 60.0  # seconds that a front has to end
+
+
+class Unmade(Exception):
+    """Why no map is shown, and the status."""
+
+    def __init__(self, status: int, text: str) -> None:
+        super().__init__(text)
+        self.status = status
+
+
+def words_of(arguments: list[str]) -> argparse.Namespace:
+    parser = argparse.ArgumentParser(description=__doc__, formatter_class=argparse.RawDescriptionHelpFormatter)
+    parser.add_argument("map", metavar="MAP", type=pathlib.Path, help="GeoJSON, Well-Known Text, or what GDAL reads")
+    parser.add_argument("--with", metavar="MAP", dest="others", type=pathlib.Path, action="append", default=[],
+                        help="a further map on the same scale; may stand several times")
+    parser.add_argument("--name-by", metavar="PROPERTY", help="what the features are called by")
+    parser.add_argument("--crs", help="the name of the coordinates, where the files do not say it")
+    parser.add_argument("--folder", type=pathlib.Path, default=pathlib.Path(), help="where the store is made")
+    parser.add_argument("--again", action="store_true", help="make a store anew that stands there")
+    parser.add_argument("--writable", action="store_true", help="let the page and HTTP change the map")
+    parser.add_argument("--port", type=int, default=8080, help="of the first front; 0 for one that is free (default 8080)")
+    parser.add_argument("--no-browser", action="store_true", help="open no browser")
+    parser.add_argument("--only-make", action="store_true", help="make the store, and start no front")
+    parser.add_argument("--program", metavar="PATH", help="overlay_live (default: as the other tools find it)")
+    words = parser.parse_args(arguments)
+    if words.others and words.name_by:
+        parser.error("--name-by is for the features of one map, and --with makes each map a layer")
+    return words
+
+
+# ---- making
+
+
+def name_property(described: Described) -> str | None:
+    """The property that features are called by: `name`, or the first text that each has and that tells them apart."""
+    rows = [one.properties for one in described.values()]
+    names = [name for name in dict.fromkeys(name for row in rows for name in row)
+             if all(isinstance(row.get(name), str) for row in rows)]
+    plain = [name for name in names if name.casefold() == "name"]
+    apart = [name for name in names if len({row[name] for row in rows}) == len(rows)]
+    called = [name for name in apart if "name" in name.casefold()]
+    return next(iter([*plain, *called, *apart]), None)
+
+
+def script_words(words: argparse.Namespace, output: pathlib.Path) -> list[str]:
+    """The words for to_script.py."""
+    found = [str(words.map), *map(str, words.others), "--fit", "--split", "--output", str(output)]
+    found += ["--crs", words.crs] if words.crs else []
+    if words.others:
+        return found
+    name_by = words.name_by
+    if name_by is None:
+        _, _, described = to_script.read_shapes(to_script.words_of(found))
+        name_by = name_property(described)
+    return [*found, "--coded", *(["--name-by", name_by] if name_by else [])]
+
+
+def made_scripts(words: argparse.Namespace, output: pathlib.Path, errors: TextIO) -> list[pathlib.Path]:
+    """The scripts of a map, one for each store."""
+    told = io.StringIO()
+    try:
+        status = to_script.main(script_words(words, output), told, told)
+    except to_script.Stopped as fault:
+        raise Unmade(2, str(fault)) from fault
+    print(told.getvalue().replace(f"{output.parent}/", "").rstrip("\n"), file=errors)
+    scripts = scripts_of(output)
+    if status == 2 or not scripts:
+        raise Unmade(max(status, 1), f"{words.map}: no store is made")
+    if words.others:
+        define_common(words, scripts)
+    return scripts
+
+
+def scripts_of(output: pathlib.Path) -> list[pathlib.Path]:
+    """The scripts that stand for an output: itself, or NAME.1.txt, NAME.2.txt .."""
+    if output.is_file():
+        return [output]
+    numbered = {int(path.stem.rpartition(".")[2]): path for path in output.parent.glob(f"{output.stem}.*{output.suffix}")
+                if re.fullmatch(rf"{re.escape(output.stem)}\.[0-9]+", path.stem)}
+    return [numbered[number] for number in sorted(numbered)]
+
+
+def define_common(words: argparse.Namespace, scripts: list[pathlib.Path]) -> None:
+    """Adds the layer of what all maps have in common, where one store holds all of them."""
+    if len(scripts) > 1:
+        raise Unmade(1, f"{words.map} and {words.others[0]} do not fit into one store: lay them out by to_script.py")
+    layers = sessions.Session()
+    text = scripts[0].read_text()
+    for line in text.splitlines():
+        layers.answered_line(line, ["ok"])
+    names = layers.unnamed()
+    if len(names) > 1 and NAMED not in layers.order:
+        scripts[0].write_text(f"{text}DEFINE {NAMED} = {' & '.join(names)}\n")
+
+
+def make_store(script: pathlib.Path, program: str) -> None:
+    """A store of a script, beside it."""
+    words = [program, "--store", str(script.with_suffix(".db")), "--create"]
+    status, replies, told = asking.outcome(words[0], words[1:], script.read_bytes() + b"SYNC\n")
+    faults = [line for line in sessions.lines_of(replies) if sessions.REFUSED.fullmatch(line)]
+    if status or faults:
+        raise Unmade(1, f"{script.name}: {faults[0] if faults else told or f'status {status}'}")
+
+
+def stores_for(words: argparse.Namespace, program: str, errors: TextIO) -> list[pathlib.Path]:
+    """The stores of a map. They are made in a folder of their own, so that none stands half made."""
+    stem = "_and_".join(re.sub(r"[^A-Za-z0-9]+", "_", path.stem).strip("_") or "map" for path in (words.map, *words.others))
+    there = stores_of(words.folder / f"{stem}.txt")
+    if there and not words.again:
+        print(f"{', '.join(map(str, there))}: it stands, and is served as it is; --again makes it anew", file=errors)
+        return there
+    with contextlib.ExitStack() as held:
+        hold(words, stem, held)
+        folder = held.enter_context(tempfile.TemporaryDirectory(prefix=".overlay-", dir=words.folder))
+        output = pathlib.Path(folder, f"{stem}.txt")
+        for script in made_scripts(words, output, errors):
+            make_store(script, program)
+        made = sorted(pathlib.Path(folder).iterdir(), key=lambda path: path.suffix == ".db")
+        scripts = [path.with_suffix(".txt") for path in there]
+        check_targets(words, [*scripts, *(words.folder / path.name for path in made)])
+        for path in (*there, *scripts):
+            path.unlink()
+        for path in made:
+            path.replace(words.folder / path.name)
+    return stores_of(words.folder / f"{stem}.txt")
+
+
+def hold(words: argparse.Namespace, stem: str, held: contextlib.ExitStack) -> None:
+    """Locks the stores that are to be replaced. One that this did not make, or that a program has, is refused."""
+    for path in sorted(words.folder.iterdir()):
+        if not re.fullmatch(rf"{re.escape(stem)}(\.[0-9]+)?\.db", path.name):
+            continue
+        if not path.with_suffix(".txt").is_file():
+            raise Unmade(2, f"{path}: it stands without the {path.stem}.txt that it was made of; say another --folder, "
+                            "or move it away")
+        if not words.again:
+            raise Unmade(2, f"{path}: it stands, and others of its map do not; --again makes all of them anew")
+        try:
+            fcntl.flock(held.enter_context(path.open("rb")), fcntl.LOCK_EX | fcntl.LOCK_NB)
+        except BlockingIOError as fault:
+            raise Unmade(1, f"{path}: another program has it; end that one first") from fault
+
+
+def check_targets(words: argparse.Namespace, targets: list[pathlib.Path]) -> None:
+    """Refuses to write over a map that is read."""
+    for given in (words.map, *words.others):
+        if any(path.exists() and path.samefile(given) for path in targets):
+            raise Unmade(2, f"{given}: the script of its store would be written over it; say another --folder")
+
+
+def stores_of(output: pathlib.Path) -> list[pathlib.Path]:
+    """The stores that stand for an output."""
+    found = [script.with_suffix(".db") for script in scripts_of(output)]
+    return found if all(path.is_file() for path in found) else []
+
+
+# ---- showing
+
+
+def has_screen(environment: Mapping[str, str]) -> bool:
+    return bool(environment.get("DISPLAY") or environment.get("WAYLAND_DISPLAY"))
+
+
+def started(words: argparse.Namespace, store: pathlib.Path, port: int, program: str) -> tuple[subprocess.Popen[str], str]:
+    """A front over a store, and the address that it tells when it listens."""
+    given = [sys.executable, str(FRONT), "--store", str(store), "--program", program, "--port", str(port)]
+    front = subprocess.Popen(given + ["--writable"] * words.writable, stdout=subprocess.PIPE, text=True,
+                             start_new_session=True)
+    assert front.stdout is not None
+    address = front.stdout.readline().strip()
+    if not address:
+        raise Unmade(1, f"{store}: its front ended with status {front.wait()}")
+    return front, address
+
+
+def end(fronts: Iterable[subprocess.Popen[str]]) -> int:
+    """Ends fronts, and gives the greatest of their statuses. One that does not end is killed."""
+    found = list(fronts)
+    for front in found:
+        if front.poll() is None:
+            front.terminate()
+    for front in found:
+        try:
+            front.wait(ENDING)
+        except subprocess.TimeoutExpired:
+            front.kill()
+    return max((abs(front.wait()) for front in found), default=0)
+
+
+def tell_end(front: subprocess.Popen[str], ended: threading.Event) -> None:
+    front.wait()
+    ended.set()
+
+
+def show(words: argparse.Namespace, stores: list[pathlib.Path], program: str, output: TextIO) -> int:
+    """Runs a front for each store until one of them ends, or this is interrupted."""
+    fronts: list[subprocess.Popen[str]] = []
+    ended = threading.Event()
+    signal.signal(signal.SIGTERM, lambda *_: ended.set())
+    signal.signal(signal.SIGINT, lambda *_: ended.set())
+    try:
+        for number, store in enumerate(stores):
+            front, address = started(words, store, words.port + number if words.port else 0, program)
+            fronts.append(front)
+            print(address, file=output, flush=True)
+            threading.Thread(target=tell_end, args=(front, ended), daemon=True).start()
+            if number == 0 and not words.no_browser and has_screen(os.environ):
+                webbrowser.open(address)
+        while not ended.wait(1):
+            pass
+    finally:
+        status = end(fronts)
+    return min(1, status)
+
+
+def main(arguments: list[str], output: TextIO | None = None, errors: TextIO | None = None) -> int:
+    words = words_of(arguments)
+    output, errors = output or sys.stdout, errors or sys.stderr
+    try:
+        program = words.program or asking.found_program((asking.LIVE,))
+        words.folder.mkdir(parents=True, exist_ok=True)
+        stores = stores_for(words, program, errors)
+        return 0 if words.only_make else show(words, stores, program, output)
+    except Unmade as fault:
+        print(fault, file=errors)
+        return fault.status
+    except (sessions.Unusable, OSError) as fault:
+        print(fault if isinstance(fault, sessions.Unusable) else ending.told(fault.filename or "overlay", fault), file=errors)
+        return 1
+
+
+if __name__ == "__main__":
+    ending.run(main)

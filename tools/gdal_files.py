@@ -1,0 +1,157 @@
+"""Reads and writes maps of other forms than GeoJSON and Well-Known Text: by GDAL's ogr2ogr, where it is installed.
+
+`as_geojson` gives what a file has as GeoJSON whose numbers are the shortest ones that spell the file's doubles, and
+`write` makes a file of GeoJSON. Where ogr2ogr is missing the refusal names the package and the line to type.
+
+A module for the tools; it is no tool of its own.
+"""
+
+import json
+import pathlib
+import re
+import shutil
+import subprocess
+import tempfile
+
+import ending
+import limits
+import scale as scales
+import writing
+
+# By the end of a name: what the form is called.
+FORMS = {
+    ".gpkg": "a GeoPackage", ".shp": "a Shapefile", ".shz": "a Shapefile", ".fgb": "a FlatGeobuf", ".gml": "GML",
+    ".csv": "a table with a column of Well-Known Text", ".kml": "KML", ".kmz": "KML", ".gdb": "a file geodatabase",
+    ".tab": "a MapInfo file", ".mif": "a MapInfo file", ".sqlite": "a SpatiaLite store", ".zip": "an archive",
+}
+MAGIC = {
+    b"SQLite format 3\0": "a GeoPackage or SpatiaLite store", b"\0\0\x27\x0a": "a Shapefile", b"fgb": "a FlatGeobuf",
+    b"PK\x03\x04": "an archive", b"<": "XML, as GML and KML are",
+}
+# How texts begin that need no GDAL, whatever the file is called.
+OWN = re.compile(rb"(?:\xef\xbb\xbf)?[\s\x1e]*"
+                 rb"(?:\{|SRID=|[A-Z]*(?:POINT|LINESTRING|POLYGON|COLLECTION)[ A-Z]*\()", re.I)
+BEGIN = 256
+WRITTEN = {".gpkg": "GPKG", ".fgb": "FlatGeobuf"}
+PACKAGE = "apt-get install gdal-bin"
+COLUMNS = "WKT,wkt,geom,geometry,the_geom,wkb_geometry"
+PLANE = ('ENGCRS["A plane",EDATUM["Unknown"],CS[Cartesian,2],AXIS["x",unspecified],AXIS["y",unspecified],'
+         'LENGTHUNIT["unknown",1]]')
+REASON_MAX = 200
+
+
+class GdalFault(ValueError):
+    """Why a file is not read or written."""
+
+
+def form_of(path: pathlib.Path, begin: bytes) -> str | None:
+    """What a file is, by its name or by how it begins, where GDAL is to read it; else None."""
+    if OWN.match(begin):
+        return None
+    by_begin = (form for magic, form in MAGIC.items() if begin.startswith(magic))
+    return FORMS.get(path.suffix.lower()) or next(by_begin, None)
+
+
+def begin_of(path: pathlib.Path) -> bytes:
+    """The begin of a file; of a folder, as a file geodatabase is, nothing."""
+    if path.is_dir():
+        return b""
+    with path.open("rb") as file:
+        return file.read(BEGIN)
+
+
+def missing(what: str, line: str) -> GdalFault:
+    return GdalFault(f"{what} needs GDAL's ogr2ogr, which is not installed: {PACKAGE}, and the same again; or "
+                     f"elsewhere: {line}")
+
+
+def ran(words: list[str], data: bytes | None = None) -> bytes:
+    """What a program of GDAL writes. A fault is its first line of words."""
+    try:
+        done = subprocess.run(words, input=data, capture_output=True, check=False)
+    except OSError as fault:
+        raise GdalFault(ending.told(words[0], fault)) from fault
+    if done.returncode:
+        text = done.stderr.decode("utf-8", "replace").replace("FAILURE:", " ").replace("ERROR 1:", " ")
+        lines = [" ".join(line.split()) for line in text.splitlines() if line.strip()]
+        raise GdalFault(f"{pathlib.Path(words[0]).name}: {lines[0][:REASON_MAX] if lines else done.returncode}")
+    return done.stdout
+
+
+def source_of(path: pathlib.Path) -> str:
+    """The file as GDAL names it."""
+    plain = str(path if path.is_absolute() else pathlib.Path(".", path))
+    return f"/vsizip/{plain}" if path.suffix.lower() == ".zip" else plain
+
+
+def layers_of(path: pathlib.Path) -> list[str]:
+    """The names of a file's layers that have a geometry."""
+    ogrinfo = shutil.which("ogrinfo")
+    if not ogrinfo:
+        raise missing("this file", f"ogrinfo {path}")
+    lines = ran([ogrinfo, "-q", "-ro", source_of(path)]).decode("utf-8", "replace").splitlines()
+    found = [re.fullmatch(r"[0-9]+: (.*?)( \(([^()]*)\))?", line) for line in lines]
+    return [match[1] for match in found if match and match[3] != "None"]
+
+
+def layer_of(path: pathlib.Path, wanted: str | None) -> str:
+    """The layer that is meant: the one that is named, or the only one."""
+    names = layers_of(path)
+    if wanted is not None and wanted not in names:
+        raise GdalFault(f"no layer {wanted}; it has {', '.join(names) or 'none'}")
+    if not names:
+        raise GdalFault("it has no layer with a geometry")
+    if wanted is None and len(names) != 1:
+        raise GdalFault(f"it has {len(names)} layers; say one of them by --source-layer: {', '.join(names)}")
+    return names[0] if wanted is None else wanted
+
+
+def as_geojson(path: pathlib.Path, layer: str | None = None) -> str:
+    """What a file has, as GeoJSON."""
+    ogr2ogr = shutil.which("ogr2ogr")
+    if not ogr2ogr:
+        raise missing(form_of(path, begin_of(path)) or "this file", f"ogr2ogr -f GeoJSON {path.stem}.geojson {path}")
+    words = [ogr2ogr, "-f", "GeoJSON", "-lco", "SIGNIFICANT_FIGURES=17", "-nlt", "CONVERT_TO_LINEAR"]
+    words += ["-preserve_fid"] if path.suffix.lower() in (".gpkg", ".sqlite") else []
+    if path.suffix.lower() == ".csv":
+        words += ["-oo", f"GEOM_POSSIBLE_NAMES={COLUMNS}", "-oo", "KEEP_GEOM_COLUMNS=NO"]
+    value = json.loads(ran([*words, "/vsistdout/", source_of(path), layer_of(path, layer)]))
+    if "crs" not in value and (name := coordinates_of(path)):
+        value["crs"] = {"type": "name", "properties": {"name": name}}
+    return json.dumps(value)
+
+
+def coordinates_of(path: pathlib.Path) -> str | None:
+    """The name of a file's coordinate system where ogr2ogr leaves it out: of degrees, and where it has no number."""
+    program = shutil.which("gdalsrsinfo")
+    if not program or path.suffix.lower() == ".csv":
+        return None
+    try:
+        found = re.search(r"EPSG:[1-9][0-9]*", ran([program, "-o", "epsg", source_of(path)]).decode())
+    except GdalFault:
+        return None
+    return found[0].replace("EPSG:4326", scales.CRS84) if found else None
+
+
+def check_target(path: pathlib.Path) -> None:
+    """Refuses a file that cannot be written, before there is anything to write."""
+    if path.suffix.lower() not in WRITTEN:
+        raise GdalFault(f"{path}: written are .geojson, {', '.join(WRITTEN)}")
+    if not shutil.which("ogr2ogr"):
+        line = f"ogr2ogr -f {WRITTEN[path.suffix.lower()]} {path} {path.stem}.geojson"
+        raise missing(f"{path}: {FORMS[path.suffix.lower()]}", line)
+
+
+def write(path: pathlib.Path, geojson: str, has_crs: bool) -> None:
+    """Makes a file of GeoJSON, whole or not at all; without a coordinate system it is of a plane."""
+    check_target(path)
+    words = [str(shutil.which("ogr2ogr")), "-f", WRITTEN[path.suffix.lower()], "-nln", path.stem]
+    words += [] if has_crs else ["-a_srs", PLANE]
+    with tempfile.TemporaryDirectory() as folder:
+        made = pathlib.Path(folder, path.name)
+        ran([*words, str(made), "/vsistdin/"], geojson.encode())
+        writing.write_all({path: made.read_bytes()})
+
+
+if __name__ == "__main__":
+    limits.tell(__doc__)

@@ -1,0 +1,79 @@
+"""Keeps what lies beside a store that stands: the files that say what its numbers mean are not written anew under it.
+
+A module for to_script.py, to_geojson.py and dump_store.py; it is no tool of its own.
+"""
+
+import json
+import pathlib
+import re
+from collections.abc import Iterable, Mapping
+from dataclasses import replace
+from decimal import Decimal
+
+import asking
+import limits
+import scale as scales
+import sessions
+
+
+ENDS = (".scale.json", ".features.json", ".names.csv")
+
+
+class StoreStands(Exception):
+    """Why nothing is written."""
+
+
+def digests(base: Mapping[str, Iterable[Iterable[tuple[int, int]]]]) -> dict[str, str]:
+    """What tells base layers from others, for the scale that is written with them."""
+    return {name: sessions.digest_of(rings) for name, rings in base.items()}
+
+
+def meaning_of(path: pathlib.Path, data: bytes) -> object:
+    """What a file says; of a scale all but its title and the layers that it was written for."""
+    if path.name.endswith(".scale.json"):
+        try:
+            return replace(scales.of_value(json.loads(data, parse_float=Decimal)), title="", layers=())
+        except (ValueError, RecursionError, scales.ScaleFault):
+            return data
+    return data
+
+
+def stores_of(output: pathlib.Path) -> list[pathlib.Path]:
+    """The stores that stand beside a script under its name."""
+    name = re.escape(output.with_suffix("").name)
+    folder = output.parent.iterdir() if output.parent.is_dir() else ()
+    return sorted(path for path in folder if re.fullmatch(rf"{name}(\.[0-9]+)?\.[^.]+", path.name)
+                  and path != output and asking.is_store(path))
+
+
+def is_same(path: pathlib.Path, other: pathlib.Path) -> bool:
+    """Whether two paths lead to one file, by whatever name or link; also to one that does not stand yet."""
+    if path.exists() and other.exists():
+        return path.samefile(other)
+    return path.resolve() == other.resolve()
+
+
+def check_apart(output: pathlib.Path, given: Iterable[pathlib.Path] = ()) -> None:
+    """Refuses an output that by its name says what a store's numbers mean, or those of what is read."""
+    named = output.resolve()
+    of = [named.name.removesuffix(end) for end in ENDS if named.name.endswith(end)]
+    for store in [store for name in of for store in stores_of(named.with_name(name + ".txt"))]:
+        raise StoreStands(f"{output} says what the numbers of the store {store.name} mean, and is not written over")
+    for path in given:
+        for stem in (path.stem, re.sub(r"\.[0-9]+$", "", path.stem)):
+            if any(is_same(output, path.with_name(stem + end)) for end in ENDS):
+                raise StoreStands(f"{output} says what the numbers of {path} mean, and is not written over")
+
+
+def check(output: pathlib.Path, beside: Mapping[pathlib.Path, bytes]) -> None:
+    """Refuses files beside a script that would say something else of a store that stands there under its name."""
+    stores = stores_of(output)
+    for path, data in beside.items() if stores else ():
+        stands = path.read_bytes() if path.is_file() else b""
+        if meaning_of(path, stands) != meaning_of(path, data):
+            raise StoreStands(f"{stores[0]} is a store, and {path} says what its numbers mean: it would say something "
+                              "else; take another name, or move the store away")
+
+
+if __name__ == "__main__":
+    limits.tell(__doc__)

@@ -1,0 +1,144 @@
+"""Tests of what maps/ does by numpy, beside the same steps in Python's whole numbers; they need python3-numpy.
+
+    cd tools && /usr/bin/python3 -m testing.debians_numpy [LIVE]
+"""
+
+import random
+import sys
+import unittest
+from fractions import Fraction
+
+import numpy as np
+
+from maps import box_pairs, geojson_maps, jobs, numpy_drawing, numpy_maps, numpy_pairs, numpy_planning, planning, rounds
+from maps.task_form import ALONE, COMMON, GAPS, Task
+from maps.whole_maps import MapFault, ReadMap, Told
+from testing.common import InFolder, Programs
+from testing.map_steps import sees
+from testing.random_maps import Maps, random_maps
+
+MANY = 30
+
+
+def planned(kind: str, module: object, maps: Maps) -> list[planning.Job]:
+    """The jobs of a kind as one of both forms plans them."""
+    a, b = map(module.boxes_of, maps.wholes)  # type: ignore[attr-defined]
+    if kind == COMMON:
+        return list(module.common_jobs(a, b, True))  # type: ignore[attr-defined]
+    if kind == ALONE:
+        return list(module.alone_jobs(a, b))  # type: ignore[attr-defined]
+    return list(module.gap_jobs(maps.wholes[1], b))  # type: ignore[attr-defined]
+
+
+def tasks_of(source: random.Random, kind: str) -> list[Task]:
+    maps = random_maps(source, 10, source.choice([12, 60]))
+    question = planning.Question("", kind, *maps.wholes, Fraction(1))
+    return [Task.of_bytes(task.to_bytes()) for task in planning.tasks_of(question, planned(kind, planning, maps))]
+
+
+class Forms(unittest.TestCase):
+    def test_pairs_of_boxes(self) -> None:
+        source = random.Random(2)
+        for _ in range(MANY):
+            a, b = ([self.box(source) for _ in range(25)] for _ in "ab")
+            for touching in (False, True):
+                found = numpy_pairs.pairs(np.array(a), np.array(b), touching)
+                self.assertEqual([tuple(pair) for pair in found.tolist()], box_pairs.pairs(a, b, touching))
+
+    def box(self, source: random.Random) -> tuple[int, int, int, int]:
+        x, y, size = source.randint(-50, 50), source.randint(-50, 50), source.choice([0, 1, 3, 20, 1000, 2**33])
+        return x, y, x + source.randint(-1, size), y + source.randint(0, size)
+
+    def test_jobs(self) -> None:
+        source = random.Random(5)
+        for _ in range(MANY):
+            maps = random_maps(source, 12, source.choice([12, 60, 2**30]))
+            for kind in (COMMON, ALONE, GAPS):
+                self.assertEqual(planned(kind, numpy_planning, maps), planned(kind, planning, maps))
+
+    def test_drawing_in(self) -> None:
+        """Frames are the same; rings may have more or fewer points, and each place of the core sees the same of
+        them."""
+        source = random.Random(3)
+        for task in (task for _ in range(MANY) for kind in (COMMON, ALONE, GAPS) for task in tasks_of(source, kind)):
+            plainly, quickly = (draw(task, range(len(task))) for draw in (jobs.plain_drawing, numpy_drawing.drawing))
+            for plain, quick in zip(plainly, quickly, strict=True):
+                self.assertEqual((plain.core, plain.frame, plain.is_plain), (quick.core, quick.frame, quick.is_plain))
+                for one, other in zip(plain.features, quick.features, strict=True):
+                    w = source.choice([1, 2, 3])
+                    left, under, right, over = (w * side for side in plain.core)
+                    place = Fraction(source.randint(left, right), w), Fraction(source.randint(under, over), w)
+                    self.assertEqual(sees(one, *place), sees(other, *place))
+
+    def test_what_tasks_find(self) -> None:
+        if Programs.live is None:
+            self.skipTest("no program was given")
+        source = random.Random(7)
+        with rounds.Program(str(Programs.live)) as program:
+            for task in (task for _ in range(5) for kind in (COMMON, ALONE, GAPS) for task in tasks_of(source, kind)):
+                plain = jobs.run(task, program)
+                quick = jobs.run(task, program, numpy_drawing.drawing)
+                key = [(row.own, row.others, row.area, row.relation) for row in plain.rows]
+                self.assertEqual([(row.own, row.others, row.area, row.relation) for row in quick.rows], key)
+
+
+class Rounding(InFolder):
+    def test_the_nearest_whole_number_of_the_exact_product(self) -> None:
+        source = random.Random(6)
+        near = [source.randint(-10**9, 10**9) * 10**-4 for _ in range(4000)]
+        given = np.array([*near, *(source.uniform(-1e7, 1e7) for _ in range(2000)), 0.0005, 0.0015, -0.0005, 2.5, -2.5])
+        for factor in (Fraction(1000), Fraction(1), Fraction(1, 3), Fraction(10**7), Fraction("0.1")):
+            wanted = [(Fraction(one) * factor + Fraction(1, 2)).__floor__() for one in given.tolist()]
+            self.assertEqual(numpy_maps.nearest(given, factor)[0].tolist(), wanted, factor)
+
+    def test_a_map_of_doubles_is_that_of_the_same_numbers_as_text(self) -> None:
+        source = random.Random(8)
+        for number in range(MANY):
+            features = [[self.rings(source) for _ in range(source.randint(1, 2))] for _ in range(8)]
+            for bend in (False, True):
+                self.assertEqual(self.by_numpy(features, bend), self.by_text(features, bend), number)
+
+    def rings(self, source: random.Random) -> list[list[list[float]]]:
+        """A polygon of random rings, some of which collapse or have an edge that is too long."""
+        found = []
+        for _ in range(source.randint(1, 2)):
+            size = source.choice([0.0008, 0.01, 1, 700 if source.random() < 0.05 else 2])
+            # Of an even last digit, as of half a unit the text may tell another one than the double.
+            ring = [[self.number(source, size), self.number(source, size)]
+                    for _ in range(source.randint(3, 6))]
+            found.append([*ring, ring[0]])
+        return found
+
+    def number(self, source: random.Random, size: float) -> float:
+        return 2 * source.randint(-round(5000 * size), round(5000 * size)) / 10000
+
+    def by_text(self, features: list[list[list[list[list[float]]]]], bend: bool) -> object:
+        begin = '{"type": "Feature", "geometry": {"type": "MultiPolygon", "coordinates": '
+        members = ",".join(begin + str(polygons) + "}}" for polygons in features)
+        file = self.file("map.geojson", '{"type": "FeatureCollection", "features": [' + members + "]}")
+        return self.told(lambda: geojson_maps.read(str(file), Fraction(1000), None, bend))
+
+    def by_numpy(self, features: list[list[list[list[list[float]]]]], bend: bool) -> object:
+        rings = [(ring, at == 0) for polygons in features for polygon in polygons for at, ring in enumerate(polygon)]
+        xy = np.array([point for ring, _ in rings for point in ring])
+        counts = np.array([sum(map(len, polygons)) for polygons in features])
+        told = Told()
+        ids = [str(number + 1) for number in range(len(features))]
+        return self.told(lambda: ReadMap(numpy_maps.whole_of_doubles(
+            "map", ids, xy[:, 0].copy(), xy[:, 1].copy(), np.array([len(ring) for ring, _ in rings]),
+            np.array([outer for _, outer in rings]), counts, Fraction(1000), bend, told), told, None))
+
+    def told(self, read) -> object:  # type: ignore[no-untyped-def]
+        """The points and what was told of them, or that the map is refused."""
+        try:
+            got = read()
+        except MapFault as fault:
+            return str(fault).split(": ", 1)[1]
+        whole, told = got.whole, got.told
+        arrays = [list(one) for one in (whole.xs, whole.ys, whole.ring_at, whole.feature_at)]
+        return arrays, whole.ids, told.features, told.points, len(told.collapsed), told.bent
+
+
+if __name__ == "__main__":
+    Programs.live = sys.argv.pop(1) if len(sys.argv) > 1 and sys.argv[1] else None
+    unittest.main()

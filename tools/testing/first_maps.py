@@ -1,0 +1,147 @@
+"""Tests of a first map in one word: a store is made of files, and a front tells its address."""
+
+import fcntl
+import json
+import signal
+import subprocess
+import sys
+import unittest
+import urllib.request
+from typing import Any
+
+import first_map
+import map_reading
+from testing.common import TOP, WithProgram, outcome, path
+from testing.feature_files import EAST, ISLE, MAP, WEST, collection, feature
+
+OVER = [[5, 5], [25, 5], [25, 6], [5, 6], [5, 5]]
+
+
+class Names(unittest.TestCase):
+    def test_features_are_called_by_a_name_or_by_what_tells_them_apart(self) -> None:
+        for rows, wanted in (
+            ([{"name": "a"}, {"name": "a"}], "name"), ([{"NAME": "a", "code": "1"}, {"NAME": "b", "code": "2"}], "NAME"),
+            ([{"code": "1", "ward_name": "x"}, {"code": "2", "ward_name": "y"}], "ward_name"),
+            ([{"code": "1"}, {"code": "2"}], "code"), ([{"code": "1"}, {"code": "1"}], None),
+            ([{"name": None, "n": 1}, {"name": "b", "n": 2}], None), ([{}, {"name": "b"}], None), ([], None),
+        ):
+            described = {(0, str(place)): map_reading.Described(None, row, "Polygon") for place, row in enumerate(rows)}
+            self.assertEqual(first_map.name_property(described), wanted, rows)
+
+
+class FirstMaps(WithProgram):
+    def setUp(self) -> None:
+        super().setUp()
+        readers = self.readers()
+        if len(readers) < 2:
+            self.skipTest("no overlay_live was given")
+        self.live = readers[1]
+
+    def made(self, *words: object) -> tuple[int, str, str]:
+        return outcome(first_map, *words, "--folder", self.folder / "maps", "--program", self.live, "--only-make")
+
+    def names(self) -> list[str]:
+        return sorted(one.name for one in (self.folder / "maps").iterdir())
+
+    def asked(self, address: str, page: str) -> Any:
+        with urllib.request.urlopen(address + page, timeout=30) as answer:
+            return json.load(answer)
+
+    def test_a_map_is_made_once_and_then_served_as_it_is(self) -> None:
+        given = self.file("my city.geojson", MAP)
+        status, _, errors = self.made(given)
+        self.assertEqual((status, self.names()), (0, [f"my_city.{end}" for end in
+                                                      ("db", "features.json", "names.csv", "scale.json", "txt")]), errors)
+        before = (self.folder / "maps" / "my_city.db").read_bytes()
+        given.write_text(collection(feature([WEST], {"name": "West"})))
+        status, _, errors = self.made(given)
+        self.assertEqual((status, "it stands, and is served as it is" in errors), (0, True))
+        self.assertEqual((self.folder / "maps" / "my_city.db").read_bytes(), before)
+        self.assertEqual(self.made(given, "--again")[0], 0)
+        self.assertEqual(json.loads((self.folder / "maps" / "my_city.features.json").read_text())["features"][1:], [])
+
+    def test_where_a_map_cannot_be_made_what_stands_stays(self) -> None:
+        given = self.file("city.geojson", MAP)
+        self.made(given)
+        before = {name: (self.folder / "maps" / name).read_bytes() for name in self.names()}
+        for text, wanted, told in (("{", 2, "not read"), (collection(), 1, "no store is made"),
+                                   (collection(feature([WEST], {})), 2, "no feature has this property")):
+            given.write_text(text)
+            status, _, errors = self.made(given, "--again", "--name-by", "ward")
+            self.assertEqual((status, told in errors), (wanted, True), errors)
+        self.assertEqual({name: (self.folder / "maps" / name).read_bytes() for name in self.names()}, before)
+
+    def test_a_store_that_was_not_made_of_the_map_stays(self) -> None:
+        given, store = self.file("city.geojson", MAP), self.folder / "maps" / "city.db"
+        store.parent.mkdir()
+        store.write_bytes(b"another's")
+        for words in ([], ["--again"]):
+            status, _, errors = self.made(given, *words)
+            self.assertEqual((status, self.names(), store.read_bytes()), (2, ["city.db"], b"another's"), errors)
+            self.assertIn(f"{store}: it stands without the city.txt that it was made of", errors)
+
+    def test_of_stores_one_of_which_went_the_others_stay(self) -> None:
+        given, folder = self.file("city.geojson", MAP), self.folder / "maps"
+        folder.mkdir()
+        for name in ("city.1.txt", "city.1.db", "city.2.txt"):
+            (folder / name).write_text("old")
+        status, _, errors = self.made(given)
+        self.assertEqual((status, (folder / "city.1.db").read_text()), (2, "old"), errors)
+        self.assertIn("city.1.db: it stands, and others of its map do not", errors)
+
+    def test_of_a_map_that_has_become_smaller_no_store_is_left_over(self) -> None:
+        given, folder = self.file("city.geojson", MAP), self.folder / "maps"
+        folder.mkdir()
+        for name in ("city.1.txt", "city.1.db", "city.2.txt", "city.2.db"):
+            (folder / name).write_text("old")
+        self.assertEqual(self.made(given, "--again")[0], 0)
+        self.assertEqual([name for name in self.names() if name.endswith((".txt", ".db"))], ["city.db", "city.txt"])
+
+    def test_a_store_that_a_program_has_stays(self) -> None:
+        given, store = self.file("city.geojson", MAP), self.folder / "maps" / "city.db"
+        self.made(given)
+        before = {name: (store.parent / name).stat().st_ino for name in self.names()}
+        with store.open("rb") as file:
+            fcntl.flock(file, fcntl.LOCK_EX)
+            status, _, errors = self.made(given, "--again")
+        self.assertEqual((status, errors), (1, f"{store}: another program has it; end that one first\n"))
+        self.assertEqual({name: (store.parent / name).stat().st_ino for name in self.names()}, before)
+        self.assertEqual(self.made(given, "--again")[0], 0)
+
+    def test_a_map_is_not_written_over(self) -> None:
+        text = "POLYGON ((0 0, 4 0, 4 4, 0 4, 0 0))\n"
+        (self.folder / "maps").mkdir()
+        given = self.file("maps/city.txt", text)
+        status, _, errors = self.made(given)
+        self.assertEqual((status, self.names(), given.read_text()), (2, ["city.txt"], text), errors)
+        self.assertIn("would be written over it", errors)
+
+    def test_maps_beside_each_other_are_layers_with_what_they_have_in_common(self) -> None:
+        city = self.file("city.geojson", collection(feature([WEST], {"a": 1}), feature([EAST], {"a": 2})))
+        zone = self.file("zone.geojson", collection(feature([OVER], {"b": 1})))
+        far = self.file("far.geojson", collection(feature([[ISLE]], {"c": 1})))
+        self.assertEqual(self.made(city, "--with", zone)[0], 0)
+        script = (self.folder / "maps" / "city_and_zone.txt").read_text()
+        self.assertEqual([line.split()[:2] for line in script.splitlines()],
+                         [["PUT", "city"], ["PUT", "zone"], ["DEFINE", "both"]])
+        self.assertTrue(script.endswith("DEFINE both = city & zone\n"))
+        self.assertEqual(self.made(city, "--with", zone, "--with", far)[0], 0)
+        self.assertIn("DEFINE both = city & zone & far\n", (self.folder / "maps" / "city_and_zone_and_far.txt").read_text())
+
+    def test_the_word_starts_a_front_that_ends_by_a_signal(self) -> None:
+        given = self.file("city.geojson", MAP)
+        words = [sys.executable, TOP / "overlay", given, "--folder", self.folder, "--program", self.live, "--port", "0"]
+        for ending in (signal.SIGTERM, signal.SIGINT):
+            with subprocess.Popen([*map(str, words), "--no-browser"], stdout=subprocess.PIPE, stderr=subprocess.DEVNULL,
+                                  text=True) as run:
+                assert run.stdout is not None
+                address = run.stdout.readline().strip()
+                found = self.asked(address, "locate?x=1&y=1")["features"]
+                self.assertEqual([one["name"] for one in found], ["West"])
+                run.send_signal(ending)
+                self.assertEqual(run.wait(60), 0)
+
+    def test_wrong_words_are_told(self) -> None:
+        for words in ([path("none.geojson")], [path("data", "README.md")]):
+            status, _, errors = self.made(*words)
+            self.assertEqual(status, 2, errors)

@@ -1,0 +1,167 @@
+"""Tests of maps of other forms than GeoJSON and Well-Known Text, which GDAL reads and writes where it is installed."""
+
+import json
+import pathlib
+import shutil
+import sqlite3
+import subprocess
+import unittest.mock
+from fractions import Fraction
+
+import gdal_files
+import map_reading
+import to_geojson
+import to_script
+from testing.common import SQUARE, InFolder, on_file, outcome
+from testing.maps import COUNTIES, area_of_script
+
+FEATURE = '{{"type": "Feature", "properties": {{"n": "{}"}}, "geometry": {{"type": "Polygon", "coordinates": [{}]}}}}'
+FIRST = FEATURE.format("a", "[[0, 0], [9, 0], [0, 9.5], [0, 0]]")
+DRIVERS = {".gpkg": "GPKG", ".shp": "ESRI Shapefile", ".fgb": "FlatGeobuf", ".gml": "GML", ".csv": "CSV"}
+SECOND = FEATURE.format("b", "[[10, 0], [19, 0], [10, 9], [10, 0]]")
+
+
+class WithGdal(InFolder):
+    """A test of GDAL's programs, which is left out where they are not installed."""
+
+    def setUp(self) -> None:
+        super().setUp()
+        if not shutil.which("ogr2ogr"):
+            self.skipTest("ogr2ogr is not installed (apt-get install gdal-bin)")
+
+    def made(self, name: str, source: str, *words: str) -> pathlib.Path:
+        """A file that GDAL makes of another one."""
+        file = self.folder / name
+        subprocess.run(["ogr2ogr", "-f", DRIVERS[file.suffix], str(file), source, *words], check=True,
+                       capture_output=True)
+        return file
+
+
+class FilesOfGdal(WithGdal):
+    def test_the_counties_come_of_each_form(self) -> None:
+        words = ["--fit", "--coded", "--name-by", "name", "--output"]
+        self.assertEqual(outcome(to_script, COUNTIES, *words, self.folder / "nc.txt")[0], 0)
+        wanted = area_of_script((self.folder / "nc.txt").read_text())
+        for name in ("a.gpkg", "a.shp", "a.gml", "a.csv"):
+            file = self.made(name, COUNTIES, *(["-lco", "GEOMETRY=AS_WKT"] if name == "a.csv" else []))
+            output = self.folder / f"{file.suffix[1:]}.txt"
+            status, _, errors = outcome(to_script, file, *words, output)
+            self.assertEqual(status, 0, errors)
+            self.assertIn("nothing is rounded", errors)
+            self.assertEqual(area_of_script(output.read_text()), wanted, name)
+            scale = json.loads(output.with_suffix(".scale.json").read_text())
+            self.assertEqual((scale["crs"], scale["factor"], name), ("OGC:CRS84", 100000, name))
+            self.assertEqual([round(place) for place in scale["origin"]], [-80, 35])
+            features = json.loads(output.with_suffix(".features.json").read_text())["features"]
+            self.assertEqual([one["name"] for one in features][:2], ["Ashe", "Alleghany"])
+
+    def test_coordinates_are_named(self) -> None:
+        plan = self.file("plan.geojson", f'{{"type": "FeatureCollection", "crs": {{"type": "name", "properties": '
+                                         f'{{"name": "urn:ogc:def:crs:EPSG::25832"}}}}, "features": [{FIRST}]}}')
+        for name in ("a.gpkg", "a.shp", "a.fgb"):
+            file, output = self.made(name, str(plan)), self.folder / f"{name}.txt"
+            self.assertEqual(outcome(to_script, file, "--fit", "--output", output)[0], 0)
+            self.assertEqual(json.loads(output.with_suffix(".scale.json").read_text())["crs"], "EPSG:25832")
+
+    def test_several_layers(self) -> None:
+        plan = str(self.file("plan.geojson", FIRST))
+        file = self.made("two.gpkg", plan, "-nln", "one")
+        self.made("two.gpkg", plan, "-nln", "other", "-update")
+        told = f"{file}: not read: it has 2 layers; say one of them by --source-layer: one, other\n"
+        self.assertEqual(outcome(to_script, file), (2, "", told))
+        self.assertEqual(outcome(to_script, file, "--source-layer", "other", "--fit")[0], 0)
+        self.assertIn("no layer x; it has one, other", outcome(to_script, file, "--source-layer", "x")[2])
+        self.assertIn("have no layers", outcome(to_script, plan, "--source-layer", "x")[2])
+
+    def test_files_that_are_none(self) -> None:
+        for name, text in (("a.gpkg", "no store"), ("a.shp", ""), ("a.fgb", "fgb"), ("a.gml", "<a>"),
+                           ("a.odd", "<?xml")):
+            file = self.file(name, text)
+            status, output, errors = outcome(to_script, file)
+            self.assertEqual((status, output, len(errors.splitlines())), (2, "", 1), errors)
+            self.assertTrue(errors.startswith(f"{file}: not read: "), errors)
+        absent = self.folder / "absent.gpkg"
+        self.assertEqual(outcome(to_script, absent), (2, "", f"{absent}: not read: No such file or directory\n"))
+
+    def test_a_layer_as_a_geopackage(self) -> None:
+        script, output = self.file("plan.txt", f"PUT A {SQUARE}\n"), self.folder / "out.gpkg"
+        self.file("plan.scale.json", '{"factor": 10, "origin": [500, -20], "crs": "EPSG:25832", "digits": 3}')
+        program = self.model()
+        self.assertEqual(outcome(to_geojson, script, "--program", program, "--output", output)[:2], (0, ""))
+        with sqlite3.connect(output) as store:
+            self.assertEqual(store.execute('SELECT layer, area FROM "out"').fetchall(), [("A", 1)])
+            self.assertEqual(store.execute("SELECT srs_id FROM gpkg_geometry_columns").fetchall(), [(25832,)])
+        back = json.loads(gdal_files.as_geojson(output))["features"][0]["geometry"]["coordinates"][0][0]
+        self.assertEqual(sorted(map(tuple, back[:-1])), [(500, -20), (500, -19), (501, -20), (501, -19)])
+        self.assertEqual(sorted(file.name for file in self.folder.glob("*.new")), [])
+        (self.folder / "plan.scale.json").unlink()
+        plane = self.folder / "plane.gpkg"
+        self.assertEqual(outcome(to_geojson, script, "--program", program, "--output", plane)[:2], (0, ""))
+        self.assertNotIn("crs", json.loads(gdal_files.as_geojson(plane)))
+
+
+class WithoutGdal(InFolder):
+    """What is said where ogr2ogr is not installed, and what is read without it."""
+
+    def setUp(self) -> None:
+        super().setUp()
+        patch = unittest.mock.patch("gdal_files.shutil.which", return_value=None)
+        patch.start()
+        self.addCleanup(patch.stop)
+
+    def test_the_package_and_the_line_to_type(self) -> None:
+        forms = {"a.gpkg": "a GeoPackage", "a.shp": "a Shapefile", "a.fgb": "a FlatGeobuf", "a.gml": "GML",
+                 "a.csv": "a table with a column of Well-Known Text"}
+        for name, form in forms.items():
+            file = self.file(name, "x")
+            told = (f"{file}: not read: {form} needs GDAL's ogr2ogr, which is not installed: apt-get install gdal-bin, "
+                    f"and the same again; or elsewhere: ogr2ogr -f GeoJSON a.geojson {file}\n")
+            self.assertEqual(outcome(to_script, file), (2, "", told))
+        script = self.file("plan.txt", f"PUT A {SQUARE}\n")
+        with self.assertRaises(SystemExit) as ended, unittest.mock.patch("sys.stderr") as errors:
+            to_geojson.main([str(script), "--output", "a.gpkg"])
+        self.assertEqual(ended.exception.code, 2)
+        self.assertIn("apt-get install gdal-bin", "".join(str(call) for call in errors.write.call_args_list))
+
+    def test_outputs_that_are_refused(self) -> None:
+        script = self.file("plan.txt", f"PUT A {SQUARE}\n")
+        for name in ("a.shp", "a.csv", "."):
+            with self.assertRaises(SystemExit) as ended, unittest.mock.patch("sys.stderr"):
+                to_geojson.main([str(script), "--output", name])
+            self.assertEqual(ended.exception.code, 2)
+
+    def test_geojson_is_written_whole(self) -> None:
+        script, output = self.file("plan.txt", f"PUT A {SQUARE}\n"), self.folder / "out.geojson"
+        text = outcome(to_geojson, script, "--program", self.model())[1]
+        self.assertEqual(outcome(to_geojson, script, "--program", self.model(), "--output", output)[:2], (0, ""))
+        self.assertEqual(output.read_text(), text)
+        told = outcome(to_geojson, script, "--program", self.model(), "--output", self.folder / "absent" / "a.json")
+        self.assertEqual((told[0], told[2]), (1, f"{self.folder / 'absent' / 'a.json'}: No such file or directory\n"))
+
+    def test_texts_of_our_own_need_no_gdal_whatever_their_name(self) -> None:
+        for name, text in (("a.csv", SQUARE), ("b.csv", f" \nSRID=4326;{SQUARE.lower()}"), ("c.gml", "\ufeff" + FIRST),
+                           ("d.zip", "MULTIPOLYGON Z (((0 0 1, 9 0 1, 0 9 1, 0 0 1)))")):
+            self.assertEqual(outcome(to_script, self.file(name, text), "--factor", 2)[0], 0, name)
+
+    def test_sequences_of_features(self) -> None:
+        whole = f'{{"type": "FeatureCollection", "features": [{FIRST}, {SECOND}]}}'
+        wanted = on_file(to_script, whole, "--name-by", "n", "--factor", 2)
+        self.assertEqual(wanted[0], 0)
+        for text in (f"{FIRST}\n{SECOND}\n", f"{FIRST}\r\n\r\n{SECOND}", f"\x1e{FIRST}\n\x1e{SECOND}\n",
+                     "\x1e" + FIRST.replace(", ", ",\n") + f"\x1e{SECOND}"):
+            self.assertEqual(on_file(to_script, text, "--name-by", "n", "--factor", 2), wanted)
+        status, output, errors = on_file(to_script, f"{FIRST}\n{SECOND[:-3]}\n")
+        self.assertEqual((status, output, errors.startswith("FILE: not read: line 2: ")), (2, "", True), errors)
+
+    def test_numbers_are_as_they_are_spelled(self) -> None:
+        self.assertEqual(map_reading.object_of('{"a": 0.1}')["a"], map_reading.Decimal("0.1"))
+        first = map_reading.object_of(f"{FIRST}\n{SECOND}")["features"][0]
+        self.assertEqual(Fraction(first["geometry"]["coordinates"][0][2][1]), Fraction(19, 2))
+
+
+class StandardInput(InFolder):
+    def test_other_forms_are_read_by_their_names(self) -> None:
+        with unittest.mock.patch("sys.stdin") as given:
+            given.buffer.read.return_value = b"SQLite format 3\0"
+            told = "-: not read: a GeoPackage or SpatiaLite store is read by its name, and not from standard input\n"
+            self.assertEqual(outcome(to_script, "-"), (2, "", told))
