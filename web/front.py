@@ -6,23 +6,29 @@ import json
 import pathlib
 import re
 import threading
+import traceback
 import urllib.parse
 from collections.abc import Callable, Iterable, Mapping
-from concurrent.futures.process import BrokenProcessPool
 from http import HTTPStatus
 from typing import Any, NamedTuple
 
+from feature_store import FeatureStore, Unlike
 from features_api import ITEM_WORDS, FeaturesApi
-from layer_store import Changed, LayerStore, NotDurable, TooLarge
+from joining import TooLarge
+from layer_store import Changed, LayerStore, NotDurable, Pending, Protected
 from map_api import MapApi
+from map_features import MapFeatures
 from overlay_client import Ended, Refused
+from rescue import AGAIN, NotWritten
+from systems import Systems, Unplaced
+from views import Busy
 from web_request import JSON, Answer, Problem, Request, json_answer
 
 PAGE = pathlib.Path(__file__).resolve().parent / "page"
 LEAFLET = pathlib.Path("/usr/share/javascript/leaflet")
 LOOPBACK = frozenset(["127.0.0.1", "localhost", "[::1]"])
-SLOW_MOST = 12
-"""How many questions that may wait are answered at once; the front has more threads than that."""
+SLOW_MOST, CHANGES_MOST = 12, 4
+"""How many questions that may wait, and how many changes, are answered at once; the front has more threads."""
 KINDS = {".html": "text/html; charset=utf-8", ".js": "text/javascript", ".css": "text/css", ".png": "image/png"}
 HEADERS = {
     "X-Content-Type-Options": "nosniff",
@@ -62,7 +68,9 @@ def refusal(status: int, code: object, text: str, headers: Mapping[str, str] | N
 
 
 class Front:
-    """hosts: the names by which it is asked. base: the address under which a server before it passes questions on."""
+    """hosts: the names by which it is asked. base: the address under which a server before it passes questions on.
+    maps: the features of a map over the store's layers, where there are some. systems: those that it answers in, where
+    not only in the store's."""
 
     def __init__(
         self,
@@ -70,15 +78,18 @@ class Front:
         hosts: Iterable[str] = LOOPBACK,
         base: str | None = None,
         leaflet: pathlib.Path = LEAFLET,
+        maps: FeatureStore | None = None,
+        systems: Systems | None = None,
     ) -> None:
         self.store, self.leaflet = store, leaflet
         self.base = base.rstrip("/") if base else None
         parts = urllib.parse.urlsplit(base or "")
         self.base_host = parts.netloc.lower()
         self.hosts = {*hosts, parts.hostname or ""} - {""}
-        self._slow = threading.BoundedSemaphore(SLOW_MOST)
-        features, maps = FeaturesApi(store), MapApi(store)
-        name, number = "([A-Za-z][A-Za-z0-9_]{0,31})", "([0-9]{1,9})"
+        self._slow, self._changes = threading.BoundedSemaphore(SLOW_MOST), threading.BoundedSemaphore(CHANGES_MOST)
+        features = MapFeatures(maps, systems) if maps else FeaturesApi(store, systems)
+        of_map = MapApi(store, maps, systems)
+        name, number = "([A-Za-z][A-Za-z0-9_]{0,31})", "([A-Za-z0-9_.-]{1,64})"
         layer = f"/collections/{name}"
         routes = [
             Route("GET", "/", self.first),
@@ -87,18 +98,20 @@ class Front:
             Route("GET", "/collections", features.collections, slow=True),
             Route("GET", layer, features.collection, slow=True),
             Route("GET", f"{layer}/items", features.items, ITEM_WORDS, slow=True),
-            Route("GET", f"{layer}/items/{number}", features.item, slow=True),
-            Route("GET", f"{layer}/locate", maps.locate, ("x", "y")),
-            Route("GET", "/locate", maps.locate_all, ("x", "y")),
-            Route("GET", f"{layer}/tiles", maps.tiles, ("columns",)),
-            Route("GET", "/status", maps.status),
-            Route("PUT", layer, maps.put, slow=True),
-            Route("DELETE", layer, maps.drop, slow=True),
-            Route("POST", "/batch", maps.batch, slow=True),
+            Route("GET", f"{layer}/items/{number}", features.item, ("crs",), slow=True),
+            Route("GET", f"{layer}/locate", of_map.locate, ("x", "y")),
+            Route("GET", "/locate", of_map.locate_all, ("x", "y")),
+            Route("GET", f"{layer}/tiles", of_map.tiles, ("columns",)),
+            Route("GET", "/status", of_map.status),
+            Route("PUT", layer, of_map.put, slow=True),
+            Route("DELETE", layer, of_map.drop, slow=True),
+            Route("POST", "/batch", of_map.batch, slow=True),
             Route("GET", r"/([a-z]+\.(?:js|css))", self.page_file),
             Route("GET", r"/leaflet/([a-z.-]+\.(?:js|css)|images/[a-z0-9-]+\.png)", self.leaflet_file),
         ]
         self.features = features
+        if isinstance(features, MapFeatures):
+            routes += editing(features, f"{layer}/items", f"{layer}/items/{number}")
         self.routes = [(re.compile(route.path + r"\Z"), route) for route in routes]
 
     def __call__(self, environ: Mapping[str, Any], start: Start) -> list[bytes]:
@@ -123,8 +136,17 @@ class Front:
             return refusal(413, 413, str(fault))
         except Changed as fault:
             return refusal(409, 409, str(fault))
-        except (Ended, OSError, TimeoutError, BrokenProcessPool) as fault:
+        except (Protected, Unlike, Unplaced) as fault:
+            return refusal(409, 409, str(fault))
+        except (Busy, Pending) as fault:
+            return refusal(503, 503, str(fault), {"Retry-After": "1"})
+        except NotWritten as fault:
+            return refusal(503, 503, str(fault), {"Retry-After": f"{AGAIN:.0f}"})
+        except (Ended, OSError, TimeoutError) as fault:
             return refusal(503, 503, f"the store does not answer: {fault}")
+        except Exception:  # a fault of the front's own: it goes on, and the fault is told where it runs
+            traceback.print_exc()
+            return refusal(500, 500, "the front has a fault, which it has told on its standard error")
 
     def root(self, environ: Mapping[str, Any]) -> str:
         """The address that was asked. A foreign name, as a page gets that gives its own name this address, is refused."""
@@ -150,7 +172,7 @@ class Front:
 
     def _check(self, request: Request, route: Route) -> None:
         site = request.header("sec-fetch-site").strip().lower()
-        if route.method != "GET":
+        if route.method not in ("GET", "OPTIONS"):
             if not self.store.writable:
                 raise Problem(403, "it was started without --writable")
             origin, parts = request.header("origin"), urllib.parse.urlsplit(request.root)
@@ -167,12 +189,13 @@ class Front:
     def _run(self, request: Request, route: Route, words: tuple[str, ...]) -> Answer:
         if not route.slow:
             return route.answer(request, *words)
-        if not self._slow.acquire(blocking=False):
+        places = self._slow if route.method == "GET" else self._changes
+        if not places.acquire(blocking=False):
             raise Problem(503, "too many questions that have to wait", **{"Retry-After": "1"})
         try:
             return route.answer(request, *words)
         finally:
-            self._slow.release()
+            places.release()
 
     # ---- files
 
@@ -187,6 +210,17 @@ class Front:
 
     def leaflet_file(self, _: Request, name: str) -> Answer:
         return file_answer(self.leaflet / name, {"Cache-Control": "max-age=86400"})
+
+
+def editing(features: MapFeatures, items: str, item: str) -> list[Route]:
+    """The pages by which single features are changed."""
+    return [
+        Route("POST", items, features.create, slow=True),
+        Route("OPTIONS", items, features.methods),
+        Route("PUT", item, features.replace, slow=True),
+        Route("DELETE", item, features.remove, slow=True),
+        Route("OPTIONS", item, features.methods),
+    ]
 
 
 def file_answer(path: pathlib.Path, headers: Mapping[str, str]) -> Answer:

@@ -7,53 +7,58 @@ worked out for others, and a revision that stands again finds its polygons again
 
 from __future__ import annotations
 
-import concurrent.futures
+import contextlib
 import functools
-import hashlib
-import multiprocessing
-import os
-import re
-import signal
 import threading
 import time
-from collections.abc import Sequence
-from concurrent.futures.process import BrokenProcessPool
-from typing import NamedTuple
+from collections.abc import Callable, Iterator, Mapping, Sequence
+from typing import NamedTuple, cast
 
+import limits  # of tools/
 import shapes
+from joining import Joiners, TooLarge
 from kept_values import Kept
 from map_scale import MapScale
-from overlay_client import OVERSIZE, PENDING, UNKNOWN_LAYER, Layer, Piece, Point, Refused, Server, Session, number_of
+from overlay_client import Ended, Piece, Refused, Server, Session, number_of
+from rescue import NotWritten, Rescue
+from scratch import Scratch
+from views import Hold, Listed, View, listed
 
 PIECES_MOST = 200_000
 KEPT_MOST = 500_000
 REVISIONS_MOST = 1000
 PATIENCE = 120.0
 """How many seconds a question waits for polygons that are joined."""
+JOINING = 60.0
+"""How many seconds the pieces of one layer may take to be joined, and the rings of a base layer to become pieces."""
+TURN = 10.0
+"""How many seconds a question or a change waits for its turn."""
+BUILDING, LOOK = 5.0, 0.03
+"""How many seconds a question waits for a layer that is being built, and how many pass between two looks."""
+LOST = 300.0
+"""After how many seconds without a reply a session is lost, and not only late."""
+FORGOTTEN = 600.0
+"""How many seconds it is known that a layer was too large."""
 
 
-class TooLarge(Exception):
-    """A layer has more pieces than are joined."""
+class Pending(Exception):
+    """A layer is being built."""
 
 
 class Changed(Exception):
     """A layer has another revision than the one that was asked for."""
 
 
+class Protected(Exception):
+    """A layer is part of something else, and is not changed by itself."""
+
+
 class NotDurable(Exception):
     """A change was accepted as a version, and the store could not keep it."""
 
-    def __init__(self, version: int, fault: Refused) -> None:
+    def __init__(self, version: int, fault: Exception) -> None:
         super().__init__(f"accepted as version {version}, but not durable: {fault}")
         self.version = version
-
-
-class Listed(NamedTuple):
-    """A layer with its revision, and the names of all layers that it reaches, its own among them."""
-
-    layer: Layer
-    revision: str
-    reach: frozenset[str]
 
 
 class Joined(NamedTuple):
@@ -66,200 +71,217 @@ class Joined(NamedTuple):
         return 1 + sum(len(ring) for one in self.features for ring in one.rings)
 
 
-def listed(layers: Sequence[Layer], salt: str) -> dict[str, Listed]:
-    """Layers with their revisions. A definition names only earlier layers."""
-    found: dict[str, Listed] = {}
-    for layer in layers:
-        names = [] if layer.definition is None else re.findall(r"\w+", layer.definition)
-        made_of = layer.text or re.sub(r"\w+", lambda name: found[name[0]].revision, layer.definition or "")
-        digest = hashlib.blake2b(f"{salt}\n{made_of}".encode(), digest_size=8).hexdigest()
-        reach = frozenset([layer.name]).union(*(found[name].reach for name in names))
-        found[layer.name] = Listed(layer, digest, reach)
-    return found
-
-
 class LayerStore:
     """The layers of a process. The process has no other sessions than those of `server`, so versions are counted here.
 
-    scratch: a process in memory, where the boundary of a base layer is worked out, which EDGES does not tell.
-    version: the number that the process began with, and kept: whether it is the number of a file.
+    version: the number that the process began with, and kept: whether it is the number of a file. rescue: what is begun
+    where the file is not written any more. end: called with the reason where the front cannot go on.
     """
 
     def __init__(
-        self, server: Server, scratch: Server, scale: MapScale, *, version: int, kept: bool, writable: bool
+        self,
+        server: Server,
+        scratch: Scratch,
+        scale: MapScale,
+        *,
+        version: int,
+        kept: bool,
+        writable: bool,
+        rescue: Rescue | None = None,
+        end: Callable[[str], None] = lambda reason: None,
     ) -> None:
         self.scale, self.kept, self.writable = scale, kept, writable
         self.version = self.durable = version
         self._server, self._scratch = server, scratch
+        self._rescue, self._end, self._gone = rescue, end, cast("str | None", None)
         self._salt = scale.scale.text()
-        self._changing, self._certain = threading.Lock(), True
-        self._listing: tuple[int, dict[str, Listed]] | None = None
+        self._hold = Hold()
+        self._listing: Mapping[str, Listed] | None = None
         self._joined: Kept[str, Joined] = Kept(KEPT_MOST, Joined.weight)
         self._extents: Kept[str, list[shapes.Box]] = Kept(REVISIONS_MOST, lambda _: 1)
-        self._joining = joining_process()
+        self._too_large: Kept[str, tuple[float, str]] = Kept(REVISIONS_MOST, lambda _: 1)
+        self._joiners, self._reminding = Joiners(JOINING), threading.Lock()
+        self._refusal: Callable[[str], str | None] = lambda _: None
 
     def close(self) -> None:
-        self._joining.shutdown(cancel_futures=True)
+        self._joiners.close()
 
     # ---- what stands
 
-    def layers(self) -> dict[str, Listed]:
+    @contextlib.contextmanager
+    def view(self) -> Iterator[View]:
+        """What stands at one version: until the end of the block nobody changes a layer."""
+        if self._gone:
+            raise Ended(self._gone)
+        with self._server.session(timeout=TURN) as one, self._hold.shared(TURN):
+            held = self._listing
+            if held is None:
+                held = self._listing = listed(one.layers(), self._salt)
+            yield View(one, held, self._extents, self.version)
+
+    def layers(self) -> Mapping[str, Listed]:
         """All layers in order, by name."""
-        held, version = self._listing, self.version
-        if held is None or held[0] != version or not self._certain:
-            with self._server.session() as one:
-                held = version, listed(one.layers(), self._salt)
-            self._listing = held
-        return held[1]
+        with self.view() as view:
+            return view.layers
 
     def layer(self, name: str) -> Listed:
-        found = self.layers().get(name)
-        if found is None:
-            raise Refused(UNKNOWN_LAYER, "unknown layer")
-        return found
-
-    def locate(self, names: Sequence[str], question: Point) -> dict[str, str]:
-        """Where a point lies in each of some layers; one that was dropped meanwhile is left out."""
-        found = {}
-        with self._server.session() as one:
-            for name in names:
-                try:
-                    found[name] = one.locate(name, *question)
-                except Refused as fault:
-                    if fault.number != UNKNOWN_LAYER or len(names) == 1:
-                        raise
-        return found
-
-    def column(self, name: str, column: int) -> list[Piece] | None:
-        """The pieces of a derived layer's column, or None where it is not built."""
-        with self._server.session() as one:
-            try:
-                return one.edges(name, column)
-            except Refused as fault:
-                if fault.number != PENDING:
-                    raise
-                return None
+        with self.view() as view:
+            return view.layer(name)
 
     # ---- boundaries
 
     def joined(self, name: str, revision: str | None = None) -> Joined:
-        """The polygons of a layer, built first where it is not: at a revision that was told before, or the present one."""
+        """The polygons of a layer, at a revision that was told before or the present one; Pending if it is not built."""
         held = self._joined.get(revision) if revision else None
         end = time.monotonic() + PATIENCE
         while held is None:
-            wanted = self.layer(name).revision
-            if revision not in (None, wanted):
+            found = self.layer(name)
+            if revision not in (None, found.revision):
                 raise Changed(f"{name} has changed since revision {revision}")
+            self._check_size(found)
             try:
-                held = self._joined.made(wanted, functools.partial(self._join, name, wanted), PATIENCE)
+                held = self._joined.made(found.revision, functools.partial(self._join, found), PATIENCE)
             except Changed:
                 if time.monotonic() > end:
                     raise
         return held
 
-    def _join(self, name: str, wanted: str) -> Joined:
-        revision, pieces = self._boundary(name)
-        if revision != wanted:
-            raise Changed(f"{name} changes all the time")
-        if len(pieces) > PIECES_MOST:
-            raise TooLarge(f"{name} has {len(pieces)} pieces, and up to {PIECES_MOST} are joined: ask for its tiles")
-        return Joined(revision, self._features(pieces))
+    def _check_size(self, found: Listed) -> None:
+        """A revision that was too large is so again, for a while: a machine that was busy is not so for ever."""
+        known = self._too_large.get(found.revision)
+        if known and time.monotonic() - known[0] < FORGOTTEN:
+            raise TooLarge(known[1])
 
-    def _features(self, pieces: list[Piece]) -> list[shapes.Feature]:
-        joining = self._joining
+    def _join(self, found: Listed) -> Joined:
         try:
-            return joining.submit(shapes.features_of, pieces, self.scale).result(PATIENCE)
-        except BrokenProcessPool:  # it was killed, as for its memory
-            if self._joining is joining:
-                self._joining = joining_process()
+            pieces = self._built_pieces(found) if found.layer.text is None else self._base_pieces(found.layer.text)
+            return Joined(found.revision, self._features(found.layer.name, pieces))
+        except TooLarge as fault:
+            self._too_large.put(found.revision, (time.monotonic(), str(fault)))
             raise
 
-    def _boundary(self, name: str) -> tuple[str, list[Piece]]:
-        """The pieces of a layer, and the revision that they are of."""
-        found = self.layer(name)
-        if found.layer.text is not None:
-            return found.revision, self._base_pieces(found.layer.text)
-        with self._server.session(slow=True, timeout=PATIENCE) as one:
-            boundary = one.boundary(name)
-        return listed(boundary.layers, self._salt)[name].revision, boundary.pieces
+    def _features(self, name: str, pieces: list[Piece]) -> list[shapes.Feature]:
+        most = f"up to {PIECES_MOST} pieces are joined, within {self._joiners.seconds:g} seconds: ask for its tiles"
+        if len(pieces) > PIECES_MOST:
+            raise TooLarge(f"{name} has {len(pieces)} pieces, and {most}")
+        try:
+            return self._joiners.features(pieces, self.scale)
+        except TimeoutError:
+            raise TooLarge(f"{name} has {len(pieces)} pieces that take longer, and {most}") from None
 
-    def _base_pieces(self, text: str) -> list[Piece]:
-        with self._scratch.session(timeout=PATIENCE) as one:
-            one.batch([one.put_line("a", text), "DEFINE b = a"])
-            return one.boundary("b").pieces
+    def _base_pieces(self, *texts: str) -> list[Piece]:
+        """The boundary of what an odd number of texts have."""
+        seconds = self._scratch.seconds
+        try:
+            return self._scratch.pieces(texts, TURN)
+        except TimeoutError:
+            raise TooLarge(f"its rings take longer than the {seconds:g} seconds that they are given") from None
 
-    def extent(self, name: str) -> shapes.Box | None:
-        """The box of a layer, or None where it is empty. Of one that is not built it is the box of all that it reaches."""
-        found = self.layer(name)
-        held = self._extents.get(found.revision)
-        if held is None:
-            corners = self._corners(found)
-            if corners is None:
-                bases = [other for other in found.reach if self.layer(other).layer.text is not None]
-                return shapes.box_round(box for box in map(self.extent, bases) if box)
-            held = [shapes.box_of(corners)] if corners else []
-            self._extents.put(found.revision, held)
-        return held[0] if held else None
+    def _built_pieces(self, found: Listed) -> list[Piece]:
+        """All pieces of a derived layer. It is waited for a little, and by no session, as that could last for ever."""
+        columns: dict[int, list[Piece]] = {}
+        end = time.monotonic() + BUILDING
+        while not self._add_built(found, columns):
+            if time.monotonic() > end:
+                self._remind(found.layer.name)
+                raise Pending(f"{found.layer.name} is being built: ask again")
+            time.sleep(LOOK)
+        return [piece for column in sorted(columns) for piece in columns[column]]
 
-    def _corners(self, found: Listed) -> list[Point] | None:
-        """All corners of a base layer's rings, or of a derived layer's boundary; None where that is not built."""
-        if found.layer.text is not None:
-            return [(int(x), int(y), 1) for x, y in re.findall(r"(-?\d+) (-?\d+)", found.layer.text)]
-        with self._changing, self._server.session(slow=True) as one:
-            try:
-                columns = one.columns(found.layer.name)
-            except Refused as fault:
-                if fault.number != OVERSIZE:
-                    raise
-                return None
-            if self.layer(found.layer.name).revision != found.revision:
-                return None
-        return None if None in columns else [corner for column in columns for piece in column or () for corner in piece]
+    def _add_built(self, found: Listed, columns: dict[int, list[Piece]]) -> bool:
+        """Adds the columns that are built by now, and tells whether these are all. Of one revision each is the same."""
+        with self.view() as view:
+            if view.layer(found.layer.name).revision != found.revision:
+                raise Changed(f"{found.layer.name} changes all the time")
+            missing = [column for column in range(limits.COLUMNS) if column not in columns]
+            for column, pieces in zip(missing, view.columns(found.layer.name, missing)):
+                if pieces is not None:
+                    columns[column] = pieces
+        return len(columns) == limits.COLUMNS
+
+    def _remind(self, name: str) -> None:
+        """Has tiles tried again that were given back for want of memory: WAIT does so, and is answered at once.
+
+        Of others it is answered when they are built. So it is asked by a thread of its own, and one at a time.
+        """
+        if not self._server.slow.lost() and self._reminding.acquire(blocking=False):
+            threading.Thread(target=self._wait, args=(name,), daemon=True).start()
+
+    def _wait(self, name: str) -> None:
+        try:  # an OSError or a ValueError where its files are closed meanwhile
+            with contextlib.suppress(Refused, Ended, OSError, ValueError):
+                with self._server.session(slow=True, timeout=0) as one:
+                    one.wait(name)
+        finally:
+            self._reminding.release()
 
     # ---- changes
 
-    def change(self, lines: Sequence[str]) -> int:
-        """Accepts commands as one version, whose number it gives. With a file, it is durable before this returns."""
-        with self._changing, self._server.session(slow=True) as one:
-            self.version = self._accepted(one, lines)
+    def inside_of(self, texts: Sequence[str]) -> list[shapes.Feature]:
+        """The polygons of what an odd number of texts have."""
+        return self._features("a feature", self._base_pieces(*texts))
+
+    def protect(self, refusal: Callable[[str], str | None]) -> None:
+        """Has changes of layers refused that are parts of something else, by what tells why."""
+        self._refusal = refusal
+
+    def settle(self) -> None:
+        """Has all that was accepted durable, where there is a file."""
+        if self.kept:
+            with self._server.session(slow=True, timeout=TURN) as one:
+                self._sync(one, self.version)
+
+    def change(self, lines: Sequence[str], *, own: bool = False) -> int:
+        """Accepts commands as one version, whose number it gives. With a file, it is durable before this returns.
+
+        own: they change the parts themselves.
+        """
+        for line in () if own else lines:
+            reason = self._refusal(line.split(" ", 2)[1])
+            if reason:
+                raise Protected(reason)
+        if self._rescue and self._rescue.told:
+            raise NotWritten(f"nothing is changed: {self._rescue.told}")
+        with self._server.session(slow=True, timeout=TURN) as one:
+            with self._hold.alone(TURN):
+                version = self.version = self._accepted(one, lines)
             if self.kept:
-                try:
-                    self.durable = one.sync()
-                except Refused as fault:
-                    raise NotDurable(self.version, fault) from fault
-            return self.version
+                self._sync(one, version)
+            return version
 
     def _accepted(self, one: Session, lines: Sequence[str]) -> int:
         """The number of the version that commands have made. Where no reply comes, nobody knows whether they have."""
-        self._certain = False
+        self._listing = None
         try:
-            number = one.batch(lines) if len(lines) > 1 else number_of(one.ask(lines[0]))
-        except Refused:
-            self._certain = True
-            raise
-        self._certain = True
-        return number
+            return one.batch(lines) if len(lines) > 1 else number_of(one.ask(lines[0]))
+        finally:
+            if one.lost_since is not None:
+                self._gone = "a change has had no reply: nobody knows which version stands"
+                self._end(self._gone)
 
+    def _sync(self, one: Session, version: int) -> None:
+        try:
+            self.durable = max(self.durable, one.sync())
+        except (Refused, TimeoutError) as fault:
+            if self._rescue and isinstance(fault, Refused):
+                self._rescue.begin(fault)
+            raise NotDurable(version, fault) from fault
 
-def joining_process() -> concurrent.futures.ProcessPoolExecutor:
-    """A process for the work of joining, which holds up no question there. It is begun anew by the first work.
+    # ---- what is lost
 
-    It is not forked: a fork would hold the ends of the sessions' pipes, and overlay_live would never see their end.
-    """
-    return concurrent.futures.ProcessPoolExecutor(1, multiprocessing.get_context("spawn"), end_with_parent)
+    def lost(self) -> list[str]:
+        """What the front has lost, in words: sessions whose replies are late, and the store where it is not written."""
+        found = [text for text in (self._gone, self._rescue and self._rescue.told) if text]
+        for kind, pool in (("questions", self._server.quick), ("changes", self._server.slow)):
+            since = pool.lost()
+            if since:
+                found.append(f"{len(since)} of {len(pool)} sessions for {kind}: no reply for {max(since):.0f} seconds")
+        return found
 
-
-def end_with_parent() -> None:
-    """Ends this process when the front does, also where that is killed; an interrupt of the terminal is the front's."""
-    signal.signal(signal.SIGINT, signal.SIG_IGN)
-    parent = multiprocessing.parent_process()
-
-    def wait() -> None:
-        if parent:
-            parent.join()
-        os._exit(1)
-
-    threading.Thread(target=wait, daemon=True).start()
+    def has_lost_all(self) -> bool:
+        """Whether all sessions of a kind are lost, and not only for a while."""
+        pools = [(len(pool), pool.lost()) for pool in (self._server.quick, self._server.slow)]
+        return any(len(since) == count and min(since) > LOST for count, since in pools)
 
 
 def number_in_file(store: str, program: str) -> int:

@@ -3,31 +3,49 @@
 from __future__ import annotations
 
 import re
+from typing import cast
 
 import limits  # of tools/
+from feature_store import FeatureStore, State
 from layer_store import LayerStore
-from overlay_client import LARGEST_BATCH, NAME, OUT_OF_RANGE, Point, Refused, Session
+from overlay_client import LARGEST_BATCH, NAME, OUT_OF_RANGE, Piece, Point, Refused, Session
 from shapes import text_of
+from systems import Systems
+from views import Busy, View
 from web_request import Answer, Problem, Request, json_answer
 
 DEFINITION_MOST = 2000
 
 
 class MapApi:
-    def __init__(self, store: LayerStore) -> None:
-        self.store, self.scale = store, store.scale
+    def __init__(self, store: LayerStore, maps: FeatureStore | None = None, systems: Systems | None = None) -> None:
+        self.store, self.scale, self.maps = store, store.scale, maps
+        self.systems = systems or Systems(store.scale)
 
     def status(self, _: Request) -> Answer:
         store = self.store
+        state: State | None = None
+        try:
+            with store.view() as view:
+                version, durable, count = view.version, store.durable, cast("int | None", len(view.layers))
+                state = self.maps.state(view) if self.maps else None
+        except (Busy, TimeoutError):  # what is lost is told all the same
+            version, durable, count = store.version, store.durable, None
         return json_answer(
             {
                 "title": self.scale.title,
-                "version": store.version,
-                "durable": store.durable if store.kept else None,
+                "version": version,
+                "durable": durable if store.kept else None,
+                "lost": store.lost(),
                 "writable": store.writable,
-                "layers": len(store.layers()),
+                "layers": count,
+                "map": state.table.collection if state else None,
+                "map_revision": state.revision if state else None,
+                "name_by": state.table.name_by if state else None,
                 "columns": self.scale.columns(),
                 "crs": self.scale.crs,
+                "storage": self.systems.storage,
+                "y_first": bool(self.systems.projection and self.systems.projection.y_first),
                 "unit": self.scale.unit,
                 "geographic": self.scale.is_geographic(),
                 "limits": self.scale.limits(),
@@ -36,12 +54,28 @@ class MapApi:
 
     def locate(self, request: Request, name: str) -> Answer:
         question, told = self._question(request)
-        told["place"] = self.store.locate([name], question)[name]
+        with self.store.view() as view:
+            if self.maps and name == self.maps.name:
+                return json_answer({**told, "features": self._features(view, question)})
+            told["place"] = view.locate([name], question)[name]
         return json_answer(told)
+
+    def _features(self, view: View, question: Point) -> list[dict[str, object]]:
+        """The features that have a point, with all that they are but their outlines."""
+        if not self.maps:
+            return []
+        return [
+            {"id": one.id, "name": one.name, "place": place, "properties": one.properties}
+            for one, place in self.maps.at(view, question)
+        ]
 
     def locate_all(self, request: Request) -> Answer:
         question, told = self._question(request)
-        told["places"] = self.store.locate(list(self.store.layers()), question)
+        with self.store.view() as view:
+            hidden = self.maps.hidden(self.maps.state(view).table) if self.maps else set()
+            told["places"] = view.locate([name for name in view.layers if name not in hidden], question)
+            if self.maps:
+                told["features"] = self._features(view, question)
         return json_answer(told)
 
     def _question(self, request: Request) -> tuple[Point, dict[str, object]]:
@@ -58,9 +92,11 @@ class MapApi:
 
     def tiles(self, request: Request, name: str) -> Answer:
         """The columns of a derived layer: of each its pieces, or null where it is pending."""
-        found = self.store.layer(name)
-        tiles = [self._tile(name, column) for column in self._columns(request)]
-        return json_answer({"revision": found.revision, "tiles": tiles})
+        columns = self._columns(request)
+        with self.store.view() as view:
+            revision = view.layer(name).revision
+            found = view.columns(name, columns)
+        return json_answer({"revision": revision, "tiles": [self._tile(*one) for one in zip(columns, found)]})
 
     def _columns(self, request: Request) -> list[int]:
         word = request.words.get("columns")
@@ -70,8 +106,7 @@ class MapApi:
             raise Problem(400, "columns: numbers parted by commas are wanted")
         return sorted({int(one) for one in word.split(",")})
 
-    def _tile(self, name: str, column: int) -> dict[str, object]:
-        pieces = self.store.column(name, column)
+    def _tile(self, column: int, pieces: list[Piece] | None) -> dict[str, object]:
         lines = None if pieces is None else [[self.scale.position(a), self.scale.position(b)] for a, b in pieces]
         return {"column": column, "lines": lines}
 
@@ -99,9 +134,9 @@ class MapApi:
 
     def _command_of_batch(self, given: object) -> tuple[str, float]:
         words = [word for word in ("put", "define", "drop") if isinstance(given, dict) and word in given]
-        if not isinstance(given, dict) or len(words) != 1 or not NAME.match(str(given[words[0]])):
+        name = given[words[0]] if isinstance(given, dict) and len(words) == 1 else None
+        if not isinstance(given, dict) or not isinstance(name, str) or not NAME.match(name):
             raise Problem(400, "commands: each has put, define or drop with a name")
-        name = str(given[words[0]])
         if words == ["drop"]:
             return f"DROP {name}", 0.0
         if ("definition" in given) != (words == ["define"]):

@@ -9,8 +9,9 @@ loopback unless --host says otherwise, and is never writable elsewhere: to serve
 passwords before it. map.scale.json beside map.db, as tools/to_script.py writes it, says what its whole numbers mean.
 web/README.md has more.
 
-Status 0: ended by SIGTERM or an interrupt; 1: the store could not be opened, nobody can listen at the address, or
-overlay_live has ended by itself or by a fault, which is told; 2: wrong words.
+Status 0: ended by SIGTERM or an interrupt; 1: the store could not be opened, nobody can listen at the address,
+overlay_live has ended by itself or by a fault or answers no more, or a copy of the store stands in its place after a
+write failed, each of which is told: begin it anew; 2: wrong words.
 """
 
 from __future__ import annotations
@@ -24,6 +25,7 @@ import pathlib
 import signal
 import sys
 import threading
+import time
 import urllib.parse
 from collections.abc import Iterator, Sequence
 
@@ -32,15 +34,21 @@ for folder in (HERE, HERE.parent / "tools"):
     if str(folder) not in sys.path:
         sys.path.append(str(folder))
 
+import ending as endings  # noqa: E402
+import features  # noqa: E402
 import scale as scales  # noqa: E402
+from feature_store import FeatureStore, Unlike  # noqa: E402
 from front import LEAFLET, LOOPBACK, Front  # noqa: E402
-from layer_store import LayerStore, number_in_file  # noqa: E402
+from layer_store import JOINING, LayerStore, number_in_file  # noqa: E402
 from map_scale import MapScale  # noqa: E402
 from overlay_client import MOST_SESSIONS, Ended, Refused, Server  # noqa: E402
+from rescue import Rescue  # noqa: E402
+from scratch import Scratch  # noqa: E402
+from systems import Systems, Unprojected, by_pyproj  # noqa: E402
 from serving import Unheard, serve  # noqa: E402
 
 PATIENCE = 300.0
-"""How many seconds a session waits for a reply before it is given up."""
+"""How many seconds a session waits for a reply before it is late."""
 
 
 def is_loopback(host: str) -> bool:
@@ -70,6 +78,15 @@ def words_of(arguments: Sequence[str]) -> argparse.Namespace:
         type=pathlib.Path,
         help="what its whole numbers mean (default: NAME.scale.json beside the store, if it is there)",
     )
+    parser.add_argument(
+        "--features",
+        metavar="FILE",
+        type=pathlib.Path,
+        help="the features of the map that its layers hold (default: NAME.features.json beside the store, if it is there)",
+    )
+    parser.add_argument("--no-features", action="store_true", help="serve layers alone")
+    parser.add_argument("--as-stored", action="store_true", help="transform nothing, also where pyproj is installed")
+    parser.add_argument("--parts", action="store_true", help="show the layers that are parts of features as well")
     parser.add_argument("--writable", action="store_true", help="let the page and PUT, DELETE and POST change layers")
     parser.add_argument("--host", default="127.0.0.1", help="the address to listen on (default 127.0.0.1)")
     parser.add_argument("--port", type=int, default=8080, help="the port; 0 for one that is free (default 8080)")
@@ -97,6 +114,19 @@ def scale_of(words: argparse.Namespace) -> MapScale:
     return MapScale(scales.read(path) if path else scales.Scale())
 
 
+def features_of(words: argparse.Namespace, store: LayerStore) -> FeatureStore | None:
+    """The features of the words, or of the file beside the store, or none."""
+    beside = features.beside(words.store) if words.store and not words.create else None
+    path = words.features or (beside if beside and beside.is_file() else None)
+    return None if path is None or words.no_features else FeatureStore(store, path, parts=words.parts)
+
+
+def systems_of(words: argparse.Namespace, scale: MapScale) -> Systems:
+    """The systems that a store is served in: a projected one by pyproj as CRS84 too."""
+    projected = scale.crs is not None and not scale.is_geographic() and not words.as_stored
+    return Systems(scale, by_pyproj(str(scale.crs)) if projected else None)
+
+
 def hosts_of(words: argparse.Namespace) -> set[str]:
     """The names that stand in the Host of a good question."""
     host = words.host.lower()
@@ -104,9 +134,25 @@ def hosts_of(words: argparse.Namespace) -> set[str]:
     return {own, *(LOOPBACK if is_loopback(host) else ()), *(name.lower() for name in words.name)}
 
 
+class Ending:
+    """Why the front ends where no signal ends it: the first reason counts, and telling it ends the front."""
+
+    def __init__(self) -> None:
+        self.reason: str | None = None
+
+    def end(self, reason: str) -> None:
+        self.reason = self.reason or reason
+        os.kill(os.getpid(), signal.SIGTERM)
+
+    def on_signal(self, *_: object) -> None:
+        """Ends what the main thread does. Where Python drops that, as amid a clearing up, it is done again."""
+        signal.setitimer(signal.ITIMER_REAL, 1)
+        sys.exit(0 if self.reason is None else 1)
+
+
 @contextlib.contextmanager
-def opened(words: argparse.Namespace) -> Iterator[tuple[Server, LayerStore]]:
-    """The running process over the store, and its layers."""
+def opened(words: argparse.Namespace, ending: Ending) -> Iterator[tuple[Server, LayerStore]]:
+    """The running process over the store, and its layers; where one of them is lost the front ends."""
     scale, reads = scale_of(words), not words.writable
     with contextlib.ExitStack() as open_ones:
         server = open_ones.enter_context(
@@ -120,47 +166,82 @@ def opened(words: argparse.Namespace) -> Iterator[tuple[Server, LayerStore]]:
                 timeout=PATIENCE,
             )
         )
-        scratch = open_ones.enter_context(Server(program=words.program, timeout=PATIENCE))
+        scratch = open_ones.enter_context(Scratch(words.program, JOINING))
         version = 0
         if reads:
             version = number_in_file(words.store, words.program)
         elif words.store:
             with server.session(slow=True) as one:
                 version = one.sync()
-        store = LayerStore(server, scratch, scale, version=version, kept=bool(words.store), writable=words.writable)
+        rescue = Rescue(words.store, words.program, ending.end) if words.store and not reads else None
+        store = LayerStore(
+            server,
+            scratch,
+            scale,
+            version=version,
+            kept=bool(words.store),
+            writable=words.writable,
+            rescue=rescue,
+            end=ending.end,
+        )
         open_ones.callback(store.close)
+        for watch in (watch_server, watch_scratch, watch_sessions):
+            threading.Thread(target=watch, args=(server, scratch, store, ending), daemon=True).start()
         yield server, store
 
 
-def end_with(server: Server) -> None:
+def watch_server(server: Server, _: Scratch, __: LayerStore, ending: Ending) -> None:
     """Ends the front where overlay_live has ended, so that who keeps it running starts both anew."""
-    server.process.wait()
-    os.kill(os.getpid(), signal.SIGTERM)
+    ending.end(f"overlay_live has ended with status {server.process.wait()}")
+
+
+def watch_scratch(_: Server, scratch: Scratch, __: LayerStore, ending: Ending) -> None:
+    ending.end(f"overlay_live, by which base layers are worked out, has ended with status {scratch.wait()}")
+
+
+def watch_sessions(_: Server, __: Scratch, store: LayerStore, ending: Ending) -> None:
+    """Ends the front where it could answer no question of a kind, or make no change, ever again."""
+    while not store.has_lost_all():
+        time.sleep(1)
+    ending.end(f"overlay_live does not answer: {', '.join(store.lost())}")
 
 
 def main(arguments: Sequence[str]) -> int:
-    words = words_of(arguments)
-    signal.signal(signal.SIGTERM, lambda *_: sys.exit(0))
+    words, ending = words_of(arguments), Ending()
+    for number in (signal.SIGTERM, signal.SIGALRM):
+        signal.signal(number, ending.on_signal)
     try:
-        with opened(words) as (server, store):
-            threading.Thread(target=end_with, args=(server,), daemon=True).start()
+        with opened(words, ending) as (server, store):
             try:
                 with contextlib.suppress(SystemExit, KeyboardInterrupt):
-                    serve(Front(store, hosts_of(words), words.base, words.leaflet), words.host, words.port)
+                    maps = features_of(words, store)
+                    systems = systems_of(words, store.scale)
+                    front = Front(store, hosts_of(words), words.base, words.leaflet, maps, systems)
+                    serve(front, words.host, words.port)
             finally:  # a fault goes on, and what ends because of it does not end the front
-                signal.signal(signal.SIGTERM, signal.SIG_IGN)
+                for number in (signal.SIGTERM, signal.SIGALRM):
+                    signal.signal(number, signal.SIG_IGN)
+            reason = ending.reason
             status, told = server.close()
             for child in multiprocessing.active_children():  # what it joins nobody will ask for
                 child.kill()
     except Unheard as fault:
         print(fault, file=sys.stderr)
         return 1
-    except (Refused, Ended, scales.ScaleFault, OSError) as fault:
+    except (features.FeaturesFault, Unlike) as fault:
+        print(f"{fault}; --no-features serves the layers alone", file=sys.stderr)
+        return 1
+    except (Refused, Ended, scales.ScaleFault, Unprojected) as fault:
         print(f"{words.store or 'the front'}: {fault}", file=sys.stderr)
         return 1
-    if status:
-        print(f"overlay_live has ended with status {status} {told}".rstrip(), file=sys.stderr)
-    return 1 if status else 0
+    except OSError as fault:  # of the program, or of a file that it names
+        print(endings.told(fault.filename or words.store or "the front", fault), file=sys.stderr)
+        return 1
+    if status and not reason:
+        reason = f"overlay_live has ended with status {status}"
+    if reason:
+        print("; ".join([reason, *told.splitlines()]), file=sys.stderr)
+    return 1 if reason else 0
 
 
 if __name__ == "__main__":

@@ -10,6 +10,7 @@ from collections.abc import Callable, Iterable
 from fractions import Fraction
 from typing import NamedTuple
 
+import sweeping  # of tools/
 import to_rings  # of tools/
 from map_scale import MapScale, exact, rounded
 from overlay_client import Piece, Point
@@ -63,7 +64,7 @@ def edge_meets(a: Point, b: Point, box: Box) -> bool:
         ends = [(n[axis] * most.denominator, most.numerator * n[2]) for n in (a, b)]
         if all(place > bound for place, bound in ends):
             return False
-    sides = [to_rings.turn(a, b, corner) for corner in box.corners()]
+    sides = [sweeping.turn(a, b, corner) for corner in box.corners()]
     return bool(min(sides) <= 0 <= max(sides))
 
 
@@ -72,9 +73,9 @@ def holds(rings: list[list[Point]], point: Point) -> bool:
     odd = False
     for ring in rings:
         for a, b in edges_of(ring):
-            left, right = (a, b) if to_rings.compare(a, b) < 0 else (b, a)
+            left, right = (a, b) if sweeping.compare(a, b) < 0 else (b, a)
             if left[0] * point[2] <= point[0] * left[2] and point[0] * right[2] < right[0] * point[2]:
-                odd ^= to_rings.turn(left, right, point) > 0
+                odd ^= sweeping.turn(left, right, point) > 0
     return odd
 
 

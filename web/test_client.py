@@ -2,9 +2,11 @@
 
 from __future__ import annotations
 
+import itertools
 import os
 import pathlib
 import signal
+import socket
 import subprocess
 import threading
 import time
@@ -16,7 +18,7 @@ from typing import Any, BinaryIO, cast
 import limits  # of tools/
 import overlay_client
 import testing
-from overlay_client import Boundary, Ended, Layer, Refused, Server, Session
+from overlay_client import Boundary, Ended, Layer, Refused, Reply, Server, Session, edges_lines
 from testing import BAR, SHIFTED, SQUARE, TRIANGLE
 
 
@@ -154,6 +156,117 @@ class Commands(ClientCase):
         self.assertEqual(one.locate("L31", -1, -1), "out")
 
 
+class Ahead(ClientCase):
+    """Many lines ahead: a wait for ever would be a TimeoutError here."""
+
+    def setUp(self) -> None:
+        self.server = self.enterContext(running(timeout=60))
+        self.session = self.server.sessions[0]
+
+    def test_each_request_has_its_reply_in_order(self) -> None:
+        one = self.session
+        batch = [one.put_line("A", SQUARE), one.put_line("B", SHIFTED), "DEFINE I = A & B"]
+        found = list(one.answers([batch, "WAIT I", *edges_lines("I", (15, 16)), "LOCATE I 7 7", "GRID A 0 0 5 3 2"]))
+        self.assertEqual(
+            [reply.first for reply in found], ["ok 1", "built 1", "edges 0", "edges 4", "in", "grid 3 2"]
+        )
+        self.assertEqual(found[3].pieces(), one.edges("I", 16))
+        self.assertEqual((found[0].number(), found[2].pieces(), found[5].lines()), (1, [], ["+++", "+#+"]))
+        self.assertEqual(list(one.answers([])), [])
+        self.assertEqual(one.layers()[2].definition, "A & B")
+
+    def test_a_refusal_holds_up_no_other_line(self) -> None:
+        one = self.session
+        found = list(one.answers(["LOCATE Z 1 1", [f"PUT A {SQUARE}", "DROP Z"], f"PUT A {SQUARE}", "LOCATE A 1 1"]))
+        self.assertEqual([reply.first for reply in found[2:]], ["ok 1", "in"])
+        told = [(fault.number, fault.place) for reply in found if (fault := reply.refusal)]
+        self.assertEqual(told, [(10, None), (10, 1)])
+        for read in (found[0].number, found[0].lines, found[0].pieces):
+            self.refused(10, read)
+
+    def test_neither_pipe_is_waited_for_alone(self) -> None:
+        """Lines and replies of some 10 MB each, far more than pipes hold; either alone would stop both sides."""
+        long = testing.ring_text([(1000 * (i % 2) + i % 997, 450 * i) for i in range(2048)])
+        asked = 0
+
+        def lines() -> Any:
+            nonlocal asked
+            for asked in range(1, 301):
+                yield [f"PUT A {long}"]
+                yield "GRID A -100 -100 1 200 200"
+
+        rows = [reply.rest for reply in self.session.answers(lines()) if reply.rest]
+        self.assertEqual((asked, len(rows), {len(row) for row in rows}), (300, 300, {201 * 200}))
+        batch = [self.session.put_line(f"L{i}", long) for i in range(32)]
+        whole = [f"LOCATE L31 {i} 1" for i in range(1000)]
+        self.assertEqual(len(list(self.session.answers([*whole, batch, *whole, "LAYERS"] * 3, 1 << 16))), 3 * 2002)
+
+    def test_lines_are_taken_while_few_bytes_have_no_reply(self) -> None:
+        self.session.put("A", SQUARE)
+        taken = 0
+
+        def lines() -> Any:
+            nonlocal taken
+            for taken in itertools.count(1):
+                yield "LOCATE A 1 1"
+
+        answers = self.session.answers(lines(), 100 * len("LOCATE A 1 1\n"))
+        for read in range(1, 5001):
+            self.assertEqual(next(answers), Reply("in"))
+            self.assertLessEqual(taken - read, 100)
+        self.assertGreater(taken - read, 50)
+        answers.close()
+        self.assertTrue(self.session.closed)
+
+    def test_nothing_else_is_asked_meanwhile_and_all_is_afterwards(self) -> None:
+        one = self.session
+        answers = one.answers([f"PUT A {SQUARE}", "LOCATE A 1 1"])
+        next(answers)
+        for action in (one.layers, lambda: one.put("B", SQUARE), lambda: next(one.answers(["LAYERS"]))):
+            self.assertRaises(RuntimeError, action)
+        self.assertEqual((next(answers).first, list(answers)), ("in", []))
+        self.assertEqual(one.locate("A", 20, 20), "out")
+
+    def test_what_is_no_request_is_refused_before_it_is_sent(self) -> None:
+        one = self.session
+        for request in ("", "# nothing", "LAYERS\nLAYERS", "BATCH 1", [], ["DROP A"] * 65, ["DROP A", ""]):
+            with self.subTest(request=request):
+                self.assertRaises(ValueError, list, one.answers([request]))
+        self.assertEqual(one.layers(), [])
+        self.assertRaises(ValueError, list, one.answers(["LAYERS", ""]))
+        self.assertTrue(one.closed)
+        self.assertRaises(Ended, next, one.answers(["LAYERS"]))
+
+    def test_an_end_amid_the_replies_is_told(self) -> None:
+        answers = self.session.answers(itertools.repeat("LAYERS"))
+        next(answers)
+        os.kill(self.server.process.pid, signal.SIGKILL)
+        self.assertRaises(Ended, lambda: [None for _ in answers])
+        self.assertTrue(self.session.closed)
+
+    def test_lines_go_ahead_over_a_socket(self) -> None:
+        ours, theirs = socket.socketpair()
+        with ours, theirs, subprocess.Popen([testing.PROGRAM], stdin=theirs, stdout=theirs) as run:
+            theirs.close()
+            one = Session(ours.makefile("wb", 0), ours.makefile("rb", 0), 60)
+            found = list(one.answers([f"PUT A {SQUARE}", *["GRID A 0 0 1 100 100"] * 300, *["LOCATE A 1 1"] * 5000]))
+            self.assertEqual((found[0].number(), found[-1].first, len(found)), (1, "in", 5301))
+            one.close()
+            ours.close()
+            self.assertEqual(run.wait(30), 0)
+
+    def test_a_boundary_of_named_columns(self) -> None:
+        one = self.session
+        wide = "POLYGON ((-200000 0, 200000 0, 200000 9, -200000 9, -200000 0))"
+        one.batch([one.put_line("A", wide), "DEFINE I = A"])
+        whole = one.boundary("I")
+        self.assertEqual(len(whole.pieces), 4 + 2 * 7)  # seven borders of columns cut both long sides
+        some = [piece for piece in whole.pieces if limits.column_begin(15) <= piece[0][0] < limits.column_begin(17)]
+        self.assertEqual(one.boundary("I", (15, 16)), whole._replace(pieces=some))
+        self.refused(23, one.boundary, "I", (limits.COLUMNS,))
+        self.assertEqual(overlay_client.COLUMNS, limits.COLUMNS)
+
+
 class Sessions(ClientCase):
     def test_a_boundary_is_of_one_version(self) -> None:
         """Another session changes the layer all the while; each answer is of one state or of the other."""
@@ -208,22 +321,51 @@ class Sessions(ClientCase):
             thread.join()
         self.assertGreater(answered, 10)
 
-    def test_a_session_whose_reply_was_broken_off_is_closed_and_the_others_go_on(self) -> None:
+    def test_a_session_whose_reply_is_late_is_lent_again_once_it_has_come(self) -> None:
         with running(sessions=3) as server:
-            with self.assertRaises(TimeoutError), server.session() as broken:
-                broken._replies.timeout = 0.2
-                broken._exchange(b"LAYERS")  # without its line feed no line yet, so it has no reply
-            self.assertTrue(broken.closed)
-            self.assertRaises(Ended, broken.layers)
+            with self.assertRaises(TimeoutError), server.session() as late:
+                late._wire.timeout = 0.2
+                late._exchange(b"LAYERS")  # without its line feed no line yet, so it has no reply
+            self.assertRaises(TimeoutError, late.layers)
             for _ in range(4):
                 with server.session() as one:
-                    self.assertIsNot(one, broken)
-                    self.assertEqual(one.ask("LAYERS"), ["layers 0"])
+                    self.assertIsNot(one, late)
+                    self.assertEqual(one.put("A", SQUARE), server.sessions[2].put("A", SQUARE) - 1)
+            self.assertEqual((late.closed, len(server.quick.lost()), server.slow.lost()), (False, 1, []))
+            late._wire.files[0].write(b"\n")
+            testing.wait_until(lambda: not server.quick.lost())
+            late._wire.timeout = 60
+            self.assertEqual([layer.name for layer in late.layers()], ["A"])
+            with server.session() as one, server.session() as other:
+                self.assertIn(late, (one, other))
+
+    def test_a_reply_of_which_a_part_came_in_time_is_passed_over_whole(self) -> None:
+        lines_in, lines = os.pipe()
+        replies, replies_out = os.pipe()
+        with open(replies_out, "wb", 0) as out, open(lines_in, "rb", 0):
+            one = Session(open(lines, "wb", 0), open(replies, "rb", 0), 0.1)
+            out.write(b"layers 2\nA = B\nB")
+            self.assertRaises(TimeoutError, one.layers)
+            self.assertRaises(TimeoutError, one.layers)
+            out.write(b" = A\nok 7\n")
+            one.settle()
+            self.assertEqual(one.drop("A"), 7)
+            self.assertRaises(TimeoutError, list, one.answers(["LOCATE A 1 1", "DROP A", "LAYERS"]))
+            out.write(b"in\nok 8\nlayers 1\nB = A\nok 9\n")
+            one.settle()
+            self.assertEqual(one.drop("A"), 9)
+            one.close()
+            self.assertRaises(Ended, one.layers)
+
+    def test_a_session_that_is_closed_is_lent_no_more(self) -> None:
+        with running(sessions=3) as server:
             with self.assertRaises(RuntimeError), server.session() as one:
                 raise RuntimeError("of a caller: the session is whole")
-            with server.session() as one:
-                one.close()
+            for _ in range(2):
+                with server.session() as one:
+                    one.close()
             self.assertRaises(Ended, server.session().__enter__)
+            self.assertEqual(len(server.quick.lost()), len(server.quick))
             with server.session(slow=True) as one:
                 self.assertEqual(one.layers(), [])
 
@@ -284,7 +426,8 @@ class Processes(ClientCase):
 
     def test_a_start_that_fails_tells_the_programs_own_fault(self) -> None:
         with testing.folder() as folder:
-            self.refused(30, lambda: running(store=folder / "none.db"))
+            fault = self.refused(30, lambda: running(store=folder / "none.db"))
+            self.assertRegex(fault.text, r"\Adevice(: .*none.db: .*)?\Z")  # a program without the second line too
             (folder / "text.db").write_text("no store")
             self.refused(34, lambda: running(store=folder / "text.db", create=True))
             self.refused(50, lambda: running(workers=9))

@@ -3,6 +3,7 @@
 from __future__ import annotations
 
 import random
+import re
 import unittest.mock
 import urllib.parse
 from decimal import Decimal
@@ -14,6 +15,7 @@ import testing
 from shapes import Box
 from test_shapes import Place, meets
 from testing import BAR, SHIFTED, SQUARE, TOP, TRIANGLE, FrontCase
+from views import View
 
 ROOT = f"http://{testing.HOST}"
 
@@ -40,6 +42,11 @@ def put_lines() -> list[str]:
     """The two outlines of Iceland, as tools/to_script.py wrote them."""
     text = (TOP / "tools/fixtures/iceland.txt").read_text(encoding="utf-8")
     return [line for line in text.splitlines() if line.startswith("PUT ")]
+
+
+def found(value: dict[str, Any], document: dict[str, Any]) -> dict[str, Any]:
+    """A parameter, or what a reference to one names."""
+    return document["components"]["parameters"][value["$ref"].rpartition("/")[2]] if "$ref" in value else value
 
 
 class Iceland(FrontCase):
@@ -103,11 +110,12 @@ class Iceland(FrontCase):
             "crs": "http://www.opengis.net/def/crs/OGC/1.3/CRS84",
             "columns": "16,17",
         }
-        words["bbox-crs"] = words["crs"]
+        words["bbox-crs"], words["f"] = words["crs"], "json"
         words["revision"] = self.client.get("/collections/both")["revision"]
         for path, methods in document["paths"].items():
             if "get" in methods:
-                listed = [one["name"] for one in methods["get"]["parameters"] if one["in"] == "query"]
+                given = [found(one, document) for one in methods["get"]["parameters"]]
+                listed = [one["name"] for one in given if one["in"] == "query"]
                 asked = path.format(collectionId="both", featureId=1)
                 self.client.get(f"{asked}?{urllib.parse.urlencode({name: words[name] for name in listed})}")
         self.assertEqual(
@@ -267,6 +275,23 @@ class Iceland(FrontCase):
             self.assertNotRegex(file.read_text(encoding="utf-8"), "https?:", file.name)
 
 
+    def test_what_is_refused_is_told_beside_it(self) -> None:
+        """Each form of the page, and its head, has a place of its own for what is told, and the scripts know these."""
+        folder = TOP / "web/page"
+        parts = re.split(r"<(?=section|header|footer)", (folder / "map.html").read_text(encoding="utf-8"))
+        places = {place: part for part in parts for place in re.findall(r'id="(told[a-z-]*)"', part)}
+        for place, beside in (
+            ("told", 'id="status"'),
+            ("told-layers", 'id="layers"'),
+            ("told-define", 'id="define"'),
+            ("told-asking", 'id="asking"'),
+        ):
+            self.assertIn(beside, places[place])
+        script = "".join(file.read_text(encoding="utf-8") for file in folder.glob("*.js"))
+        self.assertEqual(set(re.findall(r'"(told[a-z-]*)"', script)) - set(places), set())
+        self.assertLessEqual({"told-define", "told-asking", "told-layers"}, set(re.findall(r'"(told[a-z-]+)"', script)))
+
+
 class Changes(FrontCase):
     """A front that is writable, of a plane with two numbers behind the point."""
 
@@ -352,18 +377,19 @@ class Changes(FrontCase):
         self.assertNotIn(None, built)
         self.assertTrue(all(one in (None, right) for one, right in zip(seen, built)))
 
+    def extent(self, name: str) -> Box | None:
+        with self.store.view() as view:
+            return view.extent(name)
+
     def test_of_a_layer_that_is_not_built_the_extent_is_that_of_what_it_reaches(self) -> None:
         self.store.change([f"PUT A {SQUARE}", f"PUT B {SHIFTED}", f"PUT C {BAR}", "DEFINE I = A & B"])
         self.wait_for("I")
-        whole = self.store.extent("I")
-        self.assertEqual(whole, Box(*map(Fraction, (5, 5, 10, 10))))
+        self.assertEqual(self.extent("I"), Box(*map(Fraction, (5, 5, 10, 10))))
         self.store.change([f"PUT A {SQUARE.replace('10', '11')}"])
-        real, pending = self.store._corners, unittest.mock.patch.object(self.store, "_corners")
-        with pending as corners:
-            corners.side_effect = lambda found: real(found) if found.layer.text else None
-            self.assertEqual(self.store.extent("I"), Box(*map(Fraction, (0, 0, 15, 15))))
+        with unittest.mock.patch.object(View, "columns", return_value=[None]):
+            self.assertEqual(self.extent("I"), Box(*map(Fraction, (0, 0, 15, 15))))
         self.wait_for("I")
-        self.assertEqual(self.store.extent("I"), Box(*map(Fraction, (5, 5, 11, 11))))
+        self.assertEqual(self.extent("I"), Box(*map(Fraction, (5, 5, 11, 11))))
 
     def test_corners_are_written_with_the_digits_of_the_scale(self) -> None:
         self.store.change([f"PUT T {TRIANGLE}", f"PUT S {BAR}", "DEFINE I = T & S"])

@@ -8,6 +8,7 @@ import http.client
 import json
 import os
 import pathlib
+import resource
 import signal
 import socket
 import subprocess
@@ -67,8 +68,8 @@ def asked(address: str, method: str, path: str, body: bytes | None = None) -> tu
 
 def children(pid: int) -> list[int]:
     """The processes that a process has begun and that have not ended."""
-    text = pathlib.Path(f"/proc/{pid}/task/{pid}/children").read_text()
-    return [int(word) for word in text.split()]
+    threads = pathlib.Path(f"/proc/{pid}/task").glob("*/children")
+    return [int(word) for thread in threads for word in thread.read_text().split()]
 
 
 class Processes(unittest.TestCase):
@@ -114,7 +115,9 @@ class Processes(unittest.TestCase):
                 self.assertEqual(asked(address, "GET", "/collections/I/items")[1]["numberMatched"], 1)
                 self.assertEqual(asked(address, "DELETE", "/collections/I")[0], 403)
             with running("--store", self.store, "--writable") as (run, address):
-                self.assertEqual((address, self.ended(run)), ("", (1, f"{self.store}: error 30 device\n")))
+                status, text = self.ended(run)
+                self.assertEqual((address, status, text.count("\n")), ("", 1, 1))
+                self.assertTrue(text.startswith(f"{self.store}: error 30 device"), text)
         self.assertEqual(self.store.read_bytes(), before)
 
     def test_it_ends_where_the_program_has_ended(self) -> None:
@@ -129,18 +132,39 @@ class Processes(unittest.TestCase):
             os.kill(found[0], signal.SIGKILL)
             self.assertEqual(self.ended(run), (1, "overlay_live has ended with status -9\n"))
 
-    def test_what_it_began_ends_with_it(self) -> None:
-        for number in (signal.SIGTERM, signal.SIGKILL):
-            with running("--store", self.store, "--writable") as (run, address):
-                asked(address, "GET", "/collections/I/items")
-                begun = children(run.pid)
-                self.assertGreater(len(begun), 2)
-                run.send_signal(number)
-                self.ended(run)
-            end = time.monotonic() + 60
-            while left := [pid for pid in begun if pathlib.Path(f"/proc/{pid}").exists()]:
-                self.assertLess(time.monotonic(), end, left)
-                time.sleep(0.05)
+    def test_it_ends_where_the_program_of_base_layers_has_ended(self) -> None:
+        with running("--store", self.store, "--writable") as (run, address):
+            self.assertEqual(asked(address, "GET", "/collections/A/items")[0], 200)
+            found = [
+                pid
+                for pid in children(run.pid)
+                if pathlib.Path(f"/proc/{pid}/cmdline").read_text().startswith(f"{testing.PROGRAM}\0/dev/fd/")
+            ]
+            self.assertEqual(len(found), 1)
+            os.kill(found[0], signal.SIGKILL)
+            told = "overlay_live, by which base layers are worked out, has ended with status -9\n"
+            self.assertEqual(self.ended(run), (1, told))
+
+    def test_a_copy_takes_the_place_of_a_store_that_is_not_written_any_more(self) -> None:
+        program = testing.program_that_ignores_a_full_file(self.folder)
+        with running("--store", self.store, "--writable", "--program", program) as (run, address):
+            self.assertEqual(asked(address, "PUT", "/collections/N", b'{"definition": "I"}')[1]["durable"], 2)
+            (pid,) = [
+                pid
+                for pid in children(run.pid)
+                if f"--store\0{self.store}" in pathlib.Path(f"/proc/{pid}/cmdline").read_text()
+            ]
+            resource.prlimit(pid, resource.RLIMIT_FSIZE, (0, resource.RLIM_INFINITY))
+            status, value = asked(address, "PUT", "/collections/M", b'{"definition": "I"}')
+            self.assertEqual((status, value["version"]), (503, 3))
+            status, told = self.ended(run)
+            self.assertEqual(status, 1)
+            self.assertIn("the store is not written any more: error 30 device; a copy stands in its place", told)
+        with running("--store", self.store, "--writable") as (run, address):
+            status = asked(address, "GET", "/status")[1]
+            self.assertEqual((status["version"], status["durable"], status["layers"], status["lost"]), (2, 2, 3, []))
+            self.assertEqual(asked(address, "PUT", "/collections/M", b'{"definition": "I"}')[1]["durable"], 3)
+        self.assertEqual(sorted(path.name for path in self.folder.glob("map.db*")), ["map.db"])
 
     def test_it_begins_a_store(self) -> None:
         with running("--store", self.folder / "new.db", "--create", "--writable") as (_, address):
@@ -162,6 +186,12 @@ class Processes(unittest.TestCase):
                 self.assertEqual((status, address), (1, ""))
                 self.assertIn(told, text)
                 self.assertEqual(text.count("\n"), 1, text)
+
+    def test_a_program_that_is_not_there_is_told_by_its_name(self) -> None:
+        absent = self.folder / "nofile"
+        for words in (["--store", self.store], ["--writable"]):
+            with running(*words, "--program", absent) as (run, _):
+                self.assertEqual(self.ended(run), (1, f"{absent}: No such file or directory\n"))
 
     def test_addresses_at_which_nobody_can_listen(self) -> None:
         with socket.create_server(("127.0.0.1", 0)) as other:

@@ -2,10 +2,14 @@
 
 from __future__ import annotations
 
+import contextlib
 import functools
+import io
 import json
 import multiprocessing
+import signal
 import threading
+import time
 import unittest
 import unittest.mock
 from collections.abc import Callable
@@ -15,7 +19,9 @@ import layer_store
 import testing
 from layer_store import LayerStore
 from overlay_client import Ended, Refused, Server
+from scratch import Scratch
 from testing import SHIFTED, SQUARE, Client, FrontCase, Told
+from views import View
 from web_request import BODY_MOST
 
 GEOMETRY = {"type": "Polygon", "coordinates": [[[0, 0], [9, 0], [9, 9], [0, 0]]]}
@@ -100,8 +106,29 @@ class Refusals(RefusalCase):
         self.refused(413, "/collections/N", "PUT", {}, CONTENT_LENGTH=str(BODY_MOST + 1))
         for length in ("", "-1", "x", "1e3", "9" * 19):
             self.refused(411, "/collections/N", "PUT", {"definition": "A"}, CONTENT_LENGTH=length)
-        for body in (b"", b"{", b"[]", b"1", b"null", b"\xff\xfe", b"[" * 200_000, b'{"a":' * 20_000, b"1" * 5000):
+        for body in (b"", b"{", b"[]", b"1", b"null", b"true", b"\xff\xfe", b'{"a":' * 20_000, b"1" * 5000):
             self.refused(400, "/collections/N", "PUT", body)
+            self.refused(400, "/batch", "POST", body)
+
+    def test_bodies_that_are_nested_deep(self) -> None:
+        for depth in (10, 970, 990, 100_000):
+            lists = b"[" * depth + b"]" * depth
+            places = b"[[[%b, 1], [9, 0], [9, 9], [0, 0]]]" % lists
+            objects = b'{"a":' * depth + b"1" + b"}" * depth
+            for value in (lists, objects, b'{"definition": %b}' % lists, b'{"geometry": %b}' % lists):
+                self.refused(400, "/collections/N", "PUT", value)
+                self.refused(400, "/batch", "POST", b'{"commands": [%b]}' % value)
+            for coordinates in (lists, places, places.replace(lists, objects)):
+                geometry = b'{"type": "Polygon", "coordinates": %b}' % coordinates
+                self.refused(400, "/collections/N", "PUT", geometry)
+                self.refused(400, "/batch", "POST", b'{"commands": [{"put": "N", "geometry": %b}]}' % geometry)
+
+    def test_a_fault_of_the_front_is_told_as_a_refusal(self) -> None:
+        told = io.StringIO()
+        with unittest.mock.patch.object(self.store, "view", side_effect=KeyError("x")):
+            with contextlib.redirect_stderr(told):
+                self.assertEqual(self.refused(500, "/status").value["code"], "500")
+        self.assertIn("KeyError", told.getvalue())
 
     def test_geometries(self) -> None:
         for number in (b"1e99999999", b"1e999", b"NaN", b"Infinity", b"-1e-999", b'"x"', b"null", b"true", b"1" * 400):
@@ -151,6 +178,10 @@ class Refusals(RefusalCase):
             {"commands": [{"drop": "I", "put": "I"}]},
             {"commands": [{"drop": "I\nDROP A"}]},
             {"commands": [{"drop": 7}]},
+            {"commands": [{"put": None, "geometry": GEOMETRY}]},
+            {"commands": [{"put": True, "geometry": GEOMETRY}]},
+            {"commands": [{"define": False, "definition": "A"}]},
+            {"commands": [{"drop": ["I"]}]},
             {"commands": [{"define": "N"}]},
             {"commands": [{"put": "N", "definition": "A"}]},
             {"commands": [None]},
@@ -330,23 +361,69 @@ class Failures(unittest.TestCase):
 
     def setUp(self) -> None:
         self.server = self.enterContext(Server(sessions=4, program=testing.PROGRAM, timeout=60))
-        scratch = self.enterContext(Server(program=testing.PROGRAM, timeout=60))
+        scratch = self.enterContext(Scratch(testing.PROGRAM, 60))
+        self.scratch = scratch
         self.store = LayerStore(self.server, scratch, testing.map_scale(), version=0, kept=False, writable=True)
         self.addCleanup(self.store.close)
         self.client = Client(front.Front(self.store))
         self.client.change("/collections/A", "PUT", GEOMETRY)
         self.client.change("/collections/I", "PUT", {"definition": "A"})
 
-    def test_a_session_whose_reply_is_broken_off_is_closed_and_the_front_goes_on(self) -> None:
-        for one in (self.server.sessions[0], self.server.sessions[2]):
-            one._replies.timeout = 0.2
+    def lost(self) -> list[str]:
+        return [text.partition(":")[0] for text in self.client.get("/status")["lost"]]
+
+    def test_a_session_whose_reply_is_late_comes_back_and_the_front_goes_on(self) -> None:
+        late = [self.server.sessions[0], self.server.sessions[2]]
+        for one in late:
+            one._wire.timeout = 0.2
             self.assertRaises(TimeoutError, one._exchange, b"no line")
+            one._wire.timeout = 60
         for _ in range(5):
             self.assertEqual(self.client.get("/locate?x=5&y=2")["places"]["I"], "in")
             self.assertEqual(self.client.get("/collections/I/items")["numberMatched"], 1)
             self.client.change("/collections/N", "PUT", {"definition": "A & I"})
+        self.assertEqual(self.lost(), ["1 of 2 sessions for questions", "1 of 2 sessions for changes"])
+        self.enterContext(unittest.mock.patch.object(layer_store, "TURN", 0.1))
         self.server.sessions[1].close()
         self.assertEqual(self.client.ask("/locate?x=5&y=2").status, 503)
+        for one in late:
+            one._wire.files[0].write(b"\n")
+            testing.wait_until(lambda: one.lost_since is None)
+        self.assertEqual(self.client.get("/locate?x=5&y=2")["places"]["I"], "in")
+        self.assertEqual(self.lost(), ["1 of 2 sessions for questions"])
+
+    def test_a_layer_that_is_being_built_is_asked_again_later(self) -> None:
+        """Its items wait for no reply of WAIT, which holds a session for as long as the layer takes."""
+        self.enterContext(unittest.mock.patch.object(layer_store, "BUILDING", 0.1))
+        built = threading.Event()
+        for one in self.server.sessions:
+            self.enterContext(unittest.mock.patch.object(one, "wait", side_effect=lambda name: built.wait(60)))
+        self.addCleanup(built.set)
+        with unittest.mock.patch.object(View, "columns", side_effect=lambda name, columns: [[], *[None] * 32]):
+            for _ in range(4):
+                found = self.client.ask("/collections/I/items")
+                self.assertEqual((found.status, found.headers["Retry-After"]), (503, "1"))
+                self.assertIn("is being built", found.value["description"])
+                self.client.change("/collections/N", "PUT", {"definition": "A"})
+        self.assertEqual(self.client.get("/collections/I/items")["numberMatched"], 1)
+        self.assertFalse(built.is_set())
+
+    def test_a_change_whose_reply_is_late_ends_the_front(self) -> None:
+        ended = self.enterContext(unittest.mock.patch.object(self.store, "_end"))
+        for one in self.server.sessions[2:]:
+            self.enterContext(unittest.mock.patch.object(one._wire, "reply", side_effect=TimeoutError))
+        self.assertEqual(self.client.ask("/collections/N", "PUT", {"definition": "A"}).status, 503)
+        self.assertEqual(ended.call_count, 1)
+        self.assertEqual(self.client.ask("/locate?x=5&y=2").status, 503)
+
+    def test_all_sessions_of_a_kind_are_lost_after_a_while(self) -> None:
+        self.server.sessions[2].close()
+        self.assertFalse(self.store.has_lost_all())
+        self.server.sessions[3].lost_since = time.monotonic()
+        self.assertFalse(self.store.has_lost_all())
+        with unittest.mock.patch.object(layer_store, "LOST", -1):
+            self.assertTrue(self.store.has_lost_all())
+        self.assertIn("2 of 2 sessions for changes: no reply for 0 seconds", self.client.get("/status")["lost"])
 
     def test_a_program_that_has_ended_is_told(self) -> None:
         self.server.process.kill()
@@ -380,7 +457,14 @@ class Failures(unittest.TestCase):
         found = self.client.ask("/collections/I/items")
         self.assertEqual((found.status, found.headers["Retry-After"]), (503, "1"))
         self.assertEqual(self.client.get("/locate?x=5&y=2")["places"]["I"], "in")
+        self.client.change("/collections/N", "PUT", {"definition": "A"})  # changes have places of their own
         slow.release()
+        self.client.get("/collections/I/items")
+        changes = self.client.front._changes
+        for _ in range(front.CHANGES_MOST):
+            changes.acquire()
+        found = self.client.ask("/collections/N", "DELETE")
+        self.assertEqual((found.status, found.headers["Retry-After"]), (503, "1"))
         self.client.get("/collections/I/items")
 
     def test_a_change_that_the_store_cannot_keep_is_told(self) -> None:
@@ -397,7 +481,7 @@ class Failures(unittest.TestCase):
         store = self.enterContext(testing.folder()) / "map.db"
         for number in range(6):
             with Server(store, create=number == 0, sessions=2, program=testing.PROGRAM, timeout=60) as server:
-                kept = LayerStore(server, server, testing.map_scale(), version=number, kept=True, writable=True)
+                kept = LayerStore(server, self.scratch, testing.map_scale(), version=number, kept=True, writable=True)
                 self.assertEqual(list(kept.layers()), [f"L{n}" for n in range(number)])
                 self.assertEqual((kept.change([f"PUT L{number} {SQUARE}"]), kept.durable), (number + 1, number + 1))
                 server.process.kill()
@@ -423,11 +507,41 @@ class Failures(unittest.TestCase):
 
     def test_polygons_of_another_revision_are_asked_again(self) -> None:
         """The layer changes after its revision was read and before its pieces are: they are not kept as those of it."""
-        real = self.store._boundary
-        answers = [("of a change in between", []), real("I")]
-        asked = self.enterContext(unittest.mock.patch.object(self.store, "_boundary", side_effect=answers))
-        self.assertEqual(self.client.get("/collections/I/items")["numberMatched"], 1)
+        before = self.store.layer("I")
+        self.client.change("/collections/A", "PUT", GEOMETRY | {"coordinates": []})
+        with unittest.mock.patch.object(self.store, "layer", side_effect=[before, self.store.layer("I")]) as asked:
+            self.assertEqual(self.client.get("/collections/I/items")["numberMatched"], 0)
         self.assertEqual(asked.call_count, 2)
+
+    def test_work_that_takes_too_long_is_killed_and_others_go_on(self) -> None:
+        self.client.get("/collections/I/items")
+        self.client.change("/collections/I", "PUT", {"definition": "A | A"})
+        (joiner,) = multiprocessing.active_children()
+        testing.stop(joiner.pid or 0)  # as one whose work has no end
+        self.enterContext(unittest.mock.patch.object(self.store._joiners, "seconds", 0.3))
+        self.store._joiners._free.get()  # the other one: all work goes to the stopped one
+        found = self.client.ask("/collections/I/items")
+        self.assertEqual(found.status, 413)
+        told = "I has 3 pieces that take longer, and up to 200000 pieces are joined, within 0.3 seconds: ask for its tiles"
+        self.assertEqual(found.value["description"], told)
+        self.assertEqual(multiprocessing.active_children(), [])
+        self.store._joiners.seconds = 60
+        self.assertEqual(self.client.ask("/collections/I/items").status, 413)  # it is not tried again at once
+        self.assertEqual(self.client.get("/collections/A/items")["numberMatched"], 1)
+        with unittest.mock.patch.object(layer_store, "FORGOTTEN", 0):
+            self.assertEqual(self.client.get("/collections/I/items")["numberMatched"], 1)
+
+    def test_a_base_layer_that_takes_too_long_is_given_up_and_others_go_on(self) -> None:
+        process = self.scratch._server.process
+        testing.stop(process.pid)
+        self.scratch._server.sessions[0]._wire.timeout = self.scratch.seconds = 0.3
+        found = self.client.ask("/collections/A/items")
+        self.assertEqual(found.status, 413)
+        self.assertIn("than the 0.3 seconds that they are given", found.value["description"])
+        self.assertEqual(process.wait(60), -signal.SIGKILL)
+        self.scratch._server.sessions[0]._wire.timeout = 60
+        self.client.change("/collections/B", "PUT", GEOMETRY | {"coordinates": []})
+        self.assertEqual(self.client.get("/collections/B/items")["numberMatched"], 0)
 
     def test_statuses_of_refusals(self) -> None:
         for number, status in ((10, 404), (11, 409), (21, 409), (7, 400), (20, 400), (31, 503), (40, 503)):

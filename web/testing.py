@@ -6,11 +6,14 @@ import contextlib
 import io
 import json
 import math
+import os
 import pathlib
+import signal
 import tempfile
+import time
 import unittest
 import urllib.parse
-from collections.abc import Iterator, Mapping
+from collections.abc import Callable, Iterator, Mapping
 from typing import Any, NamedTuple
 
 import scale as scales  # of tools/
@@ -18,6 +21,7 @@ from front import Front
 from layer_store import LayerStore
 from map_scale import MapScale
 from overlay_client import Server
+from scratch import Scratch
 
 PROGRAM = "overlay_live"
 HOST = "127.0.0.1:8080"
@@ -39,6 +43,30 @@ def star(corners: int, x: int = 0, y: int = 0, reach: int = 600_000) -> str:
     turns = [2 * math.pi * i / corners for i in range(corners)]
     lengths = [reach * (1 - 0.75 * (i % 2)) for i in range(corners)]
     return ring_text([(x + round(r * math.cos(t)), y + round(r * math.sin(t))) for r, t in zip(lengths, turns)])
+
+
+def program_that_ignores_a_full_file(folder: pathlib.Path) -> pathlib.Path:
+    """The program, begun so that a write beyond a limit of file size fails and does not end it."""
+    made = folder / "overlay_live.sh"
+    made.write_text(f"#!/bin/sh\ntrap '' XFSZ\nexec '{PROGRAM}' \"$@\"\n")
+    made.chmod(0o755)
+    return made
+
+
+def wait_until(holds: Callable[[], bool], seconds: float = 60) -> None:
+    """Waits until something holds; an AssertionError where it does not in time."""
+    end = time.monotonic() + seconds
+    while not holds():
+        if time.monotonic() > end:
+            raise AssertionError("it has not come to be")
+        time.sleep(0.01)
+
+
+def stop(pid: int) -> None:
+    """Stops a process, as if it came to no end."""
+    os.kill(pid, signal.SIGSTOP)
+    stat = pathlib.Path(f"/proc/{pid}/stat")
+    wait_until(lambda: stat.read_text().rpartition(")")[2].split()[0] == "T")
 
 
 def map_scale(**given: object) -> MapScale:
@@ -119,7 +147,7 @@ class FrontCase(unittest.TestCase):
     @classmethod
     def setUpClass(cls) -> None:
         cls.server = cls.enterClassContext(Server(sessions=4, program=PROGRAM, timeout=60))
-        scratch = cls.enterClassContext(Server(program=PROGRAM, timeout=60))
+        scratch = cls.enterClassContext(Scratch(PROGRAM, 60))
         version = 0
         if cls.lines:
             with cls.server.session() as one:

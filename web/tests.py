@@ -17,13 +17,22 @@ HERE = pathlib.Path(__file__).resolve().parent
 sys.path[:0] = [str(HERE), str(HERE.parent / "tools")]
 
 import test_client  # noqa: E402
+import test_features  # noqa: E402
 import test_front  # noqa: E402
+import test_openapi  # noqa: E402
 import test_process  # noqa: E402
 import test_refusals  # noqa: E402
+import test_rescue  # noqa: E402
+import test_serving  # noqa: E402
 import test_shapes  # noqa: E402
+import test_stress  # noqa: E402
+import test_systems  # noqa: E402
 import testing  # noqa: E402
 
-MODULES = (test_shapes, test_client, test_front, test_refusals, test_process)
+MODULES = (
+    test_shapes, test_client, test_front, test_refusals, test_features, test_openapi, test_systems, test_stress, test_rescue,
+    test_serving, test_process,
+)
 
 
 def chosen(names: list[str]) -> unittest.TestSuite:
@@ -45,8 +54,10 @@ def main() -> int:
         parser.error(f"{words.program} is no program")
     testing.PROGRAM = str(words.program.resolve())
     result = unittest.TextTestRunner(stream=sys.stdout, verbosity=1).run(chosen(words.names))
+    for test, reason in result.skipped:
+        print(f"skipped {test.id()}: {reason}")
     failed = len({test.id() for test, _ in result.failures + result.errors})
-    print(f"{result.testsRun - failed} passed, {failed} failed")
+    print(f"{result.testsRun - failed - len(result.skipped)} passed, {failed} failed")
     return 1 if failed else 0
 
 

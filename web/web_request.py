@@ -81,8 +81,13 @@ class Request:
             raise Problem(400, f"{name}: a whole number from {least} on is wanted")
         return min(int(word), most)
 
-    def body(self) -> dict[str, object]:
-        """The JSON object of the body; its numbers are kept as they are written."""
+    def names(self, header: str, revision: str) -> bool:
+        """Whether a header, as If-Match, names a revision, or any by *."""
+        given = [word.strip() for word in self.header(header).split(",")]
+        return "*" in given or f'"{revision}"' in given
+
+    def content(self) -> bytes:
+        """The bytes of the body, which is told to be JSON."""
         if self.environ.get("CONTENT_TYPE", "").partition(";")[0].strip() not in (JSON, GEOJSON):
             raise Problem(415, f"{JSON} is wanted")
         told = self.environ.get("CONTENT_LENGTH") or ""
@@ -90,11 +95,16 @@ class Request:
             raise Problem(411, "the length of the body is wanted")
         if int(told) > BODY_MOST:
             raise Problem(413, f"a body has at most {BODY_MOST} bytes")
+        found: bytes = self.environ["wsgi.input"].read(int(told))
+        return found
+
+    def body(self) -> dict[str, object]:
+        """The JSON object of the body; its numbers are kept as they are written."""
         try:
-            value = json.loads(
-                self.environ["wsgi.input"].read(int(told)), parse_float=str, parse_int=str, parse_constant=str
-            )
-        except (ValueError, RecursionError) as fault:
+            value = json.loads(self.content(), parse_float=str, parse_int=str, parse_constant=str)
+        except RecursionError:
+            raise Problem(400, "no JSON that is read: lists and objects are nested too deep") from None
+        except ValueError as fault:
             raise Problem(400, f"no JSON: {fault}") from fault
         if not isinstance(value, dict):
             raise Problem(400, "an object is wanted")

@@ -13,24 +13,30 @@ export function make(tag, text, kind) {
 export async function ask(path, how) {
   const answer = await fetch(path, {headers: {Accept: "application/json"}, ...how});
   const value = await answer.json().catch(() => ({}));
-  if (!answer.ok) throw new Error(value.description || `${answer.status} ${answer.statusText}`);
-  return value;
+  if (answer.ok) return value;
+  const fault = new Error(value.description || `${answer.status} ${answer.statusText}`);
+  fault.again = answer.headers.has("Retry-After");    // it may be asked again, as of a layer that is being built
+  throw fault;
 }
 
 export function send(method, path, value) {
   return ask(path, {method, headers: {"Content-Type": "application/json"}, body: JSON.stringify(value)});
 }
 
-export function tell(text, bad) {
-  at("told").textContent = text;
-  at("told").className = bad ? "bad" : "";
+// Tells a text beside what it is about, in the element of an id; what is about the whole page at its top.
+export function tell(text, bad, place = "told") {
+  const told = at(place);
+  if (!told) return;    // a layer that is there no more
+  told.textContent = text;
+  told.classList.toggle("bad", Boolean(bad));
+  if (bad) told.scrollIntoView({block: "nearest"});
 }
 
-// Runs an action, and tells what it throws.
-export async function telling(action) {
+// Runs an action, and tells what it throws beside what it is about.
+export async function telling(action, place) {
   try {
     await action();
   } catch (fault) {
-    tell(fault.message, true);
+    tell(fault.message, true, place);
   }
 }

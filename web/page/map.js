@@ -1,11 +1,12 @@
 // The page: it reads the front's layers, draws them, asks where a click lies, and defines layers.
 
 import {ask, at, send, tell, telling} from "./ask.js";
-import {showColumns, showLayers, showPlaces, showStatus, summary} from "./panel.js";
+import {described, finder, titled} from "./features.js";
+import {showColumns, showLayers, showPlaces, showStatus, summary, toldOf} from "./panel.js";
 
 const LOOKS = 2000;    // milliseconds between two looks at the version
 const AT_ONCE = 4;    // columns of a question for tiles
-const page = {plot: null, state: null, layers: []};
+const page = {plot: null, state: null, layers: [], waiting: false};    // waiting: a layer is to be asked again
 globalThis.overlayPage = page;    // for scripts that look at the page
 
 const path = name => `collections/${encodeURIComponent(name)}`;
@@ -16,20 +17,23 @@ async function refresh() {
   page.layers = (await ask("collections")).collections;
   const {plot, state, layers} = page;
   showStatus(state);
+  at("finding").hidden = state.map === null;
   showLayers(layers, plot, state, drop);
   for (const name of [...plot.drawn.keys()]) {
     if (!layers.some(layer => layer.id === name)) plot.forget(name);
   }
   const done = await Promise.allSettled(layers.map((layer, place) => plot.draw(layer, place)));
-  const refused = done.find(one => one.status === "rejected");
-  if (refused) tell(refused.reason.message, true);
+  page.waiting = done.some(one => one.reason?.again);
+  done.forEach(({reason}, place) => {
+    if (reason) tell(reason.message, !reason.again, toldOf(layers[place].id));
+  });
 }
 
 const drop = name => telling(async () => {
   const made = await ask(path(name), {method: "DELETE"});
   await refresh();
-  tell(`version ${made.version}: ${name} is dropped`);
-});
+  tell(`version ${made.version}: ${name} is dropped`, false, "told-layers");
+}, toldOf(name));
 
 // Draws the tiles of a layer as they are built, and gives how many milliseconds it took until all were.
 async function watch(name) {
@@ -44,10 +48,10 @@ async function watch(name) {
       plot.tile(tile);
       built[tile.column] = true;
     }
-    // What is pending is asked again behind the others.
+    // What is pending is asked again after the others.
     waiting = [...waiting.slice(AT_ONCE), ...tiles.filter(tile => tile.lines === null).map(tile => tile.column)];
     showColumns(built);
-    tell(`${name}: ${built.length - waiting.length} of ${built.length} columns are built`);
+    tell(`${name}: ${built.length - waiting.length} of ${built.length} columns are built`, false, "told-define");
     if (!done.length) await pause(40);
   }
   return Math.round(performance.now() - began);
@@ -58,7 +62,7 @@ async function define(id, definition) {
   try {
     const took = await watch(id);
     await refresh();
-    tell(`version ${made.version}: ${id} is built, ${took} ms`);
+    tell(`version ${made.version}: ${id} is built, ${took} ms`, false, "told-define");
     await pause(900);    // so that an eye sees the tiles
   } finally {
     page.plot.tiles.clearLayers();
@@ -69,29 +73,38 @@ async function define(id, definition) {
 async function locate(x, y) {
   const found = await ask(`locate?x=${encodeURIComponent(x)}&y=${encodeURIComponent(y)}`);
   showPlaces(found);
-  page.plot.asked(found.point, summary(found.places));
-  tell("");
+  page.plot.asked(found.point, found.features?.length ? found.features.map(described) : [summary(found.places)]);
+  tell("", false, "told-asking");
+}
+
+// Shows a feature that was found by its name.
+function show(feature) {
+  const bounds = page.plot.bounds(feature);
+  page.plot.fit([bounds]);
+  const middle = [(bounds[0] + bounds[2]) / 2, (bounds[1] + bounds[3]) / 2];
+  page.plot.told(middle, [described({...feature, name: titled(feature, page.state.name_by)})]);
 }
 
 function listen() {
+  finder(() => page.plot.drawn.get(page.state.map)?.features ?? [], () => page.state.name_by, show);
   const {map} = page.plot, form = at("asking"), defining = at("define"), {id, definition} = defining.elements;
   map.on("click", ({latlng}) => telling(async () => {
     const digits = page.plot.digits();
     form.elements.x.value = latlng.lng.toFixed(digits);
     form.elements.y.value = latlng.lat.toFixed(digits);
     await locate(form.elements.x.value, form.elements.y.value);
-  }));
+  }, "told-asking"));
   map.on("mousemove", ({latlng}) => {
     const digits = Math.max(0, page.plot.digits() - 1);
     at("under").textContent = `${latlng.lng.toFixed(digits)}, ${latlng.lat.toFixed(digits)}`;
   });
   form.onsubmit = event => {
     event.preventDefault();
-    telling(() => locate(form.elements.x.value.trim(), form.elements.y.value.trim()));
+    telling(() => locate(form.elements.x.value.trim(), form.elements.y.value.trim()), "told-asking");
   };
   defining.onsubmit = event => {
     event.preventDefault();
-    telling(() => define(id.value, definition.value));
+    telling(() => define(id.value, definition.value), "told-define");
   };
   for (const button of defining.querySelectorAll("[data-mark]")) {
     button.onclick = () => {
@@ -106,8 +119,11 @@ async function look() {
   for (;;) {
     await pause(LOOKS);
     const state = await ask("status").catch(fault => tell(`the front does not answer: ${fault.message}`, true));
-    if (state && state.version !== page.state.version) await telling(refresh);
-    else if (state && state.durable !== page.state.durable) showStatus(page.state = state);
+    if (!state) continue;
+    tell("");
+    const moved = state.version !== page.state.version || state.map_revision !== page.state.map_revision;
+    if (moved || page.waiting) await telling(refresh);
+    else if (`${state.durable} ${state.lost}` !== `${page.state.durable} ${page.state.lost}`) showStatus(page.state = state);
   }
 }
 
@@ -118,7 +134,7 @@ async function begin() {
   const {Plot} = await import("./plot.js");
   page.plot = new Plot("map", page.state);
   await refresh();
-  const boxes = page.layers.flatMap(layer => layer.extent ? layer.extent.spatial.bbox : []);
+  const boxes = page.layers.flatMap(layer => layer.box ? [layer.box] : []);
   if (boxes.length) page.plot.fit(boxes);
   listen();
   document.body.dataset.ready = "yes";

@@ -3,13 +3,17 @@
 import {at, make} from "./ask.js";
 import {colour} from "./plot.js";
 
+// Where what is about a layer is told: in its row.
+export const toldOf = name => `told-layer-${name}`;
+
 export function showStatus(state) {
   document.title = at("title").textContent = state.title;
   const kept = state.durable === null ? make("span", "in memory only", "chip warn")
     : make("span", `durable ${state.durable}`, state.durable === state.version ? "chip good" : "chip warn");
   at("status").replaceChildren(
     make("span", `version ${state.version}`, "chip"), kept, make("span", state.writable ? "writable" : "read only", "chip"),
-    make("span", state.crs || `a plane${state.unit ? `, ${state.unit}` : ""}`, "chip"));
+    make("span", state.crs || `a plane${state.unit ? `, ${state.unit}` : ""}`, "chip"),
+    ...state.lost.map(text => make("span", text, "chip bad")));
   at("defining").hidden = !state.writable;
 }
 
@@ -21,6 +25,11 @@ function button(text, title, action) {
   return made;
 }
 
+function kind(layer) {
+  if (layer.features !== undefined) return `${layer.features} features`;
+  return layer.definition ? `= ${layer.definition}` : "base layer";
+}
+
 function row(layer, place, plot, state, drop) {
   const made = make("li"), box = make("input"), swatch = make("span", "", "swatch");
   box.type = "checkbox";
@@ -30,10 +39,13 @@ function row(layer, place, plot, state, drop) {
   swatch.style.borderColor = colour(place);
   swatch.style.background = layer.definition ? colour(place) : "none";
   const text = make("div", undefined, "text");
-  text.append(make("span", layer.id, "name"), make("code", layer.definition ? `= ${layer.definition}` : "base layer"));
+  const told = make("p", "", "told");
+  told.id = toldOf(layer.id);
+  told.setAttribute("role", "status");
+  text.append(make("span", layer.id, "name"), make("code", kind(layer)), told);
   const tools = make("span", undefined, "tools");
-  if (layer.extent) tools.append(button("\u2316", "go there", () => plot.fit(layer.extent.spatial.bbox)));
-  if (state.writable) tools.append(button("\u00d7", `drop ${layer.id}`, () => drop(layer.id)));
+  if (layer.box) tools.append(button("\u2316", "go there", () => plot.fit([layer.box])));
+  if (state.writable && layer.features === undefined) tools.append(button("\u00d7", `drop ${layer.id}`, () => drop(layer.id)));
   made.append(box, swatch, text, tools);
   return made;
 }
@@ -48,8 +60,9 @@ export function showColumns(built) {
   at("columns").replaceChildren(...built.map(is => make("i", "", is ? "built" : "")));
 }
 
-export function showPlaces({places, asked: [x, y, w], exact}) {
-  at("places").replaceChildren(...Object.entries(places).map(([name, place]) => {
+export function showPlaces({places, features = [], asked: [x, y, w], exact}) {
+  const rows = [...features.map(({name, place}) => [name, place]), ...Object.entries(places)];
+  at("places").replaceChildren(...rows.map(([name, place]) => {
     const made = make("tr");
     made.append(make("td", name), make("td", place, place));
     return made;

@@ -10,7 +10,9 @@ export const colour = place => COLOURS[place % COLOURS.length];
 export class Plot {
   constructor(id, state) {
     this.state = state;
-    this.drawn = new Map();    // name: {revision, shape}
+    // A position of the store's own system as Leaflet has it, y first.
+    this.placed = ([a, b]) => state.y_first ? L.latLng(a, b) : L.latLng(b, a);
+    this.drawn = new Map();    // name: {revision, shape, features}
     this.hidden = new Set();
     this.map = L.map(id, {
       crs: state.geographic ? L.CRS.EPSG3857 : L.CRS.Simple, minZoom: -24, maxZoom: 24, zoomSnap: 0.25, zoomDelta: 0.5,
@@ -41,7 +43,8 @@ export class Plot {
   async draw(layer, place) {
     if (this.drawn.get(layer.id)?.revision === layer.revision) return;
     const features = [];
-    let next = `collections/${layer.id}/items?limit=${ITEMS}`, revision;
+    const system = this.state.storage ? `&crs=${encodeURIComponent(this.state.storage)}` : "";
+    let next = `collections/${layer.id}/items?limit=${ITEMS}${system}`, revision;
     while (next) {
       const page = await ask(next);
       features.push(...page.features);
@@ -52,9 +55,9 @@ export class Plot {
     const derived = Boolean(layer.definition);
     const style = {
       color: colour(place), weight: derived ? 2 : 1.25, fillOpacity: derived ? 0.4 : 0.12, fillRule: "evenodd",
-      renderer: derived ? this.renderers.derived : this.renderers.base, smoothFactor: 0, interactive: false};
+      renderer: derived ? this.renderers.derived : this.renderers.base, smoothFactor: 0, interactive: false, coordsToLatLng: this.placed};
     const shape = L.geoJSON({type: "FeatureCollection", features}, style);
-    this.drawn.set(layer.id, {revision, shape, place, derived});
+    this.drawn.set(layer.id, {revision, shape, place, derived, features});
     this.show(layer.id, !this.hidden.has(layer.id));
   }
 
@@ -85,10 +88,22 @@ export class Plot {
       renderer: this.renderers.tiles, interactive: false, smoothFactor: 0, color: "#1d7d4f", weight: 2}));
   }
 
-  // Marks the point that was asked, with a text.
-  asked([x, y], content) {
-    this.mark.clearLayers();
+  // The box of a feature: least x and y, greatest x and y.
+  bounds(feature) {
+    const box = L.geoJSON(feature, {coordsToLatLng: this.placed}).getBounds();
+    return [box.getWest(), box.getSouth(), box.getEast(), box.getNorth()];
+  }
+
+  // Marks the point that was asked, and tells what is there.
+  asked([x, y], contents) {
+    this.told([x, y], contents);
     L.circleMarker([y, x], {radius: 5, weight: 2, color: "#1d2733", fillColor: "#fff", fillOpacity: 1, interactive: false}).addTo(this.mark);
-    L.popup({closeButton: false, offset: [0, -2], autoPan: false}).setLatLng([y, x]).setContent(content).addTo(this.mark);
+  }
+
+  told([x, y], contents) {
+    const box = document.createElement("div");
+    box.append(...contents);
+    this.mark.clearLayers();
+    L.popup({closeButton: false, offset: [0, -2], autoPan: false}).setLatLng([y, x]).setContent(box).addTo(this.mark);
   }
 }

@@ -1,0 +1,257 @@
+"""The collection of a map's features: its pages, and its items changed one by one (OGC API - Features, parts 1 and 4)."""
+
+from __future__ import annotations
+
+import json
+from collections.abc import Callable, Sequence
+from decimal import Decimal
+from fractions import Fraction
+from typing import Any
+
+import feature_changes  # of tools/
+import features  # of tools/
+from feature_changes import ChangeFault, GeometryFault, Given, Plan  # of tools/
+from feature_store import Drawn, FeatureStore, State
+from features import FeaturesFault, Outline  # of tools/
+from features_api import FeaturesApi
+from layer_store import Changed
+from map_scale import MapScale
+from openapi import Described
+from schemas import properties_of
+from shapes import Box, box_round
+from systems import Placed, Systems, Unplaced
+from web_request import GEOJSON, Answer, Problem, Request, json_answer, link
+
+EDITING = ("http://www.opengis.net/spec/ogcapi-features-4/1.0/conf/create-replace-delete",
+           "http://www.opengis.net/spec/ogcapi-features-4/1.0/conf/optimistic-locking")
+
+
+class MapItem:
+    """A feature as an item, drawn where it is asked for."""
+
+    def __init__(self, maps: FeatureStore, outline: Outline, area_name: str) -> None:
+        self._maps, self._outline, self._area_name = maps, outline, area_name
+
+    def meets(self, box: Box) -> bool:
+        left, low, right, high = self._outline.box
+        if left > box.right or right < box.left or low > box.high or high < box.low:
+            return False
+        return any(one.meets(box) for one in self._drawn().polygons)
+
+    def _drawn(self) -> Drawn:
+        return self._maps.drawn(self._outline)
+
+    def geojson(self) -> dict[str, object]:
+        feature, drawn = self._outline.feature, self._drawn()
+        return {
+            "type": "Feature",
+            "id": feature.id,
+            "properties": {**feature.properties, self._area_name: drawn.area},
+            "geometry": geometry_of(feature.kind, drawn),
+        }
+
+
+def geometry_of(kind: str, drawn: Drawn) -> dict[str, object]:
+    """A Polygon where the source had one and one has come of it, else a MultiPolygon."""
+    polygons = [[ring + ring[:1] for ring in one.positions] for one in drawn.polygons]
+    if kind == "Polygon" and len(polygons) == 1:
+        return {"type": "Polygon", "coordinates": polygons[0]}
+    return {"type": "MultiPolygon", "coordinates": polygons}
+
+
+class MapFeatures(FeaturesApi):
+    """The pages of a store with a map's features: these are a collection, and layers that are parts of it are none."""
+
+    def __init__(self, maps: FeatureStore, systems: Systems | None = None) -> None:
+        super().__init__(maps.store, systems)
+        self.maps = maps
+
+    # ---- pages
+
+    def described(self) -> Described:
+        state = self._state()
+        rows = [one.feature.properties for one in state.outlines.values()]
+        return Described(self.maps.name, properties_of(rows, state.area_name))
+
+    def conformance(self, request: Request) -> Answer:
+        answer = json.loads(super().conformance(request).body)
+        if self.store.writable:
+            answer["conformsTo"] += EDITING
+        return json_answer(answer)
+
+    def collections(self, request: Request) -> Answer:
+        with self.store.view() as view:
+            state = self.maps.state(view)
+            hidden = self.maps.hidden(state.table)
+            layers = [self._described(request, view, name) for name in view.layers if name not in hidden]
+        links = [link(f"{request.root}/collections", "self")]
+        return json_answer({"links": links, "collections": [self._map(request, state), *layers]})
+
+    def collection(self, request: Request, name: str) -> Answer:
+        return json_answer(self._map(request, self._state())) if name == self.maps.name else super().collection(request, name)
+
+    def _state(self) -> State:
+        with self.store.view() as view:
+            return self.maps.state(view)
+
+    def _map(self, request: Request, state: State) -> dict[str, object]:
+        at = f"{request.root}/collections/{self.maps.name}"
+        made: dict[str, object] = {
+            "id": self.maps.name,
+            "title": self.scale.title if self.scale.scale.title else self.maps.name,
+            "itemType": "feature",
+            "revision": state.revision,
+            "definition": None,
+            "features": len(state.outlines),
+            "description": f"{len(state.outlines)} features with their properties",
+            "links": [link(at, "self"), link(f"{at}/items", "items", GEOJSON)],
+        }
+        boxes = [Box(*map(Fraction, one.box)) for one in state.outlines.values()]
+        return {**made, **self._placed(box_round(boxes))}
+
+    def items(self, request: Request, name: str) -> Answer:
+        if name != self.maps.name:
+            return super().items(request, name)
+        asked, state = self._asked(request), self._state()
+        if request.words.get("revision", state.revision) != state.revision:
+            raise Changed(f"{name} has changed since revision {request.words['revision']}")
+        found = [MapItem(self.maps, one, state.area_name) for one in state.outlines.values()]
+        return self._page(request, name, state.revision, found, asked)
+
+    def item(self, request: Request, name: str, number: str) -> Answer:
+        if name != self.maps.name:
+            return super().item(request, name, number)
+        state = self._state()
+        outline = self._known(state, number)
+        system = self._system(request, "crs")
+        made = Placed(MapItem(self.maps, outline, state.area_name), self.systems, system).geojson()
+        at, revision = f"{request.root}/collections/{name}", outline.feature.revision()
+        made["revision"] = revision
+        made["links"] = [link(f"{at}/items/{number}", "self", GEOJSON), link(at, "collection")]
+        return json_answer(made, GEOJSON, headers=self._headers(revision, system))
+
+    def _known(self, state: State, identity: str) -> Outline:
+        found = state.outline(identity)
+        if found is None:
+            raise Problem(404, f"{self.maps.name} has no item {identity}")
+        return found
+
+    # ---- changes
+
+    def methods(self, request: Request, name: str, identity: str | None = None) -> Answer:
+        """What may be done with items, for OPTIONS."""
+        own = ("POST",) if identity is None else ("PUT", "DELETE")
+        may = own if name == self.maps.name and self.store.writable else ()
+        return Answer(204, GEOJSON, b"", {"Allow": ", ".join(("GET", "HEAD", "OPTIONS", *may))})
+
+    def create(self, request: Request, name: str) -> Answer:
+        """A new feature, and where it is."""
+        self._must_be_map(name)
+        given = Body.of(request, self.systems)
+
+        def plan(state: State, names: Sequence[str]) -> Plan:
+            self._must_match(request, state.revision)
+            return feature_changes.added(state.table, state.held, names, given.feature(state, self.scale, None))
+
+        return self._changed(request, plan, 201, given)
+
+    def replace(self, request: Request, name: str, identity: str) -> Answer:
+        """Another feature in the place of one."""
+        self._must_be_map(name)
+        given = Body.of(request, self.systems)
+
+        def plan(state: State, _: Sequence[str]) -> Plan:
+            outline = self._known(state, identity)
+            self._must_match(request, outline.feature.revision())
+            own = given.feature(state, self.scale, geometry_of(outline.feature.kind, self.maps.drawn(outline)))
+            return feature_changes.replaced(state.table, state.held, outline.feature.id, own)
+
+        return self._changed(request, plan, 200, given)
+
+    def remove(self, request: Request, name: str, identity: str) -> Answer:
+        """A feature goes."""
+        self._must_be_map(name)
+
+        def plan(state: State, _: Sequence[str]) -> Plan:
+            outline = self._known(state, identity)
+            self._must_match(request, outline.feature.revision())
+            return feature_changes.removed(state.table, state.held, outline.feature.id)
+
+        return self._changed(request, plan, 200, None)
+
+    def _must_be_map(self, name: str) -> None:
+        if name != self.maps.name:
+            raise Problem(405, f"items of {name} are parts of a layer, and not changed one by one", Allow="GET, HEAD")
+
+    def _must_match(self, request: Request, revision: str) -> None:
+        if request.header("if-match") and not request.names("if-match", revision):
+            raise Problem(412, f"it has changed: its revision is {revision}")
+
+    def _changed(
+        self, request: Request, plan: Callable[[State, Sequence[str]], Plan], status: int, given: Body | None
+    ) -> Answer:
+        try:
+            done = self.maps.change(plan)
+        except GeometryFault as fault:
+            raise Problem(400, str(fault)) from fault
+        except ChangeFault as fault:
+            raise Problem(409, str(fault)) from fault
+        told: dict[str, object] = {"version": done.version, "durable": self.store.durable if self.store.kept else None}
+        if done.feature is None or given is None:
+            return json_answer(told)
+        revision, at = done.feature.revision(), f"{request.root}/collections/{self.maps.name}/items/{done.feature.id}"
+        told |= {"id": done.feature.id, "revision": revision, "moved": float(given.moved)}
+        headers = {"ETag": f'"{revision}"', **({"Location": at} if status == 201 else {})}
+        return json_answer(told, status=status, headers=headers)
+
+
+class Body:
+    """The feature of a body: its geometry as it was written in a system, its properties, and how far a corner was moved."""
+
+    def __init__(self, geometry: dict[str, Any], properties: dict[str, Any], systems: Systems, uri: str | None) -> None:
+        self.geometry, self.properties, self.moved = geometry, properties, Fraction(0)
+        self._systems, self._uri = systems, uri
+
+    @staticmethod
+    def of(request: Request, systems: Systems) -> Body:
+        given = request.header("content-crs").strip().strip("<>") or systems.usual()
+        if given is not None and given not in systems.uris:
+            raise Problem(400, f"Content-Crs: it is {' or '.join(systems.uris) or 'left out'}")
+        try:
+            value = feature_changes.read(request.content())
+        except RecursionError:
+            raise Problem(400, "no JSON that is read: lists and objects are nested too deep") from None
+        except (ValueError, ArithmeticError) as fault:
+            raise Problem(400, f"no JSON: {fault}") from fault
+        if not isinstance(value, dict) or value.get("type") != "Feature" or not isinstance(value.get("geometry"), dict):
+            raise Problem(400, "a Feature of GeoJSON with a geometry is wanted")
+        properties = value.get("properties")
+        if not isinstance(properties, dict | None):
+            raise Problem(400, "properties: an object is wanted")
+        try:
+            features.plain(value["geometry"])
+            return Body(value["geometry"], features.plain(properties or {}), systems, given)
+        except FeaturesFault as fault:
+            raise Problem(400, str(fault)) from fault
+
+    def feature(self, state: State, scale: MapScale, served: dict[str, object] | None) -> Given:
+        """The feature as it is to be; a geometry that was served and comes back as it is changes nothing."""
+        properties = {name: value for name, value in self.properties.items() if name != state.area_name}
+        if served and features.plain(self.geometry) == self._systems.geometry(served, self._uri):
+            return Given(str(self.geometry["type"]), None, properties)
+        try:
+            here = self._systems.back(self.geometry, self._uri)
+        except Unplaced as fault:
+            raise GeometryFault(f"geometry: {fault}") from fault
+        found = feature_changes.rounded(exactly(here), scale.scale)
+        self.moved = found.moved
+        return Given(found.kind, found.polygons, properties)
+
+
+def exactly(given: Any) -> Any:
+    """A value of JSON whose doubles are the decimals that they are written as."""
+    if isinstance(given, dict):
+        return {name: exactly(value) for name, value in given.items()}
+    if isinstance(given, list):
+        return [exactly(value) for value in given]
+    return Decimal(repr(given)) if isinstance(given, float) else given

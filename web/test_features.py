@@ -1,0 +1,532 @@
+"""Tests of the features of a map: their collection, points, names of layers, changes of one, and stops amid a change."""
+
+from __future__ import annotations
+
+import contextlib
+import importlib.util
+import io
+import itertools
+import json
+import os
+import pathlib
+import shutil
+import subprocess
+import sys
+import unittest
+import unittest.mock
+from collections.abc import Iterator
+from dataclasses import replace
+from typing import Any
+
+import features  # of tools/
+import map_scale
+import scale as scales  # of tools/
+import testing
+import to_script  # of tools/
+from feature_store import FeatureStore, Unlike
+from front import Front
+from layer_store import LayerStore
+from overlay_client import Server
+from scratch import Scratch
+from systems import Projection, Systems
+from testing import Client, folder
+
+WEST = [[0, 0], [10, 0], [10, 10], [5, 10], [0, 10], [0, 0]]
+LAKE = [[2, 2], [4, 2], [4, 4], [2, 4], [2, 2]]
+EAST = [[10, 0], [20, 0], [20, 10], [10, 10], [10, 0]]
+ISLES = [[[[30, 0], [34, 0], [34, 4], [30, 0]]], [[[40, 0], [42, 0], [42, 2], [40, 0]]]]
+BOW = [[50, 0], [54, 4], [54, 0], [50, 4], [50, 0]]
+MOVED = [[60, 0], [69, 0], [69, 9], [60, 0]]
+OF_WEST = {"name": "West", "n": 1, "part": 0.114, "no": None, "list": [1, {"a": "é"}]}
+
+
+def feature(kind: str, coordinates: Any, properties: object) -> dict[str, Any]:
+    return {"type": "Feature", "properties": properties, "geometry": {"type": kind, "coordinates": coordinates}}
+
+
+MAP = [
+    feature("Polygon", [WEST, LAKE], OF_WEST),
+    feature("Polygon", [EAST], {"name": "East"}),
+    feature("MultiPolygon", ISLES, {"name": "Isles"}),
+    feature("Polygon", [BOW], {"name": "Bow"}),
+]
+DEEP: Any = 1
+for _ in range(90):
+    DEEP = [DEEP]
+
+
+def made(place: pathlib.Path, found: list[dict[str, Any]], *words: str) -> pathlib.Path:
+    """A store of a map with the file of its features, by to_script.py and the program."""
+    source, script, store = place / "plan.geojson", place / "plan.txt", place / "plan.db"
+    source.write_text(json.dumps({"type": "FeatureCollection", "features": found}))
+    told = io.StringIO()
+    status = to_script.main([str(source), "--factor", "1", *words, "--output", str(script)], told, told)
+    if status:
+        raise AssertionError(told.getvalue())
+    with Server(store, create=True, program=testing.PROGRAM, timeout=60) as server, server.session() as one:
+        one.batch(script.read_text().splitlines())
+        one.sync()
+    return store
+
+
+@contextlib.contextmanager
+def opened(
+    store: pathlib.Path, writable: bool = True, parts: bool = False, projection: Projection | None = None
+) -> Iterator[tuple[Client, Server, LayerStore]]:
+    """A front over a store and its features."""
+    with contextlib.ExitStack() as open_ones:
+        words = {"read_only": not writable, "sessions": 4, "program": testing.PROGRAM, "timeout": 60}
+        server = open_ones.enter_context(Server(store, **words))
+        scratch = open_ones.enter_context(Scratch(testing.PROGRAM, 60))
+        scale = map_scale.MapScale(scales.read(scales.beside(store)))
+        layers = LayerStore(server, scratch, scale, version=1, kept=True, writable=writable)
+        open_ones.callback(layers.close)
+        maps = FeatureStore(layers, features.beside(store), parts=parts)
+        yield Client(Front(layers, maps=maps, systems=Systems(scale, projection))), server, layers
+
+
+class Case(unittest.TestCase):
+    words: tuple[str, ...] = ("--coded", "--name-by", "name")
+    found = MAP
+    parts = False
+    projection: Projection | None = None
+
+    def setUp(self) -> None:
+        self.folder = self.enterContext(folder())
+        self.store = made(self.folder, self.found, *self.words)
+        front = opened(self.store, parts=self.parts, projection=self.projection)
+        self.client, self.server, self.layers = self.enterContext(front)
+
+    def table(self) -> features.Table:
+        return features.read(features.beside(self.store))
+
+    def items(self, words: str = "") -> list[dict[str, Any]]:
+        found: list[dict[str, Any]] = self.client.get(f"/collections/plan/items{words}")["features"]
+        return found
+
+    def layer_texts(self) -> dict[str, str | None]:
+        with self.server.session() as one:
+            return {layer.name: layer.text for layer in one.layers()}
+
+
+class Pages(Case):
+    def test_the_map_is_a_collection_and_its_parts_are_none(self) -> None:
+        self.client.change("/collections/land", "PUT", {"definition": "b0 | b1"})
+        found = self.client.get("/collections")["collections"]
+        self.assertEqual([one["id"] for one in found], ["plan", "land"])
+        self.assertEqual((found[0]["features"], found[0]["extent"]["spatial"]["bbox"]), (4, [[0, 0, 54, 10]]))
+        self.assertEqual(self.client.get("/collections/plan")["revision"], found[0]["revision"])
+        self.assertEqual(self.client.get("/collections/b0")["id"], "b0")
+        self.assertEqual(self.client.get("/status")["map"], "plan")
+
+    def test_items_are_the_sources_features_with_their_area(self) -> None:
+        found = self.items()
+        for one, source in zip(found[:3], MAP):
+            self.assertEqual(one["geometry"], source["geometry"])
+        self.assertEqual([one["properties"] for one in found],
+                         [{**OF_WEST, "area": 96}, {"name": "East", "area": 100}, {"name": "Isles", "area": 10},
+                          {"name": "Bow", "area": 8}])
+        self.assertEqual(found[3]["geometry"]["coordinates"],
+                         [[[[50, 0], [52, 2], [50, 4], [50, 0]]], [[[52, 2], [54, 0], [54, 4], [52, 2]]]])
+        self.assertEqual([one["id"] for one in found], [1, 2, 3, 4])
+
+    def test_pages_and_boxes(self) -> None:
+        page = self.client.get("/collections/plan/items?limit=3")
+        self.assertEqual((page["numberMatched"], page["numberReturned"]), (4, 3))
+        after = next(one["href"] for one in page["links"] if one["rel"] == "next")
+        self.assertEqual([one["id"] for one in self.client.get(after)["features"]], [4])
+        for box, wanted in (("2.5,2.5,3.5,3.5", []), ("1,1,3,3", [1]), ("10,5,10,5", [1, 2]), ("33,3.5,41,5", [3]),
+                            ("30,3,31,4", []), ("-5,-5,99,99", [1, 2, 3, 4])):
+            self.assertEqual([one["id"] for one in self.items(f"?bbox={box}")], wanted, box)
+        self.assertEqual(self.client.ask("/collections/plan/items?revision=0").status, 409)
+
+    def test_an_item_has_its_revision(self) -> None:
+        found = self.client.ask("/collections/plan/items/3")
+        self.assertEqual((found.value["id"], found.headers["ETag"]), (3, f'"{found.value["revision"]}"'))
+        self.assertEqual(self.client.ask("/collections/plan/items/9").status, 404)
+
+    def test_a_point_is_told_by_features(self) -> None:
+        for x, y, wanted in ((1, 1, [("West", "in")]), (3, 3, []), (2, 3, [("West", "edge")]), (99, 1, []),
+                             (10, 5, [("West", "edge"), ("East", "edge")]), (33, 1, [("Isles", "in")]),
+                             ("52", "1", []), ("50.5", "2", [("Bow", "in")])):
+            for page in ("/locate", "/collections/plan/locate"):
+                found = self.client.get(f"{page}?x={x}&y={y}")
+                self.assertEqual([(one["name"], one["place"]) for one in found["features"]], wanted, (x, y))
+        found = self.client.get("/locate?x=1&y=1")
+        self.assertEqual((found["places"], found["features"][0]["properties"]), ({}, OF_WEST))
+
+
+class WithParts(Case):
+    parts = True
+
+    def test_parts_are_shown_where_they_are_asked_for(self) -> None:
+        found = self.client.get("/collections")["collections"]
+        self.assertEqual([one["id"] for one in found], ["plan", "b0", "b1", "b2"])
+        self.assertEqual(sorted(self.client.get("/locate?x=1&y=1")["places"]), ["b0", "b1", "b2"])
+
+
+class Split(Case):
+    words = ("--coded", "--split")
+    ring = [[x, 40 if x % 2 else 0] for x in range(3000)] + [[2999, 90], [0, 90], [0, 0]]
+    found = [feature("Polygon", [ring], {"a": 1}), MAP[1] | {"geometry": {"type": "Polygon", "coordinates": [
+        [[0, 100], [9, 100], [9, 109], [0, 100]]]}}]
+
+    def test_a_split_outline_is_whole(self) -> None:
+        self.assertEqual(self.items()[0]["geometry"]["coordinates"], [self.ring])
+        # On a chord from the first point to where the first run ends, which no outline has.
+        self.assertEqual(self.client.get("/locate?x=1023&y=60")["features"][0]["place"], "in")
+        self.assertEqual([one["id"] for one in self.client.get("/collections")["collections"]], ["plan"])
+
+    def test_a_split_outline_is_changed_in_its_parts(self) -> None:
+        before = self.layer_texts()
+        ring = [[*point] for point in self.ring]
+        ring[1500][1] = 7
+        self.client.change("/collections/plan/items/1", "PUT", feature("Polygon", [ring], {"a": 2}))
+        self.assertEqual(self.items()[0]["geometry"]["coordinates"], [ring])
+        changed = [name for name, text in self.layer_texts().items() if text != before[name]]
+        self.assertTrue(set(changed) < {"b0_1", "b0_2"} or set(changed) == {"b0_1", "b0_2"})
+        ring = [[x, 40 if x % 2 else 0] for x in range(6000)] + [[0, 90], [0, 0]]
+        refused = self.client.ask("/collections/plan/items/1", "PUT", feature("Polygon", [ring], {}))
+        self.assertEqual(refused.status, 409)
+        self.assertIn("layer b0 has no room", refused.value["description"])
+
+
+class Named(Case):
+    words = ("--name-by", "name")
+
+    def test_named_layers_stay_and_their_features_are_changed(self) -> None:
+        found = self.client.get("/collections")["collections"]
+        self.assertEqual([one["id"] for one in found], ["plan", "West", "East", "Isles", "Bow"])
+        body = feature("Polygon", [MOVED], {"name": "East"})
+        self.client.change("/collections/plan/items/2", "PUT", body)
+        self.assertEqual(self.layer_texts()["East"], "MULTIPOLYGON (((60 0, 69 0, 69 9, 60 0)))")
+        made = self.client.ask("/collections/plan/items", "POST", feature("Polygon", [LAKE], {"name": "East"}))
+        self.assertEqual((made.status, made.value["id"]), (201, 5))
+        refused = self.client.ask("/collections/plan/items", "POST", feature("Polygon", [LAKE], {"name": "New"}))
+        self.assertEqual(refused.status, 409)
+        self.client.change("/collections/plan/items/5", "DELETE")
+        self.client.change("/collections/plan/items/2", "DELETE")
+        self.assertEqual(self.layer_texts()["East"], "MULTIPOLYGON EMPTY")
+
+
+class Editing(Case):
+    def put(self, number: int, body: object, **headers: str) -> testing.Told:
+        return self.client.ask(f"/collections/plan/items/{number}", "PUT", body, headers)
+
+    def test_a_changed_outline_changes_its_layers_and_no_other(self) -> None:
+        self.client.change("/collections/land", "PUT", {"definition": "b1 - b2"})
+        before, version = self.layer_texts(), self.layers.version
+        told = self.put(3, feature("Polygon", [MOVED], {"name": "Isles", "new": True}))
+        self.assertEqual((told.status, told.value["version"], told.value["durable"]), (200, version + 1, version + 1))
+        after = self.layer_texts()
+        self.assertEqual([name for name in after if after[name] != before[name]], ["b0", "b1"])
+        item = self.client.ask("/collections/plan/items/3")
+        self.assertEqual((item.value["geometry"]["coordinates"], item.headers["ETag"]), ([MOVED], told.headers["ETag"]))
+        self.assertEqual(item.value["properties"], {"name": "Isles", "new": True, "area": 40.5})
+        self.assertEqual(self.client.get("/locate?x=66&y=1")["features"][0]["name"], "Isles")
+        self.assertEqual(self.client.get("/locate?x=33&y=1")["features"], [])
+        self.assertIsNone(self.table().pending)
+
+    def test_properties_alone_change_no_layer(self) -> None:
+        before, version = self.layer_texts(), self.layers.version
+        for number in (1, 4):  # the outline of 4 crosses itself, and comes back as its inside
+            item = self.client.get(f"/collections/plan/items/{number}")
+            told = self.put(number, {**item, "properties": {**item["properties"], "name": "Anew"}})
+            self.assertEqual((told.status, told.value["version"]), (200, version))
+        self.assertEqual(self.layer_texts(), before)
+        self.assertEqual([one.name for one in self.table().features], ["Anew", "East", "Isles", "Anew"])
+        self.assertEqual(self.table().features[0].properties, {**OF_WEST, "name": "Anew"})
+
+    def test_a_revision_that_moved_is_412_and_changes_nothing(self) -> None:
+        item = self.client.ask("/collections/plan/items/2")
+        etag, body = item.headers["ETag"], feature("Polygon", [MOVED], {"name": "East"})
+        self.assertEqual(self.put(2, body, HTTP_IF_MATCH=etag).status, 200)
+        before, file = self.layer_texts(), features.beside(self.store).read_bytes()
+        for method in ("PUT", "DELETE"):
+            given = body if method == "PUT" else None
+            told = self.client.ask("/collections/plan/items/2", method, given, {"HTTP_IF_MATCH": etag})
+            self.assertEqual(told.status, 412)
+        whole = self.client.get("/collections/plan")["revision"]
+        self.assertEqual(self.client.ask("/collections/plan/items", "POST", body, {"HTTP_IF_MATCH": etag}).status, 412)
+        self.assertEqual((self.layer_texts(), features.beside(self.store).read_bytes()), (before, file))
+        for match in ('"{}"', '"x", "{}"'):
+            headers = {"HTTP_IF_MATCH": match.format(whole)}
+            told = self.client.ask("/collections/plan/items", "POST", body, headers)
+            self.assertEqual(told.status, 201)
+            whole = self.client.get("/collections/plan")["revision"]
+        self.assertEqual(self.put(2, body, HTTP_IF_MATCH="*").status, 200)
+
+    def test_a_new_feature_gets_an_id_and_a_free_number(self) -> None:
+        body = feature("Polygon", [MOVED], {"name": "New", "n": 2.5})
+        told = self.client.ask("/collections/plan/items", "POST", body)
+        self.assertEqual((told.status, told.value["id"]), (201, 5))
+        self.assertTrue(told.headers["Location"].endswith("/collections/plan/items/5"))
+        self.assertEqual(self.client.get("/collections/plan/items/5")["properties"], {**body["properties"], "area": 40.5})
+        numbers = [one.number for one in self.table().features]
+        self.assertEqual(numbers, [1, 2, 3, 4, 5])
+        for _ in range(3):
+            self.assertEqual(self.client.ask("/collections/plan/items", "POST", body).status, 201)
+        self.assertEqual([one.number for one in self.table().features][5:], [6, 7, 8])
+        self.assertIn("b3", self.layer_texts())
+
+    def test_a_feature_that_goes_leaves_its_number(self) -> None:
+        before = self.layer_texts()
+        self.client.change("/collections/plan/items/2", "DELETE")
+        after = self.layer_texts()
+        self.assertEqual([name for name in after if after[name] != before[name]], ["b1"])
+        self.assertEqual(self.client.ask("/collections/plan/items/2").status, 404)
+        self.assertEqual([one["id"] for one in self.items()], [1, 3, 4])
+        self.client.ask("/collections/plan/items", "POST", feature("Polygon", [EAST], {}))
+        self.assertEqual([(one.id, one.number) for one in self.table().features][-1], (5, 2))
+
+    def test_features_that_overlap_are_told_both(self) -> None:
+        over = [[8, 2], [14, 2], [14, 4], [8, 4], [8, 2]]
+        self.client.ask("/collections/plan/items", "POST", feature("Polygon", [over], {"name": "Over"}))
+        found = self.client.get("/locate?x=9&y=3")["features"]
+        self.assertEqual([one["name"] for one in found], ["West", "Over"])
+
+    def test_what_is_no_feature_is_refused(self) -> None:
+        before = (self.layer_texts(), features.beside(self.store).read_bytes())
+        flat, far, small = [[0, 0], [1, 1], [2, 2], [0, 0]], [[0, 0], [2e6, 0], [0, 9], [0, 0]], [[0, 0], [0.1, 0], [0, 0.1], [0, 0]]
+        for body in (feature("Point", [1, 2], {}), feature("Polygon", [], {}), feature("Polygon", [flat], {}),
+                     feature("Polygon", [far], {}), feature("Polygon", [small], {}), feature("Polygon", [WEST[:-1]], {}),
+                     feature("Polygon", [WEST], "x"), feature("Polygon", [[["0", 0], [9, 0], [9, 9], [0, 0]]], {}),
+                     feature("Polygon", "x", {}), feature("Polygon", [[1, 2, 3, 1]], {}), {"type": "Feature"},
+                     feature("Polygon", [WEST], {"a": DEEP}), feature("Polygon", DEEP, {}), b"[" * 100_000,
+                     MAP[0]["geometry"], [], b"", b"{", b'{"type": "Feature", "n": NaN}'):
+            for path, method in (("/collections/plan/items", "POST"), ("/collections/plan/items/1", "PUT")):
+                told = self.client.ask(path, method, body)
+                self.assertEqual(told.status, 400, (method, body, told.value))
+        for path, method, status in (("/collections/plan/items/9", "PUT", 404), ("/collections/plan/items/9", "DELETE", 404),
+                                     ("/collections/b0/items", "POST", 405), ("/collections/b0/items/1", "DELETE", 405),
+                                     ("/collections/plan/items", "PUT", 405)):
+            self.assertEqual(self.client.ask(path, method, MAP[0] if method != "DELETE" else None).status, status, path)
+        self.assertEqual((self.layer_texts(), features.beside(self.store).read_bytes()), before)
+
+    def test_layers_of_features_are_changed_by_items_alone(self) -> None:
+        before = self.layer_texts()
+        geometry = {"geometry": MAP[1]["geometry"]}
+        for path, method, body in (("/collections/b0", "PUT", geometry), ("/collections/b0", "DELETE", None),
+                                   ("/collections/b3", "PUT", geometry), ("/collections/plan", "PUT", geometry),
+                                   ("/batch", "POST", {"commands": [{"put": "q", **geometry}, {"drop": "b1"}]})):
+            told = self.client.ask(path, method, body)
+            self.assertEqual((told.status, "items" in told.value["description"]), (409, True), path)
+        self.assertEqual(self.layer_texts(), before)
+
+    def test_options_tell_what_may_be_done(self) -> None:
+        for path, wanted in (("/collections/plan/items", "GET, HEAD, OPTIONS, POST"),
+                             ("/collections/plan/items/1", "GET, HEAD, OPTIONS, PUT, DELETE"),
+                             ("/collections/b0/items", "GET, HEAD, OPTIONS")):
+            told = self.client.ask(path, "OPTIONS")
+            self.assertEqual((told.status, told.headers["Allow"]), (204, wanted))
+
+    def test_another_sites_page_changes_nothing(self) -> None:
+        for headers in ({"HTTP_ORIGIN": "http://elsewhere"}, {"HTTP_SEC_FETCH_SITE": "cross-site"}):
+            self.assertEqual(self.put(1, MAP[1], **headers).status, 403)
+
+
+class Reading(Case):
+    def setUp(self) -> None:
+        self.folder = self.enterContext(folder())
+        self.store = made(self.folder, self.found, *self.words)
+
+    def test_without_writable_nothing_is_changed_and_a_pending_change_is_answered_as_it_stands(self) -> None:
+        path = features.beside(self.store)
+        table = features.read(path)
+        pending = features.Change(2, None)
+        path.write_text(replace(table, pending=pending).text())
+        with opened(self.store, writable=False) as (client, _, _):
+            self.assertEqual(client.ask("/collections/plan/items/1", "PUT", MAP[0]).status, 403)
+            self.assertEqual(len(client.get("/collections/plan/items")["features"]), 4)
+            self.assertEqual(client.ask("/collections/plan/items", "OPTIONS").headers["Allow"], "GET, HEAD, OPTIONS")
+        self.assertEqual(features.read(path).pending, pending)
+        with opened(self.store) as (client, _, _):
+            self.assertIsNone(features.read(path).pending)
+
+    def test_features_are_kept_for_their_own_table_and_no_other(self) -> None:
+        with opened(self.store) as (_, _, store):
+            found = FeatureStore(store, features.beside(self.store))
+            with store.view() as view:
+                kept = found.state(view)
+                self.assertIs(found.state(view), kept)
+                found._table = replace(found._table, collection="other")
+                with unittest.mock.patch("builtins.id", return_value=0):
+                    self.assertEqual(found.state(view).table.collection, "other")
+                    found._table = replace(found._table, collection="third")
+                    self.assertEqual(found.state(view).table.collection, "third")
+
+    def test_a_file_of_another_store_is_refused_at_the_start(self) -> None:
+        path = features.beside(self.store)
+        path.write_text(path.read_text().replace('"layers": ["b1"]', '"layers": ["b2"]'))
+        with self.assertRaisesRegex(Unlike, "layer b1 has 1 rings that none of its features has"):
+            with opened(self.store):
+                pass
+
+
+class Geometry:
+    """What shapely and others give: coordinates in tuples."""
+
+    def __init__(self, *rings: list[list[int]]) -> None:
+        coordinates = tuple(tuple(tuple(map(float, point)) for point in ring) for ring in rings)
+        self.__geo_interface__ = {"type": "Polygon", "coordinates": coordinates}
+
+
+class ByClient(unittest.TestCase):
+    def setUp(self) -> None:
+        self.store = made(self.enterContext(folder()), MAP, "--coded", "--name-by", "name")
+        self.server = self.enterContext(Server(self.store, program=testing.PROGRAM, timeout=60))
+        self.session = self.enterContext(self.server.session())
+        self.map = self.server.features(self.session)
+
+    def layer_texts(self) -> dict[str, str | None]:
+        return {layer.name: layer.text for layer in self.session.layers()}
+
+    def test_features_are_given_with_their_outlines_and_properties(self) -> None:
+        found = list(self.map)
+        self.assertEqual([one.geometry for one in found[:3]], [one["geometry"] for one in MAP[:3]])
+        self.assertEqual([(one.id, one.name) for one in found], [(1, "West"), (2, "East"), (3, "Isles"), (4, "Bow")])
+        self.assertEqual(self.map[1].__geo_interface__["properties"], OF_WEST)
+        self.assertEqual((self.map["East"].id, len(self.map.__geo_interface__["features"])), (2, 4))
+        with self.assertRaises(KeyError):
+            self.map["North"]
+        self.assertEqual(self.map.at(10, 5), [("West", "edge"), ("East", "edge")])
+
+    def test_a_change_is_one_batch_of_the_layers_that_hold_the_feature(self) -> None:
+        before, old, version = self.layer_texts(), self.map[3], self.session.sync()
+        new = self.map.put(3, Geometry(MOVED))
+        after = self.layer_texts()
+        self.assertEqual([name for name in after if after[name] != before[name]], ["b0", "b1"])
+        self.assertEqual((new.geometry["coordinates"], new.properties, self.session.sync()),
+                         ([MOVED], {"name": "Isles"}, version + 1))
+        self.assertEqual(self.map.put(3, properties={"name": "Isle", "n": 2.5}).properties, {"name": "Isle", "n": 2.5})
+        self.assertEqual(self.session.sync(), version + 1)
+        with self.assertRaisesRegex(ValueError, "has changed since"):
+            self.map.put(3, Geometry(WEST), revision=old.revision)
+        added = self.map.add(Geometry(LAKE), {"name": "New"})
+        self.assertEqual((added.id, added.geometry["coordinates"]), (5, [LAKE]))
+        self.map.remove(5)
+        self.assertEqual([one.id for one in self.map], [1, 2, 3, 4])
+
+    def test_what_cannot_be_kept_is_told(self) -> None:
+        before = self.layer_texts()
+        for given in (Geometry(WEST[:3]), Geometry([[0, 0], [1, 1], [2, 2], [0, 0]]), {"type": "Point", "coordinates": [1, 2]},
+                      "POLYGON", Geometry([[0, 0], [9e9, 0], [0, 1], [0, 0]])):  # type: ignore[list-item]
+            with self.assertRaises(ValueError):
+                self.map.put(1, given)
+            with self.assertRaises(ValueError):
+                self.server.text_of(given)
+        with self.assertRaises(ValueError):
+            self.map.remove(9)
+        self.assertEqual(self.layer_texts(), before)
+
+    def test_layers_are_put_and_given_in_coordinates_of_the_world(self) -> None:
+        scales.beside(self.store).write_text('{"factor": 10, "origin": [100, 200], "digits": 3}')
+        self.session.put("plot", self.server.text_of(Geometry([[100, 200], [101, 200], [101, 201], [100, 200]])))
+        self.assertEqual(self.layer_texts()["plot"], "MULTIPOLYGON (((0 0, 10 0, 10 10, 0 0)))")
+        self.session.define("all", "plot")
+        shape = self.server.shape_of(self.session.rings("all"))
+        self.assertEqual(shape.__geo_interface__, {"type": "MultiPolygon", "coordinates": [
+            [[[100, 200], [101, 200], [101, 201], [100, 200]]]]})
+
+    def test_a_store_for_reading_alone_is_not_changed(self) -> None:
+        self.server.close()
+        with Server(self.store, read_only=True, program=testing.PROGRAM, timeout=60) as server, server.session() as one:
+            with self.assertRaisesRegex(ValueError, "reading alone"):
+                server.features(one).remove(1)
+            self.assertEqual(len(list(server.features(one))), 4)
+
+
+class Installed(unittest.TestCase):
+    def test_the_client_is_installed_by_pip_and_reads_features(self) -> None:
+        for needed in ("pip", "setuptools", "wheel"):
+            if importlib.util.find_spec(needed) is None:
+                self.skipTest(f"{needed} is not installed")
+        place = self.enterContext(folder())
+        for name in ("web", "tools"):
+            shutil.copytree(testing.TOP / name, place / "source" / name, ignore=shutil.ignore_patterns("__pycache__"))
+        words = [sys.executable, "-m", "pip", "install", "--quiet", "--no-index", "--no-build-isolation", "--no-deps",
+                 "--target", str(place / "site"), str(place / "source" / "web" / "client")]
+        done = subprocess.run(words, capture_output=True, text=True, check=False)
+        self.assertEqual(done.returncode, 0, done.stderr)
+        store = made(place, MAP, "--coded")
+        code = ("import sys, overlay_client as c\n"
+                "with c.Server(sys.argv[1], program=sys.argv[2]) as s, s.session() as one:\n"
+                "    print(c.__file__, len(list(s.features(one))), len(one.layers()))\n")
+        shutil.rmtree(place / "source")
+        done = subprocess.run([sys.executable, "-c", code, str(store), testing.PROGRAM], capture_output=True, text=True,
+                              env={**os.environ, "PYTHONPATH": str(place / "site")}, cwd=place, check=False)
+        self.assertEqual(done.stdout, f"{place / 'site' / 'overlay_client.py'} 4 3\n", done.stderr)
+
+
+class Killed(BaseException):
+    """A stop of the front at some moment."""
+
+
+class Stops(unittest.TestCase):
+    """A change is stopped before and after each of its steps, and begun again over what the files have then."""
+
+    changes = (("PUT", "/2", feature("Polygon", [MOVED], {"name": "moved"})), ("DELETE", "/2", None),
+               ("POST", "", feature("Polygon", [MOVED], {"name": "new"})),
+               ("PUT", "/2", feature("Polygon", [EAST], {"name": "renamed"})))
+
+    @classmethod
+    def setUpClass(cls) -> None:
+        cls.folder = cls.enterClassContext(folder())
+        made(cls.folder, MAP[:3], "--coded", "--name-by", "name")
+
+    def copy(self, name: str) -> pathlib.Path:
+        place = self.folder / name
+        shutil.rmtree(place, ignore_errors=True)
+        place.mkdir()
+        for path in self.folder.glob("plan.*"):
+            shutil.copy(path, place)
+        return place / "plan.db"
+
+    def steps(self, at: int) -> contextlib.ExitStack:
+        """Has the step of this number, from 0, stopped: even ones before they are done, odd ones behind that."""
+        passed = itertools.count()
+
+        def pass_or_stop() -> None:
+            if next(passed) == at:
+                raise Killed
+
+        def stopping(step: Any) -> Any:
+            def run(*given: Any, **named: Any) -> Any:
+                pass_or_stop()
+                done = step(*given, **named)
+                pass_or_stop()
+                return done
+
+            return run
+
+        patched = contextlib.ExitStack()
+        for of, name in ((features, "write_durably"), (LayerStore, "change")):
+            patched.enter_context(unittest.mock.patch.object(of, name, stopping(getattr(of, name))))
+        return patched
+
+    def test_after_a_stop_a_change_is_made_or_not_made(self) -> None:
+        for method, place, body in self.changes:
+            outcomes = [self.stopped(self.copy(f"{method}{at}"), method, place, body, at) for at in range(8)]
+            self.assertIn(outcomes, ([False, False, False, True, True, True, True, True],
+                                     [False, True, True, True, True, True, True, True]), method)
+
+    def stopped(self, store: pathlib.Path, method: str, place: str, body: object, at: int) -> bool:
+        """Whether a change that is stopped at a step stands afterwards; one that was answered must."""
+        with opened(store) as (client, server, _):
+            before = client.get("/collections/plan/items")["features"]
+            answered = False
+            with self.steps(at), contextlib.suppress(Killed):
+                answered = client.ask(f"/collections/plan/items{place}", method, body).status in (200, 201)
+            server.process.kill()
+        with opened(store) as (client, _, _):
+            after = client.get("/collections/plan/items")["features"]
+            self.assertIsNone(features.read(features.beside(store)).pending)
+        wanted = {"PUT": [1, 2, 3], "DELETE": [1, 3], "POST": [1, 2, 3, 4]}[method]
+        if after == before:
+            self.assertFalse(answered)
+            return False
+        self.assertEqual([one["id"] for one in after], wanted)
+        if body and isinstance(body, dict):
+            found = after[1 if place else 3]
+            self.assertEqual((found["geometry"], found["properties"]["name"]), (body["geometry"], body["properties"]["name"]))
+        return True

@@ -1,0 +1,159 @@
+"""Tests of the coordinate systems of answers: a store in a projected system, in longitude and latitude and in its own."""
+
+from __future__ import annotations
+
+import importlib.util
+import unittest
+from typing import Any
+
+from map_scale import CRS84
+from systems import Projection, Systems, Unplaced, Unprojected, by_pyproj
+from test_features import EAST, MOVED, WEST, Case, feature
+from testing import FrontCase, map_scale
+
+OWN = "http://www.opengis.net/def/crs/EPSG/0/30169"
+
+
+def to_degrees(xs: Any, ys: Any) -> tuple[list[float], list[float]]:
+    """A projection that is easily told: x / 8 is the longitude, 30 + y / 16 the latitude."""
+    if any(x > 1000 for x in xs):
+        raise Unplaced("too far")
+    return [x / 8 for x in xs], [30 + y / 16 for y in ys]
+
+
+def from_degrees(xs: Any, ys: Any) -> tuple[list[float], list[float]]:
+    return [x * 8 for x in xs], [(y - 30) * 16 for y in ys]
+
+
+def degrees(ring: list[list[int]]) -> list[list[float]]:
+    return [[x / 8, 30 + y / 16] for x, y in ring]
+
+
+def swapped(ring: list[list[int]]) -> list[list[int]]:
+    return [[y, x] for x, y in ring]
+
+
+class Projected(Case):
+    words = ("--coded", "--name-by", "name", "--crs", "EPSG:30169")
+    projection = Projection(to_degrees, from_degrees, y_first=True)
+
+    def ring(self, words: str = "", number: int = 2) -> Any:
+        told = self.client.ask(f"/collections/plan/items/{number}{words}")
+        return told.headers["Content-Crs"], told.value["geometry"]["coordinates"][0]
+
+    def test_items_are_in_longitude_and_latitude_or_in_the_stores_own_system(self) -> None:
+        self.assertEqual(self.ring(), (f"<{CRS84}>", degrees(EAST)))
+        self.assertEqual(self.ring(f"?crs={CRS84}"), (f"<{CRS84}>", degrees(EAST)))
+        self.assertEqual(self.ring(f"?crs={OWN}"), (f"<{OWN}>", swapped(EAST)))
+        for words in ("", f"?crs={OWN}"):
+            page = self.client.ask(f"/collections/plan/items{words}")
+            self.assertEqual(page.value["features"][1]["geometry"]["coordinates"], [self.ring(words)[1]])
+            self.assertEqual(page.headers["Content-Crs"], self.ring(words)[0])
+        self.assertEqual(self.client.ask("/collections/plan/items?crs=http://elsewhere").status, 400)
+
+    def test_layers_are_so_too(self) -> None:
+        self.client.change("/collections/land", "PUT", {"definition": "b1 - b0"})
+        with self.server.session(slow=True) as one:
+            one.wait("land")
+        ring = [[10, 0], [20, 0], [20, 10], [10, 10], [10, 0]]
+        found = self.client.get("/collections/land/items")["features"][0]
+        self.assertEqual(found["geometry"]["coordinates"], [degrees(ring)])
+        found = self.client.get(f"/collections/land/items/1?crs={OWN}")
+        self.assertEqual(found["geometry"]["coordinates"], [swapped(ring)])
+
+    def test_collections_tell_their_systems_and_where_they_lie(self) -> None:
+        found = self.client.get("/collections/plan")
+        self.assertEqual((found["crs"], found["storageCrs"]), ([CRS84, OWN], OWN))
+        self.assertEqual(found["extent"]["spatial"], {"bbox": [[0, 30, 54 / 8, 30 + 10 / 16]], "crs": CRS84})
+        self.assertEqual(found["box"], [0, 0, 54, 10])
+        classes = self.client.get("/conformance")["conformsTo"]
+        self.assertIn("http://www.opengis.net/spec/ogcapi-features-1/1.0/conf/core", classes)
+        self.assertIn("http://www.opengis.net/spec/ogcapi-features-2/1.0/conf/crs", classes)
+        status = self.client.get("/status")
+        self.assertEqual((status["storage"], status["y_first"], status["geographic"]), (OWN, True, False))
+
+    def test_boxes_are_of_the_system_that_is_said(self) -> None:
+        for words, wanted in (
+            ("bbox=0,30,0.125,30.0625", [1]), ("bbox=2.4,30.1,3,40", [2]), ("bbox=1.25,30.2,1.25,30.2", [1, 2]),
+            ("bbox=-180,-90,180,90", [1, 2, 3, 4]), ("bbox=0.26,30.13,0.49,30.24", []), ("bbox=4.2,30.2,4.3,30.3", [3]),
+            ("bbox=3.75,30.2,3.9,30.3", []), (f"bbox=0,0,1,1&bbox-crs={OWN}", [1]),
+            (f"bbox=0,30,4,34&bbox-crs={OWN}", [3]), (f"bbox=30,0,34,4&bbox-crs={OWN}", []),
+            ("bbox=170,-90,1,90", [1]),
+        ):
+            self.assertEqual([one["id"] for one in self.items(f"?{words}")], wanted, words)
+        self.assertEqual(self.client.ask(f"/collections/plan/items?bbox=5,5,4,4&bbox-crs={OWN}").status, 400)
+
+    def test_what_is_put_is_in_the_system_that_is_said(self) -> None:
+        body = feature("Polygon", [degrees(MOVED)], {"name": "East"})
+        told = self.client.ask("/collections/plan/items/2", "PUT", body)
+        self.assertEqual((told.status, told.value["moved"]), (200, 0))
+        self.assertEqual(self.ring(f"?crs={OWN}")[1], swapped(MOVED))
+        body = feature("Polygon", [swapped(WEST)], {"name": "East"})
+        for crs in (OWN, f"<{OWN}>"):
+            told = self.client.ask("/collections/plan/items/2", "PUT", body, {"HTTP_CONTENT_CRS": crs})
+            self.assertEqual((told.status, self.ring()[1]), (200, degrees(WEST)))
+        told = self.client.ask("/collections/plan/items/2", "PUT", body, {"HTTP_CONTENT_CRS": "EPSG:1"})
+        self.assertEqual(told.status, 400)
+
+    def test_what_was_served_and_comes_back_changes_no_layer(self) -> None:
+        before = self.layer_texts()
+        for number in (1, 4):
+            for words, headers in (("", {}), (f"?crs={OWN}", {"HTTP_CONTENT_CRS": OWN})):
+                item = self.client.get(f"/collections/plan/items/{number}{words}")
+                told = self.client.ask(f"/collections/plan/items/{number}", "PUT", item, headers)
+                self.assertEqual(told.status, 200)
+        self.assertEqual(self.layer_texts(), before)
+
+    def test_a_place_that_the_projection_lacks_is_told(self) -> None:
+        body = feature("Polygon", [[[2000, 1000], [2000, 1009], [2009, 1009], [2000, 1000]]], {})
+        told = self.client.ask("/collections/plan/items", "POST", body, {"HTTP_CONTENT_CRS": OWN})
+        self.assertEqual(told.status, 201)
+        told = self.client.ask(f"/collections/plan/items/{told.value['id']}")
+        self.assertEqual((told.status, told.value["description"]), (409, "too far"))
+
+
+class Unchanged(FrontCase):
+    """Without a projection a store in another system is answered as it is, x first."""
+
+    lines = ("PUT A POLYGON ((0 0, 4 0, 4 2, 0 0))",)
+    scale = {"factor": 1, "crs": "EPSG:30169"}
+
+    def test_nothing_is_transformed(self) -> None:
+        told = self.client.ask("/collections/A/items")
+        self.assertEqual(told.value["features"][0]["geometry"]["coordinates"], [[[0, 0], [4, 0], [4, 2], [0, 0]]])
+        self.assertEqual(told.headers["Content-Crs"], f"<{OWN}>")
+        self.assertEqual(self.client.get("/conformance"), {"conformsTo": []})
+        told = self.client.ask(f"/collections/A/items?crs={CRS84}")
+        self.assertEqual((told.status, "nothing is transformed" in told.value["description"]), (400, True))
+
+
+class ByPyproj(unittest.TestCase):
+    def setUp(self) -> None:
+        if importlib.util.find_spec("pyproj") is None:
+            self.skipTest("pyproj is not installed: apt-get install python3-pyproj")
+
+    def test_places_are_those_of_gdal(self) -> None:
+        """By GDAL 3.6.2: gdaltransform -s_srs .. -t_srs EPSG:4326, x and y of the system in the order east, north."""
+        for crs, place, wanted in (
+            ("EPSG:30169", (-6000.0, -35000.0), (139.76380208249523, 35.68771508765569)),
+            ("EPSG:32119", (640000.0, 230000.0), (-78.66357278493733, 35.82287411802312)),
+            ("EPSG:25832", (500000.0, 5500000.0), (9.0, 49.65254292355683)),
+        ):
+            projection = by_pyproj(crs)
+            assert projection is not None
+            [x], [y] = projection.forward([place[0]], [place[1]])
+            self.assertAlmostEqual(x, wanted[0], 9)
+            self.assertAlmostEqual(y, wanted[1], 9)
+            self.assertEqual(projection.y_first, crs == "EPSG:30169")
+            [x], [y] = projection.inverse([x], [y])
+            self.assertAlmostEqual(x, place[0], 6)
+            self.assertAlmostEqual(y, place[1], 6)
+
+    def test_what_is_no_system_is_told(self) -> None:
+        with self.assertRaises(Unprojected):
+            by_pyproj("EPSG:999999")
+        projection = by_pyproj("EPSG:30169")
+        systems = Systems(map_scale(crs="EPSG:30169"), projection)
+        with self.assertRaises(Unplaced):
+            systems.geometry({"type": "Polygon", "coordinates": [[[1e12, 1e12]]]}, CRS84)
+
