@@ -17,6 +17,7 @@ import json
 import math
 import os
 import pathlib
+import re
 import struct
 import subprocess
 import sys
@@ -270,6 +271,33 @@ def ask_point(browser: Browser, x: str, y: str) -> None:
     )
 
 
+def refused(browser: Browser, place: str, text: str, tries: Tries) -> None:
+    """Whether a refusal stands in its place, and whether an eye sees it there without scrolling."""
+    browser.until(f"document.getElementById({json.dumps(place)}).classList.contains('bad')")
+    seen = browser.value(
+        f"(() => {{ const told = document.getElementById({json.dumps(place)}), box = told.getBoundingClientRect(); "
+        "return told.contains(document.elementFromPoint(box.left + 3, box.top + 3)) "
+        "&& told.contains(document.elementFromPoint(box.left + 3, box.bottom - 3)); })()"
+    )
+    tries.that(seen and text in told(browser, place), f"refused and told in {place}: {told(browser, place)}, seen: {seen}")
+
+
+def many_layers(browser: Browser, address: str, tries: Tries) -> None:
+    """With so many layers that the panel is longer than the window: each refusal is seen beside what was refused."""
+    commands = [{"define": f"L{number}", "definition": "A & B"} for number in range(25)]
+    body = json.dumps({"commands": commands}).encode()
+    asked_for = urllib.request.Request(f"{address}batch", body, {"Content-Type": "application/json"}, method="POST")
+    urllib.request.urlopen(asked_for).close()
+    browser.open(address)
+    browser.until(READY)
+    define(browser, "M", "A - nowhere")
+    refused(browser, "told-define", "error 10 unknown layer", tries)
+    ask_point(browser, "1", "x")
+    refused(browser, "told-asking", "y: 1 numbers are wanted", tries)
+    browser.value("document.querySelector('#layers li:nth-child(1) button[title^=drop]').click()")
+    refused(browser, "told-layer-A", "error 14", tries)
+
+
 def looks(browser: Browser, address: str, tries: Tries) -> None:
     browser.open(address)
     browser.until(READY)
@@ -295,13 +323,13 @@ def looks(browser: Browser, address: str, tries: Tries) -> None:
 
 def changes(browser: Browser, address: str, pictures: pathlib.Path, tries: Tries) -> None:
     define(browser, "N", "iceland_50m - iceland_110m")
-    browser.until("/N is built/.test(document.getElementById('told').textContent)")
+    browser.until("/N is built/.test(document.getElementById('told-define').textContent)")
     cells = browser.value(
         "[document.querySelectorAll('#columns i.built').length, document.querySelectorAll('#columns i').length]"
     )
     tries.that(
         cells[0] == cells[1] == overlay_columns(address),
-        f"{told(browser, 'told')}; {cells[0]} of {cells[1]} cells are green",
+        f"{told(browser, 'told-define')}; {cells[0]} of {cells[1]} cells are green",
     )
     browser.until("document.getElementById('columns').hidden")
     tries.that(
@@ -315,15 +343,17 @@ def changes(browser: Browser, address: str, pictures: pathlib.Path, tries: Tries
     browser.value("document.querySelector('#layers li:nth-child(4) input').click()")
     compared(browser, address, tries, "with a layer hidden")
     define(browser, "M", "N - nowhere")
-    browser.until("document.getElementById('told').className === 'bad'")
-    tries.that(
-        "error 10 unknown layer" in told(browser, "told"), f"a definition that is refused: {told(browser, 'told')}"
-    )
+    refused(browser, "told-define", "error 10 unknown layer", tries)
+    ask_point(browser, "1", "x")
+    refused(browser, "told-asking", "y: 1 numbers are wanted", tries)
+    browser.value("document.querySelector('#layers li:nth-child(1) button[title^=drop]').click()")
+    refused(browser, "told-layer-iceland_110m", "error 14", tries)
     browser.value("[...document.querySelectorAll('#layers button')].at(-1).click()")
     browser.until(
-        "document.querySelectorAll('#layers li').length === 4 && /N is dropped/.test(document.getElementById('told').textContent)"
+        "document.querySelectorAll('#layers li').length === 4 && "
+        "/N is dropped/.test(document.getElementById('told-layers').textContent)"
     )
-    tries.that("version 3" in told(browser, "status"), f"dropped: {told(browser, 'told')}")
+    tries.that("version 3" in told(browser, "status"), f"dropped: {told(browser, 'told-layers')}")
     body = json.dumps({"definition": "iceland_110m | iceland_50m"}).encode()
     other = urllib.request.Request(
         f"{address}collections/either", body, {"Content-Type": "application/json"}, method="PUT"
@@ -378,10 +408,10 @@ def building(browser: Browser, address: str, picture: pathlib.Path, tries: Tries
     cells = browser.value("[...document.querySelectorAll('#columns i')].map(one => one.className)")
     picture.write_bytes(browser.picture())
     browser.value("goOn()")
-    browser.until("/D is built/.test(document.getElementById('told').textContent)")
+    browser.until("/D is built/.test(document.getElementById('told-define').textContent)")
     tries.that(
         0 < cells.count("built") < len(cells),
-        f"while it is built {cells.count('built')} of {len(cells)} cells are green; then {told(browser, 'told')}",
+        f"while it is built {cells.count('built')} of {len(cells)} cells are green; then {told(browser, 'told-define')}",
     )
     browser.until("document.getElementById('columns').hidden")
 
@@ -417,12 +447,13 @@ def visits(browser: Browser, words: argparse.Namespace, folder: pathlib.Path, tr
             building(browser, address, pictures / f"building-{name}.png", tries)
             if name == "flowers":
                 compared(browser, address, tries, "a plane that is nowhere on the earth")
+                many_layers(browser, address, tries)
             browser.leave()
     with web_front.front("--store", store, **running) as address:
         read_only(browser, address, tries)
         browser.leave()
-    # A definition that was refused on purpose stands in the log as well.
-    faults = [one for one in browser.faults if "404" not in one]
+    # What was refused on purpose stands in the log as well.
+    faults = [one for one in browser.faults if not re.search("status of 4(00|04|09)", one)]
     tries.that(not faults, f"no fault in the browser's log: {faults}")
     own = [one for one in browser.asked if one.startswith(("http://127.0.0.1:", "data:", "about:"))]
     tries.that(own == browser.asked, f"all of {len(browser.asked)} requests go to the front")

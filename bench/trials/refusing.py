@@ -14,6 +14,8 @@ from bench.trials import stress
 
 HERE = pathlib.Path(__file__).resolve().parent
 FAULT_LINE = re.compile(r"error (\d+) [a-z #0-9]+\n")
+# The same of a live program, with the file that it is about and the reason where the system gave one.
+FAULT_LINES = re.compile(r"(error [^\n]+\n)(?:([^\n:]+)(?:: [^\n]+)?\n)?")
 
 SQUARE = "POLYGON ((0 0, 10 0, 10 10, 0 10, 0 0))"
 OTHER = "POLYGON ((5 5, 15 5, 15 15, 5 15, 5 5))"
@@ -148,13 +150,17 @@ class Runner:
             numbers = counts.read_bytes() if counts.exists() else b""
             counted = tuple(int.from_bytes(numbers[at : at + 8], "little") for at in (0, 8))
             data = store.read_bytes() if store.exists() else None
-            texts = self.replies(output, pathlib.Path(place)), fault.decode(errors="replace")
+            texts = self.replies(output, pathlib.Path(place)), self.fault(fault.decode(errors="replace"), store)
             is_early = settings.get("FIRST", 0) <= self.early
             return Outcome(len(self.paths), status, *texts, data, counted, is_early, self.is_live)
 
     def replies(self, output, _folder):
         """The replies that a run wrote: on standard output."""
         return output.decode(errors="replace")
+
+    def fault(self, text, _store):
+        """The fault that a run told: standard error."""
+        return text
 
     def reopened(self, data):
         """What the program tells of the store that a run left, with nothing refused: its layers and its version."""
@@ -190,6 +196,11 @@ class LiveRunner(Runner):
         if len(texts) == 1 or not any(texts):
             return "".join(texts)
         return "".join(f"# script {number}\n{text}" for number, text in enumerate(texts, 1))
+
+    def fault(self, text, store):
+        """As overlayd tells it, without the file, which has to be one that the program was given."""
+        lines = FAULT_LINES.fullmatch(text)
+        return lines[1] if lines and lines[2] in (None, *self.words(store)) else text
 
 
 def runner_of(words, scenario, library, folder):

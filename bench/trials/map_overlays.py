@@ -1,0 +1,77 @@
+#!/usr/bin/env python3
+"""Overlays random maps by the steps of tools/overlay_maps.py, and judges each answer by slabs of fractions.
+
+    python3 bench/trials/map_overlays.py LIVE [--answers N] [--seed S] [--numpy]
+
+Rings cross themselves and each other, or features have common borders with corners that a neighbour lacks, and holes;
+cells are of 7 units up, slots of 60 steps up. Asked are common parts, what a feature has alone, and the sum of gaps. By
+--numpy features are drawn in by numpy (python3-numpy, /usr/bin/python3), else in whole numbers of Python. Status 1: an
+answer is wrong.
+"""
+
+import argparse
+import collections
+import pathlib
+import random
+import sys
+from collections.abc import Callable
+from fractions import Fraction
+
+sys.path.insert(0, str(pathlib.Path(__file__).resolve().parents[2] / "tools"))
+
+from maps import jobs, map_checks, rounds  # noqa: E402
+from maps.task_form import ALONE, COMMON  # noqa: E402
+from testing import slabs  # noqa: E402
+from testing.random_maps import divided_maps, random_maps, wrong_answers  # noqa: E402
+
+Counts = dict[str, list[int]]  # by what is asked: how many answers were looked at, and how many are wrong
+
+
+def wrong_gaps(program: rounds.Program, source: random.Random, drawing: jobs.Drawing) -> tuple[int, int]:
+    """Whether gaps and what is outside of a map have the area that slabs find."""
+    maps = source.choice([random_maps, divided_maps])(source, 6, source.choice([12, 40]))
+    made = map_checks.Check(maps.wholes[0], Fraction(1))
+    collections.deque(made.take(jobs.run(task, program, drawing) for task in made.tasks(True, False)), maxlen=0)
+    left, under, right, over = made.frame()
+    frame = [[(left, under), (right, under), (right, over), (left, over)]]
+    wanted = slabs.area([frame, *maps.rings[0]], lambda states: states[0] and not any(states[1:]))
+    return 1, int(sum((row.area for row in (*made.gaps, *made.outside)), Fraction(0)) != wanted)
+
+
+def tried(program: rounds.Program, answers: int, seed: int, drawing: jobs.Drawing) -> Counts:
+    """Answers about random maps, until there are so many."""
+    asked: dict[str, Callable[[random.Random], tuple[int, int]]] = {
+        "common parts": lambda source: wrong_answers(program, source, COMMON, drawing, 12),
+        "parts alone": lambda source: wrong_answers(program, source, ALONE, drawing, 12),
+        "sums of gaps": lambda source: wrong_gaps(program, source, drawing)}
+    counts: Counts = {name: [0, 0] for name in asked}
+    while sum(looked for looked, _ in counts.values()) < answers:
+        for name, ask in asked.items():
+            looked, wrong = ask(random.Random(f"{name} {seed}"))
+            counts[name][0] += looked
+            counts[name][1] += wrong
+            if wrong:
+                print(f"wrong: {name}, seed {seed}: {wrong} of {looked}")
+        seed += 1
+    return counts
+
+
+def main(arguments: list[str]) -> int:
+    parser = argparse.ArgumentParser(description=__doc__, formatter_class=argparse.RawDescriptionHelpFormatter)
+    parser.add_argument("program", metavar="LIVE", help="the built overlay_live")
+    parser.add_argument("--answers", type=int, default=10_000, help="so many at least (default: %(default)s)")
+    parser.add_argument("--seed", type=int, default=1)
+    parser.add_argument("--numpy", action="store_true", help="draw in by numpy")
+    words = parser.parse_args(arguments)
+    drawing = jobs.plain_drawing
+    if words.numpy:
+        from maps.numpy_drawing import drawing
+    with rounds.Program(words.program) as program:
+        counts = tried(program, words.answers, words.seed, drawing)
+    for name, (looked, wrong) in counts.items():
+        print(f"{name}: {looked} answers, {wrong} wrong")
+    return int(any(wrong for _, wrong in counts.values()))
+
+
+if __name__ == "__main__":
+    sys.exit(main(sys.argv[1:]))
