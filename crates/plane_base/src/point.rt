@@ -13,8 +13,8 @@ pub const COORD_MAX: i64 = 1048576;
 /// A point with whole coordinates within the range.
 #[derive(Clone, Copy, Debug, PartialEq, Eq, PartialOrd, Ord)]
 pub struct Pt {
-    x: i64,
-    y: i64,
+    x: i32,
+    y: i32,
 }
 
 impl Model for Pt {
@@ -37,21 +37,24 @@ impl Pt {
         if x < -COORD_MAX || x > COORD_MAX || y < -COORD_MAX || y > COORD_MAX {
             return Err(PlaneFault::CoordRange);
         }
-        Ok(Pt { x, y })
+        Ok(Pt {
+            x: x as i32,
+            y: y as i32,
+        })
     }
 
     pub fn x(self) -> i64
         ensures value { result ≡ self.x }
         ensures in_range { InRange result }
     {
-        self.x
+        i64::from(self.x)
     }
 
     pub fn y(self) -> i64
         ensures value { result ≡ self.y }
         ensures in_range { InRange result }
     {
-        self.y
+        i64::from(self.y)
     }
 
     /// Says of a point what is true of each: both coordinates are in range. The call does nothing.
