@@ -122,7 +122,7 @@ cancel_at_most : (a b : ℤ) (g : ℕ) → 0 < g → (a *ℤ pos g) ≤ℤ (b *�
 cancel_at_most a b g h l =
     by_lt_z b a (λ m. absurd (omega (arith, ints, l, mul_less (pos g) b a (omega (arith, ints)) m, *ℤ_comm (pos g) b, *ℤ_comm (pos g) a))) (λ m. m)
 
-grouped : (m w g : ℤ) → (m *ℤ w) *ℤ g ≡ m *ℤ (w *ℤ g)
+pub grouped : (m w g : ℤ) → (m *ℤ w) *ℤ g ≡ m *ℤ (w *ℤ g)
 grouped m w g = rw (split m, split w, split g) (simp differences (same _ _ _ _ (omega arith)))
 
 pub divided_high : (m a b v w : ℤ) (g : ℕ) → 0 < g → a *ℤ pos g ≡ b → v *ℤ pos g ≡ w → b ≤ℤ (m *ℤ w) → a ≤ℤ (m *ℤ v)

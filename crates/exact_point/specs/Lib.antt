@@ -5,6 +5,7 @@ pub mod Crossing
 pub mod Lines
 pub mod PointName
 pub mod PlaceOf
+pub mod CutOver
 pub mod NamedPiece
 pub mod NameCode
 pub mod Reduced

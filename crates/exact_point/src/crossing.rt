@@ -4,6 +4,7 @@ ghost use Rattle.std.specs.Ordering.{int_cmp};
 ghost use Rattle.overlay_terms.specs.Plane.{coordinate_max, denominator_max, InRange, Point, same_place, whole_cmp};
 ghost use Rattle.overlay_terms.specs.Within.{IsWithin};
 ghost use Rattle.exact_point.specs.Place.{place};
+ghost use Rattle.exact_point.specs.CutOver.{IsCutOver, cut_over};
 ghost use Rattle.exact_point.specs.PlaceOf.{crossing_place, part_way as way_place};
 ghost use Rattle.exact_point.specs.Crossing.{IsCrossingOf, IsOnlyCrossingOf, CrossNowhere, IsPartWay, turn_of, lead_of};
 
@@ -146,4 +147,48 @@ fn between(from: i64, to: i64, t: i64, w: i64) -> i128
     ensures high { result ≤ℤ (pos coordinate_max *ℤ w) }
 {
     sum(wide(from, w), wide(minus(to, from), t))
+}
+
+/// The same coordinate, where 64 bits hold it.
+pub(crate) fn near_between(from: i64, to: i64, t: i64, w: i64) -> i64
+    requires from_small { InRange from }
+    requires to_small { InRange to }
+    requires t_low { pos 0 ≤ℤ t }
+    requires t_high { t ≤ℤ w }
+    requires w_small { IsWithin (2 ^ 21) w }
+    ensures value { result ≡ (from *ℤ w) +ℤ ((to -ℤ from) *ℤ t) }
+    ensures low { neg_ℤ (pos coordinate_max *ℤ w) ≤ℤ result }
+    ensures high { result ≤ℤ (pos coordinate_max *ℤ w) }
+{
+    from * w + minus(to, from) * t
+}
+
+/// The denominator of the place where the vertical line over a whole x cuts a segment between its ends, and its y times
+/// the denominator, where 64 bits hold both.
+pub(crate) fn near_cut(seg: &Seg, x: i64) -> (i64, i64)
+    requires in_range { InRange x }
+    requires after_left { seg.now.left.x <ℤ x }
+    requires before_right { x <ℤ seg.now.right.x }
+    ensures known { IsCutOver seg.now x }
+    ensures over { result.0 ≡ (cut_over seg.now x).w }
+    ensures along { result.1 ≡ (cut_over seg.now x).y }
+{
+    let (left, right) = (seg.left(), seg.right());
+    let w = minus(right.x(), left.x());
+    (w, near_between(left.y(), right.y(), minus(x, left.x()), w))
+}
+
+/// The place where the vertical line over a whole x cuts a segment between its ends.
+pub(crate) fn cut_point(seg: &Seg, x: i64) -> HPoint
+    requires in_range { InRange x }
+    requires after_left { seg.now.left.x <ℤ x }
+    requires before_right { x <ℤ seg.now.right.x }
+    ensures { place result ≡ cut_over seg.now x }
+{
+    let (w, y) = near_cut(seg, x);
+    HPoint {
+        x: wide(x, w),
+        y: i128::from(y),
+        w: i128::from(w),
+    }
 }

@@ -19,5 +19,5 @@ pub use middle::below_middle;
 pub use point::HPoint;
 pub use point_name::PointName;
 pub use query::QueryPoint;
-pub use reducing::reduced;
+pub use reducing::{reduced, reduced_cut};
 pub use side::{below, border_side, end_side, is_in, on, x_cmp};

@@ -5,8 +5,7 @@ ghost use Rattle.exact_point.specs.Place.{place};
 ghost use Rattle.exact_point.specs.PlaceOf.{place_of, cut_place};
 ghost use Rattle.exact_point.specs.PointName.{IsPlaceOf, IsOnlyPlaceOf, HasPlace, IsCutBy, IsCutOf};
 
-use crate::arithmetic::minus;
-use crate::crossing::{cross_of, known_crossing, part_way};
+use crate::crossing::{cross_of, cut_point, known_crossing};
 use crate::point::HPoint;
 use plane_base::{Column, Pt, Seg};
 
@@ -75,5 +74,5 @@ fn cut_of(seg: &Seg, column: Column) -> Option<HPoint>
     if right <= border {
         return None;
     }
-    Some(part_way(seg, minus(border, left), minus(right, left)))
+    Some(cut_point(seg, border))
 }

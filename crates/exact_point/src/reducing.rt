@@ -1,12 +1,16 @@
 //! Points in lowest terms.
 ghost use Prim.Native.Nat.{◌∣◌};
-ghost use Rattle.std.specs.Prelude.{◌≡◌, ℕ, ◌^◌, ◌%◌, ◌<◌, ◌≤◌, ◌*ℤ◌, pos, unsigned_abs, IsTrue};
+ghost use Rattle.std.specs.Prelude.{◌≡◌, ℕ, ◌^◌, ◌%◌, ◌<◌, ◌≤◌, ◌*ℤ◌, ◌<ℤ◌, ◌≤ℤ◌, pos, unsigned_abs, IsTrue};
 ghost use Rattle.std.specs.Int.{IsGcd, bit_at};
-ghost use Rattle.overlay_terms.specs.Plane.{same_place};
+ghost use Rattle.overlay_terms.specs.Plane.{InRange, same_place};
 ghost use Rattle.exact_point.specs.Place.{place};
+ghost use Rattle.exact_point.specs.CutOver.{cut_over};
 ghost use Rattle.exact_point.specs.Reduced.{IsDivisorOf, HasTwos, IsLowest, LowestTermsAreOne};
 
+use crate::arithmetic::scaled;
+use crate::crossing::near_cut;
 use crate::point::HPoint;
+use plane_base::Seg;
 
 /// The same place in lowest terms: no number but 1 divides x, y and w.
 pub fn reduced(p: &HPoint) -> HPoint
@@ -22,6 +26,35 @@ pub fn reduced(p: &HPoint) -> HPoint
         y: divided(p.y, common),
         w: divided(p.w, common),
     }
+}
+
+/// Where the vertical line over a whole x cuts a segment, in lowest terms. Only y and the denominator are divided: their
+/// divisors divide the third number, which is x times the denominator.
+pub fn reduced_cut(seg: &Seg, x: i64) -> HPoint
+    requires in_range { InRange x }
+    requires after_left { seg.now.left.x <ℤ x }
+    requires before_right { x <ℤ seg.now.right.x }
+    ensures same { IsTrue (same_place (place result) (cut_over seg.now x)) }
+    ensures lowest { IsLowest (place result) }
+{
+    let (w, y) = near_cut(seg, x);
+    let common = common_divisor(w, y);
+    let low = divided(i128::from(w), common);
+    HPoint {
+        x: scaled(x, low),
+        y: divided(i128::from(y), common),
+        w: low,
+    }
+}
+
+/// The greatest common divisor of a denominator and a number.
+fn common_divisor(w: i64, y: i64) -> u64
+    requires { pos 1 ≤ℤ w }
+    ensures value { IsGcd (unsigned_abs w) (unsigned_abs y) result }
+    ensures positive { 0 < result }
+{
+    let size = w.unsigned_abs();
+    gcd(size, y.unsigned_abs() % size)
 }
 
 /// A place has one form in lowest terms.

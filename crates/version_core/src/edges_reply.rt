@@ -2,17 +2,17 @@
 ghost use Rattle.std.specs.Prelude.{◌≡◌, ◌++◌, ◌∷◌, ◌≤◌, [], Some, codes, decimal, length, map, IfOk, IfErr};
 ghost use Rattle.overlay_terms.specs.Histories.{tile_at};
 ghost use Rattle.exact_point.specs.NamedPiece.{ends_of};
-ghost use Rattle.exact_point.specs.PlaceOf.{place_of};
-ghost use Rattle.exact_point.specs.PointName.{HasPlace};
+ghost use Rattle.exact_point.specs.PlaceOf.{cut_place, place_of};
+ghost use Rattle.exact_point.specs.PointName.{HasPlace, IsCutBy};
 ghost use Rattle.tile_build.specs.Tile.{tile_of};
 ghost use Rattle.version_core.specs.Edges.{HasEndBefore, IsLineOf, IsTextOf, tile_absence};
 
 use crate::end_texts::{EndText, EndTexts, mark_of};
 use crate::line_text::LineText;
-use exact_point::{PointName, reduced};
+use exact_point::{PointName, reduced, reduced_cut};
 use itoa::Buffer;
 use layer_expr::name::Name;
-use plane_base::Column;
+use plane_base::{Column, Seg};
 use std::alloc::{AllocError, Global};
 use tile_build::{Piece, Tile};
 use versions::{Version, VersionFault};
@@ -73,7 +73,7 @@ fn put_line(line: &mut LineText, texts: &mut EndTexts, piece: &Piece)
     let (from, to) = piece.names();
     line.clear();
     line.put_byte(b'\n');
-    put_end(line, texts, to, mark_of(to));
+    put_end(line, texts, to);
     line.put_byte(b' ');
     put_left(line, texts, from);
 }
@@ -88,14 +88,15 @@ fn put_left(line: &mut LineText, texts: &mut EndTexts, name: &PointName)
         line.put_text(&kept.text);
         return;
     }
-    let mark = mark_of(name);
-    put_end(line, texts, name, mark);
-    texts.take_left(mark);
+    put_end(line, texts, name);
+    if let PointName::Cross(_, _) = name {
+        texts.take_left(mark_of(name));
+    }
 }
 
 /// Puts down the place that a name stands for. The text of a whole point is not kept: it is made as fast. That of a place
 /// on a border is not either: mostly one piece of the column ends there.
-fn put_end(line: &mut LineText, texts: &mut EndTexts, name: &PointName, mark: u32)
+fn put_end(line: &mut LineText, texts: &mut EndTexts, name: &PointName)
     requires named { HasPlace name.now }
     requires room { length line.old ≤ 128 }
     ensures { HasEndBefore line.old line.new (place_of name.now) }
@@ -104,10 +105,11 @@ fn put_end(line: &mut LineText, texts: &mut EndTexts, name: &PointName, mark: u3
         line.put_whole(*point);
         return;
     }
-    if let PointName::Border(_, _) = name {
-        put_once(line, name);
+    if let PointName::Border(seg, number) = name {
+        put_cut(line, seg, *number);
         return;
     }
+    let mark = mark_of(name);
     if let Some(kept) = texts.find(name, mark) {
         line.put_text(&kept.text);
         return;
@@ -115,13 +117,16 @@ fn put_end(line: &mut LineText, texts: &mut EndTexts, name: &PointName, mark: u3
     put_made(line, texts, name, mark);
 }
 
-/// Puts down the place of a name whose text is not kept.
-fn put_once(line: &mut LineText, name: &PointName)
-    requires named { HasPlace name.now }
+/// Puts down the place where a border cuts a segment. Its text is not kept.
+fn put_cut(line: &mut LineText, seg: &Seg, number: u8)
+    requires cut { IsCutBy seg.now number }
     requires room { length line.old ≤ 128 }
-    ensures { HasEndBefore line.old line.new (place_of name.now) }
+    ensures { HasEndBefore line.old line.new (cut_place seg.now number) }
 {
-    let _ = line.put_place(&reduced(&name.known_point()));
+    let Some(column) = Column::new(u64::from(number)) else {
+        unreachable!()
+    };
+    line.put_point(&reduced_cut(seg, column.border()));
 }
 
 /// Puts down the place of a name whose text is not kept, and keeps it.

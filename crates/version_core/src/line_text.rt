@@ -79,6 +79,15 @@ impl LineText {
         PlaceText::of(&self.bytes[from..end], self.start - from)
     }
 
+    /// Puts a place before the text.
+    pub(crate) fn put_point(&mut self, point: &HPoint)
+        requires { length self.old ≤ 128 }
+        ensures text { self.new ≡ point_text (place point.now) ++ self.old }
+        ensures short { length self.new ≤ length self.old + 64 }
+    {
+        self.start = put_place(&mut self.bytes, self.start, point);
+    }
+
     /// Puts a whole point before the text. It is in lowest terms as it stands.
     pub(crate) fn put_whole(&mut self, point: Pt)
         requires { length self.old ≤ 128 }
