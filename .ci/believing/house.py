@@ -1,0 +1,310 @@
+"""The definitions and the types of a tree and of the kit that it stands on, and what a contract reaches of them.
+
+A key names a definition by its crate, its module and itself; ('', crate, type) is a type or a trait of the sources.
+"""
+
+from __future__ import annotations
+
+import dataclasses
+import pathlib
+import re
+
+from believing import rust
+from believing.sources import Import, Module, bound, imports, read_module, spoken
+
+File = tuple[str, str]
+Key = tuple[str, str, str]
+
+WORD = re.compile(r"(?<![\w.])[A-Za-z_][\w'-]*(?:\.[A-Za-z_]\w*)?")
+EMPTY = Module({}, {}, {}, {})
+
+
+@dataclasses.dataclass(frozen=True)
+class Call:
+    """A public function, the file that has it, and what it is."""
+
+    title: str
+    file: str
+    name: str
+    says: str
+
+
+@dataclasses.dataclass(frozen=True)
+class Link:
+    """A definition, or a field of one, that calls hand to one another, and that therefore is not followed.
+
+    It is followed all the same where it is reached from the definitions of `but`.
+    """
+
+    crate: str
+    module: str
+    name: str
+    given: tuple[str, ...]
+    taken: tuple[str, ...]
+    field: str = ""
+    but: tuple[str, ...] = ()
+
+    @property
+    def key(self) -> Key:
+        """The definition."""
+        return (self.crate, self.module, self.name)
+
+    @property
+    def title(self) -> str:
+        """How the page calls it."""
+        return f"{self.name}.{self.field}" if self.field else self.name
+
+
+@dataclasses.dataclass
+class Reach:
+    """What is reached from a contract, and the links at which that ends."""
+
+    keys: set[Key] = dataclasses.field(default_factory=set)
+    links: set[Link] = dataclasses.field(default_factory=set)
+    fields: set[str] = dataclasses.field(default_factory=set)
+
+
+class House:
+    """The definitions and types of a tree, and of the kit's crates where its folder is given."""
+
+    def __init__(self, top: pathlib.Path, kit: pathlib.Path | None = None, links: tuple[Link, ...] = ()) -> None:
+        self.top = top
+        self.kit = kit
+        self.links = links
+        lines = (top / "crates.txt").read_text().splitlines()
+        heads = [line.partition(":")[0].split()[0] for line in lines if ":" in line.partition("#")[0]]
+        self.crates = {crate: place for place, crate in enumerate(heads)}
+        self.modules: dict[File, Module] = {}
+        for crate in self.crates:
+            for path in sorted(self.folder(crate).glob("**/*.antt")):
+                name = ".".join(path.relative_to(self.folder(crate)).with_suffix("").parts)
+                self.modules[crate, name] = read_module(path.read_text())
+        self.sources = {crate: {path: path.read_text() for path in sorted((top / "crates" / crate / "src").glob("**/*.rt"))}
+                        for crate in self.crates}
+        self.types = self.find_types()
+        for link in links:
+            definition = self.modules[link.crate, link.module].definitions.get(link.name)
+            if not definition or (link.field and not re.search(rf"^\s+pub {link.field} :", definition.text, re.M)):
+                raise SystemExit(f"believe: {link.crate}/specs/{link.module}.antt has no {link.title}")
+
+    def folder(self, crate: str) -> pathlib.Path:
+        """The definitions of a crate, of the tree or of the kit."""
+        return self.top / "crates" / crate / "specs" if crate in self.crates else (self.kit or self.top / "no-kit") / crate / "specs"
+
+    def find_types(self) -> dict[tuple[str, str], pathlib.Path]:
+        """The file of each public type and trait."""
+        found: dict[tuple[str, str], pathlib.Path] = {}
+        for crate, sources in self.sources.items():
+            for path, text in sources.items():
+                for name in re.findall(r"^\s*pub (?:struct|enum|trait) (\w+)", text, re.M):
+                    found.setdefault((crate, name), path)
+        return found
+
+    # ---- names of definitions
+
+    def module(self, file: File) -> Module:
+        """A file of definitions; of the kit it is read when it is first asked for."""
+        if file not in self.modules:
+            path = self.folder(file[0]) / f"{file[1].replace('.', '/')}.antt"
+            self.modules[file] = read_module(path.read_text()) if self.kit and path.is_file() else EMPTY
+        return self.modules[file]
+
+    def home(self, crate: str, path: str) -> File:
+        """The file that a path of a crate means: its own, or one that its `specs/Lib.antt` passes on."""
+        if self.module((crate, path)) is EMPTY:
+            first, dot, rest = path.partition(".")
+            passed = self.module((crate, "Lib")).aliases.get(first)
+            if passed and (passed.crate, passed.path) != (crate, path):
+                return self.home(passed.crate, passed.path + dot + rest)
+        return (crate, path)
+
+    def resolve(self, file: File, word: str, seen: frozenset[File] = frozenset()) -> Key | None:
+        """What a word of a file's definitions is: a definition, or ('', crate, type) for a type of the sources."""
+        module = self.module(file)
+        if file in seen:
+            return None
+        if word in module.definitions:
+            return (*file, word)
+        if word in module.constructors:
+            return (*file, module.constructors[word])
+        if word in module.names:
+            return self.imported(module.names[word], file, seen | {file})
+        return None
+
+    def imported(self, found: Import, file: File | None, seen: frozenset[File]) -> Key | None:
+        """What an imported name is; one of the tree's `proofs/` is no definition that the page can list."""
+        if found.is_proof:
+            if found.crate in self.crates:
+                raise SystemExit(f"believe: {'.'.join(file or ('a contract',))} is reached, and names {found.name} of {found.crate}/proofs")
+            return None
+        if found.path.startswith("declared."):
+            parts = [part for part in [*found.path.split("."), found.name] if (found.crate, part) in self.types]
+            return ("", found.crate, parts[-1]) if parts else None
+        return self.resolve(self.home(found.crate, found.path), found.name, seen)
+
+    def named(self, text: str, file: File | None, names: dict[str, Import], aliases: dict[str, Import]) -> set[Key]:
+        """What a text names, in a file or with these imports."""
+        found: set[Key | None] = set()
+        mine = self.module(file) if file else Module({}, {}, names, aliases)
+        for word in set(WORD.findall(text)):
+            first, _, last = word.partition(".")
+            if last and first in mine.aliases:
+                found.add(self.imported(dataclasses.replace(mine.aliases[first], name=last), file, frozenset()))
+            elif file:
+                found.add(self.resolve(file, first))
+            elif first in names:
+                found.add(self.imported(names[first], None, frozenset()))
+        for name in [*mine.definitions, *mine.names]:
+            if "◌" in name and any(f" {part} " in text for part in name.split("◌") if part):
+                found.add(self.resolve(file, name) if file else self.imported(mine.names[name], None, frozenset()))
+        return {key for key in found if key}
+
+    # ---- what a definition or a type rests on
+
+    def said(self, key: Key) -> str:
+        """A definition's text for what it names, without the fields that are links."""
+        text = spoken(self.module(key[:2]).definitions[key[2]].text)
+        for link in self.links:
+            if link.key == key and link.field:
+                text = re.sub(rf"^(\s+)pub {link.field} :[^\n]*(?:\n\1\s+[^\n]*)*", "", text, flags=re.M)
+        return text
+
+    def uses(self, key: Key) -> set[Key]:
+        """What a definition names, or the model of a type of the sources."""
+        if key[0] == "":
+            return self.of_type(key[1], key[2])
+        module = self.module(key[:2])
+        text = self.said(key)
+        own = bound(key[2], text) - {key[2]}
+        kept = WORD.sub(lambda w: "" if w[0].partition(".")[0] in own and w[0].partition(".")[0] not in module.aliases else w[0], text)
+        return self.named(kept, key[:2], {}, {}) - {key}
+
+    def of_type(self, crate: str, name: str) -> set[Key]:
+        """What the model of a type names, or the clauses of a trait."""
+        text = self.types[crate, name].read_text()
+        names, aliases = imports(text)
+        trait = re.search(rf"^pub trait {name}\b.*?^}}", text, re.M | re.S)
+        if trait:
+            return self.named(re.sub(r"//.*", "", trait[0]), None, names, aliases)
+        value = self.model(crate, name)
+        return self.named(value, None, names, aliases) if value else set()
+
+    def model(self, crate: str, name: str) -> str:
+        """What a value of a type is seen as, or nothing where the type is seen by its fields."""
+        text = self.types[crate, name].read_text()
+        found = re.search(rf"^impl[^\n]*Model for {name}\b.*?ghost Value = \{{ (.*?) \}};", text, re.M | re.S)
+        return found[1] if found else ""
+
+    def type_of(self, text: str, crate: str, word: str) -> Key | None:
+        """The type that a word of a source is, also where another crate passes it on."""
+        path = rust.used(text).get(word)
+        if path is None:
+            return ("", crate, word) if (crate, word) in self.types else None
+        return self.passed_on(crate if path[0] in ("crate", "self", "super") or path[0] not in self.crates else path[0], path[-1])
+
+    def passed_on(self, crate: str, word: str, seen: frozenset[str] = frozenset()) -> Key | None:
+        """The type that a crate has under a name, its own or another's that it passes on."""
+        if (crate, word) in self.types:
+            return ("", crate, word)
+        for text in self.sources[crate].values():
+            path = rust.used(text, public=True).get(word)
+            if path and path[0] in self.crates and path[0] not in seen:
+                return self.passed_on(path[0], path[-1], seen | {crate})
+        return None
+
+    def within(self, key: Key, fields: set[str]) -> set[Key]:
+        """The types of the payloads of a type that is seen by its cases, and of its fields of these names."""
+        _, crate, name = key
+        if self.model(crate, name):
+            return set()
+        text = self.types[crate, name].read_text()
+        said = " ".join(part for field, part in rust.parts(text, name) if not field or field in fields)
+        return {found for word in re.findall(r"\b[A-Z]\w*", said) if (found := self.type_of(text, crate, word))}
+
+    # ---- what a contract reaches
+
+    def head(self, call: Call) -> tuple[str, str, str]:
+        """The text of a call's file, of the call's head there, and what stands before it."""
+        text = (self.top / "crates" / call.file).read_text()
+        # A method that an `impl` gives for a trait has no `pub`; the trait's own lines have no body.
+        head = re.search(rf"^( *)(?:pub )?fn {call.name}\b((?:(?!;$).)*?)\n\1\{{", text, re.M | re.S)
+        if not head:
+            raise SystemExit(f"believe: {call.file} has no pub fn {call.name}")
+        return text, re.sub(r"//.*", "", head[2]), text[: head.start()] if head[1] else ""
+
+    def contract(self, call: Call) -> set[Key]:
+        """What the contract of a call names."""
+        text, said, before = self.head(call)
+        found = self.named(said, None, *imports(text))
+        crate = call.file.partition("/")[0]
+        owner = re.findall(r"^impl[^\n]*?(\w+)(?:<[^\n]*>)? \{$", before, re.M)
+        for word in set(re.findall(r"\b[A-Z]\w*", said)) | set(owner[-1:]):
+            kind = self.type_of(text, crate, word)
+            if kind:
+                found.add(kind)
+        return found
+
+    def reached(self, start: set[Key], fields: set[str] | None = None, whole: bool = False) -> Reach:
+        """All that is named from these on, but for what the links hide; of a single word, that word whole."""
+        reach = Reach(fields=set(fields or ()))
+        waiting = set(start)
+        while waiting:
+            while waiting:
+                key = waiting.pop()
+                if key not in reach.keys:
+                    reach.keys.add(key)
+                    if key[0]:
+                        reach.fields |= set(re.findall(r"\.(\w+)", self.said(key)))
+                    waiting |= self.followed(key, reach)
+            types = {key for key in reach.keys if not key[0]}
+            waiting = {kind for key in types for kind in self.within(key, reach.fields)} - reach.keys
+        reach.links |= {link for link in self.links if link.field and link.key in reach.keys}
+        return reach
+
+    def followed(self, key: Key, reach: Reach) -> set[Key]:
+        """What a key names, without the links, which are put down."""
+        named = self.uses(key) - reach.keys
+        hidden = {link for link in self.links if not link.field and link.key in named and key[2] not in link.but}
+        reach.links |= hidden
+        return named - {link.key for link in hidden}
+
+    def of_call(self, call: Call) -> Reach:
+        """What the contract of a call reaches."""
+        start = self.contract(call)
+        hidden = {link for link in self.links if not link.field and link.key in start}
+        _, said, _ = self.head(call)
+        reach = self.reached(start - {link.key for link in hidden}, set(re.findall(r"\.(\w+)", said)))
+        reach.links |= hidden
+        return reach
+
+    # ---- order and counts
+
+    def mine(self, keys: set[Key]) -> set[Key]:
+        """Those that are definitions of the tree."""
+        return {key for key in keys if key[0] in self.crates}
+
+    def of_kit(self, keys: set[Key]) -> set[Key]:
+        """Those that are definitions of the kit."""
+        return {key for key in keys if key[0] and key[0] not in self.crates}
+
+    def in_order(self, keys: set[Key]) -> list[tuple[File, list[str]]]:
+        """The files of some definitions, lowest first, each with its definitions as they stand."""
+        files = sorted({key[:2] for key in keys}, key=lambda file: (self.crates.get(file[0], -1), file))
+        rests = {file: {key[:2] for k in keys if k[:2] == file for key in self.uses(k)} & set(files) - {file} for file in files}
+        order: list[File] = []
+
+        def put(file: File, path: tuple[File, ...]) -> None:
+            for low in files:
+                if low in rests[file] and low not in path and low not in order:
+                    put(low, (*path, low))
+            if file not in order:
+                order.append(file)
+
+        for file in files:
+            put(file, (file,))
+        return [(file, sorted((k[2] for k in keys if k[:2] == file), key=lambda n: self.module(file).definitions[n].at))
+                for file in order]
+
+    def lines(self, keys: set[Key]) -> int:
+        """The lines of some definitions."""
+        return sum(self.module(key[:2]).definitions[key[2]].lines for key in keys)

@@ -1,0 +1,226 @@
+"""Writes docs/BELIEVE.md: a table of calls, the link words between them, and what each call rests on."""
+
+from __future__ import annotations
+
+import collections
+import dataclasses
+import pathlib
+import re
+
+from believing.house import Call, House, Key, Link, Reach
+
+# The rows of which README.md has the numbers.
+ROW = re.compile(r"^\| (?:`locate`|the sentence in bold|a crash of a run, and its opening|all together) \| (\d+) \| ([\d,]+) \|", re.M)
+TOLD = re.compile(r"\d+(\s+definitions\s+\()[\d,]+(\s+lines\))")
+
+
+@dataclasses.dataclass(frozen=True)
+class Word:
+    """A definition that says a promise, and what it says."""
+
+    crate: str
+    module: str
+    name: str
+    says: str
+
+
+@dataclasses.dataclass(frozen=True)
+class Law:
+    """A public function with an empty body, whose contract says what holds of definitions: the section that has it, its file."""
+
+    section: str
+    file: str
+    name: str
+
+
+@dataclasses.dataclass(frozen=True)
+class Row:
+    """What several calls say together: its title, the calls, and what it is."""
+
+    title: str
+    calls: tuple[str, ...]
+    says: str
+
+
+@dataclasses.dataclass(frozen=True)
+class Tables:
+    """What the page is written from, beside the sources: its first part, in which @NAME@ marks what is filled in."""
+
+    head: str
+    calls: list[Call]
+    together: list[Row]
+    promises: list[Word]
+    laws: list[Law]
+
+
+class Told:
+    """What the calls of the page reach."""
+
+    def __init__(self, house: House, tables: Tables) -> None:
+        self.house = house
+        self.tables = tables
+        self.reach = {call.title: house.of_call(call) for call in tables.calls}
+
+    def row(self, title: str) -> tuple[list[Call], Reach]:
+        """The calls of a row, and what they reach together."""
+        named = next((row.calls for row in self.tables.together if row.title == title), (title,))
+        calls = [call for call in self.tables.calls if call.title in named]
+        if len(calls) < len(named):
+            raise SystemExit(f"believe: no row {title}, or it names a call that the page has not")
+        parts = [self.reach[call.title] for call in calls]
+        keys = set().union(*(part.keys for part in parts))
+        links = set().union(*(part.links for part in parts))
+        return calls, Reach(keys, {link for link in links if link.field or link.key not in keys})
+
+    def counted(self, keys: set[Key]) -> str:
+        """The cells that count some definitions, and the kit's with them."""
+        mine, kit = self.house.mine(keys), self.house.of_kit(keys)
+        files = len({key[:2] for key in mine})
+        of_kit = f"{len(kit)} ({self.house.lines(kit):,})" if kit else ""
+        return f"{len(mine)} | {self.house.lines(mine):,} | {files} | {of_kit}"
+
+
+def page(house: House, tables: Tables) -> str:
+    """The whole page."""
+    told = Told(house, tables)
+    rows: list[str] = []
+    parts: list[str] = []
+    met: set[Key] = set()
+    listed: dict[Key, str] = {}
+    for call in tables.calls:
+        _, reach = told.row(call.title)
+        fresh = reach.keys - met
+        listed.update({key: call.title for key in house.mine(fresh)})
+        rows.append(f"| `{call.title}` | {told.counted(reach.keys)} | {call.says} |")
+        parts.append(section(told, call, reach, fresh))
+        met |= reach.keys
+    for row in tables.together:
+        _, reach = told.row(row.title)
+        rows.append(f"| {row.title} | {told.counted(reach.keys)} | {row.says} |")
+    rows.append(f"| all together | {told.counted(met)} | |")
+    every = sum(len(house.module((crate, module)).definitions) for crate, module in list(house.modules) if crate in house.crates)
+    table = ["| Call | Definitions | Lines | Files | Of the kit (lines) | What it is |", "|---|---|---|---|---|---|", *rows]
+    head = tables.head.replace("@CONTRACT@", "\n".join(f"    {line}" for line in quoted(house, tables.calls[0])))
+    head = head.replace("@LINKS@", links(told))
+    return "\n".join([head, "", *table, f"\nOf {every:,} definitions in `crates/*/specs`.\n", *promised(told, listed), *parts,
+                      types(house, met)])
+
+
+def quoted(house: House, call: Call) -> list[str]:
+    """A function's head as it stands in its source, moved to the margin."""
+    lines = (house.top / "crates" / call.file).read_text().splitlines()
+    first = next(k for k, line in enumerate(lines) if re.match(rf"\s*(?:pub )?fn {call.name}\b", line) and not line.rstrip().endswith(";"))
+    shift = len(lines[first]) - len(lines[first].lstrip())
+    last = next(k for k in range(first, len(lines)) if re.match(rf" {{{shift}}}\{{", lines[k]))
+    return [line[shift:] for line in lines[first:last]]
+
+
+def links(told: Told) -> str:
+    """The table of link words: who gives each, who takes it."""
+    lines = ["| Link word | Given by | Taken by |", "|---|---|---|"]
+    for link in told.house.links:
+        for title in (*link.given, *link.taken):
+            if link not in told.reach[title].links and link.key not in told.reach[title].keys:
+                raise SystemExit(f"believe: {title} is said to give or take {link.title}, and does not reach it")
+        path = f"../crates/{link.crate}/specs/{link.module}.antt"
+        given, taken = (", ".join(f"`{title}`" for title in titles) for titles in (link.given, link.taken))
+        lines.append(f"| [`{link.title}`]({path}) | {given} | {taken} |")
+    return "\n".join(lines)
+
+
+def promised(told: Told, listed: dict[Key, str]) -> list[str]:
+    """How much the words of the promises rest on, and in which sections that is listed."""
+    house = told.house
+    lines = ["The same of single words, by which a promise is said, and the sections that list what each rests on (what no call",
+             "reaches is in none):", "",
+             "| Word | Definitions | Lines | Files | Of the kit (lines) | What it says | Sections |", "|---|---|---|---|---|---|---|"]
+    for word in told.tables.promises:
+        if word.name not in house.module((word.crate, word.module)).definitions:
+            raise SystemExit(f"believe: {word.crate}/specs/{word.module}.antt has no {word.name}")
+        keys = house.reached({(word.crate, word.module, word.name)}).keys
+        counts = collections.Counter(listed[key] for key in keys if key in listed)
+        sections = ", ".join(f"`{title}` {counts[title]}" for title in dict.fromkeys(listed.values()) if counts[title])
+        path = f"{word.crate}/specs/{word.module}.antt"
+        lines.append(f"| [`{word.name}`](../crates/{path}) | {told.counted(keys)} | {word.says} | {sections} |")
+    return [*lines, ""]
+
+
+def section(told: Told, call: Call, reach: Reach, fresh: set[Key]) -> str:
+    """What a call rests on, but for what stands above: definitions, link words, words of the kit, types; and laws of these."""
+    house = told.house
+    mine, new = house.mine(reach.keys), house.mine(fresh)
+    lines = [f"## `{call.title}`", "", f"{call.says} The contract: `crates/{call.file}`."]
+    if len(new) < len(mine):
+        lines[-1] += f" {len(mine) - len(new)} of its definitions stand in sections above."
+    if new:
+        lines += ["", "| File | Lines | Definitions |", "|---|---|---|"]
+    for (crate, module), names in house.in_order(new):
+        count = house.lines({(crate, module, name) for name in names})
+        path = f"{crate}/specs/{module.replace('.', '/')}.antt"
+        lines.append(f"| [{crate} {module}](../crates/{path}) | {count} | {', '.join(f'`{name}`' for name in names)} |")
+    for head, names in [("Link words", sorted(link.title for link in reach.links)), ("Of the kit", of_kit(house, fresh)),
+                        ("Types", sorted({name for crate, _, name in fresh if not crate}))]:
+        if names:
+            said = [name if head == "Of the kit" else f"`{name}`" for name in names]
+            lines += ["", f"{head}: {(';' if head == 'Of the kit' else ',').join(f' {name}' for name in said).strip()}."]
+    return "\n".join([*lines, *laws(told, call, new), ""])
+
+
+def of_kit(house: House, keys: set[Key]) -> list[str]:
+    """The kit's definitions among some, file by file."""
+    return [f"{crate} {module} {', '.join(f'`{name}`' for name in names)}" for (crate, module), names in house.in_order(house.of_kit(keys))]
+
+
+def laws(told: Told, call: Call, fresh: set[Key]) -> list[str]:
+    """What is proved of the definitions that a section lists, in the words of each law's own comment."""
+    lines: list[str] = []
+    for law in told.tables.laws:
+        if law.section != call.title:
+            continue
+        text = (told.house.top / "crates" / law.file).read_text()
+        found = re.search(rf"((?:^///[^\n]*\n)+)pub fn {law.name}\b[^{{]*?\n(?:    [^\n]*\n)*\{{\}}", text, re.M)
+        if not found:
+            raise SystemExit(f"believe: crates/{law.file} has no law {law.name}")
+        if not told.house.of_call(Call(law.name, law.file, law.name, "")).keys & fresh:
+            raise SystemExit(f"believe: {law.name} speaks of nothing that the section {call.title} lists")
+        said = " ".join(line[3:].strip() for line in found[1].splitlines())
+        lines.append(f"- [`{law.name}`](../crates/{law.file}): {said}")
+    return ["", "What is proved of these:", "", *lines] if lines else []
+
+
+def types(house: House, keys: set[Key]) -> str:
+    """The types of the sources that contracts and definitions name."""
+    lines = ["## Types of the sources", "",
+             "Not counted above. A value of a type with a model is seen as the model's value; of any other its fields are seen,",
+             "and of an enum its cases. A trait has clauses of its own: what a disk has to keep, a crash's premise, stands in `Disk`.", "",
+             "| File | Types, and what they are seen as |", "|---|---|"]
+    files: dict[tuple[int, str], list[str]] = {}
+    for crate, name in sorted({key[1:] for key in keys if not key[0]}):
+        path = str(house.types[crate, name].relative_to(house.top / "crates"))
+        files.setdefault((house.crates[crate], path), []).append(seen_as(house, crate, name))
+    for (_, path), names in sorted(files.items()):
+        lines.append(f"| [{path}](../crates/{path}) | {', '.join(sorted(names, key=lambda n: n.removeprefix('trait ')))} |")
+    return "\n".join([*lines, ""])
+
+
+def seen_as(house: House, crate: str, name: str) -> str:
+    """A type, and what its values are seen as."""
+    value = re.sub(r"\s+", " ", house.model(crate, name))
+    is_trait = re.search(rf"^\s*pub trait {name}\b", house.types[crate, name].read_text(), re.M)
+    return f"{'trait ' if is_trait else ''}`{name}`" + (f" as `{value}`" if value else "")
+
+
+def with_numbers(readme: str, page_text: str) -> str:
+    """README.md with the numbers of the page: of a point, of the sentence in bold, of a run's crash, and of all."""
+    numbers = iter(ROW.findall(page_text))
+
+    def counted(found: re.Match[str]) -> str:
+        definitions, lines = next(numbers)
+        return f"{definitions}{found[1]}{lines}{found[2]}"
+
+    return TOLD.sub(counted, readme, count=4)
+
+
+def compare(files: dict[pathlib.Path, str]) -> list[pathlib.Path]:
+    """The files that are not what would be written."""
+    return [path for path, said in files.items() if not path.is_file() or path.read_text() != said]

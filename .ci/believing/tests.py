@@ -1,0 +1,256 @@
+"""Tests of what the contracts of calls reach: small crates and a small kit, and what has to be found in them."""
+
+from __future__ import annotations
+
+import pathlib
+import tempfile
+
+from believing import rust
+from believing.house import Call, House, Key, Link
+from believing.page import Law, Row, Tables, Told, Word, compare, page, with_numbers
+from believing.sources import read_module
+from believing.texts import path_of, text
+
+LOW = """-- numbers
+use Rattle.std.specs.Prelude.{ℕ, ◌≡◌, twofold}
+
+-- a pair
+pub record Pair : Type 0 where
+  pub left : ℕ
+  pub right : ℕ
+
+-- twice
+abbrev pub twice : ℕ → ℕ
+twice n = twofold n
+
+-- a way
+pub data Way : Type 0 where
+  up : Way
+  down : Way
+
+abbrev pub ◌>>=◌ : ℕ → ℕ → ℕ
+a >>= b = a
+
+-- of no call
+abbrev pub idle : ℕ → ℕ
+idle twice = twice
+
+module _ (p : Pair) where
+  -- of a pair
+  abbrev pub inner : ℕ → ℕ
+  inner n = p.left
+
+  module _ (n : ℕ)
+      (m : ℕ) where
+    abbrev pub Innermost : Type 0
+    -- deep inside
+    Innermost = inner n ≡ m
+
+-- a part
+pub record Part : Type 0 where
+  pub whole : Pair
+"""
+HIGH = """-- calls
+pub use Rattle.low.specs.Numbers
+use Rattle.low.specs.Numbers.{twice as double, up, inner, ◌>>=◌, Part}
+use Rattle.low.specs.Numbers as numbers
+use Rattle.low.specs.declared.thing.Thing.{Thing}
+use Rattle.low.specs.declared.thing.Box.{Box}
+use Rattle.high.proofs.Lemmas.{Hidden}
+
+-- goes up
+abbrev pub Goes : Thing → ℕ → Type 0
+Goes t n = double n ≡ 1
+
+abbrev pub Turns : ℕ → Type 0
+Turns n = record { idle = up; left = n >>= inner n }
+
+abbrev pub Rests : numbers.Pair → ℕ → Type 0
+Rests p double = double ≡ p.left
+
+abbrev pub Opens : Box → Type 0
+Opens b = b.thing ≡ b.thing
+
+abbrev pub Hides : ℕ → Type 0
+Hides n = Hidden n
+
+-- handed on
+pub record Handed (n : ℕ) : Type 0 where
+  pub few : Rests (record { left = n }) n
+  pub rest : Part ≡ Part
+      × Part ≡ Part
+
+abbrev pub Gives : ℕ → Type 0
+Gives n = Handed n
+
+abbrev pub Takes : ℕ → Type 0
+Takes n = Handed n → Goes n n
+
+abbrev pub GoesLaw : Type 0
+GoesLaw = (n : ℕ) → Goes n n
+"""
+TOP = """-- from above
+use Rattle.high.specs.Numbers.{Part}
+
+abbrev pub Passed : Part → Type 0
+Passed p = p ≡ p
+"""
+KIT = {"std/specs/Prelude.antt": "pub use Rattle.core.specs.Numbers.{twofold}\n",
+       "core/specs/Numbers.antt": "-- both\nabbrev pub twofold : ℕ → ℕ\ntwofold n = n + n\n"}
+THING = """//! A thing.
+ghost use Rattle.low.specs.Numbers.{Pair, Part};
+pub struct Thing { left: usize }
+impl Model for Thing {
+    ghost Value = { Pair };
+}
+pub struct Other(usize);
+impl Model for Other {
+    ghost Value = { Part };
+}
+/// A box.
+pub struct Box<D: Disk> {
+    pub(crate) thing: Vec<Thing>,
+    other: Other,
+}
+pub enum Kind {
+    /// One.
+    One { thing: Thing },
+    Two(Box<u8>),
+}
+"""
+CALLING = """//! Calls.
+ghost use Rattle.std.specs.Prelude.{◌≡◌};
+ghost use Rattle.high.specs.Calls.{Goes, Turns, Rests, Opens, Hides, Gives, Takes, GoesLaw};
+ghost use Rattle.above.specs.From.{Passed};
+use low::thing::{Kind as Sort, Thing};
+use high::Passing;
+"""
+LIB = "//! All.\npub use low::thing::Thing as Passing;\n"
+BODIES = [("go", "thing: &Thing", "Goes thing.now result"), ("turn", "n: usize", "Turns result"), ("rest", "n: usize", "Rests result"),
+          ("sort", "kind: Sort", "result ≡ result"), ("opens", "n: usize", "Opens result"), ("hide", "n: usize", "Hides result"),
+          ("give", "n: usize", "Gives result"), ("take", "n: usize", "Takes result"), ("pass", "n: &Passing", "Passed result")]
+LINKS = (Link("high", "Calls", "Handed", ("give",), ("take",)),)
+FIELD = (Link("high", "Calls", "Handed", ("give",), ("take",), field="rest"),)
+
+
+def files() -> dict[str, str]:
+    """The small tree."""
+    calls = "".join(f"pub fn {name}({words}) -> usize\n    // Turns is no word of a clause here.\n    ensures {{ {clause} }}\n{{\n    0\n}}\n"
+                    for name, words, clause in BODIES)
+    law = "/// What goes,\n/// goes on.\npub fn goes_law()\n    ensures { GoesLaw }\n{}\n"
+    return {"crates.txt": "# all\nlow:\nhigh: low\nabove: high\n", "crates/low/specs/Numbers.antt": LOW,
+            "crates/high/specs/Calls.antt": HIGH, "crates/high/specs/Lib.antt": "pub mod Calls\npub use Rattle.low.specs.Numbers\n",
+            "crates/above/specs/From.antt": TOP, "crates/low/src/thing.rt": THING, "crates/high/src/lib.rt": LIB,
+            "crates/high/src/calling.rt": CALLING + calls + law, **{f"kit/{path}": said for path, said in KIT.items()}}
+
+
+def calls_of(*names: str) -> list[Call]:
+    """Calls of the small tree."""
+    return [Call(name, "high/src/calling.rt", name, "A call.") for name in names]
+
+
+def low(*names: str) -> set[Key]:
+    """Definitions of the lower crate."""
+    return {("low", "Numbers", name) for name in names}
+
+
+def reaches(top: pathlib.Path) -> int:
+    """What the contracts reach: by names, operators, aliases, models, fields, payloads, and what crates pass on."""
+    house = House(top, top / "kit")
+    thing: set[Key] = {("", "low", "Thing"), *low("Pair")}
+    wanted: dict[str, set[Key]] = {
+        "go": {("high", "Calls", "Goes"), *low("twice"), ("core", "Numbers", "twofold"), *thing},
+        "turn": {("high", "Calls", "Turns"), *low("Way", "inner", "◌>>=◌", "Pair")},
+        "rest": {("high", "Calls", "Rests"), *low("Pair")},
+        # Of an enum the payloads, of a struct the fields that something names: `thing`, and not `other`.
+        "sort": {("", "low", "Kind"), ("", "low", "Box"), *thing},
+        "opens": {("high", "Calls", "Opens"), ("", "low", "Box"), *thing},
+        "give": {("high", "Calls", "Gives"), ("high", "Calls", "Handed"), ("high", "Calls", "Rests"), *low("Part", "Pair")},
+        "pass": {("above", "From", "Passed"), *low("Part", "Pair"), ("", "low", "Thing")},
+    }
+    for call in calls_of(*wanted):
+        got = house.of_call(call).keys
+        assert got == wanted[call.name], (call.name, got ^ wanted[call.name])
+    try:
+        house.of_call(calls_of("hide")[0])
+    except SystemExit as fault:
+        assert "high.Calls is reached, and names Hidden of high/proofs" in str(fault), fault
+    else:
+        raise AssertionError("a word of proofs/ is taken for a definition")
+    return len(wanted) + 1
+
+
+def hides(top: pathlib.Path) -> int:
+    """What links hide: a definition, or a field; but not what is reached from the definitions that they name."""
+    for links, hidden in [(LINKS, {"Handed", "Rests", "Part", "Pair"}), (FIELD, {"Part"}),
+                          ((Link("high", "Calls", "Handed", (), (), but=("Gives",)),), set())]:
+        reach = House(top, top / "kit", links).of_call(calls_of("give")[0])
+        assert not {key[2] for key in reach.keys} & hidden, (links, reach)
+        assert ({link.title for link in reach.links} == {links[0].title}) == bool(hidden), reach.links
+    try:
+        House(top, None, (Link("high", "Calls", "Handed", (), (), field="none"),))
+    except SystemExit as fault:
+        assert "has no Handed.none" in str(fault)
+    return 4
+
+
+def writes(top: pathlib.Path) -> int:
+    """The page and a row's text."""
+    house = House(top, top / "kit", LINKS)
+    tables = Tables("# Head\n@CONTRACT@\n@LINKS@", calls_of("go", "give", "take"), [Row("both", ("go", "take"), "Two.")],
+                    [Word("high", "Calls", "Goes", "A word.")], [Law("go", "high/src/calling.rt", "goes_law")])
+    said = page(house, tables)
+    for line in ["| `go` | 3 | 10 | 2 | 1 (3) | A call. |", "| `give` | 1 | 2 | 1 |  | A call. |", "| both | 4 | 12 | 2 | 1 (3) | Two. |",
+                 "| [`Handed`](../crates/high/specs/Calls.antt) | `give` | `take` |", "Link words: `Handed`.",
+                 "Of the kit: core Numbers `twofold`.", "    pub fn go(thing: &Thing) -> usize",
+                 "- [`goes_law`](../crates/high/src/calling.rt): What goes, goes on.",
+                 "`Goes`](../crates/high/specs/Calls.antt) | 3 | 10 | 2 | 1 (3) | A word. | `go` 3 |"]:
+        assert line in said, (line, said)
+    assert said.index("low Numbers") < said.index("high Calls") and "`Thing` as `Pair`" in said
+    row = text(Told(house, tables), "both")
+    assert row.index("abbrev pub twice") < row.index("-- goes up\nabbrev pub Goes") < row.index("Takes n = Handed n → Goes n n")
+    assert "What to believe of: both (4 definitions, 12 lines)" in row and "low `Thing` as `Pair`" in row and "idle" not in row
+    for wrong, fault in [(Law("give", "high/src/calling.rt", "goes_law"), "speaks of nothing"), (Law("go", "high/src/calling.rt", "go"), "no law")]:
+        try:
+            page(house, Tables("", tables.calls, [], [], [wrong]))
+        except SystemExit as stop:
+            assert fault in str(stop), stop
+        else:
+            raise AssertionError(fault)
+    return 4
+
+
+def compares(top: pathlib.Path) -> int:
+    """The numbers of README.md, and what is not as it would be written."""
+    rows = ("| `locate` | 4 | 1,009 | 2 |\n| the sentence in bold | 5 | 8 | 2 |\n| a crash of a run, and its opening | 5 | 9 | 2 |\n"
+            "| all together | 6 | 7 | 2 |\n")
+    told = with_numbers("believe 1 definitions (2 lines), 3\ndefinitions (4 lines), 3 definitions (4 lines), 5 definitions (6\nlines)", rows)
+    assert told == "believe 4 definitions (1,009 lines), 5\ndefinitions (8 lines), 5 definitions (9 lines), 6 definitions (7\nlines)", told
+    kept, other = top / "kept.md", top / "other.md"
+    kept.write_text("kept")
+    assert compare({kept: "kept"}) == [] and compare({kept: "more", other: "none"}) == [kept, other]
+    return 2
+
+
+def reads() -> int:
+    """Modules within modules, the lines that are shown, and trees of `use`."""
+    module = read_module(LOW)
+    deep = module.definitions["Innermost"]
+    assert deep.within == "module _ (p : Pair) where\nmodule _ (n : ℕ) (m : ℕ) where" and deep.lines == 3, deep
+    assert module.definitions["Part"].within == "" and module.definitions["Part"].lines == 3
+    assert module.definitions["inner"].lines == 3 and module.constructors["down"] == "Way"
+    assert rust.leaves("a::{b::C as D, e::{F, G}}") == [("D", ("a", "b", "C")), ("F", ("a", "e", "F")), ("G", ("a", "e", "G"))]
+    assert path_of("a crash of a run, and its opening").name == "a-crash-of-a-run-and-its-opening.txt"
+    return 3
+
+
+def test() -> int:
+    """Reads the small tree, and counts what went as it has to."""
+    with tempfile.TemporaryDirectory() as folder:
+        top = pathlib.Path(folder)
+        for path, said in files().items():
+            (top / path).parent.mkdir(parents=True, exist_ok=True)
+            (top / path).write_text(said)
+        passed = reaches(top) + hides(top) + writes(top) + compares(top) + reads()
+    print(f"{passed} passed, 0 failed")
+    return 0

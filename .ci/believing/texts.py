@@ -1,0 +1,58 @@
+"""Writes the text of a row: its contracts, and the definitions that they rest on, in the order in which they are read."""
+
+from __future__ import annotations
+
+import pathlib
+import re
+
+from believing.house import File, House, Key
+from believing.page import Told, of_kit, quoted, seen_as
+
+FOLDER = pathlib.Path("docs/believe")
+
+
+def path_of(title: str) -> pathlib.Path:
+    """The file that keeps the text of a row."""
+    return FOLDER / f"{'-'.join(re.findall(r'[a-z]+', title.lower()))}.txt"
+
+
+def text(told: Told, title: str) -> str:
+    """The text of a row, to print: contracts, definitions lowest first, link words, words of the kit, and types."""
+    house = told.house
+    calls, reach = told.row(title)
+    mine = house.mine(reach.keys)
+    count = f"{len(mine)} definitions, {house.lines(mine):,} lines"
+    lines = [f"What to believe of: {title} ({count})", "",
+             "`.ci/believe --text` wrote this from the sources. docs/BELIEVE.md tells how to read it. First the contracts, then",
+             "the definitions on which they rest: each stands after those that it rests on, or beside them in one file.", ""]
+    for call in calls:
+        lines += [f"==== {call.title}: {call.says}", f"     crates/{call.file}", "", *quoted(house, call), ""]
+    for file, names in house.in_order(mine):
+        lines += definitions(house, file, names)
+    lines += rest(house, reach.keys, sorted(link.title for link in reach.links))
+    return "\n".join(lines)
+
+
+def definitions(house: House, file: File, names: list[str]) -> list[str]:
+    """Some definitions of a file, each with the sentence above it, in the `module` that has it."""
+    lines = [f"==== crates/{file[0]}/specs/{file[1].replace('.', '/')}.antt", ""]
+    within = ""
+    for name in names:
+        definition = house.module(file).definitions[name]
+        if definition.within != within:
+            within = definition.within
+            lines += [*within.splitlines(), ""] if within else []
+        lines += [*definition.shown, ""]
+    return lines
+
+
+def rest(house: House, keys: set[Key], links: list[str]) -> list[str]:
+    """What a text names and does not print."""
+    kinds = sorted({key[1:] for key in keys if not key[0]}, key=lambda kind: (house.crates[kind[0]], kind[1]))
+    parts = [("Link words, which calls hand to one another", links), ("Words of the kit", of_kit(house, keys)),
+             ("Types of the sources, and what their values are seen as", [f"{crate} {seen_as(house, crate, name)}" for crate, name in kinds])]
+    lines: list[str] = []
+    for head, told in parts:
+        if told:
+            lines += [f"==== {head}", "", *told, ""]
+    return lines
