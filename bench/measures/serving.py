@@ -17,7 +17,6 @@ import argparse
 import math
 import os
 import pathlib
-import resource
 import subprocess
 import sys
 import tempfile
@@ -25,6 +24,7 @@ import time
 
 sys.path.insert(0, str(pathlib.Path(__file__).resolve().parents[2]))
 
+from bench.processor_time import processor  # noqa: E402
 from tools.limits import COLUMNS  # noqa: E402
 
 HERE = pathlib.Path(__file__).resolve().parent
@@ -36,11 +36,6 @@ def ring(steps, x, y, radius):
     turns = [2 * math.pi * i / steps for i in range(steps)]
     points = [(x + round(radius * math.cos(turn)), y + round(radius * math.sin(turn))) for turn in turns]
     return "POLYGON ((" + ", ".join(f"{a} {b}" for a, b in points + points[:1]) + "))"
-
-
-def processor():
-    used = resource.getrusage(resource.RUSAGE_CHILDREN)
-    return used.ru_utime + used.ru_stime
 
 
 class Runs:

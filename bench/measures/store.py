@@ -12,7 +12,6 @@ those without the work, each on a disk in memory.
 
 import argparse
 import pathlib
-import resource
 import struct
 import subprocess
 import sys
@@ -21,6 +20,7 @@ import tempfile
 sys.path.insert(0, str(pathlib.Path(__file__).resolve().parents[2]))
 
 from bench import unproved  # noqa: E402
+from bench.processor_time import processor  # noqa: E402
 from bench.reference import read_store  # noqa: E402
 from tools.limits import COLUMNS, COORDINATE_MAX, LAYERS_MAX, column_begin  # noqa: E402
 
@@ -99,11 +99,6 @@ def store(layers):
 
 def built(folder):
     return unproved.built(HERE / "store", folder, checked=False)
-
-
-def processor():
-    used = resource.getrusage(resource.RUSAGE_CHILDREN)
-    return used.ru_utime + used.ru_stime
 
 
 def seconds(program, word, path, times):

@@ -13,7 +13,6 @@ take a tenth of a second or more, in turns, or one run where it takes more than 
 import argparse
 import math
 import pathlib
-import resource
 import subprocess
 import sys
 import tempfile
@@ -21,6 +20,7 @@ import tempfile
 sys.path.insert(0, str(pathlib.Path(__file__).resolve().parents[2]))
 
 from bench import unproved  # noqa: E402
+from bench.processor_time import processor  # noqa: E402
 from bench.tile_texts import Draws, closed, lines_of  # noqa: E402
 
 HERE = pathlib.Path(__file__).resolve().parent
@@ -93,11 +93,6 @@ def halved(layers):
 
 
 # Times
-
-
-def processor():
-    used = resource.getrusage(resource.RUSAGE_CHILDREN)
-    return used.ru_utime + used.ru_stime
 
 
 def run(program, word, path, cap, times):
