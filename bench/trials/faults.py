@@ -21,7 +21,7 @@ import tempfile
 
 sys.path.insert(0, str(pathlib.Path(__file__).resolve().parents[2]))
 
-from bench.trials import refusing  # noqa: E402
+from bench.trials import refusal_cases, refusal_tables, refused_runs, refusing  # noqa: E402
 
 
 # What the shim leaves out of a right program, by the number that it is told.
@@ -31,20 +31,20 @@ KINDS = ["nothing done", "half a write", "half a write told, or interrupted", "f
 
 def is_found(words, library, folder, left_out):
     """Whether the shim ends a program that leaves out syncs."""
-    runner = refusing.runner_of(words, refusing.CREATED, library, folder)
+    runner = refused_runs.runner_of(words, refused_runs.CREATED, library, folder)
     status = runner.run({"LEAVE": left_out}, "FAIL").status
-    print(f"| {refusing.CREATED.name} | {LEFT_OUT[left_out]} | ended by the shim: {status == -signal.SIGABRT} |")
+    print(f"| {refused_runs.CREATED.name} | {LEFT_OUT[left_out]} | ended by the shim: {status == -signal.SIGABRT} |")
     return status == -signal.SIGABRT
 
 
 def fail(words, folder):
     """Prints the table, and gives how many of its lines are right, and how many are not."""
-    library = refusing.compiled("faults", folder)
-    print(refusing.HEAD)
+    library = refused_runs.compiled("faults", folder)
+    print(refusal_tables.HEAD)
     found = [is_found(words, library, folder, number) for number in LEFT_OUT]
     right, wrong = sum(found), len(found) - sum(found)
-    for scenario in (refusing.CREATED, refusing.OPENED):
-        runner = refusing.runner_of(words, scenario, library, folder)
+    for scenario in (refused_runs.CREATED, refused_runs.OPENED):
+        runner = refused_runs.runner_of(words, scenario, library, folder)
         runner.count_early("FAIL")
         plain = [runner.run({}, "FAIL") for _ in range(3)]
         faults = [fault for fault in (refusing.judge(runner, outcome, refusing.device) for outcome in plain) if fault]
@@ -56,8 +56,8 @@ def fail(words, folder):
             for rest in (0, 1):
                 if kind == 2 and rest:
                     continue  # a call that is interrupted for ever is asked for ever
-                table = refusing.run_in_turn(runner, "FAIL", {"REST": rest, "KIND": kind}, calls, refusing.device)
-                refusing.print_table(runner, what + (", and all behind" if rest else ""), calls, table)
+                table = refusal_tables.run_in_turn(runner, "FAIL", {"REST": rest, "KIND": kind}, calls, refusing.device)
+                refusal_tables.print_table(runner, what + (", and all behind" if rest else ""), calls, table)
                 right += not table.wrong
                 wrong += bool(table.wrong)
     return right, wrong
@@ -115,17 +115,17 @@ def left(library, folder, first, kind):
 
 def test():
     """Looks whether the shim fails the call that it is told and loses what it has to, and what refusals may be told."""
-    passed, failed = refusing.test(refusing.device)
+    passed, failed = refusal_cases.test(refusing.device)
     with tempfile.TemporaryDirectory() as place:
         folder = pathlib.Path(place)
-        library = refusing.compiled("faults", folder)
+        library = refused_runs.compiled("faults", folder)
         for first, kind, *wanted in LEFT:
             found = list(left(library, folder, first, kind))
             passed += found == wanted
             failed += found != wanted
             if found != wanted:
                 print(f"call {first} fails, kind {kind}: {found}, not {wanted}")
-    return refusing.told(passed, failed)
+    return refusal_tables.told(passed, failed)
 
 
 def main():
@@ -138,7 +138,7 @@ def main():
     words = parser.parse_args()
     words.program = os.path.abspath(words.program)
     with tempfile.TemporaryDirectory(prefix="faults") as place:
-        return refusing.told(*fail(words, pathlib.Path(place)))
+        return refusal_tables.told(*fail(words, pathlib.Path(place)))
 
 
 if __name__ == "__main__":

@@ -19,40 +19,40 @@ import tempfile
 
 sys.path.insert(0, str(pathlib.Path(__file__).resolve().parents[2]))
 
-from bench.trials import refusing  # noqa: E402
+from bench.trials import refusal_cases, refusal_tables, refused_runs, refusing  # noqa: E402
 from bench.trials.refusing import many_growths, one_growth  # noqa: E402
 
 
 def spread(calls, step, each):
     """The settings of some runs, somewhat more than there were calls: each growth of a step, and those behind it."""
-    return [{"FIRST": number, "EACH": each} for number in range(1, calls + refusing.MARGIN, step)]
+    return [{"FIRST": number, "EACH": each} for number in range(1, calls + refusal_tables.MARGIN, step)]
 
 
 def tables(runner, calls, step, every):
     """The tables of runs of a scenario, each with what it refuses."""
     if step == 1:
-        yield "one growth", refusing.run_in_turn(runner, "REFUSE", {"EACH": 0}, calls, one_growth)
+        yield "one growth", refusal_tables.run_in_turn(runner, "REFUSE", {"EACH": 0}, calls, one_growth)
     else:
-        yield "one growth", refusing.run_all(runner, "REFUSE", spread(calls, step, 0), one_growth)
+        yield "one growth", refusal_tables.run_all(runner, "REFUSE", spread(calls, step, 0), one_growth)
     for each in (2, 3, 100) if every else ():
-        table = refusing.run_all(runner, "REFUSE", spread(calls, 7 * step, each), many_growths, True)
+        table = refusal_tables.run_all(runner, "REFUSE", spread(calls, 7 * step, each), many_growths, True)
         yield f"and each {each} behind", table
 
 
 def from_each_on(runner, calls):
     """The table of runs of a scenario in which memory never comes back from a growth on. They end by themselves."""
-    settings = [{"FIRST": number, "EACH": 1} for number in range(1, calls + refusing.MARGIN)]
-    yield "one growth, and all behind", refusing.run_all(runner, "REFUSE", settings, many_growths)
+    settings = [{"FIRST": number, "EACH": 1} for number in range(1, calls + refusal_tables.MARGIN)]
+    yield "one growth, and all behind", refusal_tables.run_all(runner, "REFUSE", settings, many_growths)
 
 
 def refuse(words, folder):
     """Prints the table, and gives how many of its lines are right, and how many are not."""
-    library = refusing.compiled("growths", folder)
+    library = refused_runs.compiled("growths", folder)
     right = wrong = 0
-    print(refusing.HEAD)
-    waiting = (refusing.MEMORY, refusing.CREATED, refusing.OPENED)
-    for scenario in (*waiting, refusing.QUIET_MEMORY, refusing.QUIET_CREATED):
-        runner = refusing.runner_of(words, scenario, library, folder)
+    print(refusal_tables.HEAD)
+    waiting = (refused_runs.MEMORY, refused_runs.CREATED, refused_runs.OPENED)
+    for scenario in (*waiting, refused_runs.QUIET_MEMORY, refused_runs.QUIET_CREATED):
+        runner = refused_runs.runner_of(words, scenario, library, folder)
         runner.count_early("REFUSE")
         plain = [runner.run({}, "REFUSE") for _ in range(3)]
         faults = [fault for fault in (refusing.judge(runner, outcome, one_growth) for outcome in plain) if fault]
@@ -63,7 +63,7 @@ def refuse(words, folder):
         is_waiting = scenario in waiting
         found = tables(runner, calls, words.step, words.every) if is_waiting else from_each_on(runner, calls)
         for which, table in found:
-            refusing.print_table(runner, which, calls, table)
+            refusal_tables.print_table(runner, which, calls, table)
             right += not table.wrong
             wrong += bool(table.wrong)
     return right, wrong
@@ -81,7 +81,7 @@ def test():
     """Looks whether the shim refuses the call that it is told, of four, and what refusals may be told."""
     with tempfile.TemporaryDirectory() as place:
         folder = pathlib.Path(place)
-        given = {"LIBRARY": str(refusing.compiled("growths", folder)), "REFUSE_FIRST": "1", "REFUSE_EACH": "3"}
+        given = {"LIBRARY": str(refused_runs.compiled("growths", folder)), "REFUSE_FIRST": "1", "REFUSE_EACH": "3"}
         given["REFUSE_COUNTS"] = place + "/counts"
         words = [sys.executable, "-c", FOUR]
         done = subprocess.run(words, env={**os.environ, **given}, capture_output=True, check=True, text=True)
@@ -89,8 +89,8 @@ def test():
         numbers = [int.from_bytes(counts[at : at + 8], "little") for at in (0, 8)]
     is_right = done.stdout == "0110\n" and numbers == [4, 2]
     print(f"four growths: {done.stdout.strip()}, counted {numbers}: {'right' if is_right else 'wrong'}")
-    passed, failed = refusing.test(one_growth, many_growths)
-    return refusing.told(passed + is_right, failed + (not is_right))
+    passed, failed = refusal_cases.test(one_growth, many_growths)
+    return refusal_tables.told(passed + is_right, failed + (not is_right))
 
 
 def main():
@@ -105,7 +105,7 @@ def main():
     words = parser.parse_args()
     words.program = os.path.abspath(words.program)
     with tempfile.TemporaryDirectory(prefix="growths") as place:
-        return refusing.told(*refuse(words, pathlib.Path(place)))
+        return refusal_tables.told(*refuse(words, pathlib.Path(place)))
 
 
 if __name__ == "__main__":
