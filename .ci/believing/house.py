@@ -55,6 +55,18 @@ class Link:
         return f"{self.name}.{self.field}" if self.field else self.name
 
 
+@dataclasses.dataclass(frozen=True)
+class Cut:
+    """What is not followed: fields of some definitions, some definitions whole, and clauses of calls by their names."""
+
+    fields: frozenset[tuple[Key, str]] = frozenset()
+    words: frozenset[Key] = frozenset()
+    clauses: frozenset[tuple[str, str]] = frozenset()
+
+
+NOTHING = Cut()
+
+
 @dataclasses.dataclass
 class Reach:
     """What is reached from a contract, and the links at which that ends."""
@@ -161,20 +173,20 @@ class House:
 
     # ---- what a definition or a type rests on
 
-    def said(self, key: Key) -> str:
-        """A definition's text for what it names, without the fields that are links."""
+    def said(self, key: Key, cut: Cut = NOTHING) -> str:
+        """A definition's text for what it names, without the fields that are links, or cut."""
         text = spoken(self.module(key[:2]).definitions[key[2]].text)
-        for link in self.links:
-            if link.key == key and link.field:
-                text = re.sub(rf"^(\s+)pub {link.field} :[^\n]*(?:\n\1\s+[^\n]*)*", "", text, flags=re.M)
+        for of, field in [*((link.key, link.field) for link in self.links), *cut.fields]:
+            if of == key and field:
+                text = re.sub(rf"^( +)pub {field} :[^\n]*(?:\n\1 +[^\n]*)*", "", text, flags=re.M)
         return text
 
-    def uses(self, key: Key) -> set[Key]:
+    def uses(self, key: Key, cut: Cut = NOTHING) -> set[Key]:
         """What a definition names, or the model of a type of the sources."""
         if key[0] == "":
             return self.of_type(key[1], key[2])
         module = self.module(key[:2])
-        text = self.said(key)
+        text = self.said(key, cut)
         own = bound(key[2], text) - {key[2]}
         kept = WORD.sub(lambda w: "" if w[0].partition(".")[0] in own and w[0].partition(".")[0] not in module.aliases else w[0], text)
         return self.named(kept, key[:2], {}, {}) - {key}
@@ -232,9 +244,20 @@ class House:
             raise SystemExit(f"believe: {call.file} has no pub fn {call.name}")
         return text, re.sub(r"//.*", "", head[2]), text[: head.start()] if head[1] else ""
 
-    def contract(self, call: Call) -> set[Key]:
+    def promised(self, call: Call, cut: Cut = NOTHING) -> str:
+        """The head of a call without comments, and without the clauses that are cut."""
+        _, said, _ = self.head(call)
+        for title, clause in cut.clauses:
+            if title == call.title:
+                said, count = re.subn(rf"\n *ensures {clause} \{{.*?(?=\n *(?:ensures|requires) |\Z)", "", said, flags=re.S)
+                if not count:
+                    raise SystemExit(f"believe: {title} has no clause {clause}")
+        return said
+
+    def contract(self, call: Call, cut: Cut = NOTHING) -> set[Key]:
         """What the contract of a call names."""
-        text, said, before = self.head(call)
+        text, _, before = self.head(call)
+        said = self.promised(call, cut)
         found = self.named(said, None, *imports(text))
         crate = call.file.partition("/")[0]
         owner = re.findall(r"^impl[^\n]*?(\w+)(?:<[^\n]*>)? \{$", before, re.M)
@@ -244,8 +267,8 @@ class House:
                 found.add(kind)
         return found
 
-    def reached(self, start: set[Key], fields: set[str] | None = None, whole: bool = False) -> Reach:
-        """All that is named from these on, but for what the links hide; of a single word, that word whole."""
+    def reached(self, start: set[Key], fields: set[str] | None = None, cut: Cut = NOTHING) -> Reach:
+        """All that is named from these on, but for what the links hide and what is cut; these themselves whole."""
         reach = Reach(fields=set(fields or ()))
         waiting = set(start)
         while waiting:
@@ -254,28 +277,49 @@ class House:
                 if key not in reach.keys:
                     reach.keys.add(key)
                     if key[0]:
-                        reach.fields |= set(re.findall(r"\.(\w+)", self.said(key)))
-                    waiting |= self.followed(key, reach)
+                        reach.fields |= set(re.findall(r"\.(\w+)", self.said(key, cut)))
+                    waiting |= self.followed(key, reach, cut)
             types = {key for key in reach.keys if not key[0]}
             waiting = {kind for key in types for kind in self.within(key, reach.fields)} - reach.keys
         reach.links |= {link for link in self.links if link.field and link.key in reach.keys}
         return reach
 
-    def followed(self, key: Key, reach: Reach) -> set[Key]:
-        """What a key names, without the links, which are put down."""
-        named = self.uses(key) - reach.keys
+    def followed(self, key: Key, reach: Reach, cut: Cut) -> set[Key]:
+        """What a key names, without what is cut, and without the links, which are put down."""
+        named = self.uses(key, cut) - reach.keys - cut.words
         hidden = {link for link in self.links if not link.field and link.key in named and key[2] not in link.but}
         reach.links |= hidden
         return named - {link.key for link in hidden}
 
-    def of_call(self, call: Call) -> Reach:
+    def of_call(self, call: Call, cut: Cut = NOTHING) -> Reach:
         """What the contract of a call reaches."""
-        start = self.contract(call)
+        start = self.contract(call, cut) - cut.words
         hidden = {link for link in self.links if not link.field and link.key in start}
-        _, said, _ = self.head(call)
-        reach = self.reached(start - {link.key for link in hidden}, set(re.findall(r"\.(\w+)", said)))
+        reach = self.reached(start - {link.key for link in hidden}, set(re.findall(r"\.(\w+)", self.promised(call, cut))), cut)
         reach.links |= hidden
         return reach
+
+    def cut(self, without: tuple[str, ...]) -> Cut:
+        """What a row leaves out: `Record.field`, `Word`, each after its module where it takes that, or `call: clause`."""
+        fields: set[tuple[Key, str]] = set()
+        words: set[Key] = set()
+        clauses: set[tuple[str, str]] = set()
+        for one in without:
+            title, colon, clause = one.partition(": ")
+            if colon:
+                clauses.add((title, clause))
+                continue
+            place, _, word = one.rpartition(" ")
+            name, _, field = word.partition(".")
+            keys = [(*file, name) for file, module in self.modules.items()
+                    if file[0] in self.crates and name in module.definitions and file[1].endswith(place)]
+            if len(keys) != 1 or field and not re.search(rf"^\s+pub {field} :", self.said(keys[0]), re.M):
+                raise SystemExit(f"believe: a row leaves out {one}, and {len(keys)} definitions have that name")
+            if field:
+                fields.add((keys[0], field))
+            else:
+                words.add(keys[0])
+        return Cut(frozenset(fields), frozenset(words), frozenset(clauses))
 
     # ---- order and counts
 

@@ -35,11 +35,12 @@ class Law:
 
 @dataclasses.dataclass(frozen=True)
 class Row:
-    """What several calls say together: its title, the calls, and what it is."""
+    """What several calls say together: its title, the calls, what it is, and the promises of these that it leaves out."""
 
     title: str
     calls: tuple[str, ...]
     says: str
+    without: tuple[str, ...] = ()
 
 
 @dataclasses.dataclass(frozen=True)
@@ -63,14 +64,19 @@ class Told:
 
     def row(self, title: str) -> tuple[list[Call], Reach]:
         """The calls of a row, and what they reach together."""
-        named = next((row.calls for row in self.tables.together if row.title == title), (title,))
-        calls = [call for call in self.tables.calls if call.title in named]
-        if len(calls) < len(named):
+        row = self.row_of(title)
+        calls = [call for call in self.tables.calls if call.title in row.calls]
+        if len(calls) < len(row.calls):
             raise SystemExit(f"believe: no row {title}, or it names a call that the page has not")
-        parts = [self.reach[call.title] for call in calls]
+        cut = self.house.cut(row.without)
+        parts = [self.house.of_call(call, cut) if row.without else self.reach[call.title] for call in calls]
         keys = set().union(*(part.keys for part in parts))
         links = set().union(*(part.links for part in parts))
         return calls, Reach(keys, {link for link in links if link.field or link.key not in keys})
+
+    def row_of(self, title: str) -> Row:
+        """The row of a title: of several calls, or of one."""
+        return next((row for row in self.tables.together if row.title == title), Row(title, (title,), ""))
 
     def counted(self, keys: set[Key]) -> str:
         """The cells that count some definitions, and the kit's with them."""
@@ -101,7 +107,7 @@ def page(house: House, tables: Tables) -> str:
     every = sum(len(house.module((crate, module)).definitions) for crate, module in list(house.modules) if crate in house.crates)
     table = ["| Call | Definitions | Lines | Files | Of the kit (lines) | What it is |", "|---|---|---|---|---|---|", *rows]
     head = tables.head.replace("@CONTRACT@", "\n".join(f"    {line}" for line in quoted(house, tables.calls[0])))
-    head = head.replace("@LINKS@", links(told))
+    head = head.replace("@LINKS@", links(told)).replace("@WITHOUT@", left_out(told))
     return "\n".join([head, "", *table, f"\nOf {every:,} definitions in `crates/*/specs`.\n", *promised(told, listed), *parts,
                       types(house, met)])
 
@@ -125,6 +131,12 @@ def links(told: Told) -> str:
         path = f"../crates/{link.crate}/specs/{link.module}.antt"
         given, taken = (", ".join(f"`{title}`" for title in titles) for titles in (link.given, link.taken))
         lines.append(f"| [`{link.title}`]({path}) | {given} | {taken} |")
+    return "\n".join(lines)
+
+
+def left_out(told: Told) -> str:
+    """What rows leave out, row by row."""
+    lines = [f"- `{row.title}`: {', '.join(f'`{one}`' for one in row.without)}." for row in told.tables.together if row.without]
     return "\n".join(lines)
 
 

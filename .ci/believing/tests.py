@@ -135,7 +135,7 @@ FIELD = (Link("high", "Calls", "Handed", ("give",), ("take",), field="rest"),)
 
 def files() -> dict[str, str]:
     """The small tree."""
-    calls = "".join(f"pub fn {name}({words}) -> usize\n    // Turns is no word of a clause here.\n    ensures {{ {clause} }}\n{{\n    0\n}}\n"
+    calls = "".join(f"pub fn {name}({words}) -> usize\n    // Turns is no word of a clause here.\n    ensures first {{ {clause} }}\n{{\n    0\n}}\n"
                     for name, words, clause in BODIES)
     law = "/// What goes,\n/// goes on.\npub fn goes_law()\n    ensures { GoesLaw }\n{}\n"
     return {"crates.txt": "# all\nlow:\nhigh: low\nabove: high\n", "crates/low/specs/Numbers.antt": LOW,
@@ -187,17 +187,29 @@ def hides(top: pathlib.Path) -> int:
         reach = House(top, top / "kit", links).of_call(calls_of("give")[0])
         assert not {key[2] for key in reach.keys} & hidden, (links, reach)
         assert ({link.title for link in reach.links} == {links[0].title}) == bool(hidden), reach.links
+    house = House(top, top / "kit")
+    for without, gone in [(("Handed.rest",), {"Part"}), (("Handed.few",), {"Rests"}), (("Calls Handed",), {"Handed", "Part", "Rests"})]:
+        reach = house.of_call(calls_of("give")[0], house.cut(without))
+        assert not {key[2] for key in reach.keys} & gone and not reach.links, (without, reach)
+    assert not house.mine(house.of_call(calls_of("go")[0], house.cut(("go: first",))).keys) & low("twice")
+    for without in ("Handed.none", "None", "go: none"):
+        try:
+            house.of_call(calls_of("go")[0], house.cut((without,)))
+        except SystemExit:
+            continue
+        raise AssertionError(without)
     try:
         House(top, None, (Link("high", "Calls", "Handed", (), (), field="none"),))
     except SystemExit as fault:
         assert "has no Handed.none" in str(fault)
-    return 4
+    return 11
 
 
 def writes(top: pathlib.Path) -> int:
     """The page and a row's text."""
     house = House(top, top / "kit", LINKS)
-    tables = Tables("# Head\n@CONTRACT@\n@LINKS@", calls_of("go", "give", "take"), [Row("both", ("go", "take"), "Two.")],
+    tables = Tables("# Head\n@CONTRACT@\n@LINKS@\n@WITHOUT@", calls_of("go", "give", "take"),
+                    [Row("both", ("go", "take"), "Two."), Row("few", ("go", "take"), "Less.", ("Goes", "go: first"))],
                     [Word("high", "Calls", "Goes", "A word.")], [Law("go", "high/src/calling.rt", "goes_law")])
     said = page(house, tables)
     for line in ["| `go` | 3 | 10 | 2 | 1 (3) | A call. |", "| `give` | 1 | 2 | 1 |  | A call. |", "| both | 4 | 12 | 2 | 1 (3) | Two. |",
@@ -210,6 +222,8 @@ def writes(top: pathlib.Path) -> int:
     row = text(Told(house, tables), "both")
     assert row.index("abbrev pub twice") < row.index("-- goes up\nabbrev pub Goes") < row.index("Takes n = Handed n → Goes n n")
     assert "What to believe of: both (4 definitions, 12 lines)" in row and "low `Thing` as `Pair`" in row and "idle" not in row
+    assert "| few | 2 | 6 | 2 |  | Less. |" in said and "- `few`: `Goes`, `go: first`." in said, said
+    assert "    go: first" in text(Told(house, tables), "few")
     for wrong, fault in [(Law("give", "high/src/calling.rt", "goes_law"), "speaks of nothing"), (Law("go", "high/src/calling.rt", "go"), "no law")]:
         try:
             page(house, Tables("", tables.calls, [], [], [wrong]))

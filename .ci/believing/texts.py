@@ -5,7 +5,7 @@ from __future__ import annotations
 import pathlib
 import re
 
-from believing.house import File, House, Key
+from believing.house import Cut, File, House, Key
 from believing.page import Told, of_kit, quoted, seen_as
 
 FOLDER = pathlib.Path("docs/believe")
@@ -20,21 +20,29 @@ def text(told: Told, title: str) -> str:
     """The text of a row, to print: contracts, definitions lowest first, link words, words of the kit, and types."""
     house = told.house
     calls, reach = told.row(title)
+    without = told.row_of(title).without
     mine = house.mine(reach.keys)
     count = f"{len(mine)} definitions, {house.lines(mine):,} lines"
     lines = [f"What to believe of: {title} ({count})", "",
              "`.ci/believe --text` wrote this from the sources. docs/BELIEVE.md tells how to read it. First the contracts, then",
              "the definitions on which they rest: each stands after those that it rests on, or beside them in one file.", ""]
+    if without:
+        lines += ["Left out are these promises, which stand beside (docs/BELIEVE.md); the words in them are not defined here:", "",
+                  *(f"    {one}" for one in without), ""]
     for call in calls:
         lines += [f"==== {call.title}: {call.says}", f"     crates/{call.file}", "", *quoted(house, call), ""]
+    cut = house.cut(without)
     for file, names in house.in_order(mine):
-        lines += definitions(house, file, names)
+        lines += definitions(house, file, names, cut)
     lines += rest(house, reach.keys, sorted(link.title for link in reach.links))
     return "\n".join(lines)
 
 
-def definitions(house: House, file: File, names: list[str]) -> list[str]:
-    """Some definitions of a file, each with the sentence above it, in the `module` that has it."""
+def definitions(house: House, file: File, names: list[str], cut: Cut) -> list[str]:
+    """Some definitions of a file, each with the sentence above it, in the `module` that has it; fields that are not
+    followed say so.
+    """
+    hidden = {*((link.key, link.field) for link in house.links if link.field), *cut.fields}
     lines = [f"==== crates/{file[0]}/specs/{file[1].replace('.', '/')}.antt", ""]
     within = ""
     for name in names:
@@ -42,7 +50,10 @@ def definitions(house: House, file: File, names: list[str]) -> list[str]:
         if definition.within != within:
             within = definition.within
             lines += [*within.splitlines(), ""] if within else []
-        lines += [*definition.shown, ""]
+        fields = {field for key, field in hidden if key == (*file, name)}
+        lines += [line + ("  -- not followed" if found and found[1] in fields else "")
+                  for line in definition.shown for found in [re.match(r"\s+pub (\w+) :", line)]]
+        lines.append("")
     return lines
 
 
