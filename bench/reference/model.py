@@ -752,14 +752,19 @@ def replies_of(script):
     return replies
 
 
-def split_replies(lines):
-    """Lines as replies: behind `layers N`, `edges N` and `grid nx ny` more lines belong to the same reply."""
-    replies, at = [], 0
+def reply_length(first: str) -> int:
+    """How many lines a reply has, by its first: after `layers N`, `edges N` and `grid nx ny` more lines belong to it."""
+    words = first.split(" ")
+    return 1 + int(words[-1]) if words[0] in ("layers", "edges", "grid") else 1
+
+
+def split_replies(lines: list[str]) -> list[list[str]]:
+    """Lines as replies, each with the lines that belong to it."""
+    replies: list[list[str]] = []
+    at = 0
     while at < len(lines):
-        words = lines[at].split(" ")
-        more = int(words[-1]) if words[0] in ("layers", "edges", "grid") else 0
-        replies.append(lines[at : at + 1 + more])
-        at += 1 + more
+        replies.append(lines[at : at + reply_length(lines[at])])
+        at += len(replies[-1])
     return replies
 
 

@@ -300,12 +300,11 @@ class Channel:
         lines = whole.decode().split("\n") if whole else []
         at = 0
         while at < len(lines):
-            words = lines[at].split(" ")
-            more = int(words[-1]) if words[0] in ("layers", "edges", "grid") else 0
-            if at + more >= len(lines):
+            end = at + model.reply_length(lines[at])
+            if end > len(lines):
                 break
-            found.append(lines[at : at + 1 + more])
-            at += 1 + more
+            found.append(lines[at:end])
+            at = end
         self.held = "".join(line + "\n" for line in lines[at:]).encode() + self.held
         return found, is_ended
 
