@@ -1,9 +1,9 @@
 """Edits of a crate's texts: wrong bodies, in must-fail/ and wrong-bodies/, and the controls beside them, in controls/.
 
-A control has the name of a wrong body, changes the same function, and leaves what it means as it was, in a shape like that
-of the wrong body. It must not be refused: a wrong body that falls at a proof that was written for the text as it is may fall
-by its shape alone, and its control tells. An edit names a file of its crate, and pairs of lines: the old one stands once in
-what the earlier pairs have made.
+A control has the name of a wrong body, changes the same function, and leaves what it means as it was, in a shape like
+that of the wrong body. It must not be refused: a wrong body that falls at a proof that was written for the text as it is
+may fall by its shape alone, and its control tells. An edit names a file of its crate, and pairs of lines: the old one
+stands once in what the earlier pairs have made.
 
 The file TRIED of wrong-bodies/ has the commit at which the edits of that folder were tried last, all of them.
 """
@@ -28,10 +28,11 @@ ASKED = (
     "vertical_left_out", "late_result_kept", "gate_before_body_is_synced", "done_before_the_last_sync",
     "written_over_the_live_root", "written_over_an_open_root", "older_root_recovered", "durable_when_begun",
     "torn_body_left", "tiles_left_out", "opening_version_for_all", "accepted_and_unchanged", "number_invented",
-    "applied_twice", "entry_invented", "entry_dropped", "read_under_the_lock", "job_dropped", "finished_with_another_tile",
-    "fraction_cut_off", "polygon_z_accepted", "always_same", "always_oversize", "refusals_in_another_order",
-    "grid_point_repeated", "all_pairs_tested", "no_test_listed", "record_kept_by_name", "batch_prefix_kept",
-    "number_for_each_command", "opened_without_a_sync", "answers_from_a_private_version", "commits_a_version_of_its_own",
+    "applied_twice", "entry_invented", "entry_dropped", "read_under_the_lock", "job_dropped",
+    "finished_with_another_tile", "fraction_cut_off", "polygon_z_accepted", "always_same", "always_oversize",
+    "refusals_in_another_order", "grid_point_repeated", "all_pairs_tested", "no_test_listed", "record_kept_by_name",
+    "batch_prefix_kept", "number_for_each_command", "opened_without_a_sync", "answers_from_a_private_version",
+    "commits_a_version_of_its_own",
 )
 
 
@@ -111,7 +112,7 @@ def controls(top: pathlib.Path, given: list[Edit]) -> list[Edit]:
 
 
 def strangers(top: pathlib.Path, names: list[str]) -> list[pathlib.Path]:
-    """What stands in the folders of edits, and is none to `rt must-fail`; edits in other folders; and controls of nothing."""
+    """What stands in the folders of edits and is none to `rt must-fail`; edits in other folders; controls of nothing."""
     homes = [top / "crates" / name for name in names]
     found = [file for home in homes for file in home.glob("*/*.edit") if file.parent.name not in (*TIERS, CONTROLS)]
     for folder in [home / name for home in homes for name in (*TIERS, CONTROLS)]:
@@ -157,7 +158,7 @@ def age(top: pathlib.Path, crate: str) -> str:
 
 
 def write_tried(top: pathlib.Path, crate: str) -> bool:
-    """Writes down that a crate's edits of wrong-bodies/ were tried, if its files are those of the commit that stands."""
+    """Writes down that a crate's edits of wrong-bodies/ were tried, if its files are those of the newest commit."""
     home = top / "crates" / crate
     commit = git(top, "rev-parse", "HEAD")
     changed = git(top, "status", "--porcelain", "--", *[str(home / part) for part in (*PARTS, TIERS[1])])

@@ -50,7 +50,7 @@ AT_WRITTEN = "at a written proof"
 AT_LIMIT = "at a limit of the search"
 MANNERS = (AT_OPEN, AT_WRITTEN, AT_LIMIT)
 # A written proof that is a search and nothing else: it says no more of the text than an open goal does.
-SEARCH = re.compile(r"[^\n=]+ = (?:λ [\w ]+\. )?(?:search|grind|omega)\b(?!.* in )[^\n]*")
+SEARCH = re.compile(r"[^\n=]+ =\s+(?:λ [\w ]+\. )?(?:search|grind|omega)\b(?!.* in )[^\n]*")
 
 
 @dataclasses.dataclass(frozen=True)
@@ -64,7 +64,8 @@ class Refusal:
     def kind_in(self, texts: dict[str, str]) -> str:
         """Its kind, in the texts that were checked: a written proof that is a search alone is told apart."""
         is_search = SEARCH.fullmatch(answer_of(texts.get(self.place, ""), self.goal))
-        return self.kind.removesuffix(WRITTEN) + WRITTEN_SEARCH if self.kind.endswith(WRITTEN) and is_search else self.kind
+        is_told_apart = self.kind.endswith(WRITTEN) and is_search
+        return self.kind.removesuffix(WRITTEN) + WRITTEN_SEARCH if is_told_apart else self.kind
 
     @property
     def is_meant(self) -> bool:
