@@ -10,11 +10,12 @@ operation may go wrong, or that a loop may not end.
 from __future__ import annotations
 
 import dataclasses
+import pathlib
 import re
 
 import functions
 
-ANSWER = re.compile(r"(?:\./)?proofs/(?P<place>\S+)/\w+\.antt:\d+:\d+: error: (?P<said>.*)")
+ANSWER = re.compile(r"(?:\./)?(?P<file>proofs/(?P<place>\S+)/\w+\.antt):\d+:\d+: error: (?P<said>.*)")
 AT_LINE = re.compile(r"(?:note: )?(?P<path>src/\S+?):(?P<line>\d+):\d+: (?:error: )?it is not proved (?P<said>.*)")
 TOLD = re.compile(r"fn (?P<crate>\w+)::(?P<name>\S+): (?P<said>.*)")
 SOUGHT = re.compile(r"`search` did not prove (?P<goals>`[^;]*`)")
@@ -41,7 +42,15 @@ OPERATION_KIND = "an operation"
 END_KIND = "the end of a loop"
 UNMEANT = (GONE_KIND, UNKNOWN_KIND, OPERATION_KIND, END_KIND)
 WRITTEN = ", at its written proof"
+WRITTEN_SEARCH = ", at a search that is written down"
 LIMIT = ", at a limit of the search"
+# The kinds of goals at which wrong bodies fall: what each tells.
+AT_OPEN = "at an open goal"
+AT_WRITTEN = "at a written proof"
+AT_LIMIT = "at a limit of the search"
+MANNERS = (AT_OPEN, AT_WRITTEN, AT_LIMIT)
+# A written proof that is a search and nothing else: it says no more of the text than an open goal does.
+SEARCH = re.compile(r"[^\n=]+ =\s+(?:λ [\w ]+\. )?(?:search|grind|omega)\b(?!.* in )[^\n]*")
 
 
 @dataclasses.dataclass(frozen=True)
@@ -50,6 +59,13 @@ class Refusal:
 
     kind: str
     goal: str
+    place: str = ""
+
+    def kind_in(self, texts: dict[str, str]) -> str:
+        """Its kind, in the texts that were checked: a written proof that is a search alone is told apart."""
+        is_search = SEARCH.fullmatch(answer_of(texts.get(self.place, ""), self.goal))
+        is_told_apart = self.kind.endswith(WRITTEN) and is_search
+        return self.kind.removesuffix(WRITTEN) + WRITTEN_SEARCH if is_told_apart else self.kind
 
     @property
     def is_meant(self) -> bool:
@@ -75,13 +91,29 @@ def kind_of(goal: str) -> str:
     return OPERATION_KIND
 
 
-def of_answer(said: str) -> Refusal:
+def manner_of(kind: str) -> str:
+    """At which kind of goal a wrong body fell: of three."""
+    return AT_LIMIT if kind.endswith(LIMIT) else AT_WRITTEN if kind.endswith(WRITTEN) else AT_OPEN
+
+
+def place_of(function: str) -> pathlib.PurePath:
+    """The folder of the proof of a function."""
+    return pathlib.PurePath("proofs", *function.split("::"))
+
+
+def answer_of(text: str, goal: str) -> str:
+    """What a written proof says of a goal: from the line that begins with its name to the next empty one."""
+    found = re.search(rf"^{re.escape(goal)}\b(?!-)(?! :)[^\n]*(?:\n[^\n]+)*", text, re.M)
+    return found[0] if found else ""
+
+
+def of_answer(said: str, place: str) -> Refusal:
     """What an error in a written proof says."""
     named = NAMED.search(said)
     goal = (named["first"] or named["last"]) if named else "?"
     if GONE.search(said):
         return Refusal(GONE_KIND, goal)
-    return Refusal(kind_of(goal) + WRITTEN if named else UNKNOWN_KIND, goal)
+    return Refusal(kind_of(goal) + WRITTEN if named else UNKNOWN_KIND, goal, place)
 
 
 def of_line(said: str) -> Refusal | None:
@@ -152,7 +184,7 @@ def read(output: str, known: list[functions.Function], changed: set[str]) -> Ver
     for line in lines:
         answer, lined, function = ANSWER.match(line), AT_LINE.match(line), TOLD.match(line)
         if answer:
-            found.append((answer["place"].replace("/", "::"), of_answer(answer["said"])))
+            found.append((answer["place"].replace("/", "::"), of_answer(answer["said"], answer["file"])))
         said = of_line(lined["said"]) if lined else None
         if lined and said:
             found += [(name, said) for name in at_line(lined["path"], int(lined["line"]), known)]

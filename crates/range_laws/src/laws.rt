@@ -1,0 +1,13 @@
+//! One range of coordinates, and the rings of texts: each function does nothing, and its contract is the law.
+
+ghost use Rattle.range_laws.specs.Ranges.{OneRange, TextsSpellRings};
+
+/// Texts, records, grids, windows and whole points that are asked about take the same coordinates: those in range.
+pub fn one_range()
+    ensures { OneRange }
+{}
+
+/// Texts spell just the rings that a base layer may have: closed, in range, and without a fault.
+pub fn texts_spell_rings()
+    ensures { TextsSpellRings }
+{}
