@@ -1,12 +1,12 @@
 #!/usr/bin/env python3
 """Overlays random maps by the steps of tools/overlay_maps.py, and judges each answer by slabs of fractions.
 
-    python3 bench/trials/map_overlays.py LIVE [--answers N] [--seed S] [--numpy]
+    python3 bench/trials/map_overlays.py LIVE [--answers N] [--seed S] [--numpy] [--window PATH]
 
 Rings cross themselves and each other, or features have common borders with corners that a neighbour lacks, and holes;
 cells are of 7 units up, slots of 60 steps up. Asked are common parts, what a feature has alone, and the sum of gaps. By
---numpy features are drawn in by numpy (python3-numpy, /usr/bin/python3), else in whole numbers of Python. Status 1: an
-answer is wrong.
+--numpy features are drawn in by numpy (python3-numpy, /usr/bin/python3), by --window by overlay_window, else in whole
+numbers of Python. Status 1: an answer is wrong.
 """
 
 import argparse
@@ -19,15 +19,17 @@ from fractions import Fraction
 
 sys.path.insert(0, str(pathlib.Path(__file__).resolve().parents[2] / "tools"))
 
-from maps import jobs, map_checks, rounds  # noqa: E402
+from maps import jobs, map_checks, quickest, rounds  # noqa: E402
+from maps.drawing_in import Plain  # noqa: E402
 from maps.task_form import ALONE, COMMON  # noqa: E402
+from maps.windows import ByWindows  # noqa: E402
 from testing import slabs  # noqa: E402
 from testing.random_maps import divided_maps, random_maps, wrong_answers  # noqa: E402
 
 Counts = dict[str, list[int]]  # by what is asked: how many answers were looked at, and how many are wrong
 
 
-def wrong_gaps(program: rounds.Program, source: random.Random, drawing: jobs.Drawing) -> tuple[int, int]:
+def wrong_gaps(program: rounds.Program, source: random.Random, drawing: Plain) -> tuple[int, int]:
     """Whether gaps and what is outside of a map have the area that slabs find."""
     maps = source.choice([random_maps, divided_maps])(source, 6, source.choice([12, 40]))
     made = map_checks.Check(maps.wholes[0], Fraction(1))
@@ -38,7 +40,7 @@ def wrong_gaps(program: rounds.Program, source: random.Random, drawing: jobs.Dra
     return 1, int(sum((row.area for row in (*made.gaps, *made.outside)), Fraction(0)) != wanted)
 
 
-def tried(program: rounds.Program, answers: int, seed: int, drawing: jobs.Drawing) -> Counts:
+def tried(program: rounds.Program, answers: int, seed: int, drawing: Plain) -> Counts:
     """Answers about random maps, until there are so many."""
     asked: dict[str, Callable[[random.Random], tuple[int, int]]] = {
         "common parts": lambda source: wrong_answers(program, source, COMMON, drawing, 12),
@@ -61,11 +63,14 @@ def main(arguments: list[str]) -> int:
     parser.add_argument("program", metavar="LIVE", help="the built overlay_live")
     parser.add_argument("--answers", type=int, default=10_000, help="so many at least (default: %(default)s)")
     parser.add_argument("--seed", type=int, default=1)
+    parser.add_argument("--window", metavar="PATH", help="draw in by overlay_window")
     parser.add_argument("--numpy", action="store_true", help="draw in by numpy")
     words = parser.parse_args(arguments)
-    drawing = jobs.plain_drawing
-    if words.numpy:
-        from maps.numpy_drawing import drawing
+    drawing = Plain()
+    if words.window:
+        drawing = quickest.ByWindows(words.window) if words.numpy else ByWindows(words.window)
+    elif words.numpy:
+        drawing = quickest.ByNumpy()
     with rounds.Program(words.program) as program:
         counts = tried(program, words.answers, words.seed, drawing)
     for name, (looked, wrong) in counts.items():

@@ -15,7 +15,7 @@ import unittest
 from unittest import mock
 
 import overlay_maps
-from maps import dask_engine, engines, large_tables, planning, progress, tasks
+from maps import dask_engine, engines, large_tables, planning, progress, tasks, windows
 from maps.tasks import FolderFault, TaskFolder
 from testing.common import TOOLS, InFolder, Programs, outcome
 from testing.map_works import Refusing, Reversing
@@ -259,6 +259,31 @@ class OverTool(InTasks):
         status, again, told = self.table("--jobs", 2, "--work", self.work)
         self.assertEqual((status, again), (0, table))
         self.assertRegex(told, r"pairs 1: (\d+) of \1 tasks were done before")
+
+    def test_windows_and_python_have_one_table_and_which_it_was_is_told(self) -> None:
+        status, table, told = self.table("--jobs", 1, "--no-window")
+        self.assertEqual(status, 0)
+        self.assertRegex(told, r"drawn in by overlay_window in 0 of \d+ tasks; Python drew them in otherwise")
+        window = windows.found(str(Programs.live))
+        if window is not None:
+            self.assertEqual(self.table("--jobs", 1, "--window", window, "--work", self.work)[:2], (0, table))
+            status, again, told = self.table("--jobs", 1, "--no-window", "--work", self.work)
+            self.assertEqual((status, again), (0, table))
+            self.assertRegex(told, r"drawn in by overlay_window in (\d+) of \1 tasks\n")
+        for wrong in (self.folder, self.folder / "none", ""):
+            self.assertEqual(self.table("--window", wrong), (2, "", f"--window {wrong}: no program; leave the word out, or "
+                                                             "say --no-window\n"))
+
+    def test_a_window_program_that_ends_is_asked_again_and_one_that_fails_is_named(self) -> None:
+        window = windows.found(str(Programs.live))
+        if window is None:
+            self.skipTest("overlay_window is not there")
+        dying = self.file("dying", f"#!/bin/sh\nmkdir '{self.marks}/ended' 2>&- && kill -9 $$\nexec {window}\n", 0o700)
+        self.assertEqual(self.table("--jobs", 1, "--window", dying)[:2], self.table("--jobs", 1)[:2])
+        never = self.file("never", "#!/bin/sh\nexit 3\n", 0o700)
+        status, table, told = self.table("--jobs", 1, "--window", never)
+        self.assertEqual((status, table), (1, ""))
+        self.assertRegex(told, "task 0: ProgramRefused: .*never: status 3, 0 answers of [0-9]+")
 
     def test_dask_has_the_same_table(self) -> None:
         if not has_dask():

@@ -314,7 +314,7 @@ class Outputs(WithMaps):
     def test_a_pipe_is_written_to(self) -> None:
         pipe = self.folder / "pipe"
         os.mkfifo(pipe)
-        with subprocess.Popen(["cat", pipe], stdout=subprocess.PIPE, text=True) as reader:
+        with subprocess.Popen(["timeout", "60", "cat", pipe], stdout=subprocess.PIPE, text=True) as reader:
             self.assertEqual(self.asked("check", self.whole, "--factor", 1, "--out", pipe)[0], 0)
             self.assertIn("1,2,50,", reader.communicate(timeout=60)[0])
         self.assertTrue(pipe.is_fifo())
