@@ -173,7 +173,7 @@ class Hand:
         if self.shared:
             work, given = partial(engines.done, self.work, self.folder), [some]
         else:
-            sent = [self.folder.task(number).read_bytes() for number in some]
+            sent = [self.folder.given(number) for number in some]
             work, given = partial(done_from_bytes, self.work), [some, sent]
         return list(self.client.map(work, *given, key=names, pure=False, retries=TRIES))
 
@@ -186,6 +186,6 @@ def _kept(folder: TaskFolder, number: int, status: str, came: Any) -> TaskFault 
             return TaskFault(number, "its worker died each time; is there memory enough?")
         return TaskFault(number, f"{type(fault).__name__}: {fault}")
     if isinstance(came, bytes):
-        tasks.put(folder.result(number), came)
+        folder.keep(number, came)
         return None
     return came

@@ -17,7 +17,8 @@ from typing import Any
 import asking
 import ending
 import limits
-from maps import dask_engine, engines, progress, spooled, tasks, windows, work
+import progress
+from maps import dask_engine, engines, spooled, tasks, windows, work
 from maps.dask_engine import DaskFault
 from maps.engines import Engine, TaskFault
 from maps.task_form import Found, Task
@@ -102,7 +103,7 @@ def found_of(stage: str, made: Iterable[Task], words: argparse.Namespace) -> Ite
         folder = tasks.begin(top / stage, asked_of(words), written(made))
         ends.callback(work.close_all)
         doing = ByProgram(words.program, words.window)
-        engines.run(engine_of(words, folder), doing, folder, progress.Progress(f"{words.question} {stage}", words.say))
+        engines.run(engine_of(words, folder), doing, folder, progress.OfTasks(f"{words.question} {stage}", words.say))
         by_window = 0
         for result in folder.results():
             found = Found.of_bytes(result)
