@@ -140,8 +140,19 @@ class Beside(WithLive):
                 made = self.checked(whole)
             left, under, right, over = made.frame()
             frame = [[(left, under), (right, under), (right, over), (left, over)]]
-            wanted = slabs.area([frame, *maps.rings[0]], lambda states: states[0] and not any(states[1:]))
-            self.assertEqual(sum(row.area for row in made.outside + made.gaps), wanted)
+            layers = [frame, *maps.rings[0]]
+            parts = slabs.connected(layers, lambda states: states[0] and not any(states[1:]))
+            self.assertEqual(sorted((row.area for row in made.outside + made.gaps), reverse=True), parts)
+            self.assertEqual(sum(parts), slabs.area(layers, lambda states: states[0] and not any(states[1:])))
+
+    def test_a_gap_that_touches_the_outside_in_points_is_told(self) -> None:
+        whole = WholeMap()
+        for x, y in ((0, 10), (10, 0), (20, 10), (10, 20)):  # which touch in the corners of the square between them
+            whole.add("square", [[(x, y), (x + 10, y), (x + 10, y + 10), (x, y + 10)]])
+        for points in (5, 1000):
+            with mock.patch.object(planning, "CELL_POINTS", points):
+                made = self.checked(whole)
+            self.assertEqual(([row.area for row in made.gaps], [row.area for row in made.outside]), ([100], [32 * 32 - 500]))
 
     def test_a_gap_is_found_with_its_hole(self) -> None:
         whole = WholeMap()
