@@ -24,7 +24,6 @@ A module for the tools and for web/; it is no tool of its own.
 import hashlib
 import json
 import math
-import os
 import pathlib
 import re
 from collections import Counter
@@ -36,6 +35,7 @@ from typing import Any
 import layering
 import limits
 from rounding import Polygon, Ring
+from writing import write_durably as write_durably
 
 ID = re.compile(r"[A-Za-z0-9_.-]{1,64}")
 ID_MAX = 2**53
@@ -316,25 +316,6 @@ def plain(value: Any, depth: int = 0) -> Any:
         return value
     near = float(value)
     return near if math.isfinite(near) else str(value)
-
-
-def write_durably(path: pathlib.Path, text: str) -> None:
-    """Writes a file beside, has it on the disk, and gives it its name: a stop leaves the old one or the new one."""
-    new = path.with_name(path.name + ".new")
-    try:
-        with new.open("wb") as file:
-            file.write(text.encode())
-            file.flush()
-            os.fsync(file.fileno())
-        new.replace(path)
-    except OSError:
-        new.unlink(missing_ok=True)
-        raise
-    folder = os.open(path.parent, os.O_RDONLY | os.O_DIRECTORY)
-    try:
-        os.fsync(folder)
-    finally:
-        os.close(folder)
 
 
 # ---- what a point is in

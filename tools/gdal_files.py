@@ -18,20 +18,22 @@ import limits
 import scale as scales
 import writing
 
-# By the end of a name: what the form is called.
+TABLE = "a table with a column of Well-Known Text"
+# By the end of a name: what the form is called, where it does not begin as one of MAGIC.
 FORMS = {
     ".gpkg": "a GeoPackage", ".shp": "a Shapefile", ".shz": "a Shapefile", ".fgb": "a FlatGeobuf", ".gml": "GML",
-    ".csv": "a table with a column of Well-Known Text", ".kml": "KML", ".kmz": "KML", ".gdb": "a file geodatabase",
+    ".csv": TABLE, ".kml": "KML", ".kmz": "KML", ".gdb": "a file geodatabase",
     ".tab": "a MapInfo file", ".mif": "a MapInfo file", ".sqlite": "a SpatiaLite store", ".zip": "an archive",
 }
+SQLITE = b"SQLite format 3\0"
 MAGIC = {
-    b"SQLite format 3\0": "a GeoPackage or SpatiaLite store", b"\0\0\x27\x0a": "a Shapefile", b"fgb": "a FlatGeobuf",
+    SQLITE: "a GeoPackage or SpatiaLite store", b"\0\0\x27\x0a": "a Shapefile", b"fgb": "a FlatGeobuf",
     b"PK\x03\x04": "an archive", b"<": "XML, as GML and KML are",
 }
 # How texts begin that need no GDAL, whatever the file is called.
 OWN = re.compile(rb"(?:\xef\xbb\xbf)?[\s\x1e]*"
                  rb"(?:\{|SRID=|[A-Z]*(?:POINT|LINESTRING|POLYGON|COLLECTION)[ A-Z]*\()", re.I)
-BEGIN = 256
+BEGIN = 4096
 WRITTEN = {".gpkg": "GPKG", ".fgb": "FlatGeobuf"}
 PACKAGE = "apt-get install gdal-bin"
 COLUMNS = "WKT,wkt,geom,geometry,the_geom,wkb_geometry"
@@ -45,11 +47,27 @@ class GdalFault(ValueError):
 
 
 def form_of(path: pathlib.Path, begin: bytes) -> str | None:
-    """What a file is, by its name or by how it begins, where GDAL is to read it; else None."""
+    """What a file is where GDAL is to read it, by how it begins, and by its name alone where that tells nothing; None of
+    GeoJSON and Well-Known Text."""
     if OWN.match(begin):
         return None
-    by_begin = (form for magic, form in MAGIC.items() if begin.startswith(magic))
-    return FORMS.get(path.suffix.lower()) or next(by_begin, None)
+    by_begin = next((form for magic, form in MAGIC.items() if begin.startswith(magic)), None)
+    return by_begin or (TABLE if is_table(begin) else FORMS.get(path.suffix.lower()))
+
+
+def is_table(begin: bytes) -> bool:
+    """Whether a text begins with a line of names, one of them that of a column of Well-Known Text."""
+    names = re.split("[,;\t]", begin.decode("utf-8-sig", "replace").splitlines()[0]) if begin.strip() else []
+    return len(names) > 1 and not {name.strip().strip('"') for name in names}.isdisjoint(COLUMNS.split(","))
+
+
+def opened_as(path: pathlib.Path) -> tuple[str, list[str]]:
+    """How GDAL is to open a file: by which name, and with which options."""
+    begin = begin_of(path)
+    if form_of(path, begin) != TABLE:
+        return source_of(path), []
+    prefix = "" if path.suffix.lower() == ".csv" else "CSV:"
+    return prefix + source_of(path), [f"GEOM_POSSIBLE_NAMES={COLUMNS}", "KEEP_GEOM_COLUMNS=NO"]
 
 
 def begin_of(path: pathlib.Path) -> bytes:
@@ -89,7 +107,7 @@ def layers_of(path: pathlib.Path) -> list[str]:
     ogrinfo = shutil.which("ogrinfo")
     if not ogrinfo:
         raise missing("this file", f"ogrinfo {path}")
-    lines = ran([ogrinfo, "-q", "-ro", source_of(path)]).decode("utf-8", "replace").splitlines()
+    lines = ran([ogrinfo, "-q", "-ro", opened_as(path)[0]]).decode("utf-8", "replace").splitlines()
     found = [re.fullmatch(r"[0-9]+: (.*?)( \(([^()]*)\))?", line) for line in lines]
     return [match[1] for match in found if match and match[3] != "None"]
 
@@ -112,10 +130,10 @@ def as_geojson(path: pathlib.Path, layer: str | None = None) -> str:
     if not ogr2ogr:
         raise missing(form_of(path, begin_of(path)) or "this file", f"ogr2ogr -f GeoJSON {path.stem}.geojson {path}")
     words = [ogr2ogr, "-f", "GeoJSON", "-lco", "SIGNIFICANT_FIGURES=17", "-nlt", "CONVERT_TO_LINEAR"]
-    words += ["-preserve_fid"] if path.suffix.lower() in (".gpkg", ".sqlite") else []
-    if path.suffix.lower() == ".csv":
-        words += ["-oo", f"GEOM_POSSIBLE_NAMES={COLUMNS}", "-oo", "KEEP_GEOM_COLUMNS=NO"]
-    value = json.loads(ran([*words, "/vsistdout/", source_of(path), layer_of(path, layer)]))
+    words += ["-preserve_fid"] if begin_of(path).startswith(SQLITE) else []
+    name, options = opened_as(path)
+    words += [word for option in options for word in ("-oo", option)]
+    value = json.loads(ran([*words, "/vsistdout/", name, layer_of(path, layer)]))
     if "crs" not in value and (name := coordinates_of(path)):
         value["crs"] = {"type": "name", "properties": {"name": name}}
     return json.dumps(value)
@@ -124,7 +142,7 @@ def as_geojson(path: pathlib.Path, layer: str | None = None) -> str:
 def coordinates_of(path: pathlib.Path) -> str | None:
     """The name of a file's coordinate system where ogr2ogr leaves it out: of degrees, and where it has no number."""
     program = shutil.which("gdalsrsinfo")
-    if not program or path.suffix.lower() == ".csv":
+    if not program or form_of(path, begin_of(path)) == TABLE:
         return None
     try:
         found = re.search(r"EPSG:[1-9][0-9]*", ran([program, "-o", "epsg", source_of(path)]).decode())

@@ -89,7 +89,7 @@ class Source:
     def of_geojson(self, value: Any, label: str, wish: str | None, feature: str) -> list[Shape]:
         """All shapes in a GeoJSON value, collections taken apart."""
         if not isinstance(value, dict):
-            return [self.shape(label, wish, "no GeoJSON object", None, feature)]
+            return [self.shape(label, wish, "no GeoJSON object", None, feature or label)]
         kind = value.get("type")
         if kind == "Feature":
             return self.of_feature(value, label, wish)
@@ -98,6 +98,8 @@ class Source:
             members = value.get(key) or []
             if not isinstance(members, list):
                 return self.none(label, f'"{key}" that are no list')
+            if kind == "GeometryCollection" and not members:
+                return [self.shape(label, wish, "GEOMETRYCOLLECTION EMPTY", None, feature or label)]
             return [shape for number, member in enumerate(members, 1)
                     for shape in self.of_geojson(member, f"{label}, {called} {number}", wish, feature)]
         return [self.shape(label, wish, str(kind).upper(), value.get("coordinates"), feature or label)]
@@ -119,14 +121,14 @@ class Source:
         return self.of_geojson(value["geometry"], called, wish, called)
 
     def of_wkt(self, label: str, kind: str, coordinates: Any, feature: str) -> list[Shape]:
-        if kind == "GEOMETRYCOLLECTION":
+        if kind == "GEOMETRYCOLLECTION" and coordinates:
             return [shape for number, (own, inner) in enumerate(coordinates, 1)
                     for shape in self.of_wkt(f"{label}, member {number}", own, inner, feature)]
         return [self.shape(label, None, kind, coordinates, feature)]
 
     def read(self, text: str) -> tuple[list[Shape], str | None]:
         """All shapes of a text, and the name of its coordinates; GeoJSON where it begins as an object."""
-        if text.lstrip(BEFORE).startswith("{"):
+        if is_geojson(text):
             value = object_of(text)
             label = f"{self.name}, feature 1" if value.get("type") == "Feature" else self.name
             return self.of_geojson(value, label, None, ""), crs_of(value)
@@ -136,6 +138,11 @@ class Source:
                     for number, (kind, coordinates) in enumerate(texts, 1))
         return [shape for label, kind, coordinates in labelled
                 for shape in self.of_wkt(label, kind, coordinates, label)], None
+
+
+def is_geojson(text: str) -> bool:
+    """Whether a text is to be read as GeoJSON, and not as Well-Known Text."""
+    return text.lstrip(BEFORE).startswith("{")
 
 
 def object_of(text: str) -> Any:
@@ -194,6 +201,8 @@ def positions_of(shape: Shape) -> Iterator[tuple[Fraction, Fraction]]:
 
 def content(name: str, layer: str | None = None) -> bytes:
     """The GeoJSON or Well-Known Text of a file, or of standard input for -. Of other forms a layer may be named."""
+    if not name:
+        raise gdal_files.GdalFault("a name without a letter is no file's")
     path = pathlib.Path(name)
     given = sys.stdin.buffer.read() if name == "-" else None
     form = gdal_files.form_of(path, gdal_files.begin_of(path) if given is None else given)

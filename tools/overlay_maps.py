@@ -29,7 +29,6 @@ from collections.abc import Callable
 from fractions import Fraction
 from typing import TextIO
 
-import asking
 import ending
 import scale as scales
 from maps import doing, map_checks, overlays, questions, running, work
@@ -71,7 +70,6 @@ def add_map_words(parser: argparse.ArgumentParser, two: bool) -> None:
     parser.add_argument("--bend", action="store_true", help="bend edges of more than 524288 units at whole points")
     parser.add_argument("--out", metavar="FILE.csv", help="the table (default: standard output)")
     parser.add_argument("--exact", action="store_true", help="a column with the area as a fraction more")
-    parser.add_argument("--program", metavar="PATH", help="overlay_live (default: as the other tools find it)")
     doing.add_words(parser)
 
 
@@ -95,7 +93,7 @@ def main(arguments: list[str], output: TextIO | None = None, errors: TextIO | No
     words.say = say
     try:
         running.check_outputs(words)
-        words.program = words.program or asking.found_program((asking.LIVE,))
+        doing.find_programs(words)
         with work.without_collector():
             return ASKED[words.question](words, target, say)
     except TasksLeft as left:

@@ -20,7 +20,7 @@ from testing.common import Programs
 
 MODULES = (
     "helps", "endings", "scales", "scripts", "layouts", "replies", "rings", "pictures", "overlays", "stores",
-    "maps", "feature_files", "first_maps", "map_steps", "map_words", "numpy_forms", "map_tasks", "gdal_maps", "pages",
+    "maps", "feature_files", "first_maps", "map_steps", "map_words", "numpy_forms", "map_tasks", "gdal_maps", "pages", "example_maps",
     "corners", "sidecars", "inputs", "forms", "progresses",
 )
 

@@ -8,15 +8,28 @@ import contextlib
 import os
 import pathlib
 import shutil
-from collections.abc import Iterator
+import threading
+import uuid
+from collections.abc import Iterator, Mapping
 from typing import TextIO
 
 import limits
 
+OWN = uuid.uuid4().hex  # of this process, among those of all machines that write in a folder
 
-def beside(path: pathlib.Path) -> pathlib.Path:
-    """Where a file is written first."""
-    return path.with_name(f".{path.name}.{os.getpid()}.new")
+
+def beside(path: pathlib.Path, end: str = "") -> pathlib.Path:
+    """Where a file is written first: the same name each time that this thread asks, and nobody else's."""
+    return path.with_name(f".{path.name}.{OWN}.{os.getpid()}.{threading.get_ident()}.new{end}")
+
+
+def take_places(written: Mapping[pathlib.Path, pathlib.Path]) -> None:
+    """Has files take the places of others, each with the rights of the one that stood there."""
+    for new, target in written.items():
+        if target.exists():
+            shutil.copymode(target, new)
+    for new, target in written.items():
+        new.replace(target)
 
 
 def write_all(texts: dict[pathlib.Path, bytes]) -> None:
@@ -25,11 +38,11 @@ def write_all(texts: dict[pathlib.Path, bytes]) -> None:
     plain = [path for path, target in targets.items() if not target.exists() or target.is_file()]
     try:
         for path in plain:
-            written(targets[path], texts[path])
+            write_new(beside(targets[path]), texts[path])
         for path in texts.keys() - set(plain):
             path.write_bytes(texts[path])
         for path in plain:
-            beside(targets[path]).replace(targets[path])
+            take_places({beside(targets[path]): targets[path]})
     except OSError as fault:
         raise OSError(fault.errno, fault.strerror, str(path)) from fault
     finally:
@@ -37,15 +50,12 @@ def write_all(texts: dict[pathlib.Path, bytes]) -> None:
             beside(targets[path]).unlink(missing_ok=True)
 
 
-def written(target: pathlib.Path, data: bytes) -> None:
-    """Writes the file beside its place, for those who may use the one that stands there."""
-    new = beside(target)
+def write_new(new: pathlib.Path, data: bytes) -> None:
+    """Writes a file, and has it on the disk."""
     with new.open("wb") as file:
         file.write(data)
         file.flush()
         os.fsync(file.fileno())
-    if target.exists():
-        shutil.copymode(target, new)
 
 
 @contextlib.contextmanager
@@ -57,16 +67,25 @@ def whole(path: pathlib.Path) -> Iterator[TextIO]:
             yield file
         return
     target = path.resolve()
+    new = beside(target)
     try:
-        with beside(target).open("w", encoding="utf-8", newline="") as file:
+        with new.open("w", encoding="utf-8", newline="") as file:
             yield file
             file.flush()
             os.fsync(file.fileno())
-        if target.exists():
-            shutil.copymode(target, beside(target))
-        beside(target).replace(target)
+        take_places({new: target})
     finally:
-        beside(target).unlink(missing_ok=True)
+        new.unlink(missing_ok=True)
+
+
+def write_durably(path: pathlib.Path, text: str) -> None:
+    """Writes a file whole, and has its name on the disk: a stop leaves the old one or the new one."""
+    write_all({path: text.encode()})
+    folder = os.open(path.resolve().parent, os.O_RDONLY | os.O_DIRECTORY)
+    try:
+        os.fsync(folder)
+    finally:
+        os.close(folder)
 
 
 if __name__ == "__main__":

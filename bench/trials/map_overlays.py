@@ -1,12 +1,13 @@
 #!/usr/bin/env python3
-"""Overlays random maps by the steps of tools/overlay_maps.py, and judges each answer by slabs of fractions.
+"""Overlays random maps by the steps of tools/overlay_maps.py, judges each answer by slabs of fractions, and plants faults.
 
-    python3 bench/trials/map_overlays.py LIVE [--answers N] [--seed S] [--numpy]
+    python3 bench/trials/map_overlays.py LIVE [--answers N] [--seed S] [--numpy] [--window PATH]
 
 Rings cross themselves and each other, or features have common borders with corners that a neighbour lacks, and holes;
-cells are of 7 units up, slots of 60 steps up. Asked are common parts, what a feature has alone, and the sum of gaps. By
---numpy features are drawn in by numpy (python3-numpy, /usr/bin/python3), else in whole numbers of Python. Status 1: an
-answer is wrong.
+cells are of 7 units up, slots of 60 steps up. Asked are common parts, what a feature has alone, and gaps. Before that
+six faults are planted in the steps, each of which has to be found in the same way. By
+--numpy features are drawn in by numpy (python3-numpy, /usr/bin/python3), by --window by overlay_window, else in whole
+numbers of Python. Status 1: an answer is wrong, or a fault is not found.
 """
 
 import argparse
@@ -14,36 +15,54 @@ import collections
 import pathlib
 import random
 import sys
+import unittest
 from collections.abc import Callable
 from fractions import Fraction
 
 sys.path.insert(0, str(pathlib.Path(__file__).resolve().parents[2] / "tools"))
 
-from maps import jobs, map_checks, rounds  # noqa: E402
+from maps import jobs, map_checks, quickest, rounds  # noqa: E402
+from maps.drawing_in import Plain  # noqa: E402
 from maps.task_form import ALONE, COMMON  # noqa: E402
-from testing import slabs  # noqa: E402
+from maps.windows import ByWindows  # noqa: E402
+from testing import map_steps, slabs  # noqa: E402
+from testing.common import Programs  # noqa: E402
 from testing.random_maps import divided_maps, random_maps, wrong_answers  # noqa: E402
 
 Counts = dict[str, list[int]]  # by what is asked: how many answers were looked at, and how many are wrong
 
 
-def wrong_gaps(program: rounds.Program, source: random.Random, drawing: jobs.Drawing) -> tuple[int, int]:
-    """Whether gaps and what is outside of a map have the area that slabs find."""
+def planted(live: str) -> int:
+    """How many of the faults that tools/testing/map_steps.py plants in the steps are not found; each is told."""
+    Programs.live = live
+    names = unittest.defaultTestLoader.getTestCaseNames(map_steps.Planted)
+    missed = 0
+    for name in names:
+        result = unittest.TestResult()
+        map_steps.Planted(name).run(result)
+        missed += not result.wasSuccessful() or bool(result.skipped)
+        print(f"{name.removeprefix('test_').replace('_', ' ')}: {'found' if result.wasSuccessful() else 'NOT found'}")
+    return missed if names else 1
+
+
+def wrong_gaps(program: rounds.Program, source: random.Random, drawing: Plain) -> tuple[int, int]:
+    """Whether gaps and what is outside of a map are those that slabs find, each with its area."""
     maps = source.choice([random_maps, divided_maps])(source, 6, source.choice([12, 40]))
     made = map_checks.Check(maps.wholes[0], Fraction(1))
     collections.deque(made.take(jobs.run(task, program, drawing) for task in made.tasks(True, False)), maxlen=0)
     left, under, right, over = made.frame()
     frame = [[(left, under), (right, under), (right, over), (left, over)]]
-    wanted = slabs.area([frame, *maps.rings[0]], lambda states: states[0] and not any(states[1:]))
-    return 1, int(sum((row.area for row in (*made.gaps, *made.outside)), Fraction(0)) != wanted)
+    wanted = slabs.connected([frame, *maps.rings[0]], lambda states: states[0] and not any(states[1:]))
+    found = sorted((row.area for row in (*made.gaps, *made.outside)), reverse=True)
+    return len(wanted), 0 if found == wanted else max(1, abs(len(wanted) - len(found)))
 
 
-def tried(program: rounds.Program, answers: int, seed: int, drawing: jobs.Drawing) -> Counts:
+def tried(program: rounds.Program, answers: int, seed: int, drawing: Plain) -> Counts:
     """Answers about random maps, until there are so many."""
     asked: dict[str, Callable[[random.Random], tuple[int, int]]] = {
         "common parts": lambda source: wrong_answers(program, source, COMMON, drawing, 12),
         "parts alone": lambda source: wrong_answers(program, source, ALONE, drawing, 12),
-        "sums of gaps": lambda source: wrong_gaps(program, source, drawing)}
+        "gaps": lambda source: wrong_gaps(program, source, drawing)}
     counts: Counts = {name: [0, 0] for name in asked}
     while sum(looked for looked, _ in counts.values()) < answers:
         for name, ask in asked.items():
@@ -61,16 +80,20 @@ def main(arguments: list[str]) -> int:
     parser.add_argument("program", metavar="LIVE", help="the built overlay_live")
     parser.add_argument("--answers", type=int, default=10_000, help="so many at least (default: %(default)s)")
     parser.add_argument("--seed", type=int, default=1)
+    parser.add_argument("--window", metavar="PATH", help="draw in by overlay_window")
     parser.add_argument("--numpy", action="store_true", help="draw in by numpy")
     words = parser.parse_args(arguments)
-    drawing = jobs.plain_drawing
-    if words.numpy:
-        from maps.numpy_drawing import drawing
+    drawing = Plain()
+    if words.window:
+        drawing = quickest.ByWindows(words.window) if words.numpy else ByWindows(words.window)
+    elif words.numpy:
+        drawing = quickest.ByNumpy()
+    missed = planted(words.program)
     with rounds.Program(words.program) as program:
         counts = tried(program, words.answers, words.seed, drawing)
     for name, (looked, wrong) in counts.items():
         print(f"{name}: {looked} answers, {wrong} wrong")
-    return int(any(wrong for _, wrong in counts.values()))
+    return int(missed > 0 or any(wrong for _, wrong in counts.values()))
 
 
 if __name__ == "__main__":

@@ -89,13 +89,21 @@ def counter_clockwise(loop: Loop) -> Outline:
     return outline if outline.top > 0 else outline.turned()
 
 
-def touching(pieces: list[Piece]) -> list[Outline]:
-    """The rings of a part with nodes of more than two pieces."""
+def touching(pieces: list[Piece], inside_out: bool = False) -> list[Outline]:
+    """The rings of a part with nodes of more than two pieces, where what is on their left is parted."""
     try:
-        loops = to_rings.loops_of(pieces)
+        loops = to_rings.loops_of(pieces, inside_out)
     except (IndexError, ValueError) as fault:
         raise Unusable("the pieces cross or lie on each other") from fault
     return [Outline(loop, *twice_area(loop)) for loop in loops]
+
+
+def inside_out(part: list[Outline]) -> list[Outline]:
+    """The rings of a part with what lies outside of it on their left. Where that touches itself it is parted, so these
+    are not always the same rings: a place that a part encloses but for a point is one of its own."""
+    if len(part) == 1:
+        return [part[0].turned()]
+    return touching([piece for outline in part for piece in pieces_of(outline.loop)], True)
 
 
 def box_of(loop: Loop) -> Box:
@@ -157,7 +165,7 @@ def righted(parts: list[list[Outline]]) -> list[Outline]:
     depth = [0] * len(parts)
     for h, o in held_by(outlines, [part[0] for part in parts]):
         depth[h] += part_of[o] != h
-    return [outline.turned() if depth[number] % 2 else outline for number, outline in zip(part_of, outlines)]
+    return [outline for part, deep in zip(parts, depth) for outline in (inside_out(part) if deep % 2 else part)]
 
 
 def outlines_of(pieces: Sequence[Piece]) -> list[Outline]:

@@ -3,19 +3,20 @@
 A cell that no edge meets has one answer, which is told without the program: nothing, or the whole cell.
 """
 
-from collections.abc import Iterator
+from collections.abc import Iterable, Iterator
 from dataclasses import dataclass
 from fractions import Fraction
 
 import limits
 from maps import box_pairs
-from maps.drawing_in import Drawn, drawn, is_inside
+from maps.drawing_in import Drawn, Plain, Wanted, is_inside
 from maps.slots import CORE_MAX, Laid, ring_of, steps_of
 from maps.task_form import ALONE, COMMON, GAPS
 from maps.whole_maps import NOWHERE, Box, Ring
 from sessions import Piece
 
 MANY = 100  # of more boxes the pairs are found by grids
+HALVES_AT_ONCE = 4096
 LAYERS_OF_JOB = limits.LAYERS_MAX // 2 - 2  # two sets of layers, each with the cores and the definition
 
 
@@ -130,39 +131,57 @@ def fits(near: Drawn, layers: list[list[Ring]]) -> bool:
             and all(steps_of(rings) <= limits.STEPS_MAX for rings in layers))
 
 
-def halves_of(kind: str, near: Drawn) -> list[Drawn]:
-    """Both halves of a core with what is near them."""
+def halves_of(kind: str, near: Drawn) -> list[Wanted]:
+    """Both halves of a core, each with the features that may be near it."""
     features = [rings for number, rings in enumerate(near.features) if rings or number == 0 or kind == COMMON]
-    halves = halved(near.core)
+    return [Wanted(half, features) for half in halves_or_none(near.core)]
+
+
+def halves_or_none(core: Box) -> list[Box]:
+    halves = halved(core)
     if not halves:
-        raise TooDense(near.core)
-    return [drawn(half, features) for half in halves]
+        raise TooDense(core)
+    return halves
 
 
-def parted(kind: str, job: int, near: Drawn) -> Iterator[Laid | Cell]:
-    """What has to be asked of a job, and what is known: laid out for slots, or cells that lie in the answer."""
-    yield from parted_from(kind, job, [(near, kind == GAPS)])
+class Parting:
+    """Jobs as they are asked: laid out for slots, whole or in cells, and cells that lie in the answer as a whole.
 
+    What is too large for a slot waits until many halves can be drawn in at once."""
 
-def parted_again(kind: str, laid: Laid) -> Iterator[Laid | Cell]:
-    """The halves of what was laid out, where the program has no room for its boundary."""
-    halves = halved(laid.core)
-    if not halves:
-        raise TooDense(laid.core)
-    yield from parted_from(kind, laid.job, [(drawn(half, laid.layers), True) for half in halves])
+    def __init__(self, kind: str, drawing: Plain) -> None:
+        self.kind, self.drawing = kind, drawing
+        self._waiting: list[tuple[int, Wanted]] = []
 
+    def jobs(self, near: Iterable[tuple[int, Drawn]]) -> Iterator[Laid | Cell]:
+        """Jobs that are drawn in, by their numbers."""
+        for job, one in near:
+            yield from self._parts(job, one, self.kind == GAPS)
+            if len(self._waiting) >= HALVES_AT_ONCE:
+                yield from self._halved()
+        yield from self._halved()
 
-def parted_from(kind: str, job: int, stack: list[tuple[Drawn, bool]]) -> Iterator[Laid | Cell]:
-    while stack:
-        near, is_cut = stack.pop()
-        layers = layers_of(kind, near)
+    def again(self, laid: Laid) -> Iterator[Laid | Cell]:
+        """The halves of what was laid out, where the program has no room for its boundary."""
+        self._waiting += [(laid.job, Wanted(half, laid.layers)) for half in halves_or_none(laid.core)]
+        yield from self._halved()
+
+    def _parts(self, job: int, near: Drawn, is_cut: bool) -> Iterator[Laid | Cell]:
+        layers = layers_of(self.kind, near)
         if near.is_plain:
-            if has_answer(kind, near):
+            if has_answer(self.kind, near):
                 yield Cell(job, near.core)
         elif layers and fits(near, layers):
             yield Laid(job, near.core, near.frame, layers, is_cut)
         elif layers:
-            stack += [(half, True) for half in halves_of(kind, near)[::-1]]
+            self._waiting += [(job, half) for half in halves_of(self.kind, near)]
+
+    def _halved(self) -> Iterator[Laid | Cell]:
+        """What comes of all that waits, the last first."""
+        while self._waiting:
+            some, self._waiting = self._waiting[-HALVES_AT_ONCE:], self._waiting[:-HALVES_AT_ONCE]
+            for (job, _), near in zip(some, self.drawing.of_boxes([wanted for _, wanted in some]), strict=True):
+                yield from self._parts(job, near, True)
 
 
 if __name__ == "__main__":

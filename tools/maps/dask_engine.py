@@ -20,7 +20,7 @@ from itertools import islice
 from typing import Any
 from urllib.parse import urlsplit
 
-from maps import engines, tasks
+from maps import engines, rounds, tasks
 from maps.engines import TRIES, Engine, TaskFault
 from maps.tasks import TaskFolder, Work
 
@@ -98,11 +98,11 @@ def is_open_to_all(address: str) -> bool:
 def packed(folder: pathlib.Path) -> pathlib.Path:
     """The modules that a task needs, as one file that workers import."""
     made = folder / "overlay_maps_modules.zip"
-    sources = [*TOOLS.glob("*.py"), *(TOOLS / "maps").glob("*.py")]
+    sources = [*TOOLS.glob("*.py"), *(TOOLS / "maps").glob("*.py"), rounds.WEB / "overlay_client.py"]
     with zipfile.ZipFile(made, "w") as file:
         for source in sources:
             if source.name != "tests.py":
-                file.write(source, source.relative_to(TOOLS))
+                file.write(source, source.relative_to(TOOLS) if TOOLS in source.parents else source.name)
     return made
 
 
@@ -173,7 +173,7 @@ class Hand:
         if self.shared:
             work, given = partial(engines.done, self.work, self.folder), [some]
         else:
-            sent = [self.folder.task(number).read_bytes() for number in some]
+            sent = [self.folder.given(number) for number in some]
             work, given = partial(done_from_bytes, self.work), [some, sent]
         return list(self.client.map(work, *given, key=names, pure=False, retries=TRIES))
 
@@ -186,6 +186,6 @@ def _kept(folder: TaskFolder, number: int, status: str, came: Any) -> TaskFault 
             return TaskFault(number, "its worker died each time; is there memory enough?")
         return TaskFault(number, f"{type(fault).__name__}: {fault}")
     if isinstance(came, bytes):
-        tasks.put(folder.result(number), came)
+        folder.keep(number, came)
         return None
     return came

@@ -3,6 +3,7 @@
     --jobs N        N processes of this machine; 0 only writes the tasks, which `overlay_maps.py task FOLDER N..` does
     --dask [AT]     workers of Dask
     --work FOLDER   tasks and results stay there, and the same call goes on with them
+    --window PATH   overlay_window, which draws features in; --no-window has Python do it
 """
 
 import argparse
@@ -13,20 +14,23 @@ import tempfile
 from collections.abc import Iterable, Iterator
 from typing import Any
 
+import asking
 import ending
 import limits
-from maps import dask_engine, engines, progress, spooled, tasks, work
+import progress
+from maps import dask_engine, engines, spooled, tasks, windows, work
 from maps.dask_engine import DaskFault
 from maps.engines import Engine, TaskFault
 from maps.task_form import Found, Task
 from maps.tasks import FolderFault, TaskFolder
 from maps.whole_maps import MapFault
+from maps.windows import ByWindows
 from maps.work import ByProgram
 from sessions import Unusable
 
 INPUTS = ("first", "second")  # the words that name maps
 # What no task knows of.
-ELSEWHERE = ("jobs", "dask", "work", "program", "out", "exact", "a_id", "b_id", "stage", "say")
+ELSEWHERE = ("jobs", "dask", "work", "program", "window", "no_window", "out", "exact", "a_id", "b_id", "stage", "say")
 RELEASED_AFTER = 100  # tasks
 OUTPUTS = ("pieces", "gaps")  # of these tasks know whether they are wanted
 
@@ -39,6 +43,27 @@ def add_words(parser: argparse.ArgumentParser) -> None:
                         help="workers of Dask: of the scheduler there, or of this machine where none is named")
     parser.add_argument("--work", type=pathlib.Path, metavar="FOLDER",
                         help="keeps tasks and results there; the same call goes on with them")
+    add_program_words(parser)
+
+
+def add_program_words(parser: argparse.ArgumentParser) -> None:
+    """The words of the programs that are asked."""
+    parser.add_argument("--program", metavar="PATH", help="overlay_live (default: as the other tools find it)")
+    which = parser.add_mutually_exclusive_group()
+    which.add_argument("--window", metavar="PATH", help="overlay_window, which draws features in, proved (default: the "
+                       "one beside the program, or as the other tools find theirs)")
+    which.add_argument("--no-window", action="store_true", help="Python draws features in, which is tested")
+
+
+def find_programs(words: argparse.Namespace) -> None:
+    """Has the words name both programs by paths; window is None where Python is to draw in."""
+    words.program = os.path.abspath(words.program or asking.found_program((asking.LIVE,)))
+    if words.window is None and not words.no_window:
+        words.window = windows.found(words.program)
+    if words.window is not None:
+        if not os.access(words.window, os.X_OK) or not os.path.isfile(words.window):
+            raise MapFault(f"--window {words.window}: no program; leave the word out, or say --no-window")
+        words.window = os.path.abspath(words.window)
 
 
 def number_of_jobs(text: str) -> int:
@@ -54,14 +79,14 @@ def add_task_words(parser: argparse.ArgumentParser) -> None:
     """The words of `task`."""
     parser.add_argument("folder", type=pathlib.Path, metavar="FOLDER", help="one of a question's folders within --work")
     parser.add_argument("numbers", type=int, nargs="+", metavar="N", help="the numbers of tasks, from 0")
-    parser.add_argument("--program", metavar="PATH", help="overlay_live (default: as the other tools find it)")
+    add_program_words(parser)
 
 
 def do_tasks(words: argparse.Namespace, *_: object) -> int:
     """Does the tasks of a folder that are named: for xargs, GNU parallel, Slurm, or by hand."""
     with told_faults(words.folder):
         try:
-            tasks.do_numbers(ByProgram(words.program), words.folder, words.numbers)
+            tasks.do_numbers(ByProgram(words.program, words.window), words.folder, words.numbers)
         finally:
             work.close_all()
     return 0
@@ -77,10 +102,20 @@ def found_of(stage: str, made: Iterable[Task], words: argparse.Namespace) -> Ite
         ends.enter_context(tasks.held(top / stage))
         folder = tasks.begin(top / stage, asked_of(words), written(made))
         ends.callback(work.close_all)
-        doing = ByProgram(os.path.abspath(words.program))
-        engines.run(engine_of(words, folder), doing, folder, progress.Progress(f"{words.question} {stage}", words.say))
+        doing = ByProgram(words.program, words.window)
+        engines.run(engine_of(words, folder), doing, folder, progress.OfTasks(f"{words.question} {stage}", words.say))
+        by_window = 0
         for result in folder.results():
-            yield Found.of_bytes(result)
+            found = Found.of_bytes(result)
+            by_window += found.drawn == ByWindows.told
+            yield found
+        words.say(f"{words.question} {stage}: {drawn_told(by_window, folder.count())}")
+
+
+def drawn_told(by_window: int, count: int) -> str:
+    """By what features were drawn in, so that it is known what the table stands on."""
+    others = "" if by_window == count else "; Python drew them in otherwise, which is tested and not proved"
+    return f"features drawn in by overlay_window in {by_window} of {count} tasks{others}"
 
 
 def written(made: Iterable[Task]) -> Iterator[bytes]:

@@ -16,9 +16,17 @@ from collections.abc import Iterator, Sequence
 from typing import NamedTuple
 
 import limits
+from maps.task_form import GAPS, Task
 from maps.whole_maps import Box, Point, Ring
 
 LEFT, RIGHT, UNDER, OVER = 1, 2, 4, 8
+
+
+class Wanted(NamedTuple):
+    """Features that are to be drawn in round a core, each a list of rings."""
+
+    core: Box
+    features: Sequence[list[Ring]]
 
 
 class Drawn(NamedTuple):
@@ -82,6 +90,38 @@ def drawn(core: Box, features: Sequence[Sequence[Ring]]) -> Drawn:
     frame = grown(core, ends)
     whole = [[clamped(ring, frame) for ring, _ in rings if len(ring) > 1] for rings in near]
     return Drawn(core, frame, [[ring for ring in rings if ring] for rings in whole], not ends)
+
+
+def framed(wanted: Wanted) -> tuple[Box, bool]:
+    """The frame round a core for some features, and whether none of their edges meets the core: found without drawing
+    in, which leaves the edges that may meet it as they are."""
+    ends: list[Point] = []
+    for ring in (ring for rings in wanted.features for ring in rings):
+        ends += met(ring, [off(*point, wanted.core) for point in ring])
+    return grown(wanted.core, ends), not ends
+
+
+class Plain:
+    """Draws in by this module alone; numpy_drawing.py and windows.py have other forms, with the same answers."""
+
+    told = "by Python"
+
+    def of_task(self, task: Task, jobs: range) -> Iterator[Drawn]:
+        """Jobs of a task drawn in, in their order: of each the own feature, where it has one, then the others."""
+        for wanted in wanted_of(task, jobs):
+            yield drawn(*wanted)
+
+    def of_boxes(self, wanted: Sequence[Wanted]) -> Iterator[Drawn]:
+        """Parts of jobs, in their order."""
+        for one in wanted:
+            yield drawn(*one)
+
+
+def wanted_of(task: Task, jobs: range) -> Iterator[Wanted]:
+    """What of a task's jobs is to be drawn in."""
+    for job in jobs:
+        own = [] if task.kind == GAPS else [task.own_map.rings(task.own[job])]
+        yield Wanted(task.core(job), own + [task.other_map.rings(other) for other in task.others_of(job)])
 
 
 def is_inside(rings: Sequence[Ring], x: int, y: int) -> bool:

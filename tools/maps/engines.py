@@ -12,8 +12,9 @@ import signal
 from collections.abc import Callable, Generator, Iterable, Iterator
 from concurrent.futures.process import BrokenProcessPool
 
-from maps import deaths, progress, tasks
-from maps.tasks import TaskFolder, Work
+import progress
+from maps import deaths, tasks
+from maps.tasks import FolderFault, TaskFolder, Work
 
 Engine = Callable[[Work, TaskFolder, Iterable[int]], Iterator[int]]
 
@@ -40,6 +41,8 @@ def done(work: Work, folder: TaskFolder, number: int) -> TaskFault | None:
     """Does a task, and gives why it could not be done; a value, as not every exception goes from process to process."""
     try:
         tasks.do(work, folder, number)
+    except FolderFault as fault:
+        return TaskFault(number, str(fault))
     except Exception as fault:
         return TaskFault(number, f"{type(fault).__name__}: {fault}")
     return None
@@ -124,7 +127,7 @@ def begin_worker(parent: int) -> None:
     deaths.end_with(parent)
 
 
-def run(engine: Engine, work: Work, folder: TaskFolder, told: progress.Progress) -> None:
+def run(engine: Engine, work: Work, folder: TaskFolder, told: progress.OfTasks) -> None:
     """Does all tasks of a folder that have no result yet."""
     left = folder.left()
     told.begin(folder.count(), len(left))

@@ -57,14 +57,26 @@ def twice_area(ring: Sequence[Corner]) -> Term:
     return total((top, bottom) for bottom, top in terms.items())
 
 
-def length(ring: Sequence[Corner]) -> float:
-    """The length of a ring, as a double."""
-    found = 0.0
-    ax, ay, aw = ring[-1]
-    for bx, by, bw in ring:
-        found += math.hypot(bx * aw - ax * bw, by * aw - ay * bw) / (aw * bw)
-        ax, ay, aw = bx, by, bw
-    return found
+def length(rings: Iterable[Sequence[Corner]]) -> float:
+    """The length of rings, as a double: the same one wherever they begin and are cut along their edges."""
+    return math.fsum([step for ring in rings for step in lengths(ring)])
+
+
+def lengths(ring: Sequence[Corner]) -> list[float]:
+    """The lengths of a ring's edges, each from one of its turns to the next."""
+    steps = [direction(a, b) for a, b in zip(ring, (*ring[1:], ring[0]))]
+    turns = [corner for (u, v), (s, t), corner in zip((steps[-1], *steps), steps, ring) if u * t != v * s]
+    return [distance(a, b) for a, b in zip(turns, (*turns[1:], *turns[:1]))]
+
+
+def direction(a: Corner, b: Corner) -> tuple[int, int]:
+    """Numbers in the proportion of the steps from one corner to another along both axes."""
+    (ax, ay, aw), (bx, by, bw) = a, b
+    return bx * aw - ax * bw, by * aw - ay * bw
+
+
+def distance(a: Corner, b: Corner) -> float:
+    return math.hypot(*direction(a, b)) / (a[2] * b[2])
 
 
 if __name__ == "__main__":

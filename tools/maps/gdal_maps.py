@@ -4,12 +4,15 @@ It needs Debian's python3-gdal and python3-numpy. Geometry goes as Well-Known Bi
 into one array, so no feature costs more than its way through GDAL.
 """
 
+import pathlib
 import struct
 from collections.abc import Iterable, Iterator
 from dataclasses import dataclass, field
 from fractions import Fraction
 from typing import Any
 
+import ending
+import gdal_files
 import limits
 from maps.spooled import Gathered, Spool
 from maps.whole_maps import MapFault, ReadMap, Told
@@ -107,7 +110,10 @@ class Source:
     def __post_init__(self) -> None:
         self.gdal, self.ogr, self.numpy = modules(self.path)
         try:
-            self.file = self.gdal.OpenEx(self.path, self.gdal.OF_VECTOR)
+            name, options = gdal_files.opened_as(pathlib.Path(self.path))
+            self.file = self.gdal.OpenEx(name, self.gdal.OF_VECTOR, open_options=options)
+        except OSError as fault:
+            raise MapFault(ending.told(self.path, fault)) from fault
         except RuntimeError as fault:
             raise MapFault(f"{self.path}: {fault}") from None
         self.table = self._table()

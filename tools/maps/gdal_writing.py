@@ -4,9 +4,7 @@ Of more than PART_MAX pieces, pieces.gpkg becomes pieces-001.gpkg, pieces-002.gp
 names them with their extents: QGIS and GDAL open that as one layer, and look into no part that is elsewhere. """
 
 import contextlib
-import os
 import re
-import shutil
 import sys
 import traceback
 from collections.abc import Iterable, Iterator, Mapping
@@ -45,7 +43,7 @@ class Part:
 
     @property
     def beside(self) -> Path:
-        return self.path.with_name(f".{self.path.stem}.{os.getpid()}.new{self.path.suffix}")
+        return writing.beside(self.path, self.path.suffix)
 
 
 @dataclass
@@ -122,14 +120,11 @@ class Writing:
         index = self.path.with_suffix(".vrt")
         earlier = named_by(index, self.path)
         if len(self.parts) == 1:
-            if self.path.exists():
-                shutil.copymode(self.path, self.parts[0].beside)
-            self.parts[0].beside.replace(self.path)
+            writing.take_places({self.parts[0].beside: self.path})
             for old in (index, *earlier) if earlier else ():
                 old.unlink(missing_ok=True)
             return
-        for part in self.parts:
-            part.beside.replace(part.path)
+        writing.take_places({part.beside: part.path for part in self.parts})
         writing.write_all({index: index_of(self.parts).encode()})
         for old in {self.path, *earlier} - {part.path for part in self.parts}:
             old.unlink(missing_ok=True)

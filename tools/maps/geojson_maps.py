@@ -23,9 +23,11 @@ NAMED_MAX = 10  # SRIDs that a refusal names
 
 
 def shapes_of(source: Source) -> tuple[list[Shape], str | None]:
-    """All shapes of a file and the name of its coordinates."""
+    """All shapes of a file and the name of its coordinates: degrees where GeoJSON names none."""
     try:
-        return source.read(map_reading.content(source.name).decode("utf-8-sig"))
+        text = map_reading.content(source.name).decode("utf-8-sig")
+        shapes, crs = source.read(text)
+        return shapes, crs or (scales.CRS84 if map_reading.is_geojson(text) else None)
     except (OSError, ValueError, ArithmeticError, RecursionError, TypeError, AttributeError, wkt.WktFault) as fault:
         told = ending.told(source.name, fault)
         raise MapFault(f"{told}; a map is GeoJSON, or a file that GDAL reads") from fault
@@ -118,13 +120,11 @@ def read(path: str, factor: Fraction, id_field: str | None, bend: bool) -> ReadM
 
 
 def own_crs(source: Source) -> str | None:
-    """The system of a file that names none as GeoJSON does: that of its SRIDs, else degrees where it is GeoJSON."""
+    """The system of Well-Known Text: that of its SRIDs."""
     if len(source.systems) > 1:
         raise MapFault(f"{source.name}: SRIDs {', '.join(source.systems[:NAMED_MAX])}; bring all to one of them, as by "
                        "ogr2ogr -t_srs")
-    if source.systems:
-        return f"EPSG:{source.systems[0]}"
-    return scales.CRS84 if source.name.endswith("json") else None
+    return f"EPSG:{source.systems[0]}" if source.systems else None
 
 
 if __name__ == "__main__":

@@ -1,6 +1,7 @@
 """Does a task: draws its jobs in, asks the program in rounds of slots, sews what was asked in cells, and measures."""
 
 import struct
+from collections import deque
 from collections.abc import Callable, Iterable, Iterator
 from dataclasses import dataclass, field
 from fractions import Fraction
@@ -9,9 +10,9 @@ from itertools import islice
 import limits
 from maps import boundaries, box_pairs, exact_area, touching
 from maps.boundaries import Loop, Outline, Polygon
-from maps.cells import Cell, TooDense, parted, parted_again
-from maps.drawing_in import Drawn, drawn
-from maps.rounds import Oversize, Program
+from maps.cells import Cell, Parting, TooDense
+from maps.drawing_in import Drawn, Plain
+from maps.rounds import Program, Round
 from maps.sewing import sewn
 from maps.slots import Laid, Slots, packed, round_of
 from maps.task_form import ALONE_TOLD, COMMON, GAP, GAPS, NOBODY, OVERLAPS, TOUCHES, Found, Row, ShapeOf, Task
@@ -19,16 +20,8 @@ from maps.whole_maps import Box
 from sessions import Corner, Piece, Unusable
 
 AT_ONCE = 4096  # jobs and cells that are laid out before the next are
-Drawing = Callable[[Task, range], Iterator[Drawn]]
 MULTIPOLYGON, POLYGON = 6, 3
 HEAD = struct.Struct("<BII")
-
-
-def plain_drawing(task: Task, jobs: range) -> Iterator[Drawn]:
-    """Jobs of a task drawn in, one by one: of each the own feature, where it has one, then the others."""
-    for job in jobs:
-        own = [] if task.kind == GAPS else [task.own_map.rings(task.own[job])]
-        yield drawn(task.core(job), own + [task.other_map.rings(other) for other in task.others_of(job)])
 
 
 @dataclass
@@ -37,6 +30,7 @@ class Answers:
 
     task: Task
     program: Program
+    drawing: Plain
     outlines: dict[int, list[list[Outline]]] = field(default_factory=dict)  # by job: its connected parts
     pieces: dict[int, list[Piece]] = field(default_factory=dict)
     near: dict[int, Drawn] = field(default_factory=dict)  # jobs that may have found nothing but a touch
@@ -54,25 +48,24 @@ class Answers:
             self._ask_rounds(packed(one for one in some if isinstance(one, Laid)))
 
     def _ask_rounds(self, rounds: Iterable[Slots]) -> None:
-        """One round is built while the next is prepared."""
-        begun: tuple[Slots, int, list[int]] | None = None
-        for slots in rounds:
-            asked = round_of(slots, self.task.kind)
-            number = self.program.begin(asked)
-            if begun:
-                self._end(*begun)
-            begun = slots, number, asked.columns
-        if begun:
-            self._end(*begun)
+        """Rounds are built while the next are prepared; those with too many pieces are asked once more, in parts."""
+        asked: deque[Slots] = deque()
+        large: list[Slots] = []
 
-    def _end(self, slots: Slots, number: int, columns: list[int]) -> None:
-        self.rounds += 1
-        try:
-            pieces = self.program.end(number, columns)
-        except Oversize:
+        def prepared() -> Iterator[Round]:
+            for slots in rounds:
+                asked.append(slots)
+                yield round_of(slots, self.task.kind)
+
+        for pieces in self.program.boundaries(prepared()):
+            self.rounds += 1
+            slots = asked.popleft()
+            if pieces is None:
+                large.append(slots)
+            else:
+                self._take(slots, pieces)
+        for slots in large:
             self._ask_less(slots)
-        else:
-            self._take(slots, pieces)
 
     def _ask_less(self, slots: Slots) -> None:
         """Asks once more: half of the jobs, or of one job its halves."""
@@ -81,7 +74,7 @@ class Answers:
             for some in (slots.laid[:half], slots.laid[half:]):
                 self._ask_rounds(packed(some))
         else:
-            self.ask(parted_again(self.task.kind, slots.laid[0]))
+            self.ask(Parting(self.task.kind, self.drawing).again(slots.laid[0]))
 
     def _take(self, slots: Slots, pieces: list[Piece]) -> None:
         """Takes in the boundary of a round, each connected part moved back to where its job is."""
@@ -111,25 +104,24 @@ def moved_back(corner: Corner, move: tuple[int, int]) -> Corner:
     return x - move[0] * w, y - move[1] * w, w
 
 
-def asked_of(task: Task, answers: Answers, drawing: Drawing) -> Iterator[Laid | Cell]:
-    """All jobs of a task, as they are asked."""
-    for job, near in enumerate(drawing(task, range(len(task)))):
-        if task.kind == COMMON and not box_pairs.has_area(near.core):
+def drawn_jobs(task: Task, answers: Answers) -> Iterator[tuple[int, Drawn]]:
+    """The jobs of a task that are asked, drawn in; those that may touch are kept."""
+    for job, near in enumerate(answers.drawing.of_task(task, range(len(task)))):
+        has_area = task.kind != COMMON or box_pairs.has_area(near.core)
+        if task.touches or not has_area:
             answers.near[job] = near
-            continue
-        if task.touches:
-            answers.near[job] = near
-        yield from parted(task.kind, job, near)
+        if has_area:
+            yield job, near
 
 
-def run(task: Task, program: Program, drawing: Drawing = plain_drawing) -> Found:
+def run(task: Task, program: Program, drawing: Plain | None = None) -> Found:
     """What a task finds, in the order of its jobs."""
-    answers = Answers(task, program)
+    answers = Answers(task, program, drawing or Plain())
     try:
-        answers.ask(asked_of(task, answers, drawing))
+        answers.ask(Parting(task.kind, answers.drawing).jobs(drawn_jobs(task, answers)))
     except TooDense as fault:
         raise Unusable(fault.told(task.factor)) from fault
-    found = Found(task.label, jobs=len(task), rounds=answers.rounds, cells=answers.cells)
+    found = Found(task.label, jobs=len(task), rounds=answers.rounds, cells=answers.cells, drawn=answers.drawing.told)
     for job in range(len(task)):
         add_found(found, task, job, answers)
     return found
@@ -187,7 +179,7 @@ def row_of(task: Task, job: int, outlines: list[Outline]) -> Row:
 def shape_of(loops: list[Loop]) -> tuple[float, int, int]:
     """The length of rings, and a whole point near the first."""
     x, y, w = loops[0][0]
-    return sum(map(exact_area.length, loops)), x // w, y // w
+    return exact_area.length(loops), x // w, y // w
 
 
 def well_known(polygons: list[Polygon], factor: Fraction) -> bytes:

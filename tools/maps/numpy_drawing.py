@@ -9,7 +9,7 @@ from typing import Any
 import numpy as np
 
 import limits
-from maps.drawing_in import LEFT, OVER, RIGHT, UNDER, Drawn
+from maps.drawing_in import LEFT, OVER, RIGHT, UNDER, Drawn, Plain
 from maps.task_form import GAPS, Task
 from maps.whole_maps import Ring
 
@@ -71,14 +71,14 @@ class Points:
     def __init__(self, flat: Flat, jobs: range) -> None:
         begin, end = flat.part_at[jobs.start], flat.part_at[jobs.stop]
         features = flat.parts[begin:end]
-        job_of_part = np.repeat(np.arange(len(jobs)), np.diff(flat.part_at[jobs.start : jobs.stop + 1]))
+        self.job_of_part = np.repeat(np.arange(len(jobs)), np.diff(flat.part_at[jobs.start : jobs.stop + 1]))
         counts = flat.feature_at[features + 1] - flat.feature_at[features]
         rings = spans(flat.feature_at[features], counts)
         sizes = flat.ring_at[rings + 1] - flat.ring_at[rings]
         at = spans(flat.ring_at[rings], sizes)
         self.cores = flat.cores[jobs.start : jobs.stop]
         self.part_of_ring = np.repeat(np.arange(len(features)), counts)
-        self.job_of_ring = job_of_part[self.part_of_ring]
+        self.job_of_ring = self.job_of_part[self.part_of_ring]
         self.xs, self.ys = flat.xs[at], flat.ys[at]
         self.ring = np.repeat(np.arange(len(rings)), sizes)
         self.job = self.job_of_ring[self.ring]
@@ -166,11 +166,15 @@ class Points:
             yield part, points[begin:end]
 
 
-def drawing(task: Task, jobs: range) -> Iterator[Drawn]:
-    """Jobs of a task drawn in: of each the own feature, where it has one, then the others."""
-    flat = Flat(task)
-    for chunk in flat.chunks(jobs):
-        yield from drawn_jobs(flat, chunk)
+class ByNumpy(Plain):
+    """Draws the jobs of a task in by numpy, and parts of jobs by Python."""
+
+    told = "by numpy"
+
+    def of_task(self, task: Task, jobs: range) -> Iterator[Drawn]:
+        flat = Flat(task)
+        for chunk in flat.chunks(jobs):
+            yield from drawn_jobs(flat, chunk)
 
 
 def drawn_jobs(flat: Flat, jobs: range) -> Iterator[Drawn]:

@@ -18,6 +18,7 @@ POINTS_OF_TASK = 400_000
 BITS = 20  # of a place's number along the curve, of each axis
 SPREADS = ((16, 0x0000FFFF0000FFFF), (8, 0x00FF00FF00FF00FF), (4, 0x0F0F0F0F0F0F0F0F), (2, 0x3333333333333333),
            (1, 0x5555555555555555))
+WHOLE_POINTS = limits.STEPS_MAX  # a window takes a feature of so many points, whatever its core is
 CELL_POINTS = 1000  # about as many points a cell of gaps has near it
 
 
@@ -159,10 +160,15 @@ def task_of(question: Question, jobs: Sequence[Job]) -> Task:
 
 
 def near_part(whole: WholeMap, features: Iterable[int], core: Box) -> WholeMap:
-    """Some features drawn in round a core, without names; points stay where they are."""
+    """Some features without names: as they are, so that what is drawn in later is drawn of the map; those of more than
+    WHOLE_POINTS without points that are far from the core. Points stay where they are."""
     found = WholeMap()
     for feature in features:
-        found.add("", near_rings(whole.rings(feature), core))
+        begin, end = whole.span(feature)
+        if end - begin <= WHOLE_POINTS:
+            found.add_from(whole, feature)
+        else:
+            found.add("", near_rings(whole.rings(feature), core))
     return found
 
 

@@ -4,12 +4,21 @@ import limits
 
 try:
     from maps import numpy_planning as planning
-    from maps.numpy_drawing import drawing
+    from maps.numpy_drawing import ByNumpy
+    from maps.numpy_windows import ByNumpy as ByWindows
 except ImportError:
     from maps import planning  # type: ignore[no-redef]
-    from maps.jobs import plain_drawing as drawing
+    from maps.drawing_in import Plain as ByNumpy  # type: ignore[assignment]
+    from maps.windows import ByWindows  # type: ignore[assignment]
+
+from maps.drawing_in import Plain
 
 __all__ = ["drawing", "planning"]
+
+
+def drawing(window: str | None) -> Plain:
+    """Who draws in: the program overlay_window at a path, or Python where there is none."""
+    return ByNumpy() if window is None else ByWindows(window)
 
 
 if __name__ == "__main__":

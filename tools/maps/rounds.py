@@ -1,11 +1,14 @@
 """Asks overlay_live rounds: two layers or more with many slots, one definition over them, and its boundary.
 
-While the program builds one round its caller prepares the next: two sets of layers take turns.
+While the program builds one round its caller prepares the next: two sets of layers take turns, and lines are sent ahead
+by the client of ../../web/overlay_client.py.
 """
 
-import os
+import pathlib
 import subprocess
-from collections.abc import Sequence
+import sys
+from collections import deque
+from collections.abc import Iterable, Iterator
 from dataclasses import dataclass
 
 import ending
@@ -13,9 +16,14 @@ import limits
 from maps import deaths
 from sessions import Piece
 
+WEB = pathlib.Path(__file__).resolve().parents[2] / "web"
+if str(WEB) not in sys.path:
+    sys.path.append(str(WEB))
+from overlay_client import OVERSIZE, Ended, Refused, Reply, Request, Session  # noqa: E402
+
 LETTERS = "ABCDEFGHJKLMNOPQRSTUVWXYZ"  # of layers; I is the one that is defined
-CHUNK = 1 << 18
-OVERSIZE = b"error 22 "
+NO_PIECES = 0
+REASON_MAX = 240
 
 
 class ProgramEnded(Exception):
@@ -24,10 +32,6 @@ class ProgramEnded(Exception):
 
 class ProgramRefused(Exception):
     """The program cannot be started, or refused what it was asked, and would again."""
-
-
-class Oversize(Exception):
-    """A column has more pieces than the program tells."""
 
 
 @dataclass(frozen=True)
@@ -40,15 +44,15 @@ class Round:
     columns: list[int]
 
     def lines(self, number: int, had: str | None) -> list[str]:
-        """The lines of the batch that puts it, where a set had this expression before."""
+        """The lines that put it as a batch, where a set had this expression before."""
         lines = [f"PUT {letter}@ {text}" for letter, text in zip(LETTERS, self.texts)]
         if had != self.expression:
             lines = ["DROP I@"] * (had is not None) + lines + [f"DEFINE I@ = {self.expression}"]
-        return [line.replace("@", str(number)) for line in (f"BATCH {len(lines)}", *lines)]
+        return [line.replace("@", str(number)) for line in lines]
 
 
 class Program:
-    """overlay_live with one session on its standard streams."""
+    """overlay_live with one session on its standard streams, by the client of web/."""
 
     def __init__(self, path: str, workers: int = 1) -> None:
         try:
@@ -57,71 +61,49 @@ class Program:
         except OSError as fault:
             raise ProgramRefused(ending.told(path, fault)) from fault
         assert self._child.stdin and self._child.stdout
-        self._input, self._output = self._child.stdin.fileno(), self._child.stdout.fileno()
-        self._held: list[bytes] = []  # whole lines that came, of which the first _at are taken
-        self._at, self._tail = 0, b""
+        self._session = Session(self._child.stdin, self._child.stdout)
         self._defined: dict[int, str] = {}
-        self._number, self._batches = 0, 0
 
-    def begin(self, asked: Round) -> int:
-        """Puts the layers of a round, which the program begins to build; the number that `end` takes."""
-        self._number ^= 1
-        self._send(asked.lines(self._number, self._defined.get(self._number)))
-        self._defined[self._number] = asked.expression
-        self._batches += 1
-        return self._number
+    def boundaries(self, asked: Iterable[Round]) -> Iterator[list[Piece] | None]:
+        """Of each round the boundary pieces in its columns; nothing where a column has more than the program tells.
 
-    def end(self, number: int, columns: Sequence[int]) -> list[Piece]:
-        """The boundary pieces of a round in these columns, once it is built."""
-        self._send([f"WAIT I{number}", *(f"EDGES I{number} {column}" for column in columns)])
-        for begun in [b"ok "] * self._batches + [b"built "]:
-            self._reply(begun)
-        self._batches = 0
-        replies = [self._edges() for _ in columns]
-        if None in replies:
-            raise Oversize
-        return [piece for reply in replies if reply for piece in pieces_of(reply)]
-
-    def _edges(self) -> list[bytes] | None:
-        """The lines of a reply to EDGES, or nothing where the column is oversize."""
-        head = self._take(1)[0]
-        if head.startswith(OVERSIZE):
-            return None
-        return self._take(int(checked(head, b"edges ")[6:]))
-
-    def _reply(self, begun: bytes) -> None:
-        checked(self._take(1)[0], begun)
-
-    def _take(self, count: int) -> list[bytes]:
-        """So many lines that the program writes."""
-        while len(self._held) - self._at < count:
-            self._read()
-        found = self._held[self._at : self._at + count]
-        self._at += count
-        if self._at == len(self._held):
-            self._held, self._at = [], 0
-        return found
-
-    def _read(self) -> None:
-        more = os.read(self._output, CHUNK)
-        if not more:
-            raise ProgramEnded(f"the program has ended, status {self._child.wait()}")
-        *lines, self._tail = (self._tail + more).split(b"\n")
-        self._held += lines
-
-    def _send(self, lines: list[str]) -> None:
-        left = memoryview("".join(line + "\n" for line in lines).encode())
+        Rounds are taken ahead of what is given, and all have to be read.
+        """
+        wanted: deque[int] = deque()  # of each request how many pieces' replies begin with it, or NO_PIECES
+        found: list[Piece] | None = []
         try:
-            while left:
-                left = left[os.write(self._input, left) :]
-        except BrokenPipeError as fault:
-            raise ProgramEnded("the program has ended") from fault
+            for reply in self._session.answers(self._requests(asked, wanted)):
+                left = wanted.popleft()
+                if left == NO_PIECES:
+                    reply.number()
+                    continue
+                found = with_pieces(found, reply)
+                if left == 1:
+                    yield found
+                    found = []
+        except Ended as fault:
+            raise ProgramEnded(f"the program has ended, status {self._child.wait()}") from fault
+        except (Refused, ValueError) as fault:
+            raise ProgramRefused(f"the program answers {fault}"[:REASON_MAX]) from fault
+
+    def _requests(self, asked: Iterable[Round], wanted: deque[int]) -> Iterator[Request]:
+        """The batch of each round, then the questions for the one before, which was built meanwhile."""
+        before: Round | None = None
+        number = 0
+        for one in asked:
+            wanted.append(NO_PIECES)
+            yield one.lines(number, self._defined.get(number))
+            self._defined[number] = one.expression
+            number ^= 1
+            if before:
+                yield from questions(before, number, wanted)
+            before = one
+        if before:
+            yield from questions(before, number ^ 1, wanted)
 
     def close(self) -> None:
         """Ends the program, whatever it is at."""
-        for stream in (self._child.stdin, self._child.stdout):
-            if stream:
-                stream.close()
+        self._session.close()
         self._child.kill()
         self._child.wait()
 
@@ -132,18 +114,21 @@ class Program:
         self.close()
 
 
-def checked(line: bytes, begun: bytes) -> bytes:
-    """The reply, which has to begin so."""
-    if not line.startswith(begun):
-        raise ProgramRefused(f"the program answers {line.decode('utf-8', 'replace')[:200]}")
-    return line
+def questions(asked: Round, number: int, wanted: deque[int]) -> Iterator[Request]:
+    """The questions for the boundary of a round, which has columns."""
+    wanted.append(NO_PIECES)
+    yield f"WAIT I{number}"
+    for left, column in zip(range(len(asked.columns), 0, -1), asked.columns):
+        wanted.append(left)
+        yield f"EDGES I{number} {column}"
 
 
-def pieces_of(lines: list[bytes]) -> list[Piece]:
-    """The pieces that the lines of a reply tell."""
-    at = iter(list(map(int, b" ".join(lines).split())))
-    return [((x, y, w), (right_x, right_y, right_w))
-            for x, y, w, right_x, right_y, right_w in zip(at, at, at, at, at, at, strict=True)]
+def with_pieces(found: list[Piece] | None, reply: Reply) -> list[Piece] | None:
+    """What was found with the pieces of one column more, or nothing where it has too many of them."""
+    if reply.refusal and reply.refusal.number == OVERSIZE:
+        return None
+    pieces = reply.pieces()
+    return None if found is None else found + pieces if found else pieces
 
 
 if __name__ == "__main__":

@@ -9,6 +9,7 @@ from typing import TextIO
 
 import asking
 import ending
+import gdal_files
 import limits
 import scale as scales
 import writing
@@ -19,23 +20,34 @@ from rounding import shown
 from sessions import Unusable
 
 Say = Callable[[str], None]
-TEXTS = (".geojson", ".json", ".wkt", ".txt")
 DEGREES = {"EPSG:4326": scales.CRS84}
 NAMED_MAX = 10  # so many features are named where something is told of them
 
 
 def read_map(path: str, id_field: str | None, words: argparse.Namespace, say: Say, layer: str | None = None) -> ReadMap:
-    """A map, and what reading did to it told. What is no text of GeoJSON is read by GDAL."""
-    if layer is None and path.endswith(TEXTS):
-        read = geojson_maps.read(path, words.factor, id_field, words.bend)
-    else:
+    """A map, and what reading did to it told. What begins neither as GeoJSON nor as Well-Known Text is read by GDAL."""
+    if form_of(path):
         read = gdal_maps.read(path, words.factor, id_field, layer, words.bend)
+    elif layer is not None:
+        raise MapFault(f"{path}: GeoJSON and Well-Known Text have no layers; leave layer {layer} out")
+    else:
+        read = geojson_maps.read(path, words.factor, id_field, words.bend)
     if not len(read.whole):
         skipped = read.told.skipped
         raise MapFault(f"{path}: no polygon in it" + (f"; left out, {len(skipped)}: {some(skipped)}" if skipped else ""))
     for line in told_lines(path, read.told):
         say(line)
     return read
+
+
+def form_of(path: str) -> str | None:
+    """What GDAL is to read, by its content; None of GeoJSON and Well-Known Text."""
+    if not path:
+        raise MapFault("a map is named by a word without a letter; say a file")
+    try:
+        return gdal_files.form_of(pathlib.Path(path), gdal_files.begin_of(pathlib.Path(path)))
+    except OSError as fault:
+        raise MapFault(ending.told(path, fault)) from fault
 
 
 def told_lines(path: str, told: Told) -> Iterator[str]:

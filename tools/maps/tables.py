@@ -80,7 +80,17 @@ def write(rows: Iterable[tuple[str, str, Row]], units: Units, exact: bool, outpu
     placed = ((place_of(row), cells_of(a, b, row, units, exact)) for a, b, row in rows)
     lines = (cells for _, cells in large_tables.in_order(placed, itemgetter(0)))
     first = list(islice(lines, 1))
-    csv.writer(output, lineterminator="\n").writerows(chain([HEADS + ["area_exact"] * exact], first, lines))
+    csv.writer(Lines(output)).writerows(chain([HEADS + ["area_exact"] * exact], first, lines))
+
+
+class Lines:
+    """What a table's lines are written to. Python quotes each mark that ends a line, and so an id that has one."""
+
+    def __init__(self, output: TextIO) -> None:
+        self.output = output
+
+    def write(self, line: str) -> int:
+        return self.output.write(line.removesuffix("\r\n") + "\n")
 
 
 if __name__ == "__main__":

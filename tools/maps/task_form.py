@@ -159,10 +159,11 @@ class Found:
     jobs: int = 0
     rounds: int = 0
     cells: int = 0
+    drawn: str = ""  # by what its jobs were drawn in
 
     def to_bytes(self) -> bytes:
         head = {"label": self.label, "rows": len(self.rows), "shapes": len(self.shapes), "open": len(self.open_pieces),
-                "jobs": self.jobs, "rounds": self.rounds, "cells": self.cells}
+                "jobs": self.jobs, "rounds": self.rounds, "cells": self.cells, "drawn": self.drawn}
         rows = "".join(row.line() for row in self.rows)
         pieces = "".join(" ".join(map(str, piece)) + "\n" for piece in self.open_pieces)
         return (json.dumps(head) + "\n" + rows + pieces).encode() + records(self.shapes)
@@ -173,7 +174,7 @@ class Found:
         told = json.loads(head)
         lines = rest.split(b"\n", told["rows"] + told["open"])
         texts = [line.decode() for line in lines[:-1]]
-        found = Found(told["label"], jobs=told["jobs"], rounds=told["rounds"], cells=told["cells"])
+        found = Found(told["label"], jobs=told["jobs"], rounds=told["rounds"], cells=told["cells"], drawn=told["drawn"])
         found.rows = [Row.of_line(line) for line in texts[: told["rows"]]]
         found.open_pieces = [tuple(map(int, line.split())) for line in texts[told["rows"] :]]
         found.shapes = list(shapes_of(lines[-1]))

@@ -5,24 +5,28 @@
     000017.result    what came of it; it appears whole, by a rename
     lock             held by the run that has the folder in hand
 
+The last line of a task and of a result is the digest of what stands before it, so a file that was cut or altered is known.
+
 So whoever can name a file can do a task, several at once and on several machines, and a run that was broken off goes on
 where it was: nothing is known but what stands in files.
 """
 
 import contextlib
 import fcntl
+import hashlib
 import json
 import os
 import pathlib
-import uuid
 from collections.abc import Callable, Iterable, Iterator, Mapping
 from dataclasses import dataclass
 from typing import Any
 
+import writing
+
 Work = Callable[[bytes], bytes]
 """What does a task: from what a task file holds to what its result file holds. It can be pickled."""
 
-FORM = 1  # of the folder, of tasks and of results; a folder of another one is another run's
+FORM = 2  # of the folder, of tasks and of results; a folder of another one is another run's
 
 
 class FolderFault(Exception):
@@ -45,6 +49,18 @@ class TaskFolder:
     def plan(self) -> pathlib.Path:
         return self.path / "run.json"
 
+    def given(self, number: int) -> bytes:
+        """What a task is given."""
+        return unsealed(self.task(number), "begin the run again in another folder, or without this one")
+
+    def came_of(self, number: int) -> bytes:
+        """What came of a task."""
+        return unsealed(self.result(number), "remove it and say the same again, which does the task once more")
+
+    def keep(self, number: int, result: bytes) -> None:
+        """Keeps what came of a task."""
+        put(self.result(number), sealed(result))
+
     def count(self) -> int:
         """How many tasks there are, all of them written."""
         return int(self._planned()["tasks"])
@@ -58,10 +74,14 @@ class TaskFolder:
             told = json.loads(self.plan.read_bytes())
         except FileNotFoundError:
             raise FolderFault(f"{self.path}: no tasks of a run: run.json appears when all are written") from None
-        except (OSError, ValueError) as fault:
-            raise FolderFault(f"{self.plan}: {getattr(fault, 'strerror', None) or fault}; remove the folder") from None
+        except (OSError, ValueError, RecursionError) as fault:
+            raise FolderFault(f"{self.plan}: {getattr(fault, 'strerror', None) or fault}; remove the folder, and begin "
+                              "the run again") from None
         if not isinstance(told, dict) or told.get("form") != FORM:
             raise FolderFault(f"{self.path}: tasks of another release of this tool; take another folder")
+        if not isinstance(told.get("run"), dict) or type(told.get("tasks")) is not int or told["tasks"] < 0:
+            raise FolderFault(f"{self.plan}: it does not say what a run asks and how many tasks there are; remove the "
+                              "folder, and begin the run again")
         return told
 
     def left(self) -> list[int]:
@@ -73,21 +93,29 @@ class TaskFolder:
     def results(self) -> Iterator[bytes]:
         """What came of each task, in the order of their numbers."""
         for number in range(self.count()):
-            yield self.result(number).read_bytes()
+            yield self.came_of(number)
 
 
 def put(path: pathlib.Path, data: bytes) -> None:
     """Writes a file that appears whole or not at all, whoever else writes it meanwhile."""
-    beside = path.with_name(f"{path.name}.{uuid.uuid4().hex}.new")
+    writing.write_all({path: data})
+
+
+def sealed(data: bytes) -> bytes:
+    """Some bytes with a last line that has their digest."""
+    return data + b"\nsha256 " + hashlib.sha256(data).hexdigest().encode() + b"\n"
+
+
+def unsealed(path: pathlib.Path, advice: str) -> bytes:
+    """What was sealed in a file."""
     try:
-        with beside.open("xb") as file:
-            file.write(data)
-            file.flush()
-            os.fsync(file.fileno())
-        os.replace(beside, path)
-    except BaseException:
-        beside.unlink(missing_ok=True)
-        raise
+        whole = path.read_bytes()
+    except OSError as fault:
+        raise FolderFault(f"{path}: {fault.strerror or fault}; {advice}") from None
+    data = whole[: -len(sealed(b""))]
+    if sealed(data) != whole:
+        raise FolderFault(f"{path}: damaged, as it has not the digest of what was written; {advice}")
+    return data
 
 
 def begin(path: pathlib.Path, run: Mapping[str, Any], tasks: Iterable[bytes]) -> TaskFolder:
@@ -106,7 +134,7 @@ def begin(path: pathlib.Path, run: Mapping[str, Any], tasks: Iterable[bytes]) ->
         raise FolderFault(f"{path}: {foreign[0]} is no task; take an empty folder, or one that is not there yet")
     count = 0
     for count, task in enumerate(tasks, 1):
-        put(folder.task(count - 1), task)
+        put(folder.task(count - 1), sealed(task))
     put(folder.plan, json.dumps({"form": FORM, "tasks": count, "run": wanted}, indent=1).encode() + b"\n")
     return folder
 
@@ -138,7 +166,7 @@ def held(path: pathlib.Path) -> Iterator[None]:
 def do(work: Work, folder: TaskFolder, number: int) -> None:
     """Does one task, where it has no result yet."""
     if not folder.result(number).exists():
-        put(folder.result(number), work(folder.task(number).read_bytes()))
+        folder.keep(number, work(folder.given(number)))
 
 
 def do_numbers(work: Work, path: pathlib.Path, numbers: Iterable[int]) -> None:

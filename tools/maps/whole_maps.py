@@ -57,6 +57,17 @@ class WholeMap:
         """Where the points of a feature begin and end in xs and ys."""
         return self.ring_at[self.feature_at[feature]], self.ring_at[self.feature_at[feature + 1]]
 
+    def add_from(self, other: "WholeMap", feature: int) -> None:
+        """A feature of another map, as it stands there; without its name."""
+        begin, end = other.span(feature)
+        moved = len(self.xs) - begin
+        self.xs.frombytes(memoryview(other.xs)[begin:end].tobytes())
+        self.ys.frombytes(memoryview(other.ys)[begin:end].tobytes())
+        rings = other.ring_at[other.feature_at[feature] + 1 : other.feature_at[feature + 1] + 1]
+        self.ring_at.extend([at + moved for at in rings])
+        self.feature_at.append(len(self.ring_at) - 1)
+        self.ids.append("")
+
     def take(self, features: Iterable[int]) -> "WholeMap":
         """Some of the features, in the order given."""
         found = WholeMap()

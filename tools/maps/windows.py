@@ -4,14 +4,27 @@ A part of a map is rings with a core, a frame and an origin. What comes back for
 from the origin, or the number and text of a refusal (docs/COMMANDS.md, "Windows").
 """
 
+import contextlib
 import struct
 import subprocess
-from collections.abc import Iterable, Sequence
+from collections.abc import Iterable, Iterator, Sequence
 from dataclasses import dataclass
+from itertools import islice
 from pathlib import Path
 
+import asking
+import ending
 import limits
+from maps.drawing_in import Drawn, Plain, Wanted, drawn, framed, wanted_of
+from maps.rounds import ProgramEnded, ProgramRefused
+from maps.slots import CORE_MAX
+from maps.task_form import Task
 from maps.whole_maps import Box, Point, Ring
+from sessions import Unusable
+
+WINDOW = "overlay_window"
+TOO_MANY_STEPS = 6  # of a layer
+JOBS_AT_ONCE = 4096
 
 
 @dataclass(frozen=True)
@@ -40,8 +53,15 @@ def ends_of(box: Box) -> tuple[int, int, int, int]:
     return left, right, under, over
 
 
+def middle_of(box: Box) -> Point:
+    """From where each place of a box is seen within the plane, where one is."""
+    left, under, right, over = box
+    return (left + right) // 2, (under + over) // 2
+
+
 def ring_bytes(ring: Ring) -> bytes:
-    closed = [*ring, *ring[:1]]
+    """A closed ring; one of two points, there and back, has the second once more, since the program wants three steps."""
+    closed = [*ring, *ring[1:] * (len(ring) == 2), *ring[:1]]
     return struct.pack(f"<I{2 * len(closed)}q", len(closed), *(number for point in closed for number in point))
 
 
@@ -59,12 +79,91 @@ def answered(lines: Iterable[str]) -> list[str | Refused]:
     return [Refused(line) if line.startswith("error ") else line for line in lines]
 
 
-def windows(program: Path, parts: Sequence[Part]) -> list[str | Refused]:
+def windows(program: Path | str, parts: Sequence[Part]) -> list[str | Refused]:
     """For each part the text of its layer, or why there is none."""
-    done = subprocess.run([program], input=input_bytes(parts), stdout=subprocess.PIPE, stderr=subprocess.PIPE, check=False)
-    if done.returncode:
-        raise OSError(f"{program}: {done.stderr.decode().strip()}")
-    return answered(done.stdout.decode().splitlines())
+    return asked(program, input_bytes(parts), len(parts))
+
+
+def asked(program: Path | str, given: bytes, count: int) -> list[str | Refused]:
+    """The same for so many parts, as the program reads them. It ends with its input, and so with who began it."""
+    try:
+        done = subprocess.run([program], input=given, stdout=subprocess.PIPE, stderr=subprocess.PIPE, check=False)
+    except OSError as fault:
+        raise ProgramRefused(ending.told(program, fault)) from fault
+    lines = done.stdout.decode("utf-8", "replace").splitlines()
+    if done.returncode < 0:
+        raise ProgramEnded(f"{program} has ended, status {done.returncode}")
+    if done.returncode or len(lines) != count:
+        told = done.stderr.decode("utf-8", "replace").strip()
+        raise ProgramRefused(f"{program}: status {done.returncode}, {len(lines)} answers of {count}{told and ': '}{told}")
+    return answered(lines)
+
+
+def rings_of(text: str, origin: Point) -> list[Ring]:
+    """The rings of a layer's text, each without its first point once more, back where they are of the map."""
+    if text.endswith("EMPTY"):
+        return []
+    dx, dy = origin
+    found: list[Ring] = []
+    for part in text[text.index("(") :].replace("(", " ").replace(",", " ").split(")"):
+        if numbers := list(map(int, part.split())):
+            found.append([(x + dx, y + dy) for x, y in zip(numbers[:-2:2], numbers[1:-2:2])])
+    return found
+
+
+def found(program: str) -> str | None:
+    """overlay_window beside a program, else where the gate builds it, at the top, or on the path; or nothing."""
+    with contextlib.suppress(Unusable):
+        beside = Path(program).with_name(WINDOW)
+        return str(beside) if beside.is_file() else asking.found_program((WINDOW,))
+    return None
+
+
+class ByWindows(Plain):
+    """Draws in by overlay_window. Where a core is wider than a slot holds, or a feature has too many steps in it, Python
+    finds what is near; the halves that come of it are windows again."""
+
+    told = "by overlay_window"
+
+    def __init__(self, program: str) -> None:
+        self.program = program
+
+    def of_task(self, task: Task, jobs: range) -> Iterator[Drawn]:
+        left = wanted_of(task, jobs)
+        while some := list(islice(left, JOBS_AT_ONCE)):
+            yield from self.of_boxes(some)
+
+    def of_boxes(self, wanted: Sequence[Wanted]) -> Iterator[Drawn]:
+        frames = [framed(one) for one in wanted]
+        parts = [Part(one.core, frame, middle_of(frame), rings) for one, (frame, is_plain) in zip(wanted, frames)
+                 if is_window(one.core, is_plain) for rings in one.features]
+        layers = iter(windows(self.program, parts) if parts else ())
+        for one, (frame, is_plain) in zip(wanted, frames):
+            if not is_window(one.core, is_plain):
+                yield near(one, frame, is_plain)
+                continue
+            yield drawn_of(one.core, frame, list(islice(layers, len(one.features)))) or drawn(*one)
+
+
+def is_window(core: Box, is_plain: bool) -> bool:
+    """Whether a core is asked of the program: one that edges may meet, and that a slot may hold."""
+    left, under, right, over = core
+    return not is_plain and max(right - left, over - under) <= CORE_MAX
+
+
+def near(one: Wanted, frame: Box, is_plain: bool) -> Drawn:
+    """What is not asked of the program: a core that no edge meets, whose features stay as they are, or a wide one."""
+    return Drawn(one.core, frame, list(one.features), True) if is_plain else drawn(*one)
+
+
+def drawn_of(core: Box, frame: Box, layers: Sequence[str | Refused]) -> Drawn | None:
+    """Features by the texts of their layers, or nothing where one has too many steps for a layer."""
+    for layer in layers:
+        if isinstance(layer, Refused):
+            if layer.code == TOO_MANY_STEPS:
+                return None
+            raise ProgramRefused(f"overlay_window answers error {layer.code} {layer}")
+    return Drawn(core, frame, [rings_of(str(layer), middle_of(frame)) for layer in layers], False)
 
 
 if __name__ == "__main__":

@@ -18,6 +18,7 @@ class ByProgram:
     """What makes a task's result of a task, as bytes; it goes from process to process."""
 
     path: str
+    window: str | None = None  # overlay_window, by which features are drawn in; else Python does it
 
     def __call__(self, data: bytes) -> bytes:
         """Does a task, and once more where the program ended within it."""
@@ -32,7 +33,7 @@ class ByProgram:
         """What a task finds. A program that a task failed in is not asked again."""
         program = STANDING.pop(self.path, None) or Program(self.path)
         try:
-            found = jobs.run(task, program, quickest.drawing)
+            found = jobs.run(task, program, quickest.drawing(self.window))
         except BaseException:
             program.close()
             raise

@@ -10,6 +10,7 @@ from types import ModuleType
 
 TOOLS = pathlib.Path(__file__).resolve().parent.parent
 TOP = TOOLS.parent
+SECONDS = 120  # what a program of a test may take before it is ended
 SQUARE = "POLYGON ((0 0, 10 0, 10 10, 0 10, 0 0))"
 
 
@@ -81,6 +82,6 @@ class WithProgram(InFolder):
         """A new store with the layers of a script, all of whose lines are accepted."""
         made = self.folder / name
         text = script if isinstance(script, bytes) else script.encode()
-        done = subprocess.run([self.program, "--store", made, "--create"], input=text, capture_output=True, check=True)
+        done = subprocess.run([self.program, "--store", made, "--create"], input=text, capture_output=True, check=True, timeout=SECONDS)
         self.assertEqual([line for line in done.stdout.splitlines() if line.startswith((b"error", b"refused"))], [])
         return made

@@ -11,6 +11,7 @@ from fractions import Fraction
 import numpy as np
 
 from maps import box_pairs, geojson_maps, jobs, numpy_drawing, numpy_maps, numpy_pairs, numpy_planning, planning, rounds
+from maps.drawing_in import Plain
 from maps.task_form import ALONE, COMMON, GAPS, Task
 from maps.whole_maps import MapFault, ReadMap, Told
 from testing.common import InFolder, Programs
@@ -61,7 +62,7 @@ class Forms(unittest.TestCase):
         them."""
         source = random.Random(3)
         for task in (task for _ in range(MANY) for kind in (COMMON, ALONE, GAPS) for task in tasks_of(source, kind)):
-            plainly, quickly = (draw(task, range(len(task))) for draw in (jobs.plain_drawing, numpy_drawing.drawing))
+            plainly, quickly = (draw.of_task(task, range(len(task))) for draw in (Plain(), numpy_drawing.ByNumpy()))
             for plain, quick in zip(plainly, quickly, strict=True):
                 self.assertEqual((plain.core, plain.frame, plain.is_plain), (quick.core, quick.frame, quick.is_plain))
                 for one, other in zip(plain.features, quick.features, strict=True):
@@ -77,7 +78,7 @@ class Forms(unittest.TestCase):
         with rounds.Program(str(Programs.live)) as program:
             for task in (task for _ in range(5) for kind in (COMMON, ALONE, GAPS) for task in tasks_of(source, kind)):
                 plain = jobs.run(task, program)
-                quick = jobs.run(task, program, numpy_drawing.drawing)
+                quick = jobs.run(task, program, numpy_drawing.ByNumpy())
                 key = [(row.own, row.others, row.area, row.relation) for row in plain.rows]
                 self.assertEqual([(row.own, row.others, row.area, row.relation) for row in quick.rows], key)
 

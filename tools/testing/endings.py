@@ -7,7 +7,7 @@ import sys
 import unittest
 
 import ending
-from testing.common import SQUARE, InFolder, path
+from testing.common import SECONDS, SQUARE, InFolder, path
 
 COUNT = 20000
 LONG = "PUT A x\n" + "".join(f"DROP L{place}\n" for place in range(COUNT))
@@ -45,24 +45,24 @@ class Endings(InFolder):
         for unbuffered, (name, *words) in [("", call) for call in calls] + [("1", calls[-2])]:
             begin = f"PYTHONUNBUFFERED={unbuffered} {sys.executable} {path(name)} {' '.join(words)}"
             text = f"{begin} 2> {self.folder}/errors | head -c 10 > {self.folder}/output; echo ${{PIPESTATUS[0]}}"
-            done = subprocess.run(["bash", "-c", text], capture_output=True, text=True, check=True)
+            done = subprocess.run(["bash", "-c", text], capture_output=True, text=True, check=True, timeout=SECONDS)
             told = (self.folder / "errors").read_text()
             self.assertEqual((done.stdout, "Broken" in told, "Traceback" in told), ("1\n", False, False), name + told)
 
     def test_output_is_kept_where_notes_cannot_be_told(self) -> None:
         square = self.file("a.wkt", SQUARE + "\n")
-        plain = subprocess.run([sys.executable, path("to_script.py"), str(square)], capture_output=True, check=True)
+        plain = subprocess.run([sys.executable, path("to_script.py"), str(square)], capture_output=True, check=True, timeout=SECONDS)
         self.assertTrue(plain.stdout and plain.stderr)
         for stream, status in (("2>/dev/full", 1), ("2>&-", 0)):
             call = shlex.join([sys.executable, str(path("to_script.py")), str(square)])
-            done = subprocess.run(["bash", "-c", f"{call} {stream}"], stdout=subprocess.PIPE, check=False)
+            done = subprocess.run(["bash", "-c", f"{call} {stream}"], stdout=subprocess.PIPE, check=False, timeout=SECONDS)
             self.assertEqual((done.returncode, done.stdout), (status, plain.stdout), stream)
 
     def test_a_full_device(self) -> None:
         for name, *words in [*self.calls(), ["which.py", "--help"], ["refused.py", "--help"]]:
             with open("/dev/full", "w", encoding="utf-8") as full:
                 done = subprocess.run([sys.executable, path(name), *words], stdout=full, stderr=subprocess.PIPE,
-                                      text=True, check=False)
+                                      text=True, check=False, timeout=SECONDS)
             self.assertEqual(done.returncode, 1, name)
             self.assertEqual(done.stderr.splitlines()[-1], f"{name}: standard output: No space left on device")
             self.assertNotIn("Traceback", done.stderr)
@@ -72,7 +72,7 @@ class Endings(InFolder):
         name, *words = self.calls()[1]
         call = f"{sys.executable} {path(name)} {' '.join(words)}"
         for streams, status in ((">/dev/full 2>&1", 1), (">&- 2>/dev/null", 1), (">/dev/null", 1)):
-            done = subprocess.run(["bash", "-c", f"{call} {streams}"], capture_output=True, text=True, check=False)
+            done = subprocess.run(["bash", "-c", f"{call} {streams}"], capture_output=True, text=True, check=False, timeout=SECONDS)
             self.assertEqual((done.returncode, done.stdout, done.stderr), (status, "", ""), streams)
 
 

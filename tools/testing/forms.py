@@ -12,7 +12,7 @@ import gdal_files
 import map_reading
 import to_geojson
 import to_script
-from testing.common import SQUARE, InFolder, on_file, outcome
+from testing.common import SECONDS, SQUARE, InFolder, on_file, outcome
 from testing.maps import COUNTIES, area_of_script
 
 FEATURE = '{{"type": "Feature", "properties": {{"n": "{}"}}, "geometry": {{"type": "Polygon", "coordinates": [{}]}}}}'
@@ -33,7 +33,7 @@ class WithGdal(InFolder):
         """A file that GDAL makes of another one."""
         file = self.folder / name
         subprocess.run(["ogr2ogr", "-f", DRIVERS[file.suffix], str(file), source, *words], check=True,
-                       capture_output=True)
+                       capture_output=True, timeout=SECONDS)
         return file
 
 

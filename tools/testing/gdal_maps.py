@@ -8,7 +8,7 @@ from fractions import Fraction
 
 from maps import gdal_maps, gdal_writing
 from maps.whole_maps import MapFault
-from testing.common import TOOLS, Programs
+from testing.common import SECONDS, TOOLS, Programs
 
 DEBIANS = "/usr/bin/python3"
 
@@ -16,7 +16,7 @@ DEBIANS = "/usr/bin/python3"
 @functools.cache
 def debians_python_has_gdal() -> bool:
     try:
-        return not subprocess.run([DEBIANS, "-c", "import osgeo.ogr, numpy"], capture_output=True).returncode
+        return not subprocess.run([DEBIANS, "-c", "import osgeo.ogr, numpy"], capture_output=True, timeout=SECONDS).returncode
     except OSError:
         return False
 

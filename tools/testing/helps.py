@@ -5,7 +5,7 @@ import subprocess
 import sys
 import unittest
 
-from testing.common import TOOLS
+from testing.common import SECONDS, TOOLS
 
 
 class Helps(unittest.TestCase):
@@ -14,7 +14,7 @@ class Helps(unittest.TestCase):
         self.assertGreater(len(files), 15)
         page = (TOOLS / "README.md").read_text()
         for file in files:
-            done = subprocess.run([sys.executable, file, "--help"], capture_output=True, text=True, check=False)
+            done = subprocess.run([sys.executable, file, "--help"], capture_output=True, text=True, check=False, timeout=SECONDS)
             self.assertEqual((done.returncode, done.stderr), (0, ""), file.name)
             self.assertTrue(done.stdout.startswith("usage: "), file.name)
             self.assertGreater(len(done.stdout.split()), 20, file.name)

@@ -15,7 +15,7 @@ import to_script
 import to_svg
 import which
 import writing
-from testing.common import SQUARE, TOOLS, InFolder, on_file, outcome
+from testing.common import SECONDS, SQUARE, TOOLS, InFolder, on_file, outcome
 
 RING = [[0, 0], [9, 0], [0, 9], [0, 0]]
 
@@ -76,9 +76,9 @@ class WholeFiles(InFolder):
     def test_a_pipe_is_written_to(self) -> None:
         pipe = self.folder / "pipe"
         os.mkfifo(pipe)
-        with subprocess.Popen(["cat", str(pipe)], stdout=subprocess.PIPE) as reader:
+        with subprocess.Popen(["timeout", "60", "cat", str(pipe)], stdout=subprocess.PIPE) as reader:
             writing.write_all({pipe: b"text"})
-            self.assertEqual(reader.communicate()[0], b"text")
+            self.assertEqual(reader.communicate(timeout=SECONDS)[0], b"text")
 
     def test_no_part_of_a_map_is_written(self) -> None:
         square = self.file("a.wkt", SQUARE)
@@ -98,7 +98,7 @@ class Unforeseen(InFolder):
                 f"sys.path.insert(0, {str(TOOLS)!r})\n"
                 f"sys.argv = [{str(tool)!r}]\n"
                 f"runpy.run_path({str(tool)!r}, run_name='__main__')\n")
-        return subprocess.run([sys.executable, *options, "-c", code], capture_output=True, text=True, check=False)
+        return subprocess.run([sys.executable, *options, "-c", code], capture_output=True, text=True, check=False, timeout=SECONDS)
 
     def test_one_line_and_status_1(self) -> None:
         tools = [file for file in sorted(TOOLS.glob("*.py")) if "ending.run(main)" in file.read_text()]
@@ -113,5 +113,5 @@ class Unforeseen(InFolder):
     def test_a_tool_that_is_stopped_from_the_keyboard(self) -> None:
         code = (f"import sys\nsys.path.insert(0, {str(TOOLS)!r})\nimport ending\n"
                 "def main(words): raise KeyboardInterrupt\nending.run(main)\n")
-        done = subprocess.run([sys.executable, "-c", code], capture_output=True, text=True, check=False)
+        done = subprocess.run([sys.executable, "-c", code], capture_output=True, text=True, check=False, timeout=SECONDS)
         self.assertEqual((done.returncode, done.stdout, done.stderr), (ending.INTERRUPTED, "", ""))

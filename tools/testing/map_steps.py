@@ -8,7 +8,7 @@ from fractions import Fraction
 from unittest import mock
 
 from maps import (auditing, bending, box_pairs, cells, drawing_in, exact_area, jobs, map_checks, planning, rounds,
-                  sewing, slots, tables, touching)
+                  sewing, slots, tables, touching, windows)
 from maps.task_form import ALONE, COMMON, Found, Row, ShapeOf, Task
 from maps.whole_maps import Box, Point, Ring, WholeMap
 from sessions import Piece, Unusable
@@ -140,8 +140,19 @@ class Beside(WithLive):
                 made = self.checked(whole)
             left, under, right, over = made.frame()
             frame = [[(left, under), (right, under), (right, over), (left, over)]]
-            wanted = slabs.area([frame, *maps.rings[0]], lambda states: states[0] and not any(states[1:]))
-            self.assertEqual(sum(row.area for row in made.outside + made.gaps), wanted)
+            layers = [frame, *maps.rings[0]]
+            parts = slabs.connected(layers, lambda states: states[0] and not any(states[1:]))
+            self.assertEqual(sorted((row.area for row in made.outside + made.gaps), reverse=True), parts)
+            self.assertEqual(sum(parts), slabs.area(layers, lambda states: states[0] and not any(states[1:])))
+
+    def test_a_gap_that_touches_the_outside_in_points_is_told(self) -> None:
+        whole = WholeMap()
+        for x, y in ((0, 10), (10, 0), (20, 10), (10, 20)):  # which touch in the corners of the square between them
+            whole.add("square", [[(x, y), (x + 10, y), (x + 10, y + 10), (x, y + 10)]])
+        for points in (5, 1000):
+            with mock.patch.object(planning, "CELL_POINTS", points):
+                made = self.checked(whole)
+            self.assertEqual(([row.area for row in made.gaps], [row.area for row in made.outside]), ([100], [32 * 32 - 500]))
 
     def test_a_gap_is_found_with_its_hole(self) -> None:
         whole = WholeMap()
@@ -152,6 +163,26 @@ class Beside(WithLive):
                 made = self.checked(whole)
             self.assertEqual([row.area for row in made.gaps], [Fraction(70 * 70 - 30 * 30)])
             self.assertEqual([row.area for row in made.outside], [92 * 92 - 90 * 90])
+
+
+class ByWindows(WithLive):
+    """What overlay_window draws in has the answers of slabs of fractions too."""
+
+    def test_common_parts_parts_alone_and_gaps(self) -> None:
+        program = windows.found(str(Programs.live))
+        if program is None:
+            self.skipTest("overlay_window is not there")
+        drawing = windows.ByWindows(program)
+        for kind in (COMMON, ALONE):
+            told = [wrong_answers(self.program, random.Random(seed), kind, drawing) for seed in range(SEEDS)]
+            self.assertEqual([wrong for _, wrong in told], [0] * SEEDS)
+            self.assertGreater(sum(looked for looked, _ in told), 40)
+
+    def test_a_text_s_rings_come_back(self) -> None:
+        self.assertEqual(windows.rings_of("MULTIPOLYGON (((0 1, 2 3, 4 -5, 0 1), (1 1, 2 2, 2 2, 1 1)), ((7 7, 8 8, 9 7, 7 7)))",
+                                          (10, -10)),
+                         [[(10, -9), (12, -7), (14, -15)], [(11, -9), (12, -8), (12, -8)], [(17, -3), (18, -2), (19, -3)]])
+        self.assertEqual(windows.rings_of("MULTIPOLYGON EMPTY", (1, 2)), [])
 
 
 def drawn_in_all_at_once(ring: Ring, core: Box) -> tuple[Ring, list[int]]:
@@ -248,17 +279,15 @@ class Planted(WithLive):
 
 
 
-def told_up_to(most: int) -> Callable[[rounds.Program, int, list[int]], list[Piece]]:
-    """The `end` of a program that tells no more pieces than so many."""
-    def end(program: rounds.Program, number: int, columns: list[int]) -> list[Piece]:
-        pieces = END(program, number, columns)
-        if len(pieces) > most:
-            raise rounds.Oversize
-        return pieces
-    return end
+def told_up_to(most: int) -> Callable[[rounds.Program, Iterable[rounds.Round]], Iterator[list[Piece] | None]]:
+    """The `boundaries` of a program that tells no more pieces than so many."""
+    def boundaries(program: rounds.Program, asked: Iterable[rounds.Round]) -> Iterator[list[Piece] | None]:
+        for pieces in BOUNDARIES(program, asked):
+            yield None if pieces is not None and len(pieces) > most else pieces
+    return boundaries
 
 
-END = rounds.Program.end
+BOUNDARIES = rounds.Program.boundaries
 
 
 class TooMany(WithLive):
@@ -281,11 +310,11 @@ class TooMany(WithLive):
 
     def test_a_round_with_more_pieces_than_are_told_is_asked_in_halves(self) -> None:
         for most in (300, 60, 24):
-            with mock.patch.object(rounds.Program, "end", told_up_to(most)):
+            with mock.patch.object(rounds.Program, "boundaries", told_up_to(most)):
                 self.assertEqual(self.area(7), 4 * 49 + 4 * 7 - 4)
 
     def test_a_place_that_no_slot_has_room_for_is_told(self) -> None:
-        with mock.patch.object(rounds.Program, "end", told_up_to(0)):
+        with mock.patch.object(rounds.Program, "boundaries", told_up_to(0)):
             with self.assertRaisesRegex(Unusable, "at .* say a greater --factor"):
                 self.area(3)
 
@@ -305,6 +334,17 @@ class Audits(unittest.TestCase):
                               ([[(0, 0), (4, 4), (4, 0), (0, 4)]], True), ([[(0, 0), (4, 0), (2, 0), (2, 2)]], True),
                               ([[(0, 0), (4, 0), (4, 4), (2, 0), (0, 4)]], True), ([[(0, 0), (4, 0), (0, 4)]], False)):
             self.assertEqual(auditing.crosses(rings), wanted, rings)
+
+    def test_a_length_is_one_wherever_a_ring_is_cut(self) -> None:
+        source, corners = random.Random(17), [(0, 0, 1), (7, 1, 1), (9, 5, 1), (3, 4, 1)]
+        wanted = exact_area.length([corners])
+        for _ in range(20):
+            ring: list[tuple[int, int, int]] = []
+            for (ax, ay, _), (bx, by, _) in zip(corners, corners[1:] + corners[:1]):
+                parts = sorted(source.sample(range(1, 12), source.randint(0, 3)))
+                ring += [(ax, ay, 1), *((12 * ax + (bx - ax) * at, 12 * ay + (by - ay) * at, 12) for at in parts)]
+            at = source.randrange(len(ring))
+            self.assertEqual(exact_area.length([ring[at:] + ring[:at]]), wanted)
 
     def test_a_sum_of_too_many_fractions_is_known_to_a_bound(self) -> None:
         source = random.Random(13)

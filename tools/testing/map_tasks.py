@@ -15,9 +15,10 @@ import unittest
 from unittest import mock
 
 import overlay_maps
-from maps import dask_engine, engines, large_tables, planning, progress, tasks
+import progress
+from maps import dask_engine, engines, large_tables, planning, tasks, windows
 from maps.tasks import FolderFault, TaskFolder
-from testing.common import TOOLS, InFolder, Programs, outcome
+from testing.common import SECONDS, TOOLS, InFolder, Programs, outcome
 from testing.map_works import Refusing, Reversing
 
 NAMES = [f"task {number}".encode() for number in range(12)]
@@ -26,8 +27,8 @@ DEBIANS = "/usr/bin/python3"
 WAIT = 60  # seconds, for what comes at once where the machine is not busy
 
 
-def quiet() -> progress.Progress:
-    return progress.Progress("names", lambda text: None)
+def quiet() -> progress.OfTasks:
+    return progress.OfTasks("names", lambda text: None)
 
 
 def is_running(process: int) -> bool:
@@ -63,7 +64,7 @@ class Folders(InTasks):
 
         tasks.do(work, folder, 3)
         tasks.do(work, folder, 3)
-        self.assertEqual((calls, folder.result(3).read_bytes()), ([b"task 3"], b"3 ksat"))
+        self.assertEqual((calls, folder.came_of(3)), ([b"task 3"], b"3 ksat"))
         self.assertEqual(folder.left(), [number for number in range(12) if number != 3])
         self.assertEqual(sorted(self.work.glob("*.new")), [])
 
@@ -81,7 +82,7 @@ class Folders(InTasks):
         with self.assertRaisesRegex(FolderFault, "no tasks of a run"):
             TaskFolder(self.work).count()
         folder = self.begun()
-        self.assertEqual([folder.task(number).read_bytes() for number in range(folder.count())], NAMES)
+        self.assertEqual([folder.given(number) for number in range(folder.count())], NAMES)
 
     def test_a_run_begun_again_takes_its_tasks_and_looks_at_no_new_ones(self) -> None:
         self.begun(factor="1000")
@@ -113,6 +114,35 @@ class Folders(InTasks):
             (self.work / "run.json").write_text(text)
             with self.subTest(text), self.assertRaisesRegex(FolderFault, named):
                 self.begun()
+
+    def test_what_stands_in_a_plan_is_looked_at(self) -> None:
+        for text in ('{"form": 2}', '{"form": 2, "run": {}, "tasks": "7"}', '{"form": 2, "run": [], "tasks": 7}',
+                     '{"form": 2, "run": {}, "tasks": -1}', '{"form": 2, "run": {}, "tasks": true}', "[" * 100_000, "\xff"):
+            self.work.mkdir(exist_ok=True)
+            (self.work / "run.json").write_text(text, "latin-1")
+            with self.subTest(text[:40]), self.assertRaisesRegex(FolderFault, "run.json: .*; remove the folder, and begin"):
+                self.begun()
+
+    def test_files_that_were_cut_or_altered_are_named_with_what_to_do(self) -> None:
+        folder = self.begun()
+        for number in range(12):
+            tasks.do(Reversing(self.marks), folder, number)
+        result = folder.result(4)
+        whole = result.read_bytes()
+        for wrong in (b"", whole[:-1], whole[: whole.index(b"\n") + 1], whole[1:], whole + b"\n", b"x" + whole[1:], whole * 2):
+            result.write_bytes(wrong)
+            with self.subTest(wrong), self.assertRaisesRegex(FolderFault, "000004.result: damaged, .*; remove it and say"):
+                list(folder.results())
+        result.unlink()
+        result.mkdir()
+        with self.assertRaisesRegex(FolderFault, "000004.result: Is a directory; remove it and say the same again"):
+            list(folder.results())
+        result.rmdir()
+        folder.task(4).write_bytes(b"task 4")
+        with self.assertRaisesRegex(FolderFault, "000004.task: damaged, .*; begin the run again in another folder"):
+            tasks.do(Reversing(self.marks), folder, 4)
+        with self.assertRaisesRegex(engines.TaskFault, "^task 4: .*000004.task: damaged"):
+            engines.run(engines.in_process, Reversing(self.marks), folder, quiet())
 
     def test_one_run_at_a_time_has_a_folder(self) -> None:
         words = self.words("60")
@@ -225,13 +255,13 @@ class Dask(WithProcesses):
             os.kill(run.pid, signal.SIGKILL)
         wait_for(lambda: not any(map(is_running, self.processes())))
         self.assertEqual([ENDS[number] for number in range(12) if number not in TaskFolder(self.work).left()],
-                         [one.read_bytes() for one in sorted(self.work.glob("*.result"))])
+                         [tasks.unsealed(one, "") for one in sorted(self.work.glob("*.result"))])
 
 
 @functools.cache
 def has_dask() -> bool:
     try:
-        return not subprocess.run([DEBIANS, "-c", "import distributed"], capture_output=True, check=False).returncode
+        return not subprocess.run([DEBIANS, "-c", "import distributed"], capture_output=True, check=False, timeout=SECONDS).returncode
     except OSError:
         return False
 
@@ -260,6 +290,31 @@ class OverTool(InTasks):
         self.assertEqual((status, again), (0, table))
         self.assertRegex(told, r"pairs 1: (\d+) of \1 tasks were done before")
 
+    def test_windows_and_python_have_one_table_and_which_it_was_is_told(self) -> None:
+        status, table, told = self.table("--jobs", 1, "--no-window")
+        self.assertEqual(status, 0)
+        self.assertRegex(told, r"drawn in by overlay_window in 0 of \d+ tasks; Python drew them in otherwise")
+        window = windows.found(str(Programs.live))
+        if window is not None:
+            self.assertEqual(self.table("--jobs", 1, "--window", window, "--work", self.work)[:2], (0, table))
+            status, again, told = self.table("--jobs", 1, "--no-window", "--work", self.work)
+            self.assertEqual((status, again), (0, table))
+            self.assertRegex(told, r"drawn in by overlay_window in (\d+) of \1 tasks\n")
+        for wrong in (self.folder, self.folder / "none", ""):
+            self.assertEqual(self.table("--window", wrong), (2, "", f"--window {wrong}: no program; leave the word out, or "
+                                                             "say --no-window\n"))
+
+    def test_a_window_program_that_ends_is_asked_again_and_one_that_fails_is_named(self) -> None:
+        window = windows.found(str(Programs.live))
+        if window is None:
+            self.skipTest("overlay_window is not there")
+        dying = self.file("dying", f"#!/bin/sh\nmkdir '{self.marks}/ended' 2>&- && kill -9 $$\nexec {window}\n", 0o700)
+        self.assertEqual(self.table("--jobs", 1, "--window", dying)[:2], self.table("--jobs", 1)[:2])
+        never = self.file("never", "#!/bin/sh\nexit 3\n", 0o700)
+        status, table, told = self.table("--jobs", 1, "--window", never)
+        self.assertEqual((status, table), (1, ""))
+        self.assertRegex(told, "task 0: ProgramRefused: .*never: status 3, 0 answers of [0-9]+")
+
     def test_dask_has_the_same_table(self) -> None:
         if not has_dask():
             self.skipTest(f"{DEBIANS} has no python3-distributed")
@@ -275,7 +330,7 @@ class OverTool(InTasks):
         self.assertIn(f"{count} of {count} tasks are left", told)
         words = [sys.executable, TOOLS / "overlay_maps.py", "task", self.work / "1", "--program", Programs.live]
         numbers = "".join(f"{number}\n" for number in range(count))
-        subprocess.run(["xargs", "-P", "2", "-n", "7", *words], input=numbers, text=True, check=True)
+        subprocess.run(["xargs", "-P", "2", "-n", "7", *words], input=numbers, text=True, check=True, timeout=SECONDS)
         self.assertEqual(self.table("--jobs", 0, "--work", self.work)[1], self.table("--jobs", 1)[1])
         self.assertEqual(outcome(overlay_maps, *words[2:], count)[0], 2)
         status, table, told = self.table("--jobs", 0)
@@ -292,6 +347,25 @@ class OverTool(InTasks):
         status, table, told = self.table("--jobs", 2, program=never)
         self.assertEqual((status, table), (1, ""))
         self.assertRegex(told, "task [01]: ProgramEnded: ")
+
+    def test_a_damaged_folder_is_told_and_mended_by_what_is_told(self) -> None:
+        status, table, _ = self.table("--jobs", 1, "--work", self.work)
+        result = self.work / "1" / "000002.result"
+        result.write_bytes(b"".join(result.read_bytes().splitlines(True)[:3]))
+        told = f"{result}: damaged, as it has not the digest of what was written; remove it and say the same again, which does"
+        for words in ((), ("--out", self.folder / "out.csv")):
+            status, again, errors = self.table("--jobs", 1, "--work", self.work, *words)
+            self.assertEqual((status, again), (2, ""))
+            self.assertIn(told, errors)
+        self.assertFalse((self.folder / "out.csv").exists())
+        result.unlink()
+        self.assertEqual(self.table("--jobs", 1, "--work", self.work)[:2], (0, table))
+        result.unlink()
+        (self.work / "1" / "000002.task").write_bytes(b"{}")
+        status, again, errors = self.table("--jobs", 2, "--work", self.work)
+        self.assertEqual((status, again), (1, ""))
+        self.assertIn("task 2: ", errors)
+        self.assertIn("000002.task: damaged, as it has not the digest of what was written; begin the run again", errors)
 
     def test_a_folder_of_another_run_is_refused(self) -> None:
         self.table("--work", self.work, "--jobs", 1)
@@ -337,7 +411,7 @@ class Addresses(unittest.TestCase):
             sent = dask_engine.packed(pathlib.Path(folder))
             lines = f"import sys; sys.path.insert(0, {str(sent)!r}); from maps import work; print(work.__file__)"
             words = [sys.executable, "-I", "-c", lines]
-            self.assertIn(".zip", subprocess.run(words, cwd=folder, capture_output=True, text=True, check=True).stdout)
+            self.assertIn(".zip", subprocess.run(words, cwd=folder, capture_output=True, text=True, check=True, timeout=SECONDS).stdout)
 
     @unittest.skipIf(importlib.util.find_spec("distributed"), "Dask is there")
     def test_without_dask_the_refusal_has_the_line_to_type(self) -> None:
@@ -349,7 +423,7 @@ class Addresses(unittest.TestCase):
 class Telling(unittest.TestCase):
     def test_plain_lines_have_tasks_pace_and_seconds_left(self) -> None:
         now, lines = 0.0, list[str]()
-        told = progress.Progress("pairs", lines.append, io.StringIO(), lambda: now)
+        told = progress.OfTasks("pairs", lines.append, io.StringIO(), lambda: now)
         told.begin(90, 69)
         for now in range(1, 70):
             told.step()
@@ -360,7 +434,7 @@ class Telling(unittest.TestCase):
 
     def test_nothing_to_do_is_told_once(self) -> None:
         lines: list[str] = []
-        told = progress.Progress("pairs", lines.append, io.StringIO())
+        told = progress.OfTasks("pairs", lines.append, io.StringIO())
         told.begin(4, 0)
         told.end()
         self.assertEqual(lines, ["pairs: 4 of 4 tasks were done before"])

@@ -259,6 +259,45 @@ class Refusals(WithMaps):
         self.assertIn("left out, 4: ", errors)
         self.assertIn("feature 1, member 2: no polygon: POINT; ", errors)
 
+    def test_maps_go_by_their_content_and_not_by_their_names(self) -> None:
+        text = self.good.read_text()
+        for name in ("a.gpkg", "a.txt", "a.shp", "a", "a.csv", "a.GEOJSON", ".json"):
+            status, rows, errors = self.asked("pairs", self.file(name, f" \n{text}"), self.good, "--factor", 1)
+            self.assertEqual((status, [row[2] for row in rows[1:]]), (0, ["100"]), (name, errors))
+            utm = self.file("utm.wkt", "SRID=25832;POLYGON ((0 0, 1 0, 0 1, 0 0))")
+            self.assertIn("has coordinates of OGC:CRS84", self.refused("pairs", self.folder / name, utm, "--factor", 1))
+        for name in ("a.geojson", "a.json", "a.wkt", "a"):
+            for begin in (b"SQLite format 3\0", b"fgb\3", b"\0\0\x27\x0a"):
+                told = self.refused("check", self.file(name, begin + b"\0" * 200), "--factor", 1)
+                self.assertNotIn("a map is GeoJSON", told)
+        self.assertIn("and Well-Known Text have no layers", self.refused("check", self.good, "--factor", 1, "--a-layer", "x"))
+
+    def test_a_name_of_no_letter_and_a_folder(self) -> None:
+        for words in (("", self.good), (self.good, "")):
+            self.assertEqual(self.refused("pairs", *words, "--factor", 1),
+                             "a map is named by a word without a letter; say a file")
+        self.assertIn(f"{self.folder}: ", self.refused("check", self.folder, "--factor", 1))
+
+    def test_what_has_no_polygon_takes_a_number_all_the_same(self) -> None:
+        one = {"type": "Feature", "properties": {}, "geometry": {"type": "Polygon", "coordinates": [square(0, 0, 10)]}}
+        empty = {"type": "GeometryCollection", "geometries": []}
+        features = [None, None, {**one, "geometry": empty}, {**one, "geometry": None}, {**one, "geometry": {**empty,
+                    "geometries": [empty, one["geometry"]]}}, 5, one]
+        file = self.file("odd.geojson", json.dumps({"type": "FeatureCollection", "features": features}))
+        status, rows, errors = self.asked("pairs", file, self.good, "--factor", 1)
+        self.assertEqual((status, [row[:3] for row in rows[1:]]), (0, [["5", "1", "100"], ["7", "1", "100"]]), errors)
+        self.assertIn("left out, 6: ", errors)
+        text = "GEOMETRYCOLLECTION EMPTY\nPOLYGON EMPTY\nPOLYGON ((0 0, 10 0, 10 10, 0 10, 0 0))\n"
+        status, rows, errors = self.asked("pairs", self.file("odd.wkt", text), self.good, "--factor", 1)
+        self.assertEqual((status, [row[:3] for row in rows[1:]]), (0, [["3", "1", "100"]]), errors)
+
+    def test_an_id_is_quoted_where_it_has_a_mark_that_ends_a_line(self) -> None:
+        odd = "a\rb\n,\"c"
+        file, out = self.map("b", {odd: square(0, 0, 1)}), self.folder / "out.csv"
+        self.assertEqual(self.asked("pairs", file, self.good, "--factor", 1, "--a-id", "nr", "--out", out)[0], 0)
+        with out.open(newline="") as table:
+            self.assertEqual(list(csv.reader(table))[1][:2], [odd, "1"])
+
     def test_a_program_that_is_none(self) -> None:
         status, output, errors = outcome(overlay_maps, "pairs", self.good, self.good, "--factor", 1, "--program",
                                          self.folder / "none", "--jobs", 1)
@@ -314,7 +353,7 @@ class Outputs(WithMaps):
     def test_a_pipe_is_written_to(self) -> None:
         pipe = self.folder / "pipe"
         os.mkfifo(pipe)
-        with subprocess.Popen(["cat", pipe], stdout=subprocess.PIPE, text=True) as reader:
+        with subprocess.Popen(["timeout", "60", "cat", pipe], stdout=subprocess.PIPE, text=True) as reader:
             self.assertEqual(self.asked("check", self.whole, "--factor", 1, "--out", pipe)[0], 0)
             self.assertIn("1,2,50,", reader.communicate(timeout=60)[0])
         self.assertTrue(pipe.is_fifo())

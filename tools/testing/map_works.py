@@ -7,7 +7,8 @@ import sys
 import time
 from dataclasses import dataclass
 
-from maps import dask_engine, engines, progress, tasks
+import progress
+from maps import dask_engine, engines, tasks
 
 
 @dataclass(frozen=True)
@@ -57,7 +58,7 @@ def main() -> None:
     work = Reversing(marks, b"task 5", int(sys.argv[5]), float(sys.argv[3]))
     with tasks.held(folder):
         made = tasks.begin(folder, {"asks": "names"}, [f"task {number}".encode() for number in range(12)])
-        engines.run(engine, work, made, progress.Progress("names", tell))
+        engines.run(engine, work, made, progress.OfTasks("names", tell))
 
 
 if __name__ == "__main__":

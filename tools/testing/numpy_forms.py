@@ -4,7 +4,7 @@ import functools
 import subprocess
 import unittest
 
-from testing.common import TOOLS, Programs
+from testing.common import SECONDS, TOOLS, Programs
 
 DEBIANS = "/usr/bin/python3"
 
@@ -12,7 +12,7 @@ DEBIANS = "/usr/bin/python3"
 @functools.cache
 def debians_python_has_numpy() -> bool:
     try:
-        return not subprocess.run([DEBIANS, "-c", "import numpy"], capture_output=True, check=False).returncode
+        return not subprocess.run([DEBIANS, "-c", "import numpy"], capture_output=True, check=False, timeout=SECONDS).returncode
     except OSError:
         return False
 

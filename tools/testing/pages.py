@@ -5,7 +5,7 @@ import pathlib
 import re
 import subprocess
 
-from testing.common import TOP, Programs, WithProgram
+from testing.common import SECONDS, TOP, Programs, WithProgram
 
 PAGES = ("tasks.md", "beside-geos.md")
 PAGES_OF_LIVE = ("maps.md",)
@@ -39,7 +39,7 @@ class Pages(WithProgram):
             self.assertGreater(len(commands), 2)
             for command, wanted in commands:
                 done = subprocess.run(["bash", "-c", command], cwd=self.folder, env=environment, capture_output=True,
-                                      text=True, check=False)
+                                      text=True, check=False, timeout=SECONDS)
                 self.assertEqual(done.stdout, wanted, f"{page}: {command}\n{done.stderr}")
 
     def test_every_script_of_the_pages_is_there(self) -> None:

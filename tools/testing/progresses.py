@@ -11,7 +11,7 @@ import unittest.mock
 from typing import Any
 
 import progress
-from testing.common import TOOLS, InFolder
+from testing.common import SECONDS, TOOLS, InFolder
 from testing.layouts import geojson, square
 
 
@@ -87,7 +87,7 @@ class OnTerminals(InFolder):
                 "progress.BEGIN_SECONDS = progress.SECONDS_BETWEEN = 0\n"
                 f"sys.exit(to_script.main([{str(file)!r}, '--coded', '--output', {str(output)!r}]))\n")
         reader, writer = pty.openpty()
-        done = subprocess.run([sys.executable, "-c", code], stdout=subprocess.PIPE, stderr=writer, check=False)
+        done = subprocess.run([sys.executable, "-c", code], stdout=subprocess.PIPE, stderr=writer, check=False, timeout=SECONDS)
         os.close(writer)
         told = b""
         while not told.endswith(b"many.features.json\r\n"):

@@ -7,6 +7,7 @@ from unittest import mock
 
 import limits
 from maps import cells, jobs, planning, rounds
+from maps.drawing_in import Plain
 from maps.task_form import COMMON, TOUCHES, Task
 from maps.whole_maps import WholeMap
 from testing import slabs
@@ -33,7 +34,7 @@ class Maps:
         return found, {(job.own,): slabs.area([self.rings[0][job.own], *(self.rings[1][j] for j in job.others)],
                                               lambda states: states[0] and not any(states[1:])) for job in found}
 
-    def answered(self, kind: str, planned: list[planning.Job], program: rounds.Program, drawing: jobs.Drawing
+    def answered(self, kind: str, planned: list[planning.Job], program: rounds.Program, drawing: Plain | None
                  ) -> dict[Key, Fraction]:
         """The areas that a question's tasks find."""
         question = planning.Question("", kind, *self.wholes, Fraction(1), touches=kind == COMMON)
@@ -102,7 +103,7 @@ def hole(source: random.Random, ring: Ring) -> list[Ring]:
     return [made] if len(set(made)) == 3 else []
 
 
-def wrong_answers(program: rounds.Program, source: random.Random, kind: str, drawing: jobs.Drawing = jobs.plain_drawing,
+def wrong_answers(program: rounds.Program, source: random.Random, kind: str, drawing: Plain | None = None,
                   count: int = 8) -> tuple[int, int]:
     """How many answers about random maps were looked at, and how many of them differ from those by slabs. Cells are
     small and slots have few steps in some of them."""

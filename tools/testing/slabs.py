@@ -58,6 +58,57 @@ def of_slab(owned: list[tuple[Segment, int]], left: Fraction, right: Fraction, c
     return found * (right - left)
 
 
+def connected(layers: Sequence[Sequence[Ring]], inside: Callable[[list[bool]], bool]) -> list[Fraction]:
+    """The areas of the connected parts of the places that lie inside, the largest first. Parts that have no more than a
+    point in common are two."""
+    owned = [(segment, number) for number, rings in enumerate(layers) for segment in segments_of(rings)]
+    borders = {Fraction(point[0]) for segment, _ in owned for point in segment}
+    borders |= {x for (a, _), (b, _) in combinations(owned, 2) if (x := crossing(a, b)) is not None}
+    ordered = sorted(borders)
+    areas: list[Fraction] = []
+    joined: list[int] = []  # of each trapezoid another one of its part, or itself
+    before: list[tuple[int, Fraction, Fraction]] = []  # those that end at the left border, with their heights there
+    for left, right in zip(ordered, ordered[1:]):
+        here = []
+        for low, high in trapezoids(owned, left, right, len(layers), inside):
+            number = len(areas)
+            sides = [height(high, x) - height(low, x) for x in (left, right)]
+            areas.append(sum(sides) / 2 * (right - left))
+            joined.append(number)
+            for other, bottom, top in before:
+                if max(bottom, height(low, left)) < min(top, height(high, left)):
+                    joined[first_of(joined, other)] = first_of(joined, number)
+            here.append((number, height(low, right), height(high, right)))
+        before = here
+    sums: dict[int, Fraction] = {}
+    for number, found in enumerate(areas):
+        sums[first_of(joined, number)] = sums.get(first_of(joined, number), Fraction(0)) + found
+    return sorted(sums.values(), reverse=True)
+
+
+def first_of(joined: list[int], number: int) -> int:
+    while joined[number] != number:
+        number = joined[number]
+    return number
+
+
+def trapezoids(owned: list[tuple[Segment, int]], left: Fraction, right: Fraction, count: int,
+               inside: Callable[[list[bool]], bool]) -> list[tuple[Segment, Segment]]:
+    """The parts of a slab that lie inside, each by the segments below and above it; none without height."""
+    middle = (left + right) / 2
+    passing = sorted((height(segment, middle), number, segment) for segment, number in owned
+                     if segment[0][0] <= left and right <= segment[1][0])
+    states, found = [False] * count, []
+    for (low, number, under), (high, _, over) in zip(passing, passing[1:]):
+        states[number] = not states[number]
+        if inside(states) and low < high:
+            if found and height(found[-1][1], middle) == low:
+                found[-1] = found[-1][0], over
+            else:
+                found.append((under, over))
+    return found
+
+
 def common(first: Sequence[Ring], second: Sequence[Ring]) -> Fraction:
     return area([first, second], all)
 

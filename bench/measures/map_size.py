@@ -1,0 +1,89 @@
+#!/usr/bin/env python3
+"""How long does overlay_maps take for two maps like a land register's, and how much memory do all its processes take?
+
+    /usr/bin/python3 bench/measures/map_size.py LIVE [--parcels N] [--zones N] [--jobs N] [--maps FOLDER] [-- WORD..]
+
+LIVE is the built overlay_live; overlay_window is taken where it stands beside it. The maps are made by ../map_making.py,
+or stand in --maps; words behind -- go to overlay_maps.py. Told are seconds of processors of the run and all that it
+began, seconds by the clock, and the most memory that the run and all processes below it had together at one time: the
+sum of PSS of /proc/PROCESS/smaps_rollup, in which a page that several have counts once, looked at some times a second.
+Status 1: the run fails, or takes more than --seconds or --megabytes.
+"""
+
+import argparse
+import contextlib
+import hashlib
+import pathlib
+import resource
+import subprocess
+import sys
+import tempfile
+import time
+
+TOP = pathlib.Path(__file__).resolve().parents[2]
+PYTHON, TOOL, MAKING = "/usr/bin/python3", TOP / "tools" / "overlay_maps.py", TOP / "bench" / "map_making.py"
+EACH = 0.25  # seconds between two looks
+
+
+def below(number: int) -> list[int]:
+    """A process and all that it has begun, and those that these have."""
+    found = [number]
+    for tasks in pathlib.Path(f"/proc/{number}/task").glob("*/children"):
+        with contextlib.suppress(OSError):
+            for child in map(int, tasks.read_text().split()):
+                found += below(child)
+    return found
+
+
+def pss_of(number: int) -> int:
+    """Kilobytes of a process; nothing where it has ended."""
+    with contextlib.suppress(OSError):
+        for line in pathlib.Path(f"/proc/{number}/smaps_rollup").read_text().splitlines():
+            if line.startswith("Pss:"):
+                return int(line.split()[1])
+    return 0
+
+
+def watched(words: list[str]) -> tuple[int, float, float, float]:
+    """Runs a command: its status, seconds of processors, seconds by the clock, and most megabytes of all processes."""
+    before, begin, most = resource.getrusage(resource.RUSAGE_CHILDREN), time.monotonic(), 0
+    with subprocess.Popen(words) as run:
+        while run.poll() is None:
+            most = max(most, sum(map(pss_of, below(run.pid))))
+            time.sleep(EACH)
+    after = resource.getrusage(resource.RUSAGE_CHILDREN)
+    seconds = after.ru_utime + after.ru_stime - before.ru_utime - before.ru_stime
+    return run.returncode, seconds, time.monotonic() - begin, most / 1000
+
+
+def main() -> int:
+    parser = argparse.ArgumentParser(description=__doc__, formatter_class=argparse.RawDescriptionHelpFormatter)
+    parser.add_argument("live", metavar="LIVE")
+    parser.add_argument("--parcels", type=int, default=300_000)
+    parser.add_argument("--zones", type=int, default=20_000)
+    parser.add_argument("--jobs", type=int, default=2)
+    parser.add_argument("--maps", metavar="FOLDER", type=pathlib.Path, help="parcels.gpkg and zones.gpkg that stand there")
+    parser.add_argument("--seconds", type=float, help="of processors, which it may take")
+    parser.add_argument("--megabytes", type=float, help="which it may take")
+    parser.add_argument("more", metavar="WORD", nargs="*", help="for overlay_maps.py")
+    words = parser.parse_args()
+    with tempfile.TemporaryDirectory() as made:
+        folder = pathlib.Path(made)
+        maps = words.maps or folder
+        if not words.maps:
+            subprocess.run([PYTHON, MAKING, str(words.parcels), str(words.zones), folder], check=True)
+        out = folder / "pairs.csv"
+        status, seconds, clock, megabytes = watched(
+            [PYTHON, str(TOOL), "pairs", str(maps / "parcels.gpkg"), str(maps / "zones.gpkg"), "--factor", "1000", "--a-id",
+             "parcel", "--b-id", "zone", "--program", words.live, "--jobs", str(words.jobs), "--out", str(out), *words.more])
+        if status:
+            return 1
+        digest = hashlib.sha256(out.read_bytes()).hexdigest()[:12]
+        with out.open() as table:
+            rows = sum(1 for _ in table) - 1
+    print(f"{rows} rows, digest {digest}: {seconds:.0f} s of processors, {clock:.0f} s by the clock, {megabytes:.0f} MB")
+    return int(seconds > (words.seconds or seconds) or megabytes > (words.megabytes or megabytes))
+
+
+if __name__ == "__main__":
+    sys.exit(main())
