@@ -153,7 +153,10 @@ def stores_for(words: argparse.Namespace, program: str, errors: TextIO) -> list[
     stem = "_and_".join(re.sub(r"[^A-Za-z0-9]+", "_", path.stem).strip("_") or "map" for path in (words.map, *words.others))
     there = stores_of(words.folder / f"{stem}.txt")
     if there and not words.again:
-        print(f"{', '.join(map(str, there))}: it stands, and is served as it is; --again makes it anew", file=errors)
+        check_maps(words, there)
+        older = any(path.stat().st_mtime > there[0].stat().st_mtime for path in (words.map, *words.others))
+        age = ", and is older than its map" if older else ""
+        print(f"{', '.join(map(str, there))}: it stands{age}, and is served as it is; --again makes it anew", file=errors)
         return there
     with contextlib.ExitStack() as held:
         hold(words, stem, held)
@@ -169,6 +172,13 @@ def stores_for(words: argparse.Namespace, program: str, errors: TextIO) -> list[
         for path in made:
             path.replace(words.folder / path.name)
     return stores_of(words.folder / f"{stem}.txt")
+
+
+def check_maps(words: argparse.Namespace, there: list[pathlib.Path]) -> None:
+    """Refuses a map that is not there, of which nobody knows whether the store that stands is of it."""
+    for given in (words.map, *words.others):
+        if not given.exists():
+            raise Unmade(2, f"{given}: no such file; the store that stands is shown by overlay_web.py --store {there[0]}")
 
 
 def hold(words: argparse.Namespace, stem: str, held: contextlib.ExitStack) -> None:

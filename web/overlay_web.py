@@ -34,9 +34,11 @@ for folder in (HERE, HERE.parent / "tools"):
     if str(folder) not in sys.path:
         sys.path.append(str(folder))
 
+import asking  # noqa: E402
 import ending as endings  # noqa: E402
 import features  # noqa: E402
 import scale as scales  # noqa: E402
+import sessions  # noqa: E402
 from feature_store import FeatureStore, Unlike  # noqa: E402
 from front import LEAFLET, LOOPBACK, Front  # noqa: E402
 from layer_store import JOINING, LayerStore, number_in_file  # noqa: E402
@@ -93,7 +95,7 @@ def words_of(arguments: Sequence[str]) -> argparse.Namespace:
     parser.add_argument("--base", metavar="URL", help="the address that a server before this one is asked by")
     parser.add_argument("--name", action="append", default=[], help="a further name in the Host of questions")
     parser.add_argument("--workers", type=int, default=2, help="threads that build tiles, 1 to 8 (default 2)")
-    parser.add_argument("--program", default="overlay_live", metavar="PATH", help="the program (default overlay_live)")
+    parser.add_argument("--program", metavar="PATH", help="overlay_live (default: as the tools find it)")
     parser.add_argument(
         "--leaflet", type=pathlib.Path, default=LEAFLET, metavar="FOLDER", help=f"where Leaflet is (default {LEAFLET})"
     )
@@ -211,6 +213,7 @@ def main(arguments: Sequence[str]) -> int:
     for number in (signal.SIGTERM, signal.SIGALRM):
         signal.signal(number, ending.on_signal)
     try:
+        words.program = words.program or asking.found_program((asking.LIVE,))
         with opened(words, ending) as (server, store):
             try:
                 with contextlib.suppress(SystemExit, KeyboardInterrupt):
@@ -225,7 +228,7 @@ def main(arguments: Sequence[str]) -> int:
             status, told = server.close()
             for child in multiprocessing.active_children():  # what it joins nobody will ask for
                 child.kill()
-    except Unheard as fault:
+    except (Unheard, sessions.Unusable) as fault:
         print(fault, file=sys.stderr)
         return 1
     except (features.FeaturesFault, Unlike) as fault:

@@ -106,7 +106,7 @@ class Threaded(socketserver.ThreadingMixIn, simple_server.WSGIServer):
         self._free.acquire()
         try:
             super().process_request(request, client_address)
-        except BaseException:  # no thread has begun
+        except Exception:  # no thread has begun; a signal that ends the server may come when one has
             self._free.release()
             raise
 

@@ -177,6 +177,19 @@ class ByThreads(ServerCase):
         self.assertEqual(parted(read_all(link))[2]["code"], "408")
 
 
+class Signals(unittest.TestCase):
+    def test_a_signal_ends_the_server_also_where_a_thread_has_just_begun(self) -> None:
+        def begun(thread: threading.Thread) -> None:
+            thread.run()  # it is done, and has left its place
+            raise SystemExit(0)
+
+        with simple_server.make_server("127.0.0.1", 0, lambda *_: [], serving.Threaded, serving.Handler) as server:
+            with socket.create_connection(("127.0.0.1", server.server_port)) as link:
+                link.shutdown(socket.SHUT_WR)
+                with unittest.mock.patch.object(threading.Thread, "start", begun), self.assertRaises(SystemExit):
+                    server.handle_request()
+
+
 @unittest.skipUnless(importlib.util.find_spec("waitress"), "no waitress: apt-get install python3-waitress")
 class ByWaitress(ServerCase):
     def begin(self, request_seconds: float, answer_seconds: float) -> None:

@@ -2,6 +2,7 @@
 
 import fcntl
 import json
+import os
 import signal
 import subprocess
 import sys
@@ -54,11 +55,24 @@ class FirstMaps(WithProgram):
                                                       ("db", "features.json", "names.csv", "scale.json", "txt")]), errors)
         before = (self.folder / "maps" / "my_city.db").read_bytes()
         given.write_text(collection(feature([WEST], {"name": "West"})))
-        status, _, errors = self.made(given)
-        self.assertEqual((status, "it stands, and is served as it is" in errors), (0, True))
-        self.assertEqual((self.folder / "maps" / "my_city.db").read_bytes(), before)
+        store = self.folder / "maps" / "my_city.db"
+        for later, told in ((-5, "it stands, and is served as it is"),
+                            (5, "it stands, and is older than its map, and is served as it is")):
+            seconds = store.stat().st_mtime + later
+            os.utime(given, (seconds, seconds))
+            status, _, errors = self.made(given)
+            self.assertEqual((status, told in errors), (0, True), errors)
+            self.assertEqual(store.read_bytes(), before)
         self.assertEqual(self.made(given, "--again")[0], 0)
         self.assertEqual(json.loads((self.folder / "maps" / "my_city.features.json").read_text())["features"][1:], [])
+
+    def test_a_map_that_is_not_there_is_not_taken_for_the_store_of_another(self) -> None:
+        given = self.file("city.geojson", MAP)
+        self.made(given)
+        status, _, errors = self.made(given.with_suffix(".gpkg"))
+        self.assertEqual((status, errors), (
+            2, f"{self.folder}/city.gpkg: no such file; the store that stands is shown by overlay_web.py --store "
+               f"{self.folder}/maps/city.db\n"))
 
     def test_where_a_map_cannot_be_made_what_stands_stays(self) -> None:
         given = self.file("city.geojson", MAP)
