@@ -14,8 +14,9 @@ is served as it is; --again makes it anew. One without its CITY.txt, which this 
 program has, as a front that runs, are refused and stay. Where one store does not suffice each has a front of its own. A
 browser is opened where there is a screen, but for --no-browser. The front runs until it is interrupted.
 
-Status 0: ended by SIGTERM or an interrupt, or made by --only-make; 1: a line was refused, a program is not there,
-another has the store, or a front ended by a fault; 2: wrong words, a file that cannot be read, or one that would be
+Status 0: ended by SIGTERM or an interrupt, or all of it made by --only-make; 1: a feature was refused, which is told, and
+the rest made by --only-make, a line was refused, a program is not there, another has the store, or a front ended by a
+fault; 2: wrong words, a file that cannot be read, or one that would be
 written over.
 """
 
@@ -61,6 +62,7 @@ def words_of(arguments: list[str]) -> argparse.Namespace:
                         help="a further map on the same scale; may stand several times")
     parser.add_argument("--name-by", metavar="PROPERTY", help="what the features are called by")
     parser.add_argument("--crs", help="the name of the coordinates, where the files do not say it")
+    parser.add_argument("--source-layer", metavar="NAME", help="the layer of files that have several, as GeoPackages")
     parser.add_argument("--folder", type=pathlib.Path, default=pathlib.Path(), help="where the store is made")
     parser.add_argument("--again", action="store_true", help="make a store anew that stands there")
     parser.add_argument("--writable", action="store_true", help="let the page and HTTP change the map")
@@ -92,6 +94,7 @@ def script_words(words: argparse.Namespace, output: pathlib.Path) -> list[str]:
     """The words for to_script.py."""
     found = [str(words.map), *map(str, words.others), "--fit", "--split", "--output", str(output)]
     found += ["--crs", words.crs] if words.crs else []
+    found += ["--source-layer", words.source_layer] if words.source_layer else []
     if words.others:
         return found
     name_by = words.name_by
@@ -101,8 +104,8 @@ def script_words(words: argparse.Namespace, output: pathlib.Path) -> list[str]:
     return [*found, "--coded", *(["--name-by", name_by] if name_by else [])]
 
 
-def made_scripts(words: argparse.Namespace, output: pathlib.Path, errors: TextIO) -> list[pathlib.Path]:
-    """The scripts of a map, one for each store."""
+def made_scripts(words: argparse.Namespace, output: pathlib.Path, errors: TextIO) -> tuple[list[pathlib.Path], int]:
+    """The scripts of a map, one for each store, and the status: 1 where something of the map was refused."""
     told = io.StringIO()
     try:
         status = to_script.main(script_words(words, output), told, told)
@@ -114,7 +117,7 @@ def made_scripts(words: argparse.Namespace, output: pathlib.Path, errors: TextIO
         raise Unmade(max(status, 1), f"{words.map}: no store is made")
     if words.others:
         define_common(words, scripts)
-    return scripts
+    return scripts, status
 
 
 def scripts_of(output: pathlib.Path) -> list[pathlib.Path]:
@@ -148,8 +151,9 @@ def make_store(script: pathlib.Path, program: str) -> None:
         raise Unmade(1, f"{script.name}: {faults[0] if faults else told or f'status {status}'}")
 
 
-def stores_for(words: argparse.Namespace, program: str, errors: TextIO) -> list[pathlib.Path]:
-    """The stores of a map. They are made in a folder of their own, so that none stands half made."""
+def stores_for(words: argparse.Namespace, program: str, errors: TextIO) -> tuple[list[pathlib.Path], int]:
+    """The stores of a map, and the status of making them. They are made in a folder of their own, so that none stands
+    half made."""
     stem = "_and_".join(re.sub(r"[^A-Za-z0-9]+", "_", path.stem).strip("_") or "map" for path in (words.map, *words.others))
     there = stores_of(words.folder / f"{stem}.txt")
     if there and not words.again:
@@ -157,21 +161,22 @@ def stores_for(words: argparse.Namespace, program: str, errors: TextIO) -> list[
         older = any(path.stat().st_mtime > there[0].stat().st_mtime for path in (words.map, *words.others))
         age = ", and is older than its map" if older else ""
         print(f"{', '.join(map(str, there))}: it stands{age}, and is served as it is; --again makes it anew", file=errors)
-        return there
+        return there, 0
     with contextlib.ExitStack() as held:
         hold(words, stem, held)
         folder = held.enter_context(tempfile.TemporaryDirectory(prefix=".overlay-", dir=words.folder))
         output = pathlib.Path(folder, f"{stem}.txt")
-        for script in made_scripts(words, output, errors):
+        scripts, status = made_scripts(words, output, errors)
+        for script in scripts:
             make_store(script, program)
         made = sorted(pathlib.Path(folder).iterdir(), key=lambda path: path.suffix == ".db")
-        scripts = [path.with_suffix(".txt") for path in there]
-        check_targets(words, [*scripts, *(words.folder / path.name for path in made)])
-        for path in (*there, *scripts):
+        before = [path.with_suffix(".txt") for path in there]
+        check_targets(words, [*before, *(words.folder / path.name for path in made)])
+        for path in (*there, *before):
             path.unlink()
         for path in made:
             path.replace(words.folder / path.name)
-    return stores_of(words.folder / f"{stem}.txt")
+    return stores_of(words.folder / f"{stem}.txt"), status
 
 
 def check_maps(words: argparse.Namespace, there: list[pathlib.Path]) -> None:
@@ -275,8 +280,8 @@ def main(arguments: list[str], output: TextIO | None = None, errors: TextIO | No
     try:
         program = words.program or asking.found_program((asking.LIVE,))
         words.folder.mkdir(parents=True, exist_ok=True)
-        stores = stores_for(words, program, errors)
-        return 0 if words.only_make else show(words, stores, program, output)
+        stores, status = stores_for(words, program, errors)
+        return status if words.only_make else show(words, stores, program, output)
     except Unmade as fault:
         print(fault, file=errors)
         return fault.status

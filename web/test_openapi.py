@@ -26,6 +26,21 @@ TYPES: dict[str, tuple[type, ...]] = {"object": (dict,), "array": (list,), "stri
                                       "integer": (int,), "number": (int, float)}
 
 
+def judge() -> Any:
+    """openapi_spec_validator where it is installed in a release that has `validate` (0.6), or None."""
+    if not importlib.util.find_spec("openapi_spec_validator"):
+        return None
+    import openapi_spec_validator  # type: ignore[import]
+
+    return openapi_spec_validator if hasattr(openapi_spec_validator, "validate") else None
+
+
+def judges() -> str:
+    """Who has judged the descriptions, in words."""
+    other = judge()
+    return "OpenAPI by the rules of test_openapi.py" + (f" and openapi_spec_validator {other.__version__}" if other else " alone")
+
+
 class Document:
     """A description, and what is wrong with it by the rules of OpenAPI 3.0."""
 
@@ -142,10 +157,8 @@ class Judged(unittest.TestCase):
     def check_document(self, value: dict[str, Any]) -> Document:
         document = Document(value)
         self.assertEqual(list(document.faults()), [])
-        if importlib.util.find_spec("openapi_spec_validator"):
-            import openapi_spec_validator  # type: ignore[import]
-
-            openapi_spec_validator.validate_spec(value)
+        if judge() is not None:
+            judge().validate(value)
         return document
 
     def check_answer(self, document: Document, told: Told, method: str, path: str) -> None:
@@ -228,6 +241,16 @@ class OfMap(Case, Judged):
 
 class Judges(unittest.TestCase):
     """The rules find what is against them, so that they are no empty ones."""
+
+    def test_the_other_judge_finds_them_too(self) -> None:
+        if judge() is None:
+            self.skipTest("no openapi_spec_validator: pip install openapi-spec-validator")
+        import openapi
+
+        good = openapi.document("t", "http://127.0.0.1", True, openapi.Described("m", {}))
+        judge().validate(good)
+        with self.assertRaises(Exception):
+            judge().validate({**good, "paths": {**good["paths"], "/x": {"get": {"responses": {}, "parameters": [{}]}}}})
 
     def test_faults_of_a_description_are_found(self) -> None:
         import openapi

@@ -56,6 +56,7 @@ def main() -> int:
     result = unittest.TextTestRunner(stream=sys.stdout, verbosity=1).run(chosen(words.names))
     for test, reason in result.skipped:
         print(f"skipped {test.id()}: {reason}")
+    print(test_openapi.judges())
     failed = len({test.id() for test, _ in result.failures + result.errors})
     print(f"{result.testsRun - failed - len(result.skipped)} passed, {failed} failed")
     return 1 if failed else 0

@@ -34,6 +34,7 @@ from bench import web_front  # noqa: E402
 from bench.web_front import Tries, asked  # noqa: E402
 
 SIZE = (1280, 800)
+NARROW = (420, 900)
 STEP = 23
 """Pixels between two points of the map that are compared."""
 
@@ -114,6 +115,10 @@ class Browser:
             self.session = ""
             self.call("Target.closeTarget", targetId=self.target)
             self.target = ""
+
+    def resize(self, width: int, height: int) -> None:
+        """The window of the page that is open."""
+        self.call("Emulation.setDeviceMetricsOverride", width=width, height=height, deviceScaleFactor=1, mobile=False)
 
     def value(self, text: str) -> Any:
         found = self.call("Runtime.evaluate", expression=text, returnByValue=True, awaitPromise=True)
@@ -247,6 +252,41 @@ def compared(browser: Browser, address: str, tries: Tries, what: str) -> None:
     )
 
 
+# What an eye would find wrong: texts that lie over one another, are cut off, or go out of the window.
+FAULTS = """(() => { const found = [], seen = element => { const box = element.getBoundingClientRect();
+    const within = element.closest('aside').getBoundingClientRect();
+    return box.width > 0 && box.top >= within.top - 1 && box.bottom <= within.bottom + 1; };
+  const leaves = [...document.querySelectorAll('aside *')].filter(one => seen(one) && one.checkVisibility()
+    && (one.matches('input, button') || [...one.childNodes].some(node => node.nodeType === 3 && node.data.trim())));
+  const text = one => `${one.tagName} ${(one.value ?? one.textContent).trim().slice(0, 30)}`;
+  leaves.forEach((one, place) => { const a = one.getBoundingClientRect();
+    if (a.left < -1 || a.right > innerWidth + 1) found.push(`${text(one)}: out of the window`);
+    if (!one.matches('input') && one.scrollWidth > one.clientWidth + 1 && one.clientWidth) found.push(`${text(one)}: cut`);
+    for (const other of leaves.slice(place + 1)) {
+      if (getComputedStyle(one.closest('.tools') ?? one).opacity === '0' || other.closest('.tools')) continue;
+      const meets = [...one.getClientRects()].some(c => [...other.getClientRects()].some(d =>
+        Math.min(c.right, d.right) - Math.max(c.left, d.left) > 1
+        && Math.min(c.bottom, d.bottom) - Math.max(c.top, d.top) > 1));
+      if (meets && !one.contains(other) && !other.contains(one)) found.push(`${text(one)} over ${text(other)}`); } });
+  const map = document.getElementById('map').getBoundingClientRect();
+  for (const popup of document.querySelectorAll('.leaflet-popup')) { const box = popup.getBoundingClientRect();
+    if (box.left < map.left - 1 || box.right > map.right + 1 || box.top < map.top - 1)
+      found.push('a popup out of the map'); }
+  for (const label of document.querySelectorAll('.graticule')) { const box = label.getBoundingClientRect();
+    if (box.top < map.top - 20 || box.bottom > map.bottom + 2)
+      found.push(`the number ${label.textContent} out of the map`); }
+  if (document.documentElement.scrollWidth > innerWidth) found.push('the page is wider than the window');
+  return found; })()"""
+
+
+def looked_over(browser: Browser, what: str, tries: Tries) -> None:
+    """Whether nothing on the page lies over something else."""
+    time.sleep(0.5)  # until the map has taken its room
+    width = browser.value("innerWidth")
+    found = browser.value(FAULTS)
+    tries.that(not found, f"{what} at {width} pixels: nothing lies over another thing, is cut or out of sight {found[:4]}")
+
+
 READY = (
     "globalThis.overlayPage !== undefined && document.body.dataset.ready === 'yes' && overlayPage.layers.length > 0 && "
     "overlayPage.plot.drawn.size === overlayPage.layers.length"
@@ -338,7 +378,13 @@ def changes(browser: Browser, address: str, pictures: pathlib.Path, tries: Tries
     compared(browser, address, tries, "with a layer defined")
     browser.click(520, 300)
     browser.until("document.querySelectorAll('#places tr').length === 5")
+    looked_over(browser, "layers", tries)
     (pictures / "page.png").write_bytes(browser.picture())
+    browser.resize(*NARROW)
+    looked_over(browser, "layers", tries)
+    (pictures / "page-narrow.png").write_bytes(browser.picture())
+    browser.resize(*SIZE)
+    time.sleep(0.5)
 
     browser.value("document.querySelector('#layers li:nth-child(4) input').click()")
     compared(browser, address, tries, "with a layer hidden")
@@ -433,6 +479,68 @@ def read_only(browser: Browser, address: str, tries: Tries) -> None:
     tries.that("version 4" in told(browser, "status"), "it tells the file's version")
 
 
+POPUP = "document.querySelector('.leaflet-popup .feature h3')?.textContent ?? ''"
+RALEIGH = (-78.64, 35.77)  # in Wake
+
+
+def click_place(browser: Browser, lng: float, lat: float) -> None:
+    """Clicks on the map at a place of the world."""
+    x, y = browser.value(
+        f"(() => {{ const at = overlayPage.plot.map.latLngToContainerPoint([{lat}, {lng}]), "
+        "box = document.getElementById('map').getBoundingClientRect(); return [box.left + at.x, box.top + at.y]; })()"
+    )
+    browser.click(x, y)
+
+
+def found_by(browser: Browser, text: str) -> list[str]:
+    """What the box of the page lists for a text."""
+    browser.value(
+        f"(() => {{ const box = document.getElementById('find').elements.text; box.value = {json.dumps(text)}; "
+        "box.dispatchEvent(new Event('input')); })()"
+    )
+    return list(browser.value("[...document.querySelectorAll('#found button')].map(one => one.textContent)"))
+
+
+def features(browser: Browser, address: str, picture: pathlib.Path, size: tuple[int, int], tries: Tries) -> None:
+    """A map's features by a click and by the box that finds them."""
+    browser.open(address)
+    browser.resize(*size)
+    browser.until(READY)
+    looked_over(browser, "a map's features", tries)
+    listed = found_by(browser, "wa")
+    tries.that(sorted(listed[:5]) == ["Wake", "Warren", "Washington", "Watauga", "Wayne"] and len(listed) == 8
+               and all("wa" in one for one in listed[5:]), f"`wa` finds {listed}")
+    looked_over(browser, "the list of what is found", tries)
+    tries.that(found_by(browser, "nowhere") == [], "`nowhere` finds nothing")
+    found_by(browser, "ashe")
+    browser.value("document.getElementById('find').requestSubmit()")
+    browser.until(f"({POPUP}) === 'Ashe'")
+    browser.until("!document.querySelector('.leaflet-pan-anim, .leaflet-zoom-anim')")
+    looked_over(browser, "a feature that was found", tries)
+    browser.value("document.getElementById('find').elements.text.value = ''")
+    browser.open(address)
+    browser.resize(*size)
+    browser.until(READY)
+    click_place(browser, *RALEIGH)
+    browser.until(f"({POPUP}) === 'Wake'")
+    rows = browser.value("[...document.querySelectorAll('.leaflet-popup tr')].map(row => row.innerText)")
+    tries.that(rows == ["name\tWake"], f"a click at Raleigh tells {rows}")
+    looked_over(browser, "a feature that was clicked", tries)
+    picture.write_bytes(browser.picture())
+
+
+def visit_features(browser: Browser, words: argparse.Namespace, folder: pathlib.Path, tries: Tries) -> None:
+    """Looks at a front over North Carolina, as wide as on a desk and as narrow as on a telephone."""
+    given = [sys.executable, web_front.TOP / "overlay", web_front.TOP / "tools/data/north_carolina.geojson"]
+    given += ["--folder", folder, "--only-make", "--program", words.program]
+    subprocess.run(list(map(str, given)), check=True, stderr=subprocess.DEVNULL)
+    pictures, running = words.pictures or folder, {"program": words.program, "python": words.python}
+    with web_front.front("--store", folder / "north_carolina.db", **running) as address:
+        features(browser, address, pictures / "features.png", SIZE, tries)
+        features(browser, address, pictures / "features-narrow.png", NARROW, tries)
+        browser.leave()
+
+
 def visits(browser: Browser, words: argparse.Namespace, folder: pathlib.Path, tries: Tries) -> None:
     """Looks at fronts over three stores, one of them by a front that reads too."""
     pictures, running = words.pictures or folder, {"program": words.program, "python": words.python}
@@ -452,6 +560,7 @@ def visits(browser: Browser, words: argparse.Namespace, folder: pathlib.Path, tr
     with web_front.front("--store", store, **running) as address:
         read_only(browser, address, tries)
         browser.leave()
+    visit_features(browser, words, folder, tries)
     # What was refused on purpose stands in the log as well.
     faults = [one for one in browser.faults if not re.search("status of 4(00|04|09)", one)]
     tries.that(not faults, f"no fault in the browser's log: {faults}")

@@ -74,6 +74,22 @@ class FirstMaps(WithProgram):
             2, f"{self.folder}/city.gpkg: no such file; the store that stands is shown by overlay_web.py --store "
                f"{self.folder}/maps/city.db\n"))
 
+    def test_a_feature_that_is_refused_is_told_with_file_number_and_name(self) -> None:
+        for text, told in (
+            (collection(feature([WEST], {"name": "West"}), feature([[[0, 0], [9, 0], [9, 9], [1, 1]]], {"name": "Open"})),
+             "feature 2 (Open): a ring whose last point is not its first"),
+            (collection(feature([WEST], {"name": "West"}), feature([[[0, 0], [9, "x"], [9, 9], [0, 0]]], {"name": "T"})),
+             "feature 2 (T): a coordinate that is no number: 'x'"),
+        ):
+            given = self.file("city.geojson", text)
+            status, _, errors = self.made(given, "--again")
+            self.assertEqual((status, f"refused: {given}, {told}" in errors, "city.db" in self.names()), (1, True, True), errors)
+
+    def test_of_a_file_with_layers_one_is_said(self) -> None:
+        status, _, errors = self.made(self.file("city.geojson", MAP), "--source-layer", "streets")
+        self.assertEqual((status, self.names()), (2, []))
+        self.assertIn("GeoJSON and Well-Known Text have no layers", errors)
+
     def test_where_a_map_cannot_be_made_what_stands_stays(self) -> None:
         given = self.file("city.geojson", MAP)
         self.made(given)

@@ -3,6 +3,7 @@
 import {make} from "./ask.js";
 
 const TARGET = 110;    // pixels between two lines, about
+const HEAD = 78, FOOT = 36, BAR = 140;    // pixels of the upper and the lower border, and of the measure
 
 // 1, 2 or 5 times a power of ten, the first that is not less.
 function round(length) {
@@ -36,11 +37,14 @@ export function graticule(map, renderer) {
     const across = round((east - west) / size.x * TARGET), up = round((north - south) / size.y * TARGET);
     for (const x of multiples(west, east, across)) {
       group.addLayer(L.polyline([[south, x], [north, x]], style));
-      group.addLayer(label([south, x], spelled(x, across), [-3, 17]));
+      // At the right stands the measure.
+      if (map.latLngToContainerPoint([south, x]).x < size.x - BAR) group.addLayer(label([south, x], spelled(x, across), [-3, 17]));
     }
     for (const y of multiples(south, north, up)) {
       group.addLayer(L.polyline([[y, west], [y, east]], style));
-      group.addLayer(label([y, west], spelled(y, up), [-4, -1]));
+      // At the lower border stand the numbers of the other lines, at the upper one the buttons.
+      const {y: down} = map.latLngToContainerPoint([y, west]);
+      if (down > HEAD && down < size.y - FOOT) group.addLayer(label([y, west], spelled(y, up), [-4, -1]));
     }
   }
   map.on("moveend resize", draw);

@@ -25,6 +25,8 @@ export class Plot {
     graticule(this.map, this.renderers.lines);
     if (state.geographic) L.control.scale({imperial: false, position: "bottomright"}).addTo(this.map);
     else measure(this.map, state.unit);
+    // Its room changes by what the panel below it holds as well.
+    new ResizeObserver(() => this.map.invalidateSize({animate: false})).observe(this.map.getContainer());
   }
 
   fit(boxes) {
