@@ -91,7 +91,8 @@ def ar_members(content: bytes) -> dict[str, bytes]:
 def unpacked(content: bytes, folder: pathlib.Path) -> list[tarfile.TarInfo]:
     """Unpacks a compressed archive, and gives what it says of its files."""
     with tarfile.open(fileobj=io.BytesIO(content), mode="r:gz") as archive:
-        archive.extractall(folder, filter="tar")
+        archive.extraction_filter = getattr(tarfile, "tar_filter", None)  # Python 3.11.4 and later ask for it
+        archive.extractall(folder)
         return archive.getmembers()
 
 
