@@ -118,10 +118,11 @@ def by_debians_python(entries: list[Entry]) -> list[Entry]:
 
 def needed_library(entries: list[Entry]) -> str:
     """The oldest C library that has what the programs ask for: `2.34`."""
-    asked = [found for one in entries for found in re.findall(rb"GLIBC_([0-9.]+[0-9])\0", one.content)]
+    asked = {tuple(map(int, found.split(b"."))) for one in entries
+             for found in re.findall(rb"GLIBC_([0-9.]+[0-9])\0", one.content)}
     if not asked:
         raise Unmade("the programs ask for no version of the C library: are they programs?")
-    return max((found.decode() for found in asked), key=lambda text: [*map(int, text.split("."))])
+    return ".".join(map(str, max(asked)))
 
 
 def written(entries: list[Entry], folder: pathlib.Path) -> None:

@@ -29,6 +29,7 @@ import tempfile
 import unittest
 import urllib.request
 from types import ModuleType
+from typing import Any
 
 sys.dont_write_bytecode = True
 HERE = pathlib.Path(__file__).resolve().parent
@@ -91,8 +92,9 @@ def ar_members(content: bytes) -> dict[str, bytes]:
 def unpacked(content: bytes, folder: pathlib.Path) -> list[tarfile.TarInfo]:
     """Unpacks a compressed archive, and gives what it says of its files."""
     with tarfile.open(fileobj=io.BytesIO(content), mode="r:gz") as archive:
-        archive.extraction_filter = getattr(tarfile, "tar_filter", None)  # Python 3.11.4 and later ask for it
-        archive.extractall(folder)
+        # Python 3.11.4 and later ask how links and modes are taken, and those before know no such word.
+        words: Any = {"filter": "tar"} if hasattr(tarfile, "tar_filter") else {}
+        archive.extractall(folder, **words)
         return archive.getmembers()
 
 
