@@ -4,6 +4,7 @@ from __future__ import annotations
 
 import collections
 import dataclasses
+import functools
 import pathlib
 import re
 
@@ -183,20 +184,28 @@ def of_kit(house: House, keys: set[Key]) -> list[str]:
     return [f"{crate} {module} {', '.join(f'`{name}`' for name in names)}" for (crate, module), names in house.in_order(house.of_kit(keys))]
 
 
+def sentence_of(house: House, law: Law) -> str:
+    """What a law says, in the words of its own comment."""
+    text = (house.top / "crates" / law.file).read_text()
+    found = re.search(rf"((?:^///[^\n]*\n)+)pub fn {law.name}\b[^{{]*?\n(?:    [^\n]*\n)*\{{\}}", text, re.M)
+    if not found:
+        raise SystemExit(f"believe: crates/{law.file} has no law {law.name}")
+    return " ".join(line[3:].strip() for line in found[1].splitlines())
+
+
+@functools.cache
+def reached_by(house: House, law: Law) -> set[Key]:
+    """The definitions of the tree that a law speaks of, its own statement among them."""
+    return house.mine(house.of_call(Call(law.name, law.file, law.name, "")).keys)
+
+
 def laws(told: Told, call: Call, fresh: set[Key]) -> list[str]:
-    """What is proved of the definitions that a section lists, in the words of each law's own comment."""
-    lines: list[str] = []
-    for law in told.tables.laws:
-        if law.section != call.title:
-            continue
-        text = (told.house.top / "crates" / law.file).read_text()
-        found = re.search(rf"((?:^///[^\n]*\n)+)pub fn {law.name}\b[^{{]*?\n(?:    [^\n]*\n)*\{{\}}", text, re.M)
-        if not found:
-            raise SystemExit(f"believe: crates/{law.file} has no law {law.name}")
-        if not told.house.of_call(Call(law.name, law.file, law.name, "")).keys & fresh:
+    """What is proved of the definitions that a section lists."""
+    mine = [law for law in told.tables.laws if law.section == call.title]
+    for law in mine:
+        if not reached_by(told.house, law) & fresh:
             raise SystemExit(f"believe: {law.name} speaks of nothing that the section {call.title} lists")
-        said = " ".join(line[3:].strip() for line in found[1].splitlines())
-        lines.append(f"- [`{law.name}`](../crates/{law.file}): {said}")
+    lines = [f"- [`{law.name}`](../crates/{law.file}): {sentence_of(told.house, law)}" for law in mine]
     return ["", "What is proved of these:", "", *lines] if lines else []
 
 

@@ -222,6 +222,7 @@ def writes(top: pathlib.Path) -> int:
     row = text(Told(house, tables), "both")
     assert row.index("abbrev pub twice") < row.index("-- goes up\nabbrev pub Goes") < row.index("Takes n = Handed n → Goes n n")
     assert "What to believe of: both (4 definitions, 12 lines)" in row and "low `Thing` as `Pair`" in row and "idle" not in row
+    assert "goes_law (high/src/calling.rt): What goes, goes on." in row
     assert "| few | 2 | 6 | 2 |  | Less. |" in said and "- `few`: `Goes`, `go: first`." in said, said
     assert "    go: first" in text(Told(house, tables), "few")
     for wrong, fault in [(Law("give", "high/src/calling.rt", "goes_law"), "speaks of nothing"), (Law("go", "high/src/calling.rt", "go"), "no law")]:

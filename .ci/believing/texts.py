@@ -6,7 +6,7 @@ import pathlib
 import re
 
 from believing.house import Cut, File, House, Key
-from believing.page import Told, of_kit, quoted, seen_as
+from believing.page import Told, of_kit, quoted, reached_by, seen_as, sentence_of
 
 FOLDER = pathlib.Path("docs/believe")
 
@@ -34,8 +34,17 @@ def text(told: Told, title: str) -> str:
     cut = house.cut(without)
     for file, names in house.in_order(mine):
         lines += definitions(house, file, names, cut)
+    lines += proved(told, reach.keys)
     lines += rest(house, reach.keys, sorted(link.title for link in reach.links))
     return "\n".join(lines)
+
+
+def proved(told: Told, keys: set[Key]) -> list[str]:
+    """What is proved of the definitions of a text: the laws that speak, of all that the page lists, of these alone."""
+    listed = set().union(*(reach.keys for reach in told.reach.values()))
+    lines = [f"{law.name} ({law.file}): {sentence_of(told.house, law)}" for law in told.tables.laws
+             if reached_by(told.house, law) & listed <= keys]
+    return ["==== What is proved of these: laws, each a public function with this contract", "", *lines, ""] if lines else []
 
 
 def definitions(house: House, file: File, names: list[str], cut: Cut) -> list[str]:
