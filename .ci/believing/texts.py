@@ -24,11 +24,12 @@ def text(told: Told, title: str) -> str:
     mine = house.mine(reach.keys)
     count = f"{len(mine)} definitions, {house.lines(mine):,} lines"
     lines = [f"What to believe of: {title} ({count})", "",
-             "`.ci/believe --text` wrote this from the sources. docs/BELIEVE.md tells how to read it. First the contracts, then",
-             "the definitions on which they rest: each stands after those that it rests on, or beside them in one file.", ""]
+             "`.ci/believe --text` wrote this from the sources. docs/BELIEVE.md says how to read it. First the contracts,",
+             "then the definitions on which they rest: each stands after those that it rests on, or beside them in one",
+             "file.", ""]
     if without:
-        lines += ["Left out are these promises, which stand beside (docs/BELIEVE.md); the words in them are not defined here:", "",
-                  *(f"    {one}" for one in without), ""]
+        lines += ["Left out are these promises, which stand beside (docs/BELIEVE.md); their words are not defined here:",
+                  "", *(f"    {one}" for one in without), ""]
     for call in calls:
         lines += [f"==== {call.title}: {call.says}", f"     crates/{call.file}", "", *quoted(house, call), ""]
     cut = house.cut(without)
@@ -70,7 +71,8 @@ def rest(house: House, keys: set[Key], links: list[str]) -> list[str]:
     """What a text names and does not print."""
     kinds = sorted({key[1:] for key in keys if not key[0]}, key=lambda kind: (house.crates[kind[0]], kind[1]))
     parts = [("Link words, which calls hand to one another", links), ("Words of the kit", of_kit(house, keys)),
-             ("Types of the sources, and what their values are seen as", [f"{crate} {seen_as(house, crate, name)}" for crate, name in kinds])]
+             ("Types of the sources, and what their values are seen as",
+              [f"{crate} {seen_as(house, crate, name)}" for crate, name in kinds])]
     lines: list[str] = []
     for head, told in parts:
         if told:
