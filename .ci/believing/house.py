@@ -101,7 +101,9 @@ class House:
 
     def folder(self, crate: str) -> pathlib.Path:
         """The definitions of a crate, of the tree or of the kit."""
-        return self.top / "crates" / crate / "specs" if crate in self.crates else (self.kit or self.top / "no-kit") / crate / "specs"
+        if crate in self.crates:
+            return self.top / "crates" / crate / "specs"
+        return (self.kit or self.top / "no-kit") / crate / "specs"
 
     def find_types(self) -> dict[tuple[str, str], pathlib.Path]:
         """The file of each public type and trait."""
@@ -147,7 +149,8 @@ class House:
         """What an imported name is; one of the tree's `proofs/` is no definition that the page can list."""
         if found.is_proof:
             if found.crate in self.crates:
-                raise SystemExit(f"believe: {'.'.join(file or ('a contract',))} is reached, and names {found.name} of {found.crate}/proofs")
+                place = ".".join(file or ("a contract",))
+                raise SystemExit(f"believe: {place} is reached, and names {found.name} of {found.crate}/proofs")
             return None
         if found.path.startswith("declared."):
             parts = [part for part in [*found.path.split("."), found.name] if (found.crate, part) in self.types]
@@ -188,7 +191,8 @@ class House:
         module = self.module(key[:2])
         text = self.said(key, cut)
         own = bound(key[2], text) - {key[2]}
-        kept = WORD.sub(lambda w: "" if w[0].partition(".")[0] in own and w[0].partition(".")[0] not in module.aliases else w[0], text)
+        own -= set(module.aliases)
+        kept = WORD.sub(lambda word: "" if word[0].partition(".")[0] in own else word[0], text)
         return self.named(kept, key[:2], {}, {}) - {key}
 
     def of_type(self, crate: str, name: str) -> set[Key]:
@@ -212,7 +216,7 @@ class House:
         path = rust.used(text).get(word)
         if path is None:
             return ("", crate, word) if (crate, word) in self.types else None
-        return self.passed_on(crate if path[0] in ("crate", "self", "super") or path[0] not in self.crates else path[0], path[-1])
+        return self.passed_on(path[0] if path[0] in self.crates else crate, path[-1])
 
     def passed_on(self, crate: str, word: str, seen: frozenset[str] = frozenset()) -> Key | None:
         """The type that a crate has under a name, its own or another's that it passes on."""
@@ -334,7 +338,8 @@ class House:
     def in_order(self, keys: set[Key]) -> list[tuple[File, list[str]]]:
         """The files of some definitions, lowest first, each with its definitions as they stand."""
         files = sorted({key[:2] for key in keys}, key=lambda file: (self.crates.get(file[0], -1), file))
-        rests = {file: {key[:2] for k in keys if k[:2] == file for key in self.uses(k)} & set(files) - {file} for file in files}
+        rests = {file: {key[:2] for k in keys if k[:2] == file for key in self.uses(k)} & set(files) - {file}
+                 for file in files}
         order: list[File] = []
 
         def put(file: File, path: tuple[File, ...]) -> None:

@@ -4,13 +4,15 @@ from __future__ import annotations
 
 import collections
 import dataclasses
+import functools
 import pathlib
 import re
 
 from believing.house import Call, House, Key, Link, Reach
 
 # The rows of which README.md has the numbers.
-ROW = re.compile(r"^\| (?:`locate`|the sentence in bold|a crash of a run, and its opening|all together) \| (\d+) \| ([\d,]+) \|", re.M)
+OF_README = r"(?:`locate`|the sentence in bold|a crash of a run, and its opening|all together)"
+ROW = re.compile(rf"^\| {OF_README} \| (\d+) \| ([\d,]+) \|", re.M)
 TOLD = re.compile(r"\d+(\s+definitions\s+\()[\d,]+(\s+lines\))")
 
 
@@ -26,7 +28,7 @@ class Word:
 
 @dataclasses.dataclass(frozen=True)
 class Law:
-    """A public function with an empty body, whose contract says what holds of definitions: the section that has it, its file."""
+    """A public function with an empty body, whose contract says what holds of definitions: its section, its file."""
 
     section: str
     file: str
@@ -104,18 +106,19 @@ def page(house: House, tables: Tables) -> str:
         _, reach = told.row(row.title)
         rows.append(f"| {row.title} | {told.counted(reach.keys)} | {row.says} |")
     rows.append(f"| all together | {told.counted(met)} | |")
-    every = sum(len(house.module((crate, module)).definitions) for crate, module in list(house.modules) if crate in house.crates)
-    table = ["| Call | Definitions | Lines | Files | Of the kit (lines) | What it is |", "|---|---|---|---|---|---|", *rows]
+    every = sum(len(module.definitions) for (crate, _), module in house.modules.items() if crate in house.crates)
+    table = ["| Call | Definitions | Lines | Files | Of the kit (lines) | What it is |", f"|{'---|' * 6}", *rows]
     head = tables.head.replace("@CONTRACT@", "\n".join(f"    {line}" for line in quoted(house, tables.calls[0])))
     head = head.replace("@LINKS@", links(told)).replace("@WITHOUT@", left_out(told))
-    return "\n".join([head, "", *table, f"\nOf {every:,} definitions in `crates/*/specs`.\n", *promised(told, listed), *parts,
-                      types(house, met)])
+    tail = f"\nOf {every:,} definitions in `crates/*/specs`.\n"
+    return "\n".join([head, "", *table, tail, *promised(told, listed), *parts, types(house, met)])
 
 
 def quoted(house: House, call: Call) -> list[str]:
     """A function's head as it stands in its source, moved to the margin."""
     lines = (house.top / "crates" / call.file).read_text().splitlines()
-    first = next(k for k, line in enumerate(lines) if re.match(rf"\s*(?:pub )?fn {call.name}\b", line) and not line.rstrip().endswith(";"))
+    head = re.compile(rf"\s*(?:pub )?fn {call.name}\b(?!.*;$)")
+    first = next(k for k, line in enumerate(lines) if head.match(line))
     shift = len(lines[first]) - len(lines[first].lstrip())
     last = next(k for k in range(first, len(lines)) if re.match(rf" {{{shift}}}\{{", lines[k]))
     return [line[shift:] for line in lines[first:last]]
@@ -136,16 +139,16 @@ def links(told: Told) -> str:
 
 def left_out(told: Told) -> str:
     """What rows leave out, row by row."""
-    lines = [f"- `{row.title}`: {', '.join(f'`{one}`' for one in row.without)}." for row in told.tables.together if row.without]
-    return "\n".join(lines)
+    rows = [row for row in told.tables.together if row.without]
+    return "\n".join(f"- `{row.title}`: {', '.join(f'`{one}`' for one in row.without)}." for row in rows)
 
 
 def promised(told: Told, listed: dict[Key, str]) -> list[str]:
     """How much the words of the promises rest on, and in which sections that is listed."""
     house = told.house
-    lines = ["The same of single words, by which a promise is said, and the sections that list what each rests on (what no call",
-             "reaches is in none):", "",
-             "| Word | Definitions | Lines | Files | Of the kit (lines) | What it says | Sections |", "|---|---|---|---|---|---|---|"]
+    lines = ["The same of single words, by which a promise is said, and the sections that list what each rests on (what no",
+             "call reaches is in none):", "",
+             "| Word | Definitions | Lines | Files | Of the kit (lines) | What it says | Sections |", f"|{'---|' * 7}"]
     for word in told.tables.promises:
         if word.name not in house.module((word.crate, word.module)).definitions:
             raise SystemExit(f"believe: {word.crate}/specs/{word.module}.antt has no {word.name}")
@@ -158,7 +161,7 @@ def promised(told: Told, listed: dict[Key, str]) -> list[str]:
 
 
 def section(told: Told, call: Call, reach: Reach, fresh: set[Key]) -> str:
-    """What a call rests on, but for what stands above: definitions, link words, words of the kit, types; and laws of these."""
+    """What a call rests on, but for what stands above: definitions, link words, words of the kit, types; and laws."""
     house = told.house
     mine, new = house.mine(reach.keys), house.mine(fresh)
     lines = [f"## `{call.title}`", "", f"{call.says} The contract: `crates/{call.file}`."]
@@ -180,31 +183,41 @@ def section(told: Told, call: Call, reach: Reach, fresh: set[Key]) -> str:
 
 def of_kit(house: House, keys: set[Key]) -> list[str]:
     """The kit's definitions among some, file by file."""
-    return [f"{crate} {module} {', '.join(f'`{name}`' for name in names)}" for (crate, module), names in house.in_order(house.of_kit(keys))]
+    files = house.in_order(house.of_kit(keys))
+    return [f"{crate} {module} {', '.join(f'`{name}`' for name in names)}" for (crate, module), names in files]
+
+
+def sentence_of(house: House, law: Law) -> str:
+    """What a law says, in the words of its own comment."""
+    text = (house.top / "crates" / law.file).read_text()
+    found = re.search(rf"((?:^///[^\n]*\n)+)pub fn {law.name}\b[^{{]*?\n(?:    [^\n]*\n)*\{{\}}", text, re.M)
+    if not found:
+        raise SystemExit(f"believe: crates/{law.file} has no law {law.name}")
+    return " ".join(line[3:].strip() for line in found[1].splitlines())
+
+
+@functools.cache
+def reached_by(house: House, law: Law) -> set[Key]:
+    """The definitions of the tree that a law speaks of, its own statement among them."""
+    return house.mine(house.of_call(Call(law.name, law.file, law.name, "")).keys)
 
 
 def laws(told: Told, call: Call, fresh: set[Key]) -> list[str]:
-    """What is proved of the definitions that a section lists, in the words of each law's own comment."""
-    lines: list[str] = []
-    for law in told.tables.laws:
-        if law.section != call.title:
-            continue
-        text = (told.house.top / "crates" / law.file).read_text()
-        found = re.search(rf"((?:^///[^\n]*\n)+)pub fn {law.name}\b[^{{]*?\n(?:    [^\n]*\n)*\{{\}}", text, re.M)
-        if not found:
-            raise SystemExit(f"believe: crates/{law.file} has no law {law.name}")
-        if not told.house.of_call(Call(law.name, law.file, law.name, "")).keys & fresh:
+    """What is proved of the definitions that a section lists."""
+    mine = [law for law in told.tables.laws if law.section == call.title]
+    for law in mine:
+        if not reached_by(told.house, law) & fresh:
             raise SystemExit(f"believe: {law.name} speaks of nothing that the section {call.title} lists")
-        said = " ".join(line[3:].strip() for line in found[1].splitlines())
-        lines.append(f"- [`{law.name}`](../crates/{law.file}): {said}")
+    lines = [f"- [`{law.name}`](../crates/{law.file}): {sentence_of(told.house, law)}" for law in mine]
     return ["", "What is proved of these:", "", *lines] if lines else []
 
 
 def types(house: House, keys: set[Key]) -> str:
     """The types of the sources that contracts and definitions name."""
     lines = ["## Types of the sources", "",
-             "Not counted above. A value of a type with a model is seen as the model's value; of any other its fields are seen,",
-             "and of an enum its cases. A trait has clauses of its own: what a disk has to keep, a crash's premise, stands in `Disk`.", "",
+             "Not counted above. A value of a type with a model is seen as the model's value; of any other its fields are",
+             "seen, and of an enum its cases. A trait has clauses of its own: what a disk has to keep, a crash's premise,",
+             "stands in `Disk`.", "",
              "| File | Types, and what they are seen as |", "|---|---|"]
     files: dict[tuple[int, str], list[str]] = {}
     for crate, name in sorted({key[1:] for key in keys if not key[0]}):

@@ -2,6 +2,7 @@
 
 from __future__ import annotations
 
+import functools
 import re
 
 USE = re.compile(r"^\s*(?P<public>pub )?use (?P<tree>[^;]+);", re.M)
@@ -34,6 +35,7 @@ def leaves(tree: str, before: tuple[str, ...] = ()) -> list[tuple[str, tuple[str
     return [leaf for part in split_outside(inside, ",") if part.strip() for leaf in leaves(part, start)]
 
 
+@functools.cache
 def used(text: str, public: bool = False) -> dict[str, tuple[str, ...]]:
     """The names that a source takes from elsewhere, each with its path; only those that it passes on, where asked."""
     found: dict[str, tuple[str, ...]] = {}

@@ -182,8 +182,10 @@ def reaches(top: pathlib.Path) -> int:
 
 def hides(top: pathlib.Path) -> int:
     """What links hide: a definition, or a field; but not what is reached from the definitions that they name."""
-    for links, hidden in [(LINKS, {"Handed", "Rests", "Part", "Pair"}), (FIELD, {"Part"}),
-                          ((Link("high", "Calls", "Handed", (), (), but=("Gives",)),), set())]:
+    cases: list[tuple[tuple[Link, ...], set[str]]] = [
+        (LINKS, {"Handed", "Rests", "Part", "Pair"}), (FIELD, {"Part"}),
+        ((Link("high", "Calls", "Handed", (), (), but=("Gives",)),), set())]
+    for links, hidden in cases:
         reach = House(top, top / "kit", links).of_call(calls_of("give")[0])
         assert not {key[2] for key in reach.keys} & hidden, (links, reach)
         assert ({link.title for link in reach.links} == {links[0].title}) == bool(hidden), reach.links
@@ -192,12 +194,12 @@ def hides(top: pathlib.Path) -> int:
         reach = house.of_call(calls_of("give")[0], house.cut(without))
         assert not {key[2] for key in reach.keys} & gone and not reach.links, (without, reach)
     assert not house.mine(house.of_call(calls_of("go")[0], house.cut(("go: first",))).keys) & low("twice")
-    for without in ("Handed.none", "None", "go: none"):
+    for wrong in ("Handed.none", "None", "go: none"):
         try:
-            house.of_call(calls_of("go")[0], house.cut((without,)))
+            house.of_call(calls_of("go")[0], house.cut((wrong,)))
         except SystemExit:
             continue
-        raise AssertionError(without)
+        raise AssertionError(wrong)
     try:
         House(top, None, (Link("high", "Calls", "Handed", (), (), field="none"),))
     except SystemExit as fault:
@@ -222,6 +224,7 @@ def writes(top: pathlib.Path) -> int:
     row = text(Told(house, tables), "both")
     assert row.index("abbrev pub twice") < row.index("-- goes up\nabbrev pub Goes") < row.index("Takes n = Handed n → Goes n n")
     assert "What to believe of: both (4 definitions, 12 lines)" in row and "low `Thing` as `Pair`" in row and "idle" not in row
+    assert "goes_law (high/src/calling.rt): What goes, goes on." in row
     assert "| few | 2 | 6 | 2 |  | Less. |" in said and "- `few`: `Goes`, `go: first`." in said, said
     assert "    go: first" in text(Told(house, tables), "few")
     for wrong, fault in [(Law("give", "high/src/calling.rt", "goes_law"), "speaks of nothing"), (Law("go", "high/src/calling.rt", "go"), "no law")]:

@@ -6,7 +6,7 @@ import pathlib
 import re
 
 from believing.house import Cut, File, House, Key
-from believing.page import Told, of_kit, quoted, seen_as
+from believing.page import Told, of_kit, quoted, reached_by, seen_as, sentence_of
 
 FOLDER = pathlib.Path("docs/believe")
 
@@ -24,18 +24,28 @@ def text(told: Told, title: str) -> str:
     mine = house.mine(reach.keys)
     count = f"{len(mine)} definitions, {house.lines(mine):,} lines"
     lines = [f"What to believe of: {title} ({count})", "",
-             "`.ci/believe --text` wrote this from the sources. docs/BELIEVE.md tells how to read it. First the contracts, then",
-             "the definitions on which they rest: each stands after those that it rests on, or beside them in one file.", ""]
+             "`.ci/believe --text` wrote this from the sources. docs/BELIEVE.md says how to read it. First the contracts,",
+             "then the definitions on which they rest: each stands after those that it rests on, or beside them in one",
+             "file.", ""]
     if without:
-        lines += ["Left out are these promises, which stand beside (docs/BELIEVE.md); the words in them are not defined here:", "",
-                  *(f"    {one}" for one in without), ""]
+        lines += ["Left out are these promises, which stand beside (docs/BELIEVE.md); their words are not defined here:",
+                  "", *(f"    {one}" for one in without), ""]
     for call in calls:
         lines += [f"==== {call.title}: {call.says}", f"     crates/{call.file}", "", *quoted(house, call), ""]
     cut = house.cut(without)
     for file, names in house.in_order(mine):
         lines += definitions(house, file, names, cut)
+    lines += proved(told, reach.keys)
     lines += rest(house, reach.keys, sorted(link.title for link in reach.links))
     return "\n".join(lines)
+
+
+def proved(told: Told, keys: set[Key]) -> list[str]:
+    """What is proved of the definitions of a text: the laws that speak, of all that the page lists, of these alone."""
+    listed = set().union(*(reach.keys for reach in told.reach.values()))
+    lines = [f"{law.name} ({law.file}): {sentence_of(told.house, law)}" for law in told.tables.laws
+             if reached_by(told.house, law) & listed <= keys]
+    return ["==== What is proved of these: laws, each a public function with this contract", "", *lines, ""] if lines else []
 
 
 def definitions(house: House, file: File, names: list[str], cut: Cut) -> list[str]:
@@ -61,7 +71,8 @@ def rest(house: House, keys: set[Key], links: list[str]) -> list[str]:
     """What a text names and does not print."""
     kinds = sorted({key[1:] for key in keys if not key[0]}, key=lambda kind: (house.crates[kind[0]], kind[1]))
     parts = [("Link words, which calls hand to one another", links), ("Words of the kit", of_kit(house, keys)),
-             ("Types of the sources, and what their values are seen as", [f"{crate} {seen_as(house, crate, name)}" for crate, name in kinds])]
+             ("Types of the sources, and what their values are seen as",
+              [f"{crate} {seen_as(house, crate, name)}" for crate, name in kinds])]
     lines: list[str] = []
     for head, told in parts:
         if told:

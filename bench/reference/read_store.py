@@ -10,13 +10,16 @@ column. Of a file with a fault it prints the first one, `32` or `33 CODE`, and e
 vectors of docs/FORMAT.md and the damaged files that stand there, and looks whether each gives what the page says.
 """
 
+from __future__ import annotations
+
 import argparse
-import collections
 import fractions
 import pathlib
 import re
 import string
 import sys
+from collections.abc import Callable
+from typing import Any, NamedTuple, Union
 
 sys.path.insert(0, str(pathlib.Path(__file__).resolve().parents[2]))
 
@@ -31,10 +34,44 @@ NUMBER_MAX = 2**62
 FORMAT, OLD_FORMAT, OLD_COLUMNS = 2, 1, 17
 FORMAT_PAGE = pathlib.Path(__file__).resolve().parents[2] / "docs" / "FORMAT.md"
 
-Root = collections.namedtuple("Root", "format sequence version catalog")
-Extent = collections.namedtuple("Extent", "block size")
-Listed = collections.namedtuple("Listed", "name record tiles")  # of a base layer tiles is None
-Segment = collections.namedtuple("Segment", "left right")
+Number = Union[int, fractions.Fraction]
+Point = tuple[Number, Number]
+Rings = list[list[Point]]
+# A name, or an operator with its two operands.
+Tree = Union[bytes, tuple[bytes, Any, Any]]
+# How many pieces a tile has, or that it is oversize.
+Pieces = Union[int, str]
+
+
+class Extent(NamedTuple):
+    """The blocks of a record: the first, and its bytes."""
+
+    block: int
+    size: int
+
+
+class Root(NamedTuple):
+    """What names a version: its format, sequence, number and catalog."""
+
+    format: int
+    sequence: int
+    version: int
+    catalog: Extent
+
+
+class Listed(NamedTuple):
+    """A layer of a catalog; of a base layer tiles is None."""
+
+    name: bytes
+    record: Extent
+    tiles: list[Extent | None] | None
+
+
+class Segment(NamedTuple):
+    """Two points, the left one first."""
+
+    left: Point
+    right: Point
 
 
 class Damage(Exception):
@@ -48,44 +85,44 @@ class NotOfTheForm(Exception):
 class Bytes:
     """The bytes of a record, read from the front."""
 
-    def __init__(self, data):
+    def __init__(self, data: bytes) -> None:
         self.data = data
         self.at = 0
 
-    def take(self, size):
+    def take(self, size: int) -> bytes:
         if len(self.data) - self.at < size:
             raise NotOfTheForm
         self.at += size
         return self.data[self.at - size : self.at]
 
-    def number(self, size):
+    def number(self, size: int) -> int:
         return int.from_bytes(self.take(size), "big")
 
-    def one_of(self, *values):
+    def one_of(self, *values: int) -> int:
         value = self.number(1)
         if value not in values:
             raise NotOfTheForm
         return value
 
-    def coordinate(self):
+    def coordinate(self) -> int:
         value = int.from_bytes(self.take(4), "big", signed=True)
         if abs(value) > COORDINATE_MAX:
             raise NotOfTheForm
         return value
 
-    def point(self):
+    def point(self) -> Point:
         return (self.coordinate(), self.coordinate())
 
-    def extent(self):
+    def extent(self) -> Extent:
         return Extent(self.number(8), self.number(4))
 
-    def segment(self):
+    def segment(self) -> Segment:
         segment = Segment(self.point(), self.point())
         if not segment.left < segment.right:
             raise NotOfTheForm
         return segment
 
-    def end(self):
+    def end(self) -> None:
         if self.at != len(self.data):
             raise NotOfTheForm
 
@@ -93,31 +130,31 @@ class Bytes:
 # ---- points: pairs of exact fractions, which Python compares by x, then by y
 
 
-def border(column):
+def border(column: int) -> int:
     return COLUMN_WIDTH * column - COORDINATE_MAX
 
 
-def direction(segment):
+def direction(segment: Segment) -> Point:
     return (segment.right[0] - segment.left[0], segment.right[1] - segment.left[1])
 
 
-def turn(first, second):
+def turn(first: Point, second: Point) -> Number:
     """The cross product of two directions."""
     return first[0] * second[1] - first[1] * second[0]
 
 
-def is_on(segment, point):
+def is_on(segment: Segment, point: Point) -> bool:
     way = (point[0] - segment.left[0], point[1] - segment.left[1])
     return turn(direction(segment), way) == 0 and segment.left <= point <= segment.right
 
 
-def part_way(segment, part):
+def part_way(segment: Segment, part: fractions.Fraction) -> Point:
     """The point that far from the left end to the right one."""
     along = direction(segment)
     return (segment.left[0] + along[0] * part, segment.left[1] + along[1] * part)
 
 
-def crossing(first, second):
+def crossing(first: Segment, second: Segment) -> Point:
     across = turn(direction(first), direction(second))
     if across == 0:
         raise NotOfTheForm
@@ -128,13 +165,13 @@ def crossing(first, second):
     return point
 
 
-def cut(segment, column):
+def cut(segment: Segment, column: int) -> Point:
     if column >= COLUMNS or not segment.left[0] < border(column) < segment.right[0]:
         raise NotOfTheForm
     return part_way(segment, fractions.Fraction(border(column) - segment.left[0], direction(segment)[0]))
 
 
-def named_point(data):
+def named_point(data: Bytes) -> Point:
     """The point of a name."""
     tag = data.one_of(0, 1, 2)
     if tag == 0:
@@ -147,16 +184,16 @@ def named_point(data):
 # ---- expressions: a name, or an operator with its two operands
 
 
-def is_name(name):
+def is_name(name: bytes) -> bool:
     letters = string.ascii_letters.encode()
     others = letters + string.digits.encode() + b"_"
     return 1 <= len(name) <= NAME_MAX and name[0] in letters and all(byte in others for byte in name)
 
 
-def parse(tokens):
+def parse(tokens: list[bytes]) -> Tree:
     """The tree of some tokens; an operand stands on the stack alone, an operation in a triple."""
 
-    def atom():
+    def atom() -> Tree:
         token = tokens.pop(0) if tokens else b""
         if token == b"(":
             inner = chain()
@@ -167,13 +204,13 @@ def parse(tokens):
             raise NotOfTheForm
         return token
 
-    def product():
+    def product() -> Tree:
         tree = atom()
         while tokens and tokens[0] == b"&":
             tree = (tokens.pop(0), tree, atom())
         return tree
 
-    def chain():
+    def chain() -> Tree:
         tree = product()
         while tokens and tokens[0] in (b"|", b"-", b"^"):
             tree = (tokens.pop(0), tree, product())
@@ -185,17 +222,17 @@ def parse(tokens):
     return tree
 
 
-def bracketed(tree, needs):
+def bracketed(tree: Tree, needs: bool) -> bytes:
     return b"(" + spelled(tree) + b")" if needs else spelled(tree)
 
 
-def spelled(tree):
+def spelled(tree: Tree) -> bytes:
     """The one spelling of a tree."""
     if isinstance(tree, bytes):
         return tree
     operator, left, right = tree
 
-    def is_sum(operand):
+    def is_sum(operand: Tree) -> bool:
         return isinstance(operand, tuple) and operand[0] != b"&"
 
     left_needs = operator == b"&" and is_sum(left)
@@ -203,32 +240,33 @@ def spelled(tree):
     return bracketed(left, left_needs) + b" " + operator + b" " + bracketed(right, right_needs)
 
 
-def leaves(tree):
+def leaves(tree: Tree) -> list[bytes]:
     return [tree] if isinstance(tree, bytes) else leaves(tree[1]) + leaves(tree[2])
 
 
 # ---- records
 
 
-def read_catalog(data, written=FORMAT):
+def read_catalog(record: bytes, written: int = FORMAT) -> list[Listed]:
     """The layers that are listed. In format 1 the tiles are those of other columns, and count as pending."""
-    data, columns = Bytes(data), COLUMNS if written == FORMAT else OLD_COLUMNS
+    data, columns = Bytes(record), COLUMNS if written == FORMAT else OLD_COLUMNS
     listing = []
     for _ in range(data.number(2)):
         name = data.take(data.number(1))
         is_derived = data.one_of(0, 1)
-        record = data.extent()
+        extent = data.extent()
         tiles = [data.extent() if data.one_of(0, 1) else None for _ in range(columns)] if is_derived else None
         if is_derived and written != FORMAT:
             tiles = [None] * COLUMNS
-        listing.append(Listed(name, record, tiles))
+        listing.append(Listed(name, extent, tiles))
     data.end()
     return listing
 
 
-def read_base(data):
-    data = Bytes(data)
-    rings = [[data.point() for _ in range(data.number(2))] for _ in range(data.number(2))]
+def read_base(record: bytes) -> Rings:
+    """The rings of a base layer's record."""
+    data = Bytes(record)
+    rings: Rings = [[data.point() for _ in range(data.number(2))] for _ in range(data.number(2))]
     data.end()
     if any(len(ring) < 4 or ring[0] != ring[-1] for ring in rings):
         raise NotOfTheForm
@@ -237,7 +275,7 @@ def read_base(data):
     return rings
 
 
-def read_definition(data):
+def read_definition(data: bytes) -> Tree:
     tokens = re.findall(rb"[A-Za-z0-9_]+|[^ ]", data, re.DOTALL)
     if len(tokens) > TOKENS_MAX:
         raise NotOfTheForm
@@ -247,7 +285,7 @@ def read_definition(data):
     return tree
 
 
-def read_piece(data):
+def read_piece(data: Bytes) -> tuple[Point, Point]:
     support = data.segment()
     ends = (named_point(data), named_point(data))
     if not (is_on(support, ends[0]) and is_on(support, ends[1]) and ends[0] < ends[1]):
@@ -255,9 +293,9 @@ def read_piece(data):
     return ends
 
 
-def read_tile(data, column):
+def read_tile(record: bytes, column: int) -> Pieces:
     """How many pieces a tile has, or `oversize`."""
-    data = Bytes(data)
+    data = Bytes(record)
     is_oversize = data.one_of(0, 1)
     if data.number(1) != column:
         raise NotOfTheForm
@@ -280,11 +318,11 @@ def read_tile(data, column):
 # ---- the file
 
 
-def is_open(data, slot):
+def is_open(data: bytes, slot: int) -> bool:
     return data[BLOCK * slot] == GATE_OPEN
 
 
-def slot_root(data, slot):
+def slot_root(data: bytes, slot: int) -> Root:
     """The root in an open slot."""
     body = Bytes(data[BLOCK * slot + 16 : BLOCK * slot + 64])
     body.take(len(MAGIC))
@@ -297,7 +335,7 @@ def slot_root(data, slot):
     return root
 
 
-def find_root(data):
+def find_root(data: bytes) -> Root:
     if len(data) < 2 * BLOCK:
         raise Damage("32")
     open_slots = [slot for slot in (0, 1) if is_open(data, slot)]
@@ -309,19 +347,19 @@ def find_root(data):
     return max(roots, key=lambda root: root.sequence)
 
 
-def blocks_of(extent):
+def blocks_of(extent: Extent) -> tuple[int, int]:
     """The blocks of an extent, from its first to the one behind its last."""
     return (extent.block, extent.block + max(1, -(-extent.size // BLOCK)))
 
 
-def record_at(data, extent, code):
+def record_at(data: bytes, extent: Extent, code: int) -> bytes:
     first, end = blocks_of(extent)
     if first < 2 or end > len(data) // BLOCK:
         raise Damage(f"33 {code}")
     return data[BLOCK * first : BLOCK * first + extent.size]
 
 
-def formed(code, read, *given):
+def formed(code: int, read: Callable[..., Any], *given: Any) -> Any:
     """What a reader of records gives, or that the record has not its form."""
     try:
         return read(*given)
@@ -329,7 +367,7 @@ def formed(code, read, *given):
         raise Damage(f"33 {code}") from None
 
 
-def check_place_in_list(known, listed, content):
+def check_place_in_list(known: dict[bytes, Any], listed: Listed, content: Any) -> None:
     """Refuses a layer that no command could have put behind the known ones."""
     if not is_name(listed.name) or listed.name in known or len(known) >= LAYERS_MAX:
         raise Damage("33 7")
@@ -337,15 +375,16 @@ def check_place_in_list(known, listed, content):
         raise Damage("33 7")
 
 
-def check_apart(extents):
+def check_apart(extents: list[Extent]) -> None:
     runs = sorted(blocks_of(extent) for extent in extents)
     if any(after[0] < before[1] for before, after in zip(runs, runs[1:])):
         raise Damage("33 9")
 
 
-def read_layers(data, listing):
+def read_layers(data: bytes, listing: list[Listed]) -> tuple[dict[bytes, Any], list[tuple[bytes, int, Pieces]]]:
     """The layers by name, in order, and how many pieces each finished tile has, by layer and column."""
-    layers, tiles = {}, []
+    layers: dict[bytes, Any] = {}
+    tiles: list[tuple[bytes, int, Pieces]] = []
     for listed in listing:
         read = read_base if listed.tiles is None else read_definition
         content = formed(6, read, record_at(data, listed.record, 5))
@@ -357,19 +396,19 @@ def read_layers(data, listing):
     return layers, tiles
 
 
-def base_text(rings):
+def base_text(rings: Rings) -> str:
     if not rings:
         return "MULTIPOLYGON EMPTY"
     members = ("((" + ", ".join(f"{x} {y}" for x, y in ring) + "))" for ring in rings)
     return "MULTIPOLYGON (" + ", ".join(members) + ")"
 
 
-def layer_line(name, content):
+def layer_line(name: bytes, content: Any) -> str:
     text = base_text(content) if isinstance(content, list) else "= " + spelled(content).decode()
     return f"layer {name.decode()} {text}"
 
 
-def reading(data):
+def reading(data: bytes) -> list[str]:
     """The lines that tell what a file stands for."""
     root = find_root(data)
     listing = formed(4, read_catalog, record_at(data, root.catalog, 3), root.format)
@@ -382,7 +421,7 @@ def reading(data):
     return lines
 
 
-def told(data):
+def told(data: bytes) -> list[str]:
     """The lines that are printed of a file, faults too."""
     try:
         return reading(data)
@@ -393,7 +432,7 @@ def told(data):
 # ---- the vectors of docs/FORMAT.md
 
 
-def table_behind(page, head):
+def table_behind(page: str, head: str) -> list[list[str]]:
     """The rows of the first table behind some text, each as its cells."""
     lines = page[page.index(head) + len(head) :].splitlines()
     start = next(i for i, line in enumerate(lines) if line.startswith("|"))
@@ -405,14 +444,14 @@ def table_behind(page, head):
     return rows[2:]
 
 
-def codes(cell):
+def codes(cell: str) -> list[str]:
     """What a cell has in code."""
     return re.findall(r"`([^`]*)`", cell)
 
 
-def changed(data, changes):
+def changed(file: bytes, changes: list[str]) -> bytes:
     """A file with the bytes of some changes, each `place: bytes`, at their places."""
-    data = bytearray(data)
+    data = bytearray(file)
     for change in changes:
         place, _, text = change.partition(": ")
         new = bytes.fromhex(text)
@@ -420,18 +459,18 @@ def changed(data, changes):
     return bytes(data)
 
 
-def file_of_a_row(data, cell):
+def file_of_a_row(data: bytes, cell: str) -> bytes:
     """The file of a row: cut, or with other bytes."""
     length = re.search(r"cut to (\d+) bytes", cell)
     return data[: int(length.group(1))] if length else changed(data, codes(cell))
 
 
-def vectors_of(page):
+def vectors_of(page: str) -> list[bytes]:
     """The bytes that the page gives for a new store, for a layer and for a tile."""
     return [bytes.fromhex(codes(row[-1])[0]) for row in table_behind(page, "## Vectors")]
 
 
-def six_blocks(vectors):
+def six_blocks(vectors: list[bytes]) -> bytes:
     """The file of six blocks that the page tells."""
     first, empty, base, catalog, second, _, tile = vectors
     gate = bytes([GATE_OPEN]) + bytes(15)
@@ -439,14 +478,14 @@ def six_blocks(vectors):
     return b"".join(block.ljust(BLOCK, b"\0") for block in blocks)
 
 
-def point_text(data):
+def point_text(data: bytes) -> str:
     try:
         return " ".join(str(value) for value in named_point(Bytes(data)))
     except NotOfTheForm:
         return "none"
 
 
-def vector_checks(vectors):
+def vector_checks(vectors: list[bytes]) -> list[tuple[Any, ...]]:
     """What was read of each vector of a record, and what the page says that it is."""
     square = [[(0, 0), (10, 0), (10, 10), (0, 10), (0, 0)]]
     return [
@@ -458,7 +497,7 @@ def vector_checks(vectors):
     ]
 
 
-def page_checks(page):
+def page_checks(page: str) -> list[tuple[Any, ...]]:
     """What is read of each vector and of each file of the page, and what the page says."""
     vectors = vectors_of(page)
     checks = vector_checks(vectors)
@@ -475,7 +514,7 @@ def page_checks(page):
     return checks
 
 
-def test():
+def test() -> int:
     """Looks whether the page's vectors give what it says, and gives the exit status."""
     checks = page_checks(FORMAT_PAGE.read_text(encoding="utf-8"))
     failed = [check for check in checks if check[-2] != check[-1]]
@@ -485,7 +524,8 @@ def test():
     return 1 if failed else 0
 
 
-def main():
+def main() -> int:
+    """Reads a file, or the page."""
     parser = argparse.ArgumentParser(description=__doc__, formatter_class=argparse.RawDescriptionHelpFormatter)
     parser.add_argument("file", type=pathlib.Path, nargs="?")
     parser.add_argument("--test", action="store_true", help="reads what stands in docs/FORMAT.md")

@@ -18,6 +18,7 @@ import signal
 import subprocess
 import sys
 import tempfile
+from typing import Any
 
 sys.path.insert(0, str(pathlib.Path(__file__).resolve().parents[2]))
 
@@ -29,7 +30,7 @@ LEFT_OUT = {1: "no sync of the store is made", 2: "no sync of the folder is made
 KINDS = ["nothing done", "half a write", "half a write told, or interrupted", "full"]
 
 
-def is_found(words, library, folder, left_out):
+def is_found(words: argparse.Namespace, library: pathlib.Path, folder: pathlib.Path, left_out: int) -> bool:
     """Whether the shim ends a program that leaves out syncs."""
     runner = refused_runs.runner_of(words, refused_runs.CREATED, library, folder)
     status = runner.run({"LEAVE": left_out}, "FAIL").status
@@ -37,7 +38,7 @@ def is_found(words, library, folder, left_out):
     return status == -signal.SIGABRT
 
 
-def fail(words, folder):
+def fail(words: argparse.Namespace, folder: pathlib.Path) -> tuple[int, int]:
     """Prints the table, and gives how many of its lines are right, and how many are not."""
     library = refused_runs.compiled("faults", folder)
     print(refusal_tables.HEAD)
@@ -101,11 +102,11 @@ LEFT = [
 ]
 
 
-def left(library, folder, first, kind):
+def left(library: pathlib.Path, folder: pathlib.Path, first: int, kind: int) -> tuple[str, bytes | None]:
     """What fails for the writer above where a call is made to fail, and what it leaves."""
     with tempfile.TemporaryDirectory(dir=folder) as place:
         store = pathlib.Path(place) / "file"
-        given = {"LD_PRELOAD": library, "FAIL_STORE": store, "FAIL_FOLDER": place, "FAIL_COUNTS": place + "/counts"}
+        given: dict[str, Any] = {"LD_PRELOAD": library, "FAIL_STORE": store, "FAIL_FOLDER": place, "FAIL_COUNTS": place + "/counts"}
         given |= {"FAIL_FIRST": first, "FAIL_KIND": kind}
         environment = {**os.environ, **{name: str(value) for name, value in given.items()}}
         words = [sys.executable, "-c", CALLS, str(store)]
@@ -113,7 +114,7 @@ def left(library, folder, first, kind):
         return done.stdout.decode().strip(), store.read_bytes() if store.exists() else None
 
 
-def test():
+def test() -> int:
     """Looks whether the shim fails the call that it is told and loses what it has to, and what refusals may be told."""
     passed, failed = refusal_cases.test(refusing.device)
     with tempfile.TemporaryDirectory() as place:
@@ -128,7 +129,8 @@ def test():
     return refusal_tables.told(passed, failed)
 
 
-def main():
+def main() -> int:
+    """Fails calls, or tests what does."""
     if sys.argv[1:] == ["--test"]:
         return test()
     parser = argparse.ArgumentParser(description=__doc__, formatter_class=argparse.RawDescriptionHelpFormatter)

@@ -16,6 +16,7 @@ import pathlib
 import subprocess
 import sys
 import tempfile
+from collections.abc import Iterator
 
 sys.path.insert(0, str(pathlib.Path(__file__).resolve().parents[2]))
 
@@ -23,12 +24,12 @@ from bench.trials import refusal_cases, refusal_tables, refused_runs, refusing  
 from bench.trials.refusing import many_growths, one_growth  # noqa: E402
 
 
-def spread(calls, step, each):
+def spread(calls: int, step: int, each: int) -> list[dict[str, int]]:
     """The settings of some runs, somewhat more than there were calls: each growth of a step, and those behind it."""
     return [{"FIRST": number, "EACH": each} for number in range(1, calls + refusal_tables.MARGIN, step)]
 
 
-def tables(runner, calls, step, every):
+def tables(runner: refused_runs.Runner, calls: int, step: int, every: bool) -> Iterator[tuple[str, refusal_tables.Table]]:
     """The tables of runs of a scenario, each with what it refuses."""
     if step == 1:
         yield "one growth", refusal_tables.run_in_turn(runner, "REFUSE", {"EACH": 0}, calls, one_growth)
@@ -39,13 +40,13 @@ def tables(runner, calls, step, every):
         yield f"and each {each} behind", table
 
 
-def from_each_on(runner, calls):
+def from_each_on(runner: refused_runs.Runner, calls: int) -> Iterator[tuple[str, refusal_tables.Table]]:
     """The table of runs of a scenario in which memory never comes back from a growth on. They end by themselves."""
     settings = [{"FIRST": number, "EACH": 1} for number in range(1, calls + refusal_tables.MARGIN)]
     yield "one growth, and all behind", refusal_tables.run_all(runner, "REFUSE", settings, many_growths)
 
 
-def refuse(words, folder):
+def refuse(words: argparse.Namespace, folder: pathlib.Path) -> tuple[int, int]:
     """Prints the table, and gives how many of its lines are right, and how many are not."""
     library = refused_runs.compiled("growths", folder)
     right = wrong = 0
@@ -77,7 +78,7 @@ print("".join("1" if library.malloc(8) else "0" for _ in range(4)))
 """
 
 
-def test():
+def test() -> int:
     """Looks whether the shim refuses the call that it is told, of four, and what refusals may be told."""
     with tempfile.TemporaryDirectory() as place:
         folder = pathlib.Path(place)
@@ -93,7 +94,8 @@ def test():
     return refusal_tables.told(passed + is_right, failed + (not is_right))
 
 
-def main():
+def main() -> int:
+    """Refuses growths, or tests what does."""
     if sys.argv[1:] == ["--test"]:
         return test()
     parser = argparse.ArgumentParser(description=__doc__, formatter_class=argparse.RawDescriptionHelpFormatter)

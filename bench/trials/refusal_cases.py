@@ -6,7 +6,7 @@ import itertools
 from typing import Any
 
 from bench.reference import judging, read_store
-from bench.trials.refused_runs import OTHER, SQUARE, Outcome, Scenario
+from bench.trials.refused_runs import OTHER, SQUARE, Outcome, Runner, Scenario
 from bench.trials.refusing import Allows, device, judge, judge_output, many_growths, one_growth
 
 TOLD = Scenario("replies", [[f"PUT A {SQUARE}", "GRID A 2 2 1 1 1", "SYNC", f"PUT B {OTHER}", "SYNC"]], 1)
@@ -20,7 +20,7 @@ CUT = {3: None, 4: None}
 CLOSING = "error 43 closing"
 # What may be told by a run of these lines, by what was refused: the replies that differ or lack, by their places,
 # whether something was refused, what is on standard error (None: nothing, with status 1), and whether that is right.
-CASES = {
+CASES: dict[Allows, list[tuple[Any, int, str | None, bool]]] = {
     one_growth: [
         ({}, 0, "", True),
         ({}, 1, "", True),
@@ -157,16 +157,14 @@ STORES = [
 ]
 
 
-class Opening:
+class Opening(Runner):
     """Stands for the runs of a scenario: what is left is opened as version 1."""
-
-    prepared = None
 
     def __init__(self, scenario: Scenario) -> None:
         self.scenario = scenario
+        self.prepared = None
 
-    @staticmethod
-    def reopened(_data: bytes) -> tuple[list[str], int]:
+    def reopened(self, _data: bytes) -> tuple[list[str], int]:
         """The layers and the version that a store is opened as."""
         return [f"A MULTI{SQUARE.replace('((', '(((')})"], 1
 

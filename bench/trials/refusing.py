@@ -70,7 +70,8 @@ def told_outside(outcome: Outcome, judged: Judged | None) -> tuple[list[Told], l
     for session, place, code in judged.outside if judged else []:
         (syncs if word_of(session, place) == "SYNC" else lines).append((session, place, code))
     check_memory(lines + syncs)
-    fault = int(FAULT_LINE.fullmatch(outcome.fault)[1]) if outcome.fault else None
+    line = FAULT_LINE.fullmatch(outcome.fault)
+    fault = int(line[1]) if line else None
     if outcome.counts[1] == 0 and (lines or syncs or outcome.status == 1):
         raise judging.Wrong("nothing was refused, and a refusal is told")
     return lines, syncs, fault
@@ -233,6 +234,7 @@ def history_stored(judged: Judged, number: int, lines: list[str]) -> History:
 
 def judge_content(runner: Runner, outcome: Outcome, history: History, number: int) -> None:
     """Looks whether a store has the layers of a version, and right tiles, and is opened by the program."""
+    assert outcome.store is not None
     right = history.versions[number].lines()
     lines = read_store.told(outcome.store)
     if layers_told(lines) != right:
