@@ -4,8 +4,8 @@
 python3 bench/measures/serving.py PROGRAM [--quick] [--folder FOLDER]
 python3 bench/measures/serving.py --test
 
-- A commit of one changed layer: 200 times PUT and SYNC less the same script with none, beside the same writes and syncs
-  in C (sync.c).
+- A commit of one changed layer, alone, beside 16 others and beside 29 derived ones with all their tiles: 200 times PUT
+  and SYNC less the same script with none, beside the same writes and syncs in C (sync.c).
 - Replies a second of 1 and of 4 sessions with a store.
 - WAIT of all tiles of 30 derived layers, with 1, 2 and 4 workers.
 - LOCATE by layers of 4 to 2,048 steps, and GRID of 256 by 256 points: scripts that differ by these lines.
@@ -79,11 +79,22 @@ def milliseconds(seconds):
     return f"{1000 * seconds:.2f} ms"
 
 
+def built(steps, count):
+    """The lines that make so many derived layers of two rings of so many steps, and build their tiles."""
+    bases = [f"PUT P {ring(steps, -1000, 0, 1000000)}", f"PUT Q {ring(steps, 1000, 500, 1000000)}"]
+    defined = [f"DEFINE D{n} = P {'^|&-'[n % 4]} Q" for n in range(count)]
+    return bases + defined + [f"WAIT D{n}" for n in range(count)]
+
+
 def commits(runs, count):
-    """A commit of one changed layer, alone and beside 16 layers that stay."""
+    """A commit of one changed layer: alone, beside 16 layers that stay, and beside derived ones with all their tiles."""
     rows = []
-    for others in (0, 16):
-        head = [f"PUT B{n} {SQUARE}" for n in range(others)] + ["SYNC"]
+    for beside, head in (
+        ("0 others", []),
+        ("16 others", [f"PUT B{n} {SQUARE}" for n in range(16)]),
+        ("29 derived layers of 600 steps", built(600, 29)),
+    ):
+        head = head + ["SYNC"]
         puts = [line for n in range(count) for line in (f"PUT A {ring(16, n, 0, 900)}", "SYNC")]
         product, plain, used = [], [], []
         for _ in range(5):
@@ -93,7 +104,7 @@ def commits(runs, count):
             plain.append(runs.commit_of_c(count, 2))
         ours, theirs = min(product), min(plain)
         rows.append((
-            f"PUT and SYNC of one layer beside {others} others", milliseconds(ours),
+            f"PUT and SYNC of one layer beside {beside}", milliseconds(ours),
             f"the same writes of two blocks and three syncs in C: {milliseconds(theirs)}; {ours / theirs:.2f} times; "
             f"of processors {milliseconds(min(used))}",
         ))

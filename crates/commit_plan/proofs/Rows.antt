@@ -16,7 +16,8 @@ use Rattle.layer_tiles.specs.TileCode.{by_places, Named}
 use Rattle.layer_tiles.specs.Table.{row_by, places_in, Laid, IsLaid}
 use Rattle.layer_tiles.proofs.Placed.{places_at}
 use Rattle.layer_tiles.proofs.Tables.{slot_by}
-use Rattle.commit_plan.specs.RecordPlaces.{AreFormedIn}
+use Rattle.commit_plan.specs.RecordPlaces.{AreFormedIn, AreKnown, AreKnownIn}
+use Rattle.commit_plan.specs.Staying.{LiveContent}
 
 module _ (laid : Laid) (valid : IsLaid laid) (name : Name) (row : List (Option Named)) (is : places_in row ≡ row_by (tile_at laid.tiles name)) where
   pub row_whole : length row ≡ column_count
@@ -33,6 +34,10 @@ module _ (laid : Laid) (valid : IsLaid laid) (name : Name) (row : List (Option N
 
   pub row_formed : AreFormedIn row
   row_formed k tile there = valid.formed name k (by_places tile) (is_found k tile there)
+
+  -- the live root has the tiles of the row where it has all
+  pub row_known : (live : LiveContent) → AreKnown live laid.tiles → AreKnownIn live name row
+  row_known live all k tile there = all name k (by_places tile) (is_found k tile there)
 
   none_there : (slots : List (Option Named)) (n : ℕ) → length slots ≡ n → ((k : ℕ) → get_or slots k None ≡ None) → slots ≡ replicate n None
   none_there [] zero long none = refl

@@ -3,7 +3,7 @@ use Rattle.std.specs.Prelude.{◌≡◌, ℕ, List, [], ◌∷◌, map, flat_map
 use Rattle.std.specs.Option.{option_map}
 use Rattle.std.proofs.Common.{get_or, None}
 use Rattle.overlay_terms.specs.Layers.{Name, Layer}
-use Rattle.overlay_terms.specs.Histories.{Finished, is_formed}
+use Rattle.overlay_terms.specs.Histories.{Finished, is_formed, tile_at, Tile}
 use Rattle.store_terms.specs.Catalog.{Listed}
 use Rattle.store_terms.specs.declared.root.RecordExtent.{RecordExtent}
 use Rattle.layer_tiles.specs.Table.{places_in, row_tiles}
@@ -15,6 +15,14 @@ use Rattle.commit_plan.specs.Drafted.{Drafted, with_filed}
 -- each tile of a row has the form of its column
 abbrev pub AreFormedIn : List (Option Named) → Type 0
 AreFormedIn row = (k : ℕ) (tile : Named) → get_or row k None ≡ Some tile → IsTrue (is_formed (by_places tile) k)
+
+-- each tile of a row is the live root's
+abbrev pub AreKnownIn : LiveContent → Name → List (Option Named) → Type 0
+AreKnownIn live name row = (k : ℕ) (tile : Named) → get_or row k None ≡ Some tile → tile_at live.tiles name k ≡ Some (by_places tile)
+
+-- each of some tiles is the live root's
+abbrev pub AreKnown : LiveContent → List Finished → Type 0
+AreKnown live tiles = (name : Name) (k : ℕ) (tile : Tile) → tile_at tiles name k ≡ Some tile → tile_at live.tiles name k ≡ Some tile
 
 -- a record has its place, where it stays or behind those of a draft, and says what it has to
 pub record IsFiled (old : Drafted) (Says : Record → Type 0) (e : RecordExtent) (new : Drafted) : Type 0 where

@@ -7,6 +7,8 @@ ghost use Rattle.store_terms.specs.Catalog.{catalog};
 ghost use Rattle.store_terms.specs.Places.{extents_listed};
 ghost use Rattle.store_terms.specs.Roots.{sequence_max};
 ghost use Rattle.store_terms.specs.StandsFor.{body_at};
+ghost use Rattle.layer_tiles.specs.Table.{tiles_in};
+ghost use Rattle.commit_plan.specs.Live.{live_content};
 ghost use Rattle.commit_plan.specs.ImageHeld.{image_held};
 ghost use Rattle.commit_plan.specs.Kept.{Kept, extents_in, other};
 ghost use Rattle.commit_plan.specs.Filed.{FiledLayer, filed_of};
@@ -53,6 +55,7 @@ pub(crate) fn completed(
         next.plan.items) }
     ensures calls { IfOk result (λ next. length next.plan.items ≡ length draft.entry.filed + 2) }
     ensures number { IfOk result (λ next. next.root.version ≡ image.number) }
+    ensures next_tiles { IfOk result (λ next. (live_content next.live).tiles ≡ tiles_in image.table.value) }
     ensures placed { IfOk result
         (λ _. ArePlanned draft.entry.given draft.entry.limit
         (sizes_in draft.entry ++ length ((catalog column_count).text (entries_of listing.items)) ∷ [])) }

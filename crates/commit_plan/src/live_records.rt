@@ -1,5 +1,5 @@
 //! The records of the live root: what it holds, and where.
-ghost use Rattle.std.specs.Prelude.{◌≡◌, [], true, Some, IfOk};
+ghost use Rattle.std.specs.Prelude.{◌≡◌, [], true, Some, IfOk, IsTrue};
 ghost use Rattle.std.specs.Option.{option_map};
 ghost use Rattle.extent_map.specs.Extents.{IsUnused};
 ghost use Rattle.extent_map.specs.Taken.{taken_of};
@@ -8,9 +8,10 @@ ghost use Rattle.record_writing.specs.Listing.{entries_of, records_of};
 ghost use Rattle.store_terms.specs.Places.{blocks, is_apart_from, all_apart, extents_listed};
 ghost use Rattle.store_terms.specs.declared.root.RecordExtent as terms;
 ghost use Rattle.layer_tiles.specs.Filling.{named};
+ghost use Rattle.overlay_terms.specs.Histories.{tile_at};
 ghost use Rattle.tile_build.specs.Tile.{tile_of};
 ghost use Rattle.commit_plan.specs.TakenRoom.{TakesRoom};
-ghost use Rattle.commit_plan.specs.Staying.{read_content, own_extent, tile_extent, records_named, if_near, layer_named, layer_stays, tile_stays, near_ones};
+ghost use Rattle.commit_plan.specs.Staying.{read_content, own_extent, tile_extent, records_named, if_near, layer_named, layer_stays, tile_stays, holds_tile, near_ones};
 
 use crate::equality::{same_layer, same_tile};
 use crate::room::Room;
@@ -130,8 +131,21 @@ impl LiveRecords {
         self.held = None;
     }
 
-    /// Where a layer's own record stays, if the root holds an equal one under its name.
-    pub(crate) fn layer_stays(&self, name: &Name, layer: &Layer) -> Option<RecordExtent>
+    /// The records that the root's catalog lists under a name.
+    pub(crate) fn records(&self, name: &Name) -> Option<&Records>
+        ensures { option_map (λ records. records_of records.now) result ≡ records_named (live_content self.now).listing name.now }
+    {
+        records_named(&self.listing, name)
+    }
+
+    /// Where a layer's own record stays, if the root holds an equal one under its name, which has these records.
+    pub(crate) fn layer_stays(
+        &self,
+        name: &Name,
+        layer: &Layer,
+        records: Option<&Records>,
+    ) -> Option<RecordExtent>
+        requires { option_map (λ records. records_of records.now) records ≡ records_named (live_content self.now).listing name.now }
         ensures { result
             ≡ layer_stays (live_content self.now) (layer_named name.now (content layer.now)) }
     {
@@ -144,31 +158,53 @@ impl LiveRecords {
         if !same_layer(held, layer) {
             return None;
         }
-        let Some(records) = records_named(&self.listing, name) else {
+        let Some(records) = records else {
             return None;
         };
         if_near(own_extent(records))
     }
 
-    /// Where the record of a layer and column's tile stays, if the root holds an equal one.
+    /// Whether the root holds an equal tile of a layer and column.
+    fn holds_tile(&self, name: &Name, column: Column, tile: &Tile) -> bool
+        ensures { result ≡ holds_tile (tile_at (live_content self.now).tiles name.now column) (tile_of tile.now) }
+    {
+        let Some(table) = &self.held else {
+            return false;
+        };
+        let Some(held) = table.tile(name, column.number()) else {
+            return false;
+        };
+        same_tile(held, tile)
+    }
+
+    /// The same where it may be known that it does: then nothing is compared.
+    fn is_equal(&self, name: &Name, column: Column, tile: &Tile, known: bool) -> bool
+        requires { IsTrue known → tile_at (live_content self.now).tiles name.now column ≡ Some (tile_of tile.now) }
+        ensures { result ≡ holds_tile (tile_at (live_content self.now).tiles name.now column) (tile_of tile.now) }
+    {
+        if known {
+            return true;
+        }
+        self.holds_tile(name, column, tile)
+    }
+
+    /// Where the record of a layer and column's tile stays, if the root holds an equal one. The layer has these records.
     pub(crate) fn tile_stays(
         &self,
         name: &Name,
         column: Column,
         tile: &Tile,
+        records: Option<&Records>,
+        known: bool,
     ) -> Option<RecordExtent>
+        requires listed { option_map (λ records. records_of records.now) records ≡ records_named (live_content self.now).listing name.now }
+        requires known { IsTrue known → tile_at (live_content self.now).tiles name.now column ≡ Some (tile_of tile.now) }
         ensures { result ≡ tile_stays (live_content self.now) (named name.now column (tile_of tile.now)) }
     {
-        let Some(table) = &self.held else {
-            return None;
-        };
-        let Some(held) = table.tile(name, column.number()) else {
-            return None;
-        };
-        if !same_tile(held, tile) {
+        if !self.is_equal(name, column, tile, known) {
             return None;
         }
-        let Some(records) = records_named(&self.listing, name) else {
+        let Some(records) = records else {
             return None;
         };
         let Some(extent) = tile_extent(records, column) else {

@@ -1,5 +1,5 @@
 //! What a commit goes on to, and the plan that leads there.
-ghost use Rattle.std.specs.Prelude.{◌≡◌, ◌⊎◌, ◌+◌, ◌<◌, length, IfOk, IfErr, IsErrOf};
+ghost use Rattle.std.specs.Prelude.{◌≡◌, ◌⊎◌, ◌+◌, ◌<◌, length, IfOk, IfErr, IsErrOf, IsTrue};
 ghost use Rattle.extent_map.specs.Taken.{taken_of, limit_of};
 ghost use Rattle.store_terms.specs.Roots.{sequence_max};
 ghost use Rattle.store_terms.specs.StandsFor.{body_at};
@@ -8,6 +8,8 @@ ghost use Rattle.commit_plan.specs.ImageHeld.{image_held};
 ghost use Rattle.commit_plan.specs.Kept.{Kept, extents_in, other};
 ghost use Rattle.commit_plan.specs.Next.{IsLaidOut, NextHolds};
 ghost use Rattle.commit_plan.specs.Fitting.{HasRoom, HasNoRoom};
+ghost use Rattle.layer_tiles.specs.Table.{tiles_in};
+ghost use Rattle.commit_plan.specs.RecordPlaces.{AreKnown};
 ghost use Rattle.commit_plan.specs.Staying.{kept_content};
 ghost use Rattle.commit_plan.specs.Live.{live_content};
 ghost use Rattle.commit_plan.specs.Sizes.{new_records, sizes_of};
@@ -38,8 +40,13 @@ pub fn drafted(
     live: &LiveRecords,
     root: Root,
     body: usize,
+    known: bool,
 ) -> Result<Next, StoreFault>
-    requires { root.sequence < sequence_max }
+    requires below { root.sequence < sequence_max }
+    // Where it is known that each tile of the image is the live root's, none is compared.
+    requires known { IsTrue known → AreKnown (live_content live.now) (tiles_in image.table.value) }
+    // The table that comes next is the image's.
+    ensures next_tiles { IfOk result (λ next. (live_content next.live).tiles ≡ tiles_in image.table.value) }
     ensures ok { (x : Kept) → x.root ≡ root → body ≡ body_at (other root) → live_content live.now ≡ kept_content x
         → IsMapOf (extents_in x) (taken_of live.now.room.map) → IfOk result (λ next. NextHolds x (image_held image) next) }
     // The new records, the catalog and the body, in this order; each record and the catalog in the lowest free run, in
@@ -57,6 +64,6 @@ pub fn drafted(
     ensures err { IfErr result (λ fault. (fault ≡ StoreFault.Full) ⊎ (fault ≡ StoreFault.OutOfMemory)) }
 {
     let mut draft = Draft::new(alloc, &live.room)?;
-    let listing = file_layers(alloc, &mut draft, live, image.table())?;
+    let listing = file_layers(alloc, &mut draft, live, image.table(), known)?;
     completed(alloc, draft, listing, image, root, body)
 }

@@ -3,19 +3,19 @@ ghost use Rattle.std.specs.Prelude.{◌≡◌, ◌⊎◌, ◌^◌, ◌<◌, ◌+
 ghost use Rattle.std.specs.Option.{option_map};
 ghost use Rattle.overlay_terms.specs.Column.{column_count};
 ghost use Rattle.overlay_terms.specs.Commands.{is_derived};
-ghost use Rattle.overlay_terms.specs.Histories.{is_formed};
+ghost use Rattle.overlay_terms.specs.Histories.{is_formed, tile_at};
 ghost use Rattle.tile_build.specs.Tile.{named_pieces, tile_of};
 ghost use Rattle.layer_book.specs.Layer.{content};
 ghost use Rattle.layer_tiles.specs.Filling.{named};
 ghost use Rattle.layer_tiles.specs.Table.{places_in, row_tiles, tiles_in};
 ghost use Rattle.layer_tiles.specs.TileCode.{by_places, Named};
-ghost use Rattle.record_writing.specs.Listing.{entry_of, entries_of, IsListable};
+ghost use Rattle.record_writing.specs.Listing.{entry_of, entries_of, records_of, IsListable};
 ghost use Rattle.commit_plan.specs.Filed.{SaysLayer, SaysTile, SpellsContent};
-ghost use Rattle.commit_plan.specs.Staying.{layer_named};
+ghost use Rattle.commit_plan.specs.Staying.{layer_named, records_named};
 ghost use Rattle.commit_plan.specs.Live.{live_content};
 ghost use Rattle.commit_plan.specs.Drafted.{HasNoRunFor, sizes_in};
 ghost use Rattle.commit_plan.specs.Sizes.{layer_sizes, own_record, own_sizes, row_sizes, sizes_of_layers, tile_sizes};
-ghost use Rattle.commit_plan.specs.RecordPlaces.{AreFormedIn, AreLayersFiled, AreTilesFiled, IsFiled, IsLayerFiled, IsSlotFiled};
+ghost use Rattle.commit_plan.specs.RecordPlaces.{AreFormedIn, AreKnown, AreKnownIn, AreLayersFiled, AreTilesFiled, IsFiled, IsLayerFiled, IsSlotFiled};
 
 use crate::draft::Draft;
 use crate::fault::StoreFault;
@@ -53,20 +53,23 @@ fn own_bytes(alloc: Global, layer: &Layer) -> Result<Vec<u8>, AllocError>
     }
 }
 
-/// Where a layer's own record lies: where it stays, or the lowest place that is free for it.
+/// Where a layer's own record lies: where it stays, or the lowest place that is free for it. The live root lists these
+/// records under its name.
 fn file_own(
     alloc: Global,
     draft: &mut Draft<'_>,
     live: &LiveRecords,
     name: &Name,
     layer: &Layer,
+    records: Option<&Records>,
 ) -> Result<RecordExtent, StoreFault>
+    requires { option_map (λ records. records_of records.now) records ≡ records_named (live_content live.now).listing name.now }
     ensures ok { IfOk result (λ e. IsFiled draft.old (SaysLayer (live_content live.now) (layer_named name.now (content layer.now))) e draft.new) }
     ensures sizes { IfOk result (λ _. sizes_in draft.new ≡ sizes_in draft.old ++ own_sizes (live_content live.now) (layer_named name.now (content layer.now))) }
     ensures full { IsErrOf result StoreFault.Full → HasNoRunFor draft.old (own_sizes (live_content live.now) (layer_named name.now (content layer.now))) }
     ensures err { IfErr result (λ fault. (fault ≡ StoreFault.Full) ⊎ (fault ≡ StoreFault.OutOfMemory)) }
 {
-    if let Some(extent) = live.layer_stays(name, layer) {
+    if let Some(extent) = live.layer_stays(name, layer, records) {
         return Ok(extent);
     }
     let bytes = own_bytes(alloc, layer)?;
@@ -81,14 +84,18 @@ fn file_tile(
     name: &Name,
     column: Column,
     tile: &Tile,
+    records: Option<&Records>,
+    known: bool,
 ) -> Result<RecordExtent, StoreFault>
-    requires { IsTrue (is_formed (tile_of tile.now) column) }
+    requires listed { option_map (λ records. records_of records.now) records ≡ records_named (live_content live.now).listing name.now }
+    requires formed { IsTrue (is_formed (tile_of tile.now) column) }
+    requires known { IsTrue known → tile_at (live_content live.now).tiles name.now column ≡ Some (tile_of tile.now) }
     ensures ok { IfOk result (λ e. IsFiled draft.old (SaysTile (live_content live.now) (named name.now column (tile_of tile.now))) e draft.new) }
     ensures sizes { IfOk result (λ _. sizes_in draft.new ≡ sizes_in draft.old ++ tile_sizes (live_content live.now) name.now column (named_pieces tile.now)) }
     ensures full { IsErrOf result StoreFault.Full → HasNoRunFor draft.old (tile_sizes (live_content live.now) name.now column (named_pieces tile.now)) }
     ensures err { IfErr result (λ fault. (fault ≡ StoreFault.Full) ⊎ (fault ≡ StoreFault.OutOfMemory)) }
 {
-    if let Some(extent) = live.tile_stays(name, column, tile) {
+    if let Some(extent) = live.tile_stays(name, column, tile, records, known) {
         return Ok(extent);
     }
     let bytes = write_tile(alloc, column, tile)?;
@@ -103,8 +110,12 @@ fn file_slot(
     name: &Name,
     column: Column,
     tile: Option<&Arc<Tile>>,
+    records: Option<&Records>,
+    known: bool,
 ) -> Result<Option<RecordExtent>, StoreFault>
-    requires { (held : Named) → option_map (λ t. named_pieces t.now.value) tile ≡ Some held → IsTrue (is_formed (by_places held) column) }
+    requires listed { option_map (λ records. records_of records.now) records ≡ records_named (live_content live.now).listing name.now }
+    requires known { IsTrue known → (held : Named) → option_map (λ t. named_pieces t.now.value) tile ≡ Some held → tile_at (live_content live.now).tiles name.now column ≡ Some (by_places held) }
+    requires formed { (held : Named) → option_map (λ t. named_pieces t.now.value) tile ≡ Some held → IsTrue (is_formed (by_places held) column) }
     ensures ok { IfOk result (λ e. IsSlotFiled (live_content live.now) draft.old name.now column (option_map (λ t. named_pieces t.now.value) tile.entry) e draft.new) }
     ensures sizes { IfOk result (λ _. sizes_in draft.new ≡ sizes_in draft.old ++ row_sizes (live_content live.now) name.now column (option_map (λ t. named_pieces t.now.value) tile.entry ∷ [])) }
     ensures full { IsErrOf result StoreFault.Full → HasNoRunFor draft.old (row_sizes (live_content live.now) name.now column (option_map (λ t. named_pieces t.now.value) tile.entry ∷ [])) }
@@ -112,7 +123,7 @@ fn file_slot(
 {
     match tile {
         Some(tile) => {
-            let extent = file_tile(alloc, draft, live, name, column, tile)?;
+            let extent = file_tile(alloc, draft, live, name, column, tile, records, known)?;
             Ok(Some(extent))
         }
         None => Ok(None),
@@ -126,8 +137,12 @@ fn file_tiles(
     live: &LiveRecords,
     name: &Name,
     row: &TileRow,
+    records: Option<&Records>,
+    known: bool,
 ) -> Result<Vec<Option<RecordExtent>>, StoreFault>
+    requires listed { option_map (λ records. records_of records.now) records ≡ records_named (live_content live.now).listing name.now }
     requires whole { length row.now ≡ column_count }
+    requires known { IsTrue known → AreKnownIn (live_content live.now) name.now row.now }
     requires formed { AreFormedIn row.now }
     ensures ok { IfOk result (λ v. AreTilesFiled (live_content live.now) draft.old name.now (row_tiles name.now 0 (places_in row.now)) v.items draft.new) }
     ensures count { IfOk result (λ v. length v.items ≡ column_count) }
@@ -141,7 +156,7 @@ fn file_tiles(
             unreachable!()
         };
         let tile = row.tile_at(usize::from(number));
-        let entry = file_slot(alloc, draft, live, name, column, tile)?;
+        let entry = file_slot(alloc, draft, live, name, column, tile, records, known)?;
         entries.push(entry)?;
     }
     Ok(entries)
@@ -155,8 +170,10 @@ fn file_layer(
     name: &Name,
     layer: &Layer,
     row: &TileRow,
+    known: bool,
 ) -> Result<Listed, StoreFault>
     requires whole { length row.now ≡ column_count }
+    requires known { IsTrue known → AreKnownIn (live_content live.now) name.now row.now }
     requires formed { AreFormedIn row.now }
     requires bare { is_derived (content layer.now) ≡ false → row.now ≡ replicate column_count None }
     ensures ok { IfOk result (λ l. IsLayerFiled (live_content live.now) draft.old (layer_named name.now (content layer.now))
@@ -168,7 +185,8 @@ fn file_layer(
 {
     // It is a name by its type: that it can be listed rests on that.
     let bytes = Vec::from_slice(alloc, name.bytes())?;
-    let extent = file_own(alloc, draft, live, name, layer)?;
+    let held = live.records(name);
+    let extent = file_own(alloc, draft, live, name, layer, held)?;
     if !layer.is_derived() {
         let records = Records::Base(extent);
         return Ok(Listed {
@@ -176,7 +194,7 @@ fn file_layer(
             records,
         });
     }
-    let entries = file_tiles(alloc, draft, live, name, row)?;
+    let entries = file_tiles(alloc, draft, live, name, row, held, known)?;
     let records = Records::Derived(extent, entries);
     Ok(Listed {
         name: bytes,
@@ -190,7 +208,9 @@ pub(crate) fn file_layers(
     draft: &mut Draft<'_>,
     live: &LiveRecords,
     table: &Table,
+    known: bool,
 ) -> Result<Vec<Listed>, StoreFault>
+    requires { IsTrue known → AreKnown (live_content live.now) (tiles_in table.now) }
     ensures ok { IfOk result (λ v. AreLayersFiled (live_content live.now) draft.old table.now.layers (tiles_in table.now) (entries_of v.items) draft.new) }
     ensures listable { IfOk result (λ v. All IsListable v.items) }
     ensures count { IfOk result (λ v. length v.items ≡ length table.now.layers) }
@@ -203,7 +223,7 @@ pub(crate) fn file_layers(
         let Some((name, layer, row)) = table.at(place) else {
             unreachable!()
         };
-        let listed = file_layer(alloc, draft, live, name, layer, row)?;
+        let listed = file_layer(alloc, draft, live, name, layer, row, known)?;
         listing.push(listed)?;
     }
     Ok(listing)

@@ -1,10 +1,12 @@
 //! A store to which versions are written.
-ghost use Rattle.std.specs.Prelude.{◌≡◌, ◌↔◌, ◌<◌, ◌≤◌, ℕ, true, false, Err, IfOk, OnOk, OnErr, IsErrOf, IfErr};
+ghost use Rattle.std.specs.Prelude.{◌≡◌, ◌↔◌, ◌<◌, ◌≤◌, ℕ, true, false, Err, IfOk, OnOk, OnErr, IsErrOf, IsTrue, IfErr};
 ghost use Rattle.disk_model.specs.Disk.{Failed, CountsCall};
 ghost use Rattle.store_terms.specs.Roots.{sequence_max};
 ghost use Rattle.root_store.specs.Beginning.{IsReason};
 ghost use Rattle.commit_plan.specs.Kept.{Kept};
-ghost use Rattle.root_store.specs.Running.{StoreStandsFor, Runs, KeepsTo, Stepped, FailsByDevice, Counts, Turns, KeepsRoots, calls_left, is_busy, fault_in};
+ghost use Rattle.commit_plan.specs.Live.{live_content};
+ghost use Rattle.commit_plan.specs.RecordPlaces.{AreKnown};
+ghost use Rattle.root_store.specs.Running.{StoreStandsFor, Runs, KeepsTo, Stepped, FailsByDevice, Counts, Turns, KeepsRoots, TurnsRecords, KeepsRecords, calls_left, is_busy, fault_in};
 ghost use Rattle.flush_core.specs.Stored.{stored_after, IsCommitOf, HasRoomFor, HasNoRoomFor, calls_of};
 
 use crate::imaging::image_of;
@@ -67,12 +69,49 @@ impl<D: Disk> Flusher<D> {
         ensures room { OnOk result (HasRoomFor self.old.commit version.now) }
         ensures errors { IfErr result (λ fault. IsReason self.old.commit.phase self.old.commit.root (HasNoRoomFor self.old.commit version.now) fault) }
     {
+        self.begin_known(alloc, version, false)
+    }
+
+    /// The same, told whether each tile of the version is known to be the live root's: then none is compared, and a
+    /// commit's time follows what changed.
+    pub fn begin_known(
+        &mut self,
+        alloc: Global,
+        version: &Version,
+        known: bool,
+    ) -> Result<(), StoreFault>
+        requires idle { is_busy self.old.commit.phase ≡ false }
+        requires known { IsTrue known → AreKnown (live_content self.old.commit.live) version.now.tiles }
+        // What the live root holds stays until Done, and the root that it leads to holds the version's tiles.
+        ensures records { self.new.commit.live ≡ self.old.commit.live }
+        ensures next_tiles { OnOk result ((live_content self.new.commit.next_live).tiles ≡ version.now.tiles) }
+        // From the content that the store stands for to just the version's number, layers and finished tiles.
+        ensures begun { (x : Kept) → StoreStandsFor D.Disk self.old.commit x → OnOk result ((y : Kept) × IsCommitOf version.now y × Runs D.Disk self.new.commit x y) }
+        ensures stored { self.new.commit.root.version ≡ self.old.commit.root.version }
+        // The root that it leads to has the version's number.
+        ensures number { OnOk result (self.new.commit.next_root.version ≡ version.now.number) }
+        // One begins only where none is under way, the device did not fail, and there is a number for it.
+        ensures idle { OnOk result (self.old.commit.phase ≡ Phase.Idle) }
+        ensures below { OnOk result (self.old.commit.root.sequence < sequence_max) }
+        ensures begins { OnOk result (self.new.commit.phase ≡ Phase.Close) }
+        // The blocks that the file may have stay as many.
+        ensures blocks { (limit : ℕ) → KeepsTo limit self.old.commit → KeepsTo limit self.new.commit }
+        // So many calls lead to Done.
+        ensures calls { OnOk result (calls_left self.new.commit ≡ calls_of self.old.commit version.now) }
+        ensures disk { self.new.commit.disk ≡ self.old.commit.disk }
+        ensures err { OnErr result (self.new ≡ self.old) }
+        ensures failed { self.old.commit.phase ≡ Phase.Failed → result ≡ Err StoreFault.Failed }
+        ensures limit { self.old.commit.phase ≡ Phase.Idle → sequence_max ≤ self.old.commit.root.sequence → result ≡ Err StoreFault.SequenceLimit }
+        // Where there is room for all its new records among the free blocks, by first fit; where there is none, that is the reason.
+        ensures room { OnOk result (HasRoomFor self.old.commit version.now) }
+        ensures errors { IfErr result (λ fault. IsReason self.old.commit.phase self.old.commit.root (HasNoRoomFor self.old.commit version.now) fault) }
+    {
         // Asked before memory is taken for the image.
         if let Some(fault) = self.commit.refusal() {
             return Err(fault);
         }
         let image = image_of(alloc, version)?;
-        self.commit.begin(alloc, image)
+        self.commit.begin_known(alloc, image, known)
     }
 
     /// The disk, as the calls have left it.
@@ -90,6 +129,9 @@ impl<D: Disk> Flusher<D> {
         // the live root and the next one.
         ensures roots { IfOk result (λ p. Turns p self.old.commit self.new.commit) }
         ensures same_roots { OnErr result (KeepsRoots self.old.commit self.new.commit) }
+        // So with what the two hold.
+        ensures records { IfOk result (λ p. TurnsRecords p self.old.commit self.new.commit) }
+        ensures same_records { OnErr result (KeepsRecords self.old.commit self.new.commit) }
         ensures stored { self.new.commit.root.version ≡ stored_after result self.old.commit.root.version }
         ensures honest { D.is_honest self.new.commit.disk ↔ D.is_honest self.old.commit.disk }
         // The blocks that the file may have stay as many.

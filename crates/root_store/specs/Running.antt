@@ -64,6 +64,16 @@ Turns progress.Going old new = KeepsRoots old new
 Turns (progress.Done number) old new =
     (number ≡ old.next_root.version) × (new.root ≡ old.next_root) × (new.next_root ≡ old.next_root)
 
+-- what the live root and the next one hold stays as it is
+abbrev pub KeepsRecords : {D : Type 0} {g : Ghosts D} → Commit D g → Commit D g → Type 0
+KeepsRecords old new = (new.live ≡ old.live) × (new.next_live ≡ old.next_live)
+
+-- what a step makes of that: what the next root holds, the live one holds from Done on; any other answer leaves both
+abbrev pub TurnsRecords : {D : Type 0} {g : Ghosts D} → Progress → Commit D g → Commit D g → Type 0
+TurnsRecords progress.Idle old new = KeepsRecords old new
+TurnsRecords progress.Going old new = KeepsRecords old new
+TurnsRecords (progress.Done number) old new = new.live ≡ old.next_live
+
 -- the file may have at most so many blocks: that is the limit of the live root's room, and of the room after a commit
 abbrev pub KeepsTo : {D : Type 0} {g : Ghosts D} → ℕ → Commit D g → Type 0
 KeepsTo limit s = (limit_of s.live.room.map ≡ limit) × (limit_of s.next_live.room.map ≡ limit)

@@ -49,7 +49,7 @@ fn let_go(plan: &mut Vec<Write>, made: usize)
 }
 
 impl<D: Disk> Commit<D> {
-    ghost use Rattle.root_store.specs.Running.{Runs, KeepsTo, Stepped, FailsByDevice, Counts, Turns, KeepsRoots, calls_left, is_busy, fault_in};
+    ghost use Rattle.root_store.specs.Running.{Runs, KeepsTo, Stepped, FailsByDevice, Counts, Turns, KeepsRoots, TurnsRecords, KeepsRecords, calls_left, is_busy, fault_in};
     ghost use Rattle.root_store.specs.Writing.{WritesOnly, writes_left, write_in, left_after};
 
     /// Whether a commit is under way: from the `begin` that was taken to the step that answers `Done` or fails.
@@ -90,6 +90,9 @@ impl<D: Disk> Commit<D> {
         // the live root and the next one.
         ensures roots { IfOk result (λ p. Turns p self.old self.new) }
         ensures same_roots { OnErr result (KeepsRoots self.old self.new) }
+        // So with what the two hold.
+        ensures records { IfOk result (λ p. TurnsRecords p self.old self.new) }
+        ensures same_records { OnErr result (KeepsRecords self.old self.new) }
         ensures idle { self.old.phase ≡ Phase.Idle → (result ≡ Ok Progress.Idle) × (self.new ≡ self.old) }
         ensures stuck { self.old.phase ≡ Phase.Failed → (result ≡ Err StoreFault.Failed) × (self.new ≡ self.old) }
         // The blocks that the file may have stay as many.

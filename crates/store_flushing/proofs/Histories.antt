@@ -22,7 +22,7 @@ rises old new (accepted session batch) f = omega (arith, f.number)
 rises old new (kept name column tile) f = omega (arith, f.number)
 rises old new (durable_to number) f = omega (arith, f.same_number)
 
-last_rises : (v : Version) (es : List Entry) → AllFollow v es → v.number ≤ (last_version v es).number
+pub last_rises : (v : Version) (es : List Entry) → AllFollow v es → v.number ≤ (last_version v es).number
 last_rises v [] f = omega arith
 last_rises v (e ∷ es) f = omega (arith, rises v e.version e.event f.0, last_rises e.version es f.1)
 

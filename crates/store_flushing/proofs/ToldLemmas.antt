@@ -13,7 +13,8 @@ use Rattle.book_history.proofs.Fronts.{prefix_self, prefix_trans}
 use Rattle.store_flushing.specs.Among.{IsFileIn}
 use Rattle.store_flushing.specs.Laws.{DurableIsReported}
 use Rattle.store_flushing.specs.Storing.{IsStoreOf, KeepsTold}
-use Rattle.store_flushing.specs.Told.{number_of, reported_in, news_in, told_then, told_at, told_in, StaysTold, TellsOn, KeepsTelling}
+use Rattle.store_flushing.specs.Since.{number_of, reported_in}
+use Rattle.store_flushing.specs.Told.{news_in, told_then, told_at, told_in, StaysTold, TellsOn, KeepsTelling}
 use Rattle.store_flushing.specs.declared.keeper.Keeper.{Keeper}
 use Rattle.store_flushing.specs.declared.keeper.told_log.Told.{Told}
 use Rattle.store_flushing.proofs.Histories.{begins_self, file_more, follow_rest, last_append}
@@ -48,7 +49,7 @@ none_by old new (accepted session batch) rest f same none = none
 none_by old new (kept name column tile) rest f same none = none
 none_by old new (durable_to number) rest f same none = absurd (omega (arith, f.risen, f.durable, same))
 
-none_in : (v : Version) (es : List Entry) → AllFollow v es → (last_version v es).durable ≤ v.durable → reported_in es ≡ []
+pub none_in : (v : Version) (es : List Entry) → AllFollow v es → (last_version v es).durable ≤ v.durable → reported_in es ≡ []
 none_in v [] f same = refl
 none_in v (e ∷ es) f same =
     none_by v e.version e.event (reported_in es) f.0 (omega (arith, durable_rises e.version es f.1, same))

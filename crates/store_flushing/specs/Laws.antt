@@ -10,7 +10,7 @@ use Rattle.flush_core.specs.declared.flusher.Flusher.{Flusher}
 use Rattle.flush_core.specs.Stored.{IsImageOf}
 use Rattle.store_flushing.specs.Among.{IsFileIn}
 use Rattle.store_flushing.specs.Storing.{IsStoreOf, KeepsTold}
-use Rattle.store_flushing.specs.Told.{reported_in}
+use Rattle.store_flushing.specs.Since.{reported_in}
 
 -- a store that stands for a version, of which no more is durable than is stored, is one of the history that begins with
 -- it

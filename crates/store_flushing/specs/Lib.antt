@@ -1,5 +1,6 @@
 pub mod Among
 pub mod Laws
+pub mod Since
 pub mod Storing
 pub mod ToldFaults
 pub mod Told

@@ -1,10 +1,11 @@
 -- The numbers that were told durable, each with the disk's moment as it was told.
-use Rattle.std.specs.Prelude.{◌≡◌, ℕ, ◌≤◌, List, length, drop, map, filter_map, All, Option, Some, None}
+use Rattle.std.specs.Prelude.{◌≡◌, ℕ, ◌≤◌, List, length, drop, map, All}
 use mathlib.Core.List.{IsPrefix}
 use Rattle.disk_model.specs.declared.disk.Disk.{Ghosts}
-use Rattle.overlay_terms.specs.Histories.{Event, accepted, kept, durable_to, Entry, History}
+use Rattle.overlay_terms.specs.Histories.{History}
 use Rattle.book_history.specs.Logs.{history_of}
 use Rattle.store_flushing.specs.Among.{IsFileIn}
+use Rattle.store_flushing.specs.Since.{reported_in}
 use Rattle.store_flushing.specs.Storing.{IsStoreOf}
 use Rattle.store_flushing.specs.declared.keeper.Keeper.{Keeper}
 use Rattle.store_flushing.specs.declared.keeper.told_log.Told.{Told}
@@ -13,16 +14,6 @@ use Rattle.store_flushing.specs.declared.keeper.told_log.ToldLog.{ToldLog}
 -- what was written down
 abbrev pub told_in : ToldLog → List Told
 told_in log = log.seen.log
-
--- the number that an event tells durable
-abbrev pub number_of : Event → Option ℕ
-number_of (accepted session batch) = None
-number_of (kept name column tile) = None
-number_of (durable_to number) = Some number
-
--- the numbers that were reported durable in some entries, in order
-abbrev pub reported_in : List Entry → List ℕ
-reported_in entries = filter_map (λ (e : Entry). number_of e.event) entries
 
 -- the numbers that were reported durable since an earlier history
 abbrev pub news_in : History → History → List ℕ

@@ -1,5 +1,5 @@
 //! A store, and the one token that may report what it stores, as one value.
-ghost use Rattle.std.specs.Prelude.{◌≡◌, ◌++◌, false, IfErr, IfOk, IfSome, IfNone, OnErr};
+ghost use Rattle.std.specs.Prelude.{◌≡◌, ◌++◌, false, IfErr, IfOk, IfSome, IfNone, IsTrue, OnErr};
 ghost use Rattle.std.specs.Arc.{arc_value};
 ghost use Rattle.overlay_terms.specs.Histories.{IsHistory, newest};
 ghost use Rattle.root_store.specs.Beginning.{IsReason};
@@ -8,12 +8,15 @@ ghost use Rattle.root_store.specs.declared.phase.Phase.TheVariants as phases;
 ghost use Rattle.flush_core.specs.Stored.{HasNoRoomFor, stored_after};
 ghost use Rattle.book_history.specs.Fault.{passes};
 ghost use Rattle.book_history.specs.Logs.{history_of, newest_in};
+ghost use Rattle.commit_plan.specs.Live.{live_content};
+ghost use Rattle.commit_plan.specs.RecordPlaces.{AreKnown};
+ghost use Rattle.store_flushing.specs.Since.{IsRemembered};
 ghost use Rattle.store_flushing.specs.Storing.{AllReported, IsStoreOf, Keeps};
 ghost use Rattle.store_flushing.specs.ToldFaults.{told_of};
-ghost use Rattle.store_flushing.specs.Told.{KeepsTelling, news_in, told_at, told_in};
 
 pub use crate::flusher_loop::flusher_loop;
 use crate::keeper::told_log::ToldLog;
+use crate::keeper::version_mark::VersionMark;
 use crate::reports;
 use commit_plan::fault::StoreFault;
 use disk_model::disk::Disk;
@@ -29,6 +32,7 @@ use version_book::shared::Shared;
 use versions::Version;
 
 pub mod told_log;
+mod version_mark;
 
 /// A store, and the one token that may report what it stores. Both are reached by its calls alone. None of them moves
 /// the disk and reports: so what a session was told durable by the end of a call was stored as the call began, whenever
@@ -38,9 +42,17 @@ pub struct Keeper<D: Disk> {
     reporter: Reporter,
     flusher: Flusher<D>,
     told: ToldLog,
+    /// The version that the live root holds, once a commit is done.
+    live: Option<VersionMark>,
+    /// The version whose commit is under way.
+    next: Option<VersionMark>,
+    ghost live_tiles: { ∥ IsRemembered reporter (live_content flusher.commit.live) live ∥₁ },
+    ghost next_tiles: { ∥ IsRemembered reporter (live_content flusher.commit.next_live) next ∥₁ },
 }
 
 impl<D: Disk> Keeper<D> {
+    ghost use Rattle.store_flushing.specs.Told.{KeepsTelling, news_in, told_at, told_in};
+
     /// A keeper of a reporter, a store, and what was told durable.
     pub(crate) fn of(reporter: Reporter, flusher: Flusher<D>, told: ToldLog) -> Keeper<D>
         ensures reporter { result.reporter ≡ reporter }
@@ -51,6 +63,8 @@ impl<D: Disk> Keeper<D> {
             reporter,
             flusher,
             told,
+            live: None,
+            next: None,
         }
     }
 
@@ -64,6 +78,8 @@ impl<D: Disk> Keeper<D> {
             reporter,
             flusher,
             told,
+            live: _,
+            next: _,
         } = self;
         (reporter, flusher, told)
     }
@@ -98,7 +114,8 @@ impl<D: Disk> Keeper<D> {
         looked
     }
 
-    /// Begins the commit of the newest version that was seen. It makes no device call, and reports nothing.
+    /// Begins the commit of the newest version that was seen. It makes no device call, and reports nothing. Its tiles are
+    /// compared with those of the live root, unless they are known to be these.
     pub fn begin(&mut self, alloc: Global, version: &Version) -> Result<(), StoreFault>
         requires idle { is_busy self.old.flusher.commit.phase ≡ false }
         requires history { IsHistory (history_of self.old.reporter.log) }
@@ -111,7 +128,26 @@ impl<D: Disk> Keeper<D> {
         ensures err { OnErr result (self.new ≡ self.old) }
         ensures errors { IfErr result (λ fault. IsReason self.old.flusher.commit.phase self.old.flusher.commit.root (HasNoRoomFor self.old.flusher.commit version.now) fault) }
     {
-        self.flusher.begin(alloc, version)
+        let mark = VersionMark::of(&self.reporter, version);
+        let known = self.is_known(&mark);
+        match self.flusher.begin_known(alloc, version, known) {
+            Ok(()) => {
+                self.next = Some(mark);
+                Ok(())
+            }
+            Err(fault) => Err(fault),
+        }
+    }
+
+    /// Whether it is known that each tile of a version is the live root's.
+    fn is_known(&self, version: &VersionMark) -> bool
+        requires { version.now.book ≡ self.now.reporter.book }
+        ensures { IsTrue result → AreKnown (live_content self.now.flusher.commit.live) (newest_in version.now.log).tiles }
+    {
+        match &self.live {
+            Some(live) => live.has_tiles_of(version),
+            None => false,
+        }
     }
 
     /// Makes one device call; none where no commit is under way. It reports nothing.
@@ -126,7 +162,11 @@ impl<D: Disk> Keeper<D> {
     {
         // What the reporter has seen is a history: the clauses rest on that.
         let _ = self.reporter.given();
-        self.flusher.step()
+        let stepped = self.flusher.step();
+        if matches!(stepped, Ok(Progress::Done(_))) {
+            self.live = self.next.take();
+        }
+        stepped
     }
 
     /// Reports what is stored, and writes down what is told so, with the disk's moment. It makes no device call.

@@ -1,5 +1,6 @@
 //! Laws over the definitions: each function does nothing, and its contract is the law.
 ghost use Rattle.store_flushing.specs.Laws.{DurableIsReported, StoreBegins, StoreLeaves, StoreIsKnown, ToldIsLeft};
+ghost use Rattle.store_flushing.specs.Since.{NumbersTell, TilesStay};
 
 use disk_model::disk::Disk;
 
@@ -29,4 +30,15 @@ pub fn told_is_left<D: Disk>()
 /// reported in its entries: all of these were written down as they were told, where they stay told.
 pub fn durable_is_reported()
     ensures { DurableIsReported }
+{}
+
+/// A version has each tile of a later one, where none was kept since: a batch adds no tile, nor does a report.
+pub fn tiles_stay()
+    ensures { TilesStay }
+{}
+
+/// That none was kept since, three numbers of the two versions tell: how many entries lie between, the version's number,
+/// and what is durable.
+pub fn numbers_tell()
+    ensures { NumbersTell }
 {}

@@ -43,6 +43,13 @@ impl Reporter {
         }
     }
 
+    /// What it has seen.
+    pub fn seen_log(&self) -> &SeenLog
+        ensures { (result.now.log ≡ self.now.log) × (result.now.book ≡ self.now.book) }
+    {
+        &self.seen_log
+    }
+
     /// The count of the news that it gave last.
     pub fn given(&self) -> u64
         ensures value { result ≡ self.now.given }

@@ -20,7 +20,7 @@ use Rattle.commit_plan.specs.Filed.{filed_of}
 use Rattle.commit_plan.specs.Fitting.{HasRoom}
 use Rattle.commit_plan.specs.Kept.{extents_in}
 use Rattle.commit_plan.specs.Live.{live_content}
-use Rattle.commit_plan.specs.RecordPlaces.{AreLayersFiled}
+use Rattle.commit_plan.specs.RecordPlaces.{AreKnown, AreLayersFiled}
 use Rattle.commit_plan.specs.Sizes.{catalog_size, new_records, sizes_of, sizes_of_layers}
 use Rattle.commit_plan.specs.Staying.{LiveContent, AreHeldApart}
 use Rattle.commit_plan.proofs.Counted.{records_count}
@@ -131,3 +131,7 @@ returns-in_err-listing-clause-full c u =
     no_run_more (begun_in room) (sizes_of_layers live table.layers table.rows) (catalog_size table.layers (length (tiles_in table)) ∷ [])
     (subst (λ (d : Drafted). HasNoRunFor d (sizes_of_layers live table.layers table.rows)) c.in_ok-draft.ensures
     (subst (λ (t : Tabled). HasNoRunFor c.in_ok-draft.draft (sizes_of_layers live t.layers t.rows)) c.table.ensures.value full))
+
+pub file_layers-requires : goal.file_layers-requires
+file_layers-requires c known =
+    subst (λ (t : Tabled). AreKnown (live_content c.args.live.now) (tiles_in t)) (sym c.table.ensures.value) (c.requires.known known)

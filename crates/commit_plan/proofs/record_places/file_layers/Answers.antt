@@ -15,13 +15,17 @@ use Rattle.commit_plan.specs.RecordPlaces.{AreLayersFiled}
 use Rattle.commit_plan.specs.Sizes.{layer_sizes, sizes_of_layers}
 use Rattle.commit_plan.specs.Staying.{layer_named}
 use Rattle.commit_plan.proofs.Drafts.{joined, no_run_behind, passed_error}
-use Rattle.commit_plan.proofs.Rows.{row_formed, row_bare}
+use Rattle.commit_plan.proofs.Rows.{row_formed, row_bare, row_known}
 use Rattle.commit_plan.proofs.Sized.{none_behind, layers_full, layers_next, layers_whole}
 use Rattle.commit_plan.proofs.Walked.{no_layers, layers_more, all_layers}
 use Rattle.commit_plan.proofs.record_places.file_layers.Goals as goal
 
 pub file_layer-requires-clause-formed : goal.file_layer-requires-clause-formed
 file_layer-requires-clause-formed c = row_formed (laid c.args.table.now) c.layers.ensures.valid c.in-Some.name.now c.in-Some.row.now c.in-Some.ensures.places
+
+pub file_layer-requires-clause-known : goal.file_layer-requires-clause-known
+file_layer-requires-clause-known c known =
+    row_known (laid c.args.table.now) c.layers.ensures.valid c.in-Some.name.now c.in-Some.row.now c.in-Some.ensures.places (live_content c.args.live.now) (c.requires known)
 
 pub file_layer-requires-clause-bare : goal.file_layer-requires-clause-bare
 file_layer-requires-clause-bare c plain =

@@ -9,11 +9,17 @@ use Rattle.commit_plan.specs.Live.{live_content}
 use Rattle.commit_plan.proofs.Walked.{slot_filed}
 use Rattle.commit_plan.proofs.record_places.file_slot.Goals as goal
 
-pub file_tile-requires : goal.file_tile-requires
-file_tile-requires c =
+pub file_tile-requires-clause-known : goal.file_tile-requires-clause-known
+file_tile-requires-clause-known c is =
+    let v = c.in-Some.tile.now.value in
+    c.requires.known is (named_pieces v) (ap (λ o. option_map (λ t. named_pieces t.now.value) o) c.in-Some.is)
+    ∙ ap Some (by_its_names v ∙ ap tile_of (sym c.deref.ensures))
+
+pub file_tile-requires-clause-formed : goal.file_tile-requires-clause-formed
+file_tile-requires-clause-formed c =
     let v = c.in-Some.tile.now.value in
     subst (λ (t : Tile). IsTrue (is_formed t c.args.column)) (by_its_names v ∙ ap tile_of (sym c.deref.ensures))
-    (c.requires (named_pieces v) (ap (λ o. option_map (λ t. named_pieces t.now.value) o) c.in-Some.is))
+    (c.requires.formed (named_pieces v) (ap (λ o. option_map (λ t. named_pieces t.now.value) o) c.in-Some.is))
 
 pub returns-in_ok-extent-in-Some-clause-ok : goal.returns-in_ok-extent-in-Some-clause-ok
 returns-in_ok-extent-in-Some-clause-ok c =

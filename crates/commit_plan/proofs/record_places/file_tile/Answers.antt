@@ -57,4 +57,4 @@ returns-clause-full c u =
 
 pub file-requires : goal.file-requires
 file-requires c =
-    subst (λ (l : List ℕ). length l < 2 ^ 32) (sym c.in_ok-bytes.ensures.spelled) (tile_short c.args.column c.args.tile.now c.requires)
+    subst (λ (l : List ℕ). length l < 2 ^ 32) (sym c.in_ok-bytes.ensures.spelled) (tile_short c.args.column c.args.tile.now c.requires.formed)

@@ -3,7 +3,7 @@ use Rattle.std.proofs.Common.{◌≡◌, ◌+◌, ◌<◌, ◌++◌, ◌∷◌, 
 use Rattle.std.specs.Prelude.{IsTrue}
 use Rattle.std.specs.Option.{option_map}
 use Rattle.std.proofs.lemmas.List.{length-append, length-map, take_all}
-use Rattle.overlay_terms.specs.Histories.{Tile, is_formed}
+use Rattle.overlay_terms.specs.Histories.{Tile, is_formed, tile_at}
 use Rattle.tile_build.specs.Tile.{named_pieces}
 use Rattle.layer_tiles.specs.Table.{places_in, row_tiles}
 use Rattle.layer_tiles.specs.TileCode.{by_places, Named}
@@ -57,8 +57,16 @@ loop-number-preserved c =
           ∙ length-append c.loop-number.entries.items (entry ∷ []) ∙ ap (λ (n : ℕ). n + 1) so_far.count;
     }
 
-pub file_slot-requires : goal.file_slot-requires
-file_slot-requires c held is =
+pub file_slot-requires-clause-known : goal.file_slot-requires-clause-known
+file_slot-requires-clause-known c known held is =
+    let row = c.args.row.now in
+    let i = c.loop-number.number in
+    let column : c.in-Some.column ≡ i = search rules in
+    ap (tile_at (live_content c.args.live.now).tiles c.args.name.now) column
+    ∙ c.requires.known known i held (sym (c.tile_at-tile.ensures ∙ ap (λ n. get_or row n None) c.from-in-loop-number.ensures) ∙ is)
+
+pub file_slot-requires-clause-formed : goal.file_slot-requires-clause-formed
+file_slot-requires-clause-formed c held is =
     let row = c.args.row.now in
     let i = c.loop-number.number in
     let column : c.in-Some.column ≡ i = search rules in

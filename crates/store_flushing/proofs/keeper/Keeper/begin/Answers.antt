@@ -1,18 +1,36 @@
 use Rattle.std.proofs.Common.{refl}
 use Rattle.book_history.specs.Logs.{history_of}
 use Rattle.store_flushing.specs.Told.{told_in}
+use Rattle.store_flushing.proofs.Remembered.{same_keeper}
 use Rattle.store_flushing.proofs.Storage.{begin_kept}
 use Rattle.store_flushing.proofs.ToldLemmas.{none_told}
 use Rattle.store_flushing.proofs.keeper.Keeper.begin.Goals as goal
 
-pub returns-clause-keeps : goal.returns-clause-keeps
-returns-clause-keeps g c is =
+pub returns-in-Ok-clause-keeps : goal.returns-in-Ok-clause-keeps
+returns-in-Ok-clause-keeps g c is =
     let s = c.args.self.now.flusher in
-    let e = c.begin.ensures in
-    begin_kept g.D.Disk (history_of c.args.self.now.reporter.log) s c.begin.new.self c.args.version.now c.begin.result (λ k left. g.met.D.Disk.only_now s.commit.disk k is.honest left)
+    let e = c.begin_known.ensures in
+    begin_kept g.D.Disk (history_of c.args.self.now.reporter.log) s c.begin_known.new.self c.args.version.now c.begin_known.result (λ k left. g.met.D.Disk.only_now s.commit.disk k is.honest left)
     c.requires.idle c.requires.history c.requires.newest e.failed e.begun e.stored e.begins e.disk e.err is
 
-pub returns-clause-tells : goal.returns-clause-tells
-returns-clause-tells g c is =
+pub returns-in-Ok-clause-tells : goal.returns-in-Ok-clause-tells
+returns-in-Ok-clause-tells g c is =
     let h = history_of c.args.self.now.reporter.log in
-    none_told g.D.Disk h h c.args.self.now.flusher c.begin.new.self (told_in c.args.self.now.told) (returns-clause-keeps g c is) c.requires.history refl
+    none_told g.D.Disk h h c.args.self.now.flusher c.begin_known.new.self (told_in c.args.self.now.told) (returns-in-Ok-clause-keeps g c is) c.requires.history refl
+
+pub returns-in-Err-clause-keeps : goal.returns-in-Err-clause-keeps
+returns-in-Err-clause-keeps g c is =
+    let s = c.args.self.now.flusher in
+    let e = c.begin_known.ensures in
+    begin_kept g.D.Disk (history_of c.args.self.now.reporter.log) s c.begin_known.new.self c.args.version.now c.begin_known.result (λ k left. g.met.D.Disk.only_now s.commit.disk k is.honest left)
+    c.requires.idle c.requires.history c.requires.newest e.failed e.begun e.stored e.begins e.disk e.err is
+
+pub returns-in-Err-clause-tells : goal.returns-in-Err-clause-tells
+returns-in-Err-clause-tells g c is =
+    let h = history_of c.args.self.now.reporter.log in
+    none_told g.D.Disk h h c.args.self.now.flusher c.begin_known.new.self (told_in c.args.self.now.told) (returns-in-Err-clause-keeps g c is) c.requires.history refl
+
+pub returns-in-Err-clause-err : goal.returns-in-Err-clause-err
+returns-in-Err-clause-err g c =
+    let k = c.args.self.now in
+    same_keeper k k.reporter c.begin_known.new.self refl c.in-Err.ensures.err _ _

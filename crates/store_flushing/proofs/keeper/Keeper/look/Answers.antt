@@ -1,7 +1,8 @@
-use Rattle.std.proofs.Common.{arith}
+use Rattle.std.proofs.Common.{refl, arith}
 use Rattle.book_history.specs.Logs.{history_of}
 use Rattle.book_history.proofs.Chains.{is_history}
 use Rattle.store_flushing.specs.Told.{told_in}
+use Rattle.store_flushing.proofs.Remembered.{none_so, same_keeper, still}
 use Rattle.store_flushing.proofs.Storage.{kept, longer}
 use Rattle.store_flushing.proofs.ToldLemmas.{none_told}
 use Rattle.store_flushing.proofs.keeper.Keeper.look.Goals as goal
@@ -22,3 +23,18 @@ returns-clause-tells g c is =
     let log = c.next_version-looked.new.me.log in
     none_told g.D.Disk (history_of c.args.self.now.reporter.log) (history_of log) s s (told_in c.args.self.now.told) (returns-clause-keeps g c is)
     (is_history log c.given.ensures.valid) c.next_version-looked.ensures.durable
+
+pub invariant_of-self : goal.invariant_of-self
+invariant_of-self g c =
+    let k = c.args.self.now in
+    let roots = k.flusher.commit in
+    let looked = c.next_version-looked in
+    record {
+      live_tiles = still k.reporter looked.new.me roots.live roots.live k.live looked.ensures.same refl k.live_tiles;
+      next_tiles = still k.reporter looked.new.me roots.next_live roots.next_live k.next looked.ensures.same refl k.next_tiles;
+    }
+
+pub returns-clause-none : goal.returns-clause-none
+returns-clause-none g c =
+    let k = c.args.self.now in
+    none_so c.next_version-looked.result (λ is. same_keeper k c.next_version-looked.new.me k.flusher is refl _ _) c.next_version-looked.ensures.none

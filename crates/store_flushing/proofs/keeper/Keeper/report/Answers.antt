@@ -1,8 +1,9 @@
-use Rattle.std.proofs.Common.{ℕ, ◌≡◌, ◌≤◌, ◌⊎◌, ◌++◌, subst, sym}
+use Rattle.std.proofs.Common.{ℕ, ◌≡◌, ◌≤◌, ◌⊎◌, ◌++◌, refl, subst, sym}
 use Rattle.book_history.specs.Logs.{history_of, newest_in}
 use Rattle.book_history.proofs.Chains.{is_history}
 use Rattle.version_book.specs.Heard.{Heard}
 use Rattle.store_flushing.specs.Told.{news_in, told_at, told_in}
+use Rattle.store_flushing.proofs.Remembered.{still}
 use Rattle.store_flushing.proofs.Storage.{all_told, report_kept, stored_level}
 use Rattle.store_flushing.proofs.ToldLemmas.{news_told}
 use Rattle.store_flushing.proofs.keeper.Keeper.report.Goals as goal
@@ -39,3 +40,12 @@ returns-clause-tells g c is =
     (λ k left. g.met.D.Disk.only_now s.commit.disk k is.honest left) (returns-clause-keeps g c is) (is_history log c.given.ensures.valid)
     (subst (λ (r : Heard). told_in c.write.new.self ≡ told_in c.args.self.now.told ++ told_at (g.D.Disk.moment s.commit.disk) (news_in (history_of r.log) (history_of log)))
     c.of-was.ensures c.write.ensures)
+
+pub invariant_of-self : goal.invariant_of-self
+invariant_of-self g c =
+    let k = c.args.self.now in
+    let roots = k.flusher.commit in
+    record {
+      live_tiles = still k.reporter c.report.new.me roots.live roots.live k.live c.report.ensures.same refl k.live_tiles;
+      next_tiles = still k.reporter c.report.new.me roots.next_live roots.next_live k.next c.report.ensures.same refl k.next_tiles;
+    }

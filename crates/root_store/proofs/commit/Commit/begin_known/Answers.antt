@@ -14,7 +14,7 @@ use Rattle.commit_plan.specs.declared.next.Next.{Next}
 use Rattle.root_store.proofs.Reasons.{refused_so, passed_on, no_room_or_memory}
 use Rattle.root_store.specs.Content.{content_of}
 use Rattle.root_store.proofs.Known.{stands_known, leads_to, put_back}
-use Rattle.root_store.proofs.commit.Commit.begin.Goals as goal
+use Rattle.root_store.proofs.commit.Commit.begin_known.Goals as goal
 
 pub returns-in-Some-clause-errors : goal.returns-in-Some-clause-errors
 returns-in-Some-clause-errors g c =

@@ -1,0 +1,5 @@
+use Rattle.store_flushing.proofs.SinceLemmas as lemmas
+use Rattle.store_flushing.proofs.laws.numbers_tell.Goals as goal
+
+pub returns : goal.returns
+returns c = lemmas.numbers_tell
