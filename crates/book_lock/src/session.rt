@@ -6,7 +6,7 @@ ghost use mathlib.Core.List.{IsPrefix};
 ghost use Rattle.overlay_terms.specs.Commands.{version_max};
 ghost use Rattle.overlay_terms.specs.Batches.{Batch};
 ghost use Rattle.overlay_terms.specs.Histories.{commands_of, newest, BeginsWith, IsHistory};
-ghost use Rattle.book_history.specs.Logs.{newest_in};
+ghost use Rattle.book_history.specs.Logs.{newest_in, IsLog};
 ghost use Rattle.book_history.specs.Known.{seen};
 
 use book_history::fault::BookFault;
@@ -79,8 +79,11 @@ impl Session {
     /// Its number.
     pub fn number(&self) -> u64
         ensures value { result ≡ self.now.session }
+        ensures valid { IsLog self.now.log }
         ensures begun { 0 < length self.now.log }
     {
+        // What was seen is a log with a first entry: the clauses rest on that.
+        let _ = self.seen_log.at();
         self.number
     }
 
@@ -154,10 +157,12 @@ impl Session {
     pub fn snapshot(&mut self) -> Result<Arc<Version, Global>, BookFault>
         ensures goes_on { BeginsWith (seen self.new) (seen self.old) }
         ensures newest { IfOk result (λ version. arc_value version ≡ newest (seen self.new)) }
-        ensures history { IfOk result (λ _. IsHistory (seen self.new)) }
+        ensures history { IsHistory (seen self.new) }
         ensures same { (self.new.book ≡ self.old.book) × (self.new.session ≡ self.old.session) × (self.new.made ≡ self.old.made) }
         ensures err { IfErr result (λ fault. (fault ≡ BookFault.Gone) × (self.new ≡ self.old)) }
     {
+        // What it has seen is a log with a first entry: a clause rests on that.
+        let _ = self.seen_log.at();
         let Some(place) = self.place.take() else {
             return Err(BookFault::Gone);
         };

@@ -40,6 +40,12 @@ looked_goes was now log long h = begins_with was.log now.log long (subst (λ (k 
 same_goes : (was now : Known) → 0 < length was.log → now ≡ was → BeginsWith (seen now) (seen was)
 same_goes was now long same = begins_with was.log now.log long (subst (λ (k : Known). IsPrefix was.log k.log) (sym same) (prefix_self was.log))
 
+looked_history : (was now : Known) (log : List Entry) → HasLooked was log now → IsHistory (seen now)
+looked_history was now log h = subst (λ (k : Known). IsHistory (seen k)) (sym h.knows) (is_history log h.valid)
+
+same_history : (was now : Known) → IsLog was.log → now ≡ was → IsHistory (seen now)
+same_history was now valid same = subst (λ (k : Known). IsHistory (seen k)) (sym same) (is_history was.log valid)
+
 pub looked_own : (was now : Known) (log : List Entry) → HasLooked was log now → IsOwn now
 looked_own was now log h = subst IsOwn (sym h.knows) (sym (commands_in_log was.session log h.valid) ∙ h.own)
 
@@ -80,9 +86,10 @@ module _ (was now : Known) (log : List Entry) where
   looks_told (Ok n) P h told = subst (λ (k : Known). P k.log) (sym h.knows) told
   looks_told (Err f) P h told = tt
 
-  pub looks_history : (r : Result ℕ BookFault) → Looks r was log now → IfOk r (λ _. IsHistory (seen now))
-  looks_history (Ok n) h = subst (λ (k : Known). IsHistory (seen k)) (sym h.knows) (is_history log h.valid)
-  looks_history (Err f) h = tt
+  pub looks_history : (r : Result ℕ BookFault) → IsLog was.log → Looks r was log now → IsHistory (seen now)
+  looks_history (Ok n) valid h = looked_history was now log h
+  looks_history (Err f) valid (inl h) = same_history was now valid h.1
+  looks_history (Err f) valid (inr h) = looked_history was now log h.1
 
   pub looks_err : (r : Result ℕ BookFault) → Looks r was log now → IfErr r (LeavesSession fault.Gone was now)
   looks_err (Ok n) h = tt
@@ -171,6 +178,10 @@ module _ (was now : Known) (log : List Entry) where
   ended_goes long (inl same) = same_goes was now long same
   ended_goes long (inr looked) = looked_goes was now log long looked
 
+  ended_history : IsLog was.log → Ended was now log → IsHistory (seen now)
+  ended_history valid (inl same) = same_history was now valid same
+  ended_history valid (inr looked) = looked_history was now log looked
+
   ended_same : Ended was now log → (now.book ≡ was.book) × (now.session ≡ was.session)
   ended_same (inl same) = (ap (λ k. k.book) same, ap (λ k. k.session) same)
   ended_same (inr looked) = (ap (λ k. k.book) looked.knows, ap (λ k. k.session) looked.knows)
@@ -178,6 +189,10 @@ module _ (was now : Known) (log : List Entry) where
   pub refused_goes : {F : Type 0} (refuses : Version → F → Type 0) (r : Refused F) → 0 < length was.log
       → IsRefusedIn log was refuses true r now → BeginsWith (seen now) (seen was)
   refused_goes refuses r long h = ended_goes long (refused_ended refuses r h)
+
+  pub refused_history : {F : Type 0} (refuses : Version → F → Type 0) (r : Refused F) → IsLog was.log
+      → IsRefusedIn log was refuses true r now → IsHistory (seen now)
+  refused_history refuses r valid h = ended_history valid (refused_ended refuses r h)
 
   pub refused_same : {F : Type 0} (refuses : Version → F → Type 0) (r : Refused F) → IsRefusedIn log was refuses true r now
       → (now.book ≡ was.book) × (now.session ≡ was.session)
@@ -206,6 +221,10 @@ module _ (was now : Known) (log : List Entry) where
   batch_refused b Gone same = inl refl
   batch_refused b Closing h = inr (inl (refl, refl))
   batch_refused b (Refuses f) h = inr (inr (subst (λ v. RefusesBatch v b f) (sym (looked_at was now log h.1)) h.0))
+
+-- a reporter that is as it was has seen a history
+unheard_history : (was now : Heard) → IsLog was.log → now ≡ was → IsHistory (history_of now.log)
+unheard_history was now valid same = subst (λ (t : Heard). IsHistory (history_of t.log)) (sym same) (is_history was.log valid)
 
 -- ---- of a report
 module _ (was now : Heard) (log after : List Entry) (n : ℕ) where
@@ -238,11 +257,11 @@ module _ (was now : Heard) (log after : List Entry) (n : ℕ) where
       subst (λ (t : Heard). IsReportedBy was n t.log) (sym b.1) there
   report_by (Err f) A C a b = tt
 
-  pub report_history : (r : Result ℕ BookFault) (B : Type 0)
+  pub report_history : (r : Result ℕ BookFault) (A B : Type 0) (D : BookFault → Type 0) → IsLog was.log
       → IfOk r (λ _. B × (now ≡ record { book = was.book; log = after; given = was.given }) × IsLog after)
-      → IfOk r (λ _. IsHistory (history_of now.log))
-  report_history (Ok m) B b = subst (λ (t : Heard). IsHistory (history_of t.log)) (sym b.1) (is_history after b.2)
-  report_history (Err f) B b = tt
+      → IfErr r (λ f. A × (now ≡ was) × D f) → IsHistory (history_of now.log)
+  report_history (Ok m) A B D valid b d = subst (λ (t : Heard). IsHistory (history_of t.log)) (sym b.1) (is_history after b.2)
+  report_history (Err f) A B D valid b d = unheard_history was now valid d.1
 
   pub report_err : (r : Result ℕ BookFault) (A : Type 0) (B : BookFault → Type 0) → IfErr r (λ f. A × (now ≡ was) × B f)
       → IfErr r (λ f. (now ≡ was) × B f)
@@ -317,13 +336,13 @@ module _ {V : Type 0} (was now : Heard) (log : List Entry) (news : ℕ) where
   news_newest (Ok None) of B C N a b = tt
   news_newest (Err f) of B C N a b = tt
 
-  pub news_history : (r : Result (Option V) BookFault) (A : V → Type 0) (B N : Type 0)
+  pub news_history : (r : Result (Option V) BookFault) (A : V → Type 0) (B N P Q : Type 0) (E : BookFault → Type 0) → IsLog was.log
       → IfOk r (λ o. IfSome o (λ v. A v × B × IsLog log))
       → IfOk r (λ o. IfSome o (λ _. N × (now ≡ record { book = was.book; log = log; given = news })))
-      → IfOk r (λ o. IfSome o (λ _. IsHistory (history_of now.log)))
-  news_history (Ok (Some v)) A B N a b = subst (λ (t : Heard). IsHistory (history_of t.log)) (sym b.1) (is_history log a.2)
-  news_history (Ok None) A B N a b = tt
-  news_history (Err f) A B N a b = tt
+      → IfOk r (λ o. IfNone o (P × Q × (now ≡ was))) → IfErr r (λ f. (now ≡ was) × E f) → IsHistory (history_of now.log)
+  news_history (Ok (Some v)) A B N P Q E valid a b n d = subst (λ (t : Heard). IsHistory (history_of t.log)) (sym b.1) (is_history log a.2)
+  news_history (Ok None) A B N P Q E valid a b n d = unheard_history was now valid n.2
+  news_history (Err f) A B N P Q E valid a b n d = unheard_history was now valid d.0
 
   pub news_given : (r : Result (Option V) BookFault)
       → IfOk r (λ o. IfSome o (λ _. ¬ (news ≡ was.given) × (now ≡ record { book = was.book; log = log; given = news })))

@@ -92,7 +92,7 @@ impl<J: BookName, R: Wait + Drop> Shared<J, R> {
     ) -> Result<u64, BookFault>
         requires book { me.old.book ≡ J.book }
         ensures goes_on { BeginsWith (seen me.new) (seen me.old) }
-        ensures history { IfOk result (λ _. IsHistory (seen me.new)) }
+        ensures history { IsHistory (seen me.new) }
         ensures ok { IfOk result (λ n. IsAccepted me.old.session (seen me.old) (command change.now ∷ []) (seen me.new) n) }
         ensures made { IfOk result (λ _. me.new.made ≡ me.old.made ++ (command change.now ∷ []) ∷ []) }
         ensures own { IfOk result (λ _. IsOwn me.new) }
@@ -114,7 +114,7 @@ impl<J: BookName, R: Wait + Drop> Shared<J, R> {
     ) -> Result<u64, BatchFault>
         requires book { me.old.book ≡ J.book }
         ensures goes_on { BeginsWith (seen me.new) (seen me.old) }
-        ensures history { IfOk result (λ _. IsHistory (seen me.new)) }
+        ensures history { IsHistory (seen me.new) }
         ensures ok { IfOk result (λ n. IsAccepted me.old.session (seen me.old) batch.now (seen me.new) n) }
         ensures made { IfOk result (λ _. me.new.made ≡ me.old.made ++ batch.now ∷ []) }
         ensures own { IfOk result (λ _. IsOwn me.new) }
@@ -135,6 +135,7 @@ impl<J: BookName, R: Wait + Drop> Shared<J, R> {
     ) -> Result<u64, Refused<C::Fault>>
         requires book { me.old.book ≡ J.book }
         ensures begun { 0 < length me.old.log }
+        ensures valid { IsLog me.old.log }
         ensures ok { IfOk result (λ n. (log after : List Entry)
             × IsAcceptedIn log me.old (C.batch change.now) after me.new n) }
         ensures err { IfErr result (λ refused. (log : List Entry)
@@ -204,7 +205,7 @@ impl<J: BookName, R: Wait + Drop> Shared<J, R> {
     ) -> Result<u64, BookFault>
         requires book { me.old.book ≡ J.book }
         ensures goes_on { BeginsWith (seen me.new) (seen me.old) }
-        ensures history { IfOk result (λ _. IsHistory (seen me.new)) }
+        ensures history { IsHistory (seen me.new) }
         ensures ok { IfOk result (λ n. IsBuiltAt (newest (seen me.new)) name.now n) }
         ensures own { IfOk result (λ _. IsOwn me.new) }
         ensures err { IfErr result (LeavesSession BookFault.Gone me.old me.new) }
@@ -227,7 +228,7 @@ impl<J: BookName, R: Wait + Drop> Shared<J, R> {
     pub fn wait_durable<W: Wait>(&self, rt: &W, me: &mut Session) -> Result<u64, BookFault>
         requires book { me.old.book ≡ J.book }
         ensures goes_on { BeginsWith (seen me.new) (seen me.old) }
-        ensures history { IfOk result (λ _. IsHistory (seen me.new)) }
+        ensures history { IsHistory (seen me.new) }
         ensures ok { IfOk result (λ n. ((newest (seen me.new)).durable ≡ n) × ((newest (seen me.old)).number ≤ n)) }
         ensures told { IfOk result (λ _. IsToldIn J.stored me.new.log) }
         ensures own { IfOk result (λ _. IsOwn me.new) }
@@ -262,7 +263,7 @@ impl<J: BookName, R: Wait + Drop> Shared<J, R> {
     ) -> Result<Option<Arc<Version, Global>>, BookFault>
         requires book { me.old.book ≡ J.book }
         ensures goes_on { BeginsWith (history_of me.new.log) (history_of me.old.log) }
-        ensures history { IfOk result (λ o. IfSome o (λ _. IsHistory (history_of me.new.log))) }
+        ensures history { IsHistory (history_of me.new.log) }
         ensures newest { IfOk result (λ o. IfSome o (λ version. arc_value version ≡ newest_in me.new.log)) }
         ensures news { IfOk result (λ o. IfSome o (λ _. ¬ (me.new.given ≡ me.old.given))) }
         ensures none { IfOk result (λ o. IfNone o (me.new ≡ me.old)) }
@@ -288,7 +289,7 @@ impl<J: BookName, R: Wait + Drop> Shared<J, R> {
         requires book { me.old.book ≡ J.book }
         requires stored { J.stored me.old.log number }
         ensures goes_on { BeginsWith (history_of me.new.log) (history_of me.old.log) }
-        ensures history { IfOk result (λ _. IsHistory (history_of me.new.log)) }
+        ensures history { IsHistory (history_of me.new.log) }
         ensures ok { IfOk result (λ m. (newest_in me.new.log).durable ≡ m) }
         ensures reported { IfOk result (λ _. IsReportedBy me.old number me.new.log) }
         ensures reached { IfOk result (λ m. number ≤ (newest_in me.old.log).number → number ≤ m) }

@@ -65,7 +65,7 @@ returns-in_default c =
     record {
       goes_on = still c.self.inside.seen_log c.args.self.now c.self.invariant.1 (ap seen is);
       newest = tt;
-      history = tt;
+      history = is_history c.self.inside.seen_log.log c.at.ensures.chain;
       same = (ap (λ k. k.book) is, ap (λ k. k.session) is, ap (λ k. k.made) is);
       err = (refl, is);
     }
@@ -84,7 +84,7 @@ returns-in-Err-copy c =
     record {
       goes_on = still c.self.inside.seen_log c.args.self.now c.self.invariant.1 (ap seen is);
       newest = tt;
-      history = tt;
+      history = is_history c.self.inside.seen_log.log c.at.ensures.chain;
       same = (ap (λ k. k.book) is, ap (λ k. k.session) is, ap (λ k. k.made) is);
       err = (refl, is);
     }
@@ -102,7 +102,7 @@ returns-in-Err c =
     record {
       goes_on = still c.self.inside.seen_log c.args.self.now c.self.invariant.1 (ap seen is);
       newest = tt;
-      history = tt;
+      history = is_history c.self.inside.seen_log.log c.at.ensures.chain;
       same = (ap (λ k. k.book) is, ap (λ k. k.session) is, ap (λ k. k.made) is);
       err = (refl, is);
     }

@@ -12,6 +12,7 @@ returns g c =
     let refuses = g.C.Change.refuses c.args.change.now in
     record {
       begun = c.number.ensures.begun;
+      valid = c.number.ensures.valid;
       ok = IfOk-weaker s.result _ _ (λ n is. (log, s.new.self.log, is)) s.ensures.ok;
       err = IfErr-weaker s.result _ _
           (λ r is. (log, refused_more log me s.new.me refuses locked.state.closing true r (λ _. refl) is.2)) s.ensures.err;

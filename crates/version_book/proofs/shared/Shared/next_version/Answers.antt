@@ -12,7 +12,7 @@ returns g c =
     let e = s.ensures in
     record {
       goes_on = news_goes me new log n s.result _ _ _ _ _ c.given-given.ensures.begun e.some e.news e.none e.err;
-      history = news_history me new log n s.result _ _ _ e.some e.news;
+      history = news_history me new log n s.result _ _ _ _ _ _ c.given-given.ensures.valid e.some e.news e.none e.err;
       newest = news_newest me new log n s.result arc_value _ _ _ e.some e.news;
       news = news_given me new log n s.result e.news;
       none = news_none me new log n s.result _ _ e.none;

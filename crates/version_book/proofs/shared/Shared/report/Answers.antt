@@ -14,7 +14,7 @@ returns g c =
     record {
       goes_on = report_goes me new log after n r _ _ c.given.ensures.begun e.ok e.seen e.err;
       ok = report_ok me new log after n r _ _ _ e.ok e.seen;
-      history = report_history me new log after n r _ e.seen;
+      history = report_history me new log after n r _ _ _ c.given.ensures.valid e.seen e.err;
       reported = report_by me new log after n r _ _ e.ok e.seen;
       reached = report_reached me new log after n r _ c.given.ensures.begun e.ok e.seen;
       err = report_err me new log after n r _ _ e.err;

@@ -4,7 +4,7 @@ use Rattle.overlay_terms.specs.Histories.{Version}
 use Rattle.layer_book.specs.declared.batch_fault.BatchFault.{BatchFault}
 use Rattle.book_history.specs.Fault.{RefusesBatch}
 use Rattle.book_history.proofs.Gone.{passed}
-use Rattle.version_book.proofs.Results.{accepted_goes, accepted_history, accepted_last, accepted_own, batch_leaves, batch_refused, refused_goes, refused_same}
+use Rattle.version_book.proofs.Results.{accepted_goes, accepted_history, accepted_last, accepted_own, batch_leaves, batch_refused, refused_goes, refused_history, refused_same}
 use Rattle.version_book.proofs.shared.Shared.submit_all.Goals as goal
 
 pub returns-in_err-accept : goal.returns-in_err-accept
@@ -17,7 +17,7 @@ returns-in_err-accept g c =
     let refuses : Version → BatchFault → Type 0 = λ v. RefusesBatch v batch in
     record {
       goes_on = refused_goes me now there.0 refuses _ c.accept.ensures.begun there.1;
-      history = IfOk-from_err _ _ failed.0;
+      history = refused_history me now there.0 refuses _ c.accept.ensures.valid there.1;
       ok = IfOk-from_err _ _ failed.0;
       made = IfOk-from_err _ _ failed.0;
       own = IfOk-from_err _ _ failed.0;

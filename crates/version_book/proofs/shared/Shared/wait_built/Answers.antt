@@ -15,7 +15,7 @@ returns g c =
     let seen = s.ensures.seen in
     record {
       goes_on = looks_goes me now log s.result c.number.ensures.begun seen;
-      history = looks_history me now log s.result seen;
+      history = looks_history me now log s.result c.number.ensures.valid seen;
       ok = looks_ok me now log s.result (λ v n. IsBuiltAt v name n) seen s.ensures.ok;
       own = looks_own me now log s.result seen;
       err = looks_err me now log s.result seen;

@@ -17,7 +17,7 @@ returns-then-not-self g c =
     let looks = s.ensures.seen in
     record {
       goes_on = looks_goes me now log s.result c.number.ensures.begun looks;
-      history = looks_history me now log s.result looks;
+      history = looks_history me now log s.result c.number.ensures.valid looks;
       ok = never_ok s.result _ _ s.ensures.refused;
       told = never_ok s.result _ _ s.ensures.refused;
       own = looks_own me now log s.result looks;
@@ -38,7 +38,7 @@ returns g c =
     let looks = s.ensures.seen in
     record {
       goes_on = looks_goes me now log s.result c.number.ensures.begun looks;
-      history = looks_history me now log s.result looks;
+      history = looks_history me now log s.result c.number.ensures.valid looks;
       ok = looks_ok me now log s.result (λ v n. (v.durable ≡ n) × ((newest (seen me)).number ≤ n)) looks
           (subst (λ m. IfOk s.result (λ n. ((newest_in log).durable ≡ n) × (m ≤ n))) c.newest-number.ensures s.ensures.ok);
       told = looks_told me now log s.result (IsToldIn g.J.BookName.stored) looks s.ensures.told;
