@@ -6,12 +6,15 @@
 A module for the tools; it is no tool of its own.
 """
 
+import contextlib
 import json
 import pathlib
 import re
 import shutil
 import subprocess
 import tempfile
+from collections.abc import Iterator
+from typing import NamedTuple
 
 import ending
 import limits
@@ -61,13 +64,22 @@ def is_table(begin: bytes) -> bool:
     return len(names) > 1 and not {name.strip().strip('"') for name in names}.isdisjoint(COLUMNS.split(","))
 
 
-def opened_as(path: pathlib.Path) -> tuple[str, list[str]]:
-    """How GDAL is to open a file: by which name, and with which options."""
+class Opened(NamedTuple):
+    """How GDAL is to open a file: by which name, with which options, and as which of its forms; all where none stands
+    here."""
+
+    name: str
+    options: list[str]
+    drivers: list[str]
+
+
+def opened_as(path: pathlib.Path) -> Opened:
+    """How GDAL is to open a file, by its content and not by its name."""
     begin = begin_of(path)
     if form_of(path, begin) != TABLE:
-        return source_of(path), []
+        return Opened(source_of(path), [], ["GPKG", "SQLite"] if begin.startswith(SQLITE) else [])
     prefix = "" if path.suffix.lower() == ".csv" else "CSV:"
-    return prefix + source_of(path), [f"GEOM_POSSIBLE_NAMES={COLUMNS}", "KEEP_GEOM_COLUMNS=NO"]
+    return Opened(prefix + source_of(path), [f"GEOM_POSSIBLE_NAMES={COLUMNS}", "KEEP_GEOM_COLUMNS=NO"], ["CSV"])
 
 
 def begin_of(path: pathlib.Path) -> bytes:
@@ -76,6 +88,19 @@ def begin_of(path: pathlib.Path) -> bytes:
         return b""
     with path.open("rb") as file:
         return file.read(BEGIN)
+
+
+@contextlib.contextmanager
+def under_fitting_name(path: pathlib.Path) -> Iterator[pathlib.Path]:
+    """The file under a name by which GDAL's programs, which go by it too, take it for what it is: a link to a store of
+    SQLite that is called otherwise, and else the file itself."""
+    if path.suffix.lower() in (".gpkg", ".sqlite") or not begin_of(path).startswith(SQLITE):
+        yield path
+        return
+    with tempfile.TemporaryDirectory() as folder:
+        link = pathlib.Path(folder, f"{path.stem}.gpkg")
+        link.symlink_to(path.resolve())
+        yield link
 
 
 def missing(what: str, line: str) -> GdalFault:
@@ -107,7 +132,7 @@ def layers_of(path: pathlib.Path) -> list[str]:
     ogrinfo = shutil.which("ogrinfo")
     if not ogrinfo:
         raise missing("this file", f"ogrinfo {path}")
-    lines = ran([ogrinfo, "-q", "-ro", opened_as(path)[0]]).decode("utf-8", "replace").splitlines()
+    lines = ran([ogrinfo, "-q", "-ro", opened_as(path).name]).decode("utf-8", "replace").splitlines()
     found = [re.fullmatch(r"[0-9]+: (.*?)( \(([^()]*)\))?", line) for line in lines]
     return [match[1] for match in found if match and match[3] != "None"]
 
@@ -131,10 +156,12 @@ def as_geojson(path: pathlib.Path, layer: str | None = None) -> str:
         raise missing(form_of(path, begin_of(path)) or "this file", f"ogr2ogr -f GeoJSON {path.stem}.geojson {path}")
     words = [ogr2ogr, "-f", "GeoJSON", "-lco", "SIGNIFICANT_FIGURES=17", "-nlt", "CONVERT_TO_LINEAR"]
     words += ["-preserve_fid"] if begin_of(path).startswith(SQLITE) else []
-    name, options = opened_as(path)
-    words += [word for option in options for word in ("-oo", option)]
-    value = json.loads(ran([*words, "/vsistdout/", name, layer_of(path, layer)]))
-    if "crs" not in value and (name := coordinates_of(path)):
+    with under_fitting_name(path) as named:
+        opened = opened_as(named)
+        words += [word for option in opened.options for word in ("-oo", option)]
+        value = json.loads(ran([*words, "/vsistdout/", opened.name, layer_of(named, layer)]))
+        name = None if "crs" in value else coordinates_of(named)
+    if name:
         value["crs"] = {"type": "name", "properties": {"name": name}}
     return json.dumps(value)
 

@@ -86,14 +86,14 @@ class OfTasks:
             self.bar.close()
 
 
-def bar(what: str, total: int, terminal: TextIO, **more: str) -> Any:
+def bar(what: str, total: int, terminal: TextIO, unit: str = "it") -> Any:
     """A bar, which goes when the work is done; None where python3-tqdm is not installed."""
     try:
         import tqdm
     except ImportError:
         return None
     tqdm.tqdm.monitor_interval = 0  # no thread of its own
-    return tqdm.tqdm(total=total, desc=what, file=terminal, delay=BEGIN_SECONDS, leave=False, **more)
+    return tqdm.tqdm(total=total, desc=what, file=terminal, delay=BEGIN_SECONDS, leave=False, unit=unit)
 
 
 def over(items: Iterable[Item], what: str, total: int) -> Iterator[Item]:

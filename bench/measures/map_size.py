@@ -65,8 +65,8 @@ def main() -> int:
     parser.add_argument("--maps", metavar="FOLDER", type=pathlib.Path, help="parcels.gpkg and zones.gpkg that stand there")
     parser.add_argument("--seconds", type=float, help="of processors, which it may take")
     parser.add_argument("--megabytes", type=float, help="which it may take")
-    parser.add_argument("more", metavar="WORD", nargs="*", help="for overlay_maps.py")
-    words = parser.parse_args()
+    at = sys.argv.index("--") if "--" in sys.argv else len(sys.argv)
+    words, more = parser.parse_args(sys.argv[1:at]), sys.argv[at + 1 :]
     with tempfile.TemporaryDirectory() as made:
         folder = pathlib.Path(made)
         maps = words.maps or folder
@@ -75,7 +75,7 @@ def main() -> int:
         out = folder / "pairs.csv"
         status, seconds, clock, megabytes = watched(
             [PYTHON, str(TOOL), "pairs", str(maps / "parcels.gpkg"), str(maps / "zones.gpkg"), "--factor", "1000", "--a-id",
-             "parcel", "--b-id", "zone", "--program", words.live, "--jobs", str(words.jobs), "--out", str(out), *words.more])
+             "parcel", "--b-id", "zone", "--program", words.live, "--jobs", str(words.jobs), "--out", str(out), *more])
         if status:
             return 1
         digest = hashlib.sha256(out.read_bytes()).hexdigest()[:12]

@@ -4,7 +4,8 @@ process left?
 
     /usr/bin/python3 bench/trials/map_engines.py LIVE [--parcels N] [--zones N] [--times N] [--only CASE]..
 
-LIVE is the built overlay_live. One process makes the table that all others have to have, byte by byte. In each case a
+LIVE is the built overlay_live; overlay_window is taken where it stands beside it. One process makes the table that all
+others have to have, byte by byte. In each case a
 run is begun, and when a few tasks are done something of it gets SIGKILL; a run that was killed itself is begun again.
 Dask's scheduler and two workers are started here, over TCP and TLS on the loopback; in two cases the workers are another
 user, who may not see the folder, or not write in it, so tasks and results are sent (as root). Needs python3-gdal, -numpy, -distributed. Status 1: a table
@@ -126,26 +127,25 @@ class Trial:
                 os.kill(number, signal.SIGKILL)
                 self.kills += 1
                 break
-            time.sleep(0.05)
+            time.sleep(0.01)
         return seen
 
 
-def first(run: subprocess.Popen[str], is_program: bool) -> int | None:
-    """A program of a run, or a worker that has one."""
+def first(run: subprocess.Popen[str], name: str | None = None) -> int | None:
+    """A program of a run that has this name, or a worker that has overlay_live."""
     for one in below(run.pid):
-        programs = [child for child in below(one.number) if child.name == "overlay_live"]
-        if one.name == "overlay_live" and is_program:
+        if name is not None and one.name == name:
             return one.number
-        if programs and not is_program:
+        if name is None and any(child.name == "overlay_live" for child in below(one.number)):
             return one.number
     return None
 
 
-def part_dies(trial: Trial, case: str, *engine: str, is_program: bool = False) -> None:
+def part_dies(trial: Trial, case: str, *engine: str, name: str | None = None) -> None:
     """A worker or a program is killed; the run ends well."""
     trial.fresh()
     run = trial.begun(*engine)
-    seen = trial.killed(run, lambda: first(run, is_program))
+    seen = trial.killed(run, lambda: first(run, name))
     trial.ended(case, run)
     trial.gone(case, seen)
 
@@ -173,7 +173,7 @@ def by_xargs(trial: Trial, case: str) -> None:
         assert run.stdin
         run.stdin.write("".join(f"{number}\n" for number in range(count)))
         run.stdin.close()
-        seen = trial.killed(run, lambda: first(run, False))
+        seen = trial.killed(run, lambda: first(run))
         run.wait()
     trial.gone(case, seen)
     trial.ended(case, trial.begun("--jobs", "2"))
@@ -238,8 +238,9 @@ def over_sockets(trial: Trial, case: str, user: str | None = None, mode: int = 0
 
 CASES: dict[str, Callable[[Trial, str], None]] = {
     "a worker of two": lambda trial, case: part_dies(trial, case, "--jobs", "2"),
-    "a program of two": lambda trial, case: part_dies(trial, case, "--jobs", "2", is_program=True),
-    "the program of one process": lambda trial, case: part_dies(trial, case, "--jobs", "1", is_program=True),
+    "a program of two": lambda trial, case: part_dies(trial, case, "--jobs", "2", name="overlay_live"),
+    "the program of one process": lambda trial, case: part_dies(trial, case, "--jobs", "1", name="overlay_live"),
+    "overlay_window of two": lambda trial, case: part_dies(trial, case, "--jobs", "2", name="overlay_window"),
     "the run, two workers": lambda trial, case: run_dies(trial, case, "--jobs", "2"),
     "one of xargs": by_xargs,
     "a worker of Dask's here": lambda trial, case: part_dies(trial, case, "--dask", "--jobs", "2"),
@@ -264,6 +265,8 @@ def main() -> int:
         folder.chmod(0o711)
         subprocess.run([PYTHON, TOP / "bench" / "map_making.py", str(words.parcels), str(words.zones), folder], check=True)
         live = shutil.copy(words.live, folder / "overlay_live")
+        if (window := pathlib.Path(words.live).with_name("overlay_window")).is_file():
+            shutil.copy(window, folder / "overlay_window")
         trial = Trial(str(live), folder)
         trial.ended("one process", trial.begun("--jobs", "1"))
         print(f"{trial.done()} tasks, table {trial.table[:12]}", flush=True)

@@ -110,8 +110,8 @@ class Source:
     def __post_init__(self) -> None:
         self.gdal, self.ogr, self.numpy = modules(self.path)
         try:
-            name, options = gdal_files.opened_as(pathlib.Path(self.path))
-            self.file = self.gdal.OpenEx(name, self.gdal.OF_VECTOR, open_options=options)
+            name, options, drivers = gdal_files.opened_as(pathlib.Path(self.path))
+            self.file = self.gdal.OpenEx(name, self.gdal.OF_VECTOR, open_options=options, allowed_drivers=drivers)
         except OSError as fault:
             raise MapFault(ending.told(self.path, fault)) from fault
         except RuntimeError as fault:

@@ -10,7 +10,8 @@ from maps.drawing_in import Drawn, wanted_of
 from maps.numpy_drawing import Flat, Numbers, Points
 from maps.slots import CORE_MAX
 from maps.task_form import Task
-from maps.windows import ByWindows, asked, drawn_of, near
+from maps.whole_maps import Ring
+from maps.windows import ByWindows, Refused, drawn_of, layer_of, near, output_of
 
 HEAD_WORDS = 21  # of 32 bits: core, frame and origin of 64 bits, and how many rings follow
 POINT_WORDS = 4
@@ -29,8 +30,8 @@ class ByNumpy(ByWindows):
         frames, plain = points.frames(points.halves())
         is_asked = ~plain & ((points.cores[:, 2:] - points.cores[:, :2]).max(axis=1) <= CORE_MAX)
         parts = np.flatnonzero(is_asked[points.job_of_part])
-        given = input_bytes(points, frames, parts)
-        layers = iter(asked(self.program, given, len(parts)) if len(parts) else ())
+        output = output_of(self.program, input_bytes(points, frames, parts), len(parts)) if len(parts) else b""
+        layers = layers_of(output, middles(frames[points.job_of_part[parts]]))
         counts = np.diff(flat.part_at[jobs.start : jobs.stop + 1]).tolist()
         cores = points.cores.tolist()
         for job, core, frame, count, is_plain, is_one in zip(jobs, cores, frames.tolist(), counts, plain.tolist(),
@@ -49,47 +50,68 @@ def input_bytes(points: Points, frames: Numbers, parts: Numbers) -> bytes:
     sizes = np.bincount(points.ring, minlength=len(place))
     closed = (sizes + 1 + (sizes == 2)) * (place >= 0)  # a ring of two points has the second once more
     words_of_ring = (1 + POINT_WORDS * closed) * (place >= 0)
-    before = np.cumsum(words_of_ring) - words_of_ring
-    begin = 1 + HEAD_WORDS * (place + 1) + before
-    words = np.zeros(1 + HEAD_WORDS * len(parts) + int(words_of_ring.sum()), "<u4")
-    words[0] = len(parts)
-    write_heads(words, points, frames, parts, place, words_of_ring)
-    write_rings(words, points, sizes, closed, begin)
+    own = place >= 0
+    size = np.bincount(place[own], words_of_ring[own], len(parts)).astype(np.int64)
+    heads = 1 + HEAD_WORDS * np.arange(len(parts)) + np.cumsum(size) - size
+    begins = (1 + HEAD_WORDS * (place + 1) + np.cumsum(words_of_ring) - words_of_ring)[own]
+    words = np.zeros(1 + HEAD_WORDS * len(parts) + int(size.sum()), "<u4")
+    is_point = np.ones(len(words), bool)
+    is_point[0], is_point[begins], is_point[heads[:, None] + np.arange(HEAD_WORDS)] = False, False, False
+    words[is_point] = closed_points(points, sizes, closed).ravel()
+    words[0], words[begins] = len(parts), closed[own]
+    write_heads(words, points, frames, heads, np.bincount(place[own], minlength=len(parts)), parts)
     return words.tobytes()
 
 
-def write_heads(words: Numbers, points: Points, frames: Numbers, parts: Numbers, place: Numbers, words_of_ring: Numbers
-                ) -> None:
-    """Core, frame, origin and the number of rings of each part."""
-    own = place >= 0
-    size = np.bincount(place[own], words_of_ring[own], len(parts)).astype(np.int64)
-    rings = np.bincount(place[own], minlength=len(parts))
+def write_heads(words: Numbers, points: Points, frames: Numbers, at: Numbers, rings: Numbers, parts: Numbers) -> None:
+    """Core, frame, origin and the number of rings of each part, where they stand."""
     jobs = points.job_of_part[parts]
-    by_axis = [0, 2, 1, 3]
-    frame = frames[jobs]
-    head = np.concatenate([points.cores[jobs][:, by_axis], frame[:, by_axis], (frame[:, :2] + frame[:, 2:]) // 2], axis=1)
-    at = 1 + HEAD_WORDS * np.arange(len(parts)) + np.cumsum(size) - size
+    by_axis, frame = [0, 2, 1, 3], frames[jobs]
+    head = np.concatenate([points.cores[jobs][:, by_axis], frame[:, by_axis], middles(frame)], axis=1)
     words[at[:, None] + np.arange(HEAD_WORDS - 1)] = np.ascontiguousarray(head, "<i8").view("<u4")
     words[at + HEAD_WORDS - 1] = rings
 
 
-def write_rings(words: Numbers, points: Points, sizes: Numbers, closed: Numbers, begin: Numbers) -> None:
-    """How many points each ring has, and the points, the first once more."""
-    own = closed > 0
-    words[begin[own]] = closed[own]
-    xy = np.ascontiguousarray(np.stack([points.xs, points.ys], axis=1), "<i8").view("<u4")
-    first = np.cumsum(sizes) - sizes
-    number = np.arange(len(points.ring)) - first[points.ring]
-    kept = own[points.ring]
-    add(words, begin[points.ring[kept]], number[kept], xy[kept])
-    two = own & (sizes == 2)
-    add(words, begin[two], np.full(int(two.sum()), 2), xy[first[two] + 1])
-    add(words, begin[own], closed[own] - 1, xy[first[own]])
+def middles(frames: Numbers) -> Numbers:
+    """From where places of frames are seen within the plane."""
+    return (frames[:, :2] + frames[:, 2:]) // 2
 
 
-def add(words: Numbers, begin: Numbers, number: Numbers, xy: Numbers) -> None:
-    """Writes points of rings that begin at words, by their numbers in the ring."""
-    words[(begin + 1 + POINT_WORDS * number)[:, None] + np.arange(POINT_WORDS)] = xy
+def closed_points(points: Points, sizes: Numbers, closed: Numbers) -> Numbers:
+    """x and y of the points of rings, each ring with its first once more, as words."""
+    own = np.flatnonzero(closed)
+    first = (np.cumsum(sizes) - sizes)[own]
+    begins = np.cumsum(closed[own]) - closed[own]
+    at = np.arange(int(closed.sum())) - np.repeat(begins, closed[own])
+    at = np.minimum(at, np.repeat(sizes[own] - 1, closed[own])) + np.repeat(first, closed[own])
+    at[begins + closed[own] - 1] = first
+    return np.ascontiguousarray(np.stack([points.xs[at], points.ys[at]], axis=1), "<i8").view("<u4")
+
+
+DIGITS = bytes(place if chr(place) in "-0123456789" else 32 for place in range(256))
+
+
+def layers_of(output: bytes, origins: Numbers) -> Iterator[list[Ring] | None]:
+    """The rings of each line of the program's output, back where they are of the map, or nothing where it tells that a
+    layer would have too many steps."""
+    if b"error" in output:
+        for line, origin in zip(output.decode().splitlines(), origins.tolist()):
+            yield layer_of(Refused(line) if line.startswith("error ") else line, tuple(origin))
+        return
+    given = np.frombuffer(output, np.uint8)
+    after_digit = (given[:-1] >= ord("0")) & (given[:-1] <= ord("9"))
+    ends = 1 + np.flatnonzero(after_digit & ((given[1:] == ord(",")) | (given[1:] == ord(")"))))  # of points
+    last = np.flatnonzero(given[ends] == ord(")"))  # the points that close rings
+    rings = np.searchsorted(ends[last], np.flatnonzero(given == ord("\n")))  # of all lines up to each
+    line = np.repeat(np.arange(len(rings)), np.diff(rings, prepend=0))
+    numbers = np.fromstring(output.translate(DIGITS), np.int64, sep=" ") if len(ends) else np.zeros(0, np.int64)
+    xy = numbers.reshape(-1, 2)
+    xy += origins[np.repeat(line, np.diff(last, prepend=-1))]
+    points = list(zip(*xy.T.tolist()))
+    begins, closes, ring = [0, *(last + 1).tolist()], last.tolist(), 0
+    for end in rings.tolist():
+        yield [points[begins[at] : closes[at]] for at in range(ring, end)]
+        ring = end
 
 
 if __name__ == "__main__":

@@ -60,9 +60,14 @@ def middle_of(box: Box) -> Point:
 
 
 def ring_bytes(ring: Ring) -> bytes:
-    """A closed ring; one of two points, there and back, has the second once more, since the program wants three steps."""
-    closed = [*ring, *ring[1:] * (len(ring) == 2), *ring[:1]]
+    closed = [*ring, *ring[:1]]
     return struct.pack(f"<I{2 * len(closed)}q", len(closed), *(number for point in closed for number in point))
+
+
+def padded(rings: Iterable[Ring]) -> list[Ring]:
+    """Rings of three steps or more, as the program wants them: one of two points, there and back, has the second once
+    more."""
+    return [ring + ring[1:] * (len(ring) == 2) for ring in rings]
 
 
 def part_bytes(part: Part) -> bytes:
@@ -75,28 +80,25 @@ def input_bytes(parts: Sequence[Part]) -> bytes:
     return struct.pack("<I", len(parts)) + b"".join(map(part_bytes, parts))
 
 
-def answered(lines: Iterable[str]) -> list[str | Refused]:
+def windows(program: Path | str, parts: Sequence[Part]) -> list[str | Refused]:
+    """For each part the text of its layer, or why there is none."""
+    lines = output_of(program, input_bytes(parts), len(parts)).decode().splitlines()
     return [Refused(line) if line.startswith("error ") else line for line in lines]
 
 
-def windows(program: Path | str, parts: Sequence[Part]) -> list[str | Refused]:
-    """For each part the text of its layer, or why there is none."""
-    return asked(program, input_bytes(parts), len(parts))
-
-
-def asked(program: Path | str, given: bytes, count: int) -> list[str | Refused]:
-    """The same for so many parts, as the program reads them. It ends with its input, and so with who began it."""
+def output_of(program: Path | str, given: bytes, count: int) -> bytes:
+    """What the program writes for so many parts: a line for each. It ends with its input, and so with who began it."""
     try:
         done = subprocess.run([program], input=given, stdout=subprocess.PIPE, stderr=subprocess.PIPE, check=False)
     except OSError as fault:
         raise ProgramRefused(ending.told(program, fault)) from fault
-    lines = done.stdout.decode("utf-8", "replace").splitlines()
+    lines = done.stdout.count(b"\n")
     if done.returncode < 0:
         raise ProgramEnded(f"{program} has ended, status {done.returncode}")
-    if done.returncode or len(lines) != count:
+    if done.returncode or lines != count:
         told = done.stderr.decode("utf-8", "replace").strip()
-        raise ProgramRefused(f"{program}: status {done.returncode}, {len(lines)} answers of {count}{told and ': '}{told}")
-    return answered(lines)
+        raise ProgramRefused(f"{program}: status {done.returncode}, {lines} answers of {count}{told and ': '}{told}")
+    return done.stdout
 
 
 def rings_of(text: str, origin: Point) -> list[Ring]:
@@ -120,8 +122,8 @@ def found(program: str) -> str | None:
 
 
 class ByWindows(Plain):
-    """Draws in by overlay_window. Where a core is wider than a slot holds, or a feature has too many steps in it, Python
-    finds what is near; the halves that come of it are windows again."""
+    """Draws in by overlay_window. Where a core is wider than a slot holds, or a feature has too many steps in it,
+    Python finds what is near; the halves that come of it are windows again."""
 
     told = "by overlay_window"
 
@@ -135,9 +137,11 @@ class ByWindows(Plain):
 
     def of_boxes(self, wanted: Sequence[Wanted]) -> Iterator[Drawn]:
         frames = [framed(one) for one in wanted]
-        parts = [Part(one.core, frame, middle_of(frame), rings) for one, (frame, is_plain) in zip(wanted, frames)
-                 if is_window(one.core, is_plain) for rings in one.features]
-        layers = iter(windows(self.program, parts) if parts else ())
+        parts = [Part(one.core, frame, middle_of(frame), padded(rings))
+                 for one, (frame, is_plain) in zip(wanted, frames) if is_window(one.core, is_plain)
+                 for rings in one.features]
+        texts = windows(self.program, parts) if parts else []
+        layers = iter([layer_of(text, part.origin) for text, part in zip(texts, parts)])
         for one, (frame, is_plain) in zip(wanted, frames):
             if not is_window(one.core, is_plain):
                 yield near(one, frame, is_plain)
@@ -156,14 +160,19 @@ def near(one: Wanted, frame: Box, is_plain: bool) -> Drawn:
     return Drawn(one.core, frame, list(one.features), True) if is_plain else drawn(*one)
 
 
-def drawn_of(core: Box, frame: Box, layers: Sequence[str | Refused]) -> Drawn | None:
-    """Features by the texts of their layers, or nothing where one has too many steps for a layer."""
-    for layer in layers:
-        if isinstance(layer, Refused):
-            if layer.code == TOO_MANY_STEPS:
-                return None
-            raise ProgramRefused(f"overlay_window answers error {layer.code} {layer}")
-    return Drawn(core, frame, [rings_of(str(layer), middle_of(frame)) for layer in layers], False)
+def layer_of(text: str | Refused, origin: Point) -> list[Ring] | None:
+    """The rings of a layer, or nothing where it would have too many steps."""
+    if isinstance(text, str):
+        return rings_of(text, origin)
+    if text.code != TOO_MANY_STEPS:
+        raise ProgramRefused(f"overlay_window answers error {text.code} {text}")
+    return None
+
+
+def drawn_of(core: Box, frame: Box, layers: Sequence[list[Ring] | None]) -> Drawn | None:
+    """Features by their layers, or nothing where one has too many steps."""
+    features = [layer for layer in layers if layer is not None]
+    return Drawn(core, frame, features, False) if len(features) == len(layers) else None
 
 
 if __name__ == "__main__":

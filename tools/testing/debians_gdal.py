@@ -5,6 +5,7 @@ import io
 import json
 import math
 import os
+import pathlib
 import random
 import resource
 import struct
@@ -14,7 +15,7 @@ from fractions import Fraction
 from unittest import mock
 
 import overlay_maps
-from maps import gdal_maps, gdal_writing, numpy_planning, planning
+from maps import gdal_maps, gdal_writing, numpy_planning, planning, running
 from maps.spooled import Names
 from maps.whole_maps import MapFault
 from sessions import Unusable
@@ -77,6 +78,17 @@ class Reading(WithFiles):
         for suffix in ("fgb", "shp"):
             self.assertEqual({name: set(rings) for name, rings in found[suffix].items()},
                              {name: set(rings) for name, rings in found["gpkg"].items()})
+
+    def test_a_file_is_what_it_has_whatever_it_is_called(self) -> None:
+        for suffix in ("gpkg", "fgb"):
+            made = pathlib.Path(self.made(f"POLYGON {text_of(RING)}", suffix=suffix))
+            for name in ("map.json", "map.csv", "map.shp", "map"):
+                other = made.rename(self.folder / name)
+                self.assertEqual((self.read(str(other)).whole.ids, running.form_of(str(other)) is None), (["p0"], False))
+                made = other
+        for name in ("a.csv", "a.txt", "a.geojson", "a"):
+            table = self.file(name, f'"nr",WKT\np0,"POLYGON {text_of(RING)}"\n')
+            self.assertEqual((self.read(str(table)).whole.ids, running.form_of(str(table)) is None), (["p0"], False))
 
     def test_outer_rings_run_one_way_and_holes_the_other(self) -> None:
         for rings in ([RING, HOLE], [RING[::-1], HOLE[::-1]]):

@@ -10,7 +10,8 @@ from fractions import Fraction
 
 import numpy as np
 
-from maps import box_pairs, geojson_maps, jobs, numpy_drawing, numpy_maps, numpy_pairs, numpy_planning, planning, rounds
+from maps import (box_pairs, drawing_in, geojson_maps, jobs, numpy_drawing, numpy_maps, numpy_pairs, numpy_planning,
+                  numpy_windows, planning, rounds, windows)
 from maps.drawing_in import Plain
 from maps.task_form import ALONE, COMMON, GAPS, Task
 from maps.whole_maps import MapFault, ReadMap, Told
@@ -71,6 +72,27 @@ class Forms(unittest.TestCase):
                     place = Fraction(source.randint(left, right), w), Fraction(source.randint(under, over), w)
                     self.assertEqual(sees(one, *place), sees(other, *place))
 
+    def test_windows(self) -> None:
+        """The bytes of parts and the layers of texts are those of Python alone."""
+        source = random.Random(9)
+        texts = b"MULTIPOLYGON EMPTY\nMULTIPOLYGON (((0 1, 2 3, 4 -5, 0 1), (1 1, 2 2, 2 2, 1 1)), ((7 7, 8 8, 9 7, 7 7)))\n"
+        origins = np.array([[5, 6], [10, -10]])
+        for given in (texts, texts[:19], texts[19:], b"", texts + b"error 6 too many steps\n"):
+            lines = [windows.Refused(line) if line[0] == "e" else line for line in given.decode().splitlines()]
+            own = origins[1:] if given == texts[19:] else np.concatenate([origins, [[0, 0]]])[: len(lines)]
+            self.assertEqual(list(numpy_windows.layers_of(given, own)),
+                             [windows.layer_of(line, tuple(origin)) for line, origin in zip(lines, own.tolist(), strict=True)])
+        for task in (task for _ in range(MANY) for kind in (COMMON, ALONE, GAPS) for task in tasks_of(source, kind)):
+            points = numpy_drawing.Points(numpy_drawing.Flat(task), range(len(task)))
+            frames, plain = points.frames(points.halves())
+            wanted = list(drawing_in.wanted_of(task, range(len(task))))
+            self.assertEqual(list(zip(map(tuple, frames.tolist()), plain.tolist())), list(map(drawing_in.framed, wanted)))
+            parts = np.flatnonzero(~plain[points.job_of_part])
+            asked = [windows.Part(one.core, tuple(frame), windows.middle_of(frame), windows.padded(rings))
+                     for one, frame, is_plain in zip(wanted, frames.tolist(), plain.tolist()) if not is_plain
+                     for rings in one.features]
+            self.assertEqual(numpy_windows.input_bytes(points, frames, parts), windows.input_bytes(asked))
+
     def test_what_tasks_find(self) -> None:
         if Programs.live is None:
             self.skipTest("no program was given")
@@ -81,6 +103,9 @@ class Forms(unittest.TestCase):
                 quick = jobs.run(task, program, numpy_drawing.ByNumpy())
                 key = [(row.own, row.others, row.area, row.relation) for row in plain.rows]
                 self.assertEqual([(row.own, row.others, row.area, row.relation) for row in quick.rows], key)
+                if (window := windows.found(str(Programs.live))) is not None:
+                    by_window = jobs.run(task, program, numpy_windows.ByNumpy(window))
+                    self.assertEqual([(row.own, row.others, row.area, row.relation) for row in by_window.rows], key)
 
 
 class Rounding(InFolder):

@@ -43,10 +43,9 @@ def row_of(a: str, b: str, relation: str, layers: list[Rings], inside: Inside) -
 
 
 class Example(unittest.TestCase):
-    @classmethod
-    def setUpClass(cls) -> None:
-        cls.page = pathlib.Path(TOP, "examples", "maps.md").read_text()
-        cls.parcels, cls.zones = features_of("parcels.geojson", "nr"), features_of("zones.geojson", "kind")
+    def setUp(self) -> None:
+        self.page = pathlib.Path(TOP, "examples", "maps.md").read_text()
+        self.parcels, self.zones = features_of("parcels.geojson", "nr"), features_of("zones.geojson", "kind")
 
     def table(self, question: str) -> list[str]:
         """The rows that stand below a command, without the names of columns."""
@@ -90,7 +89,7 @@ class Example(unittest.TestCase):
         layers = [self.zones["forest"], *self.parcels.values()]
         area = slabs.area(layers, lambda states: states[0] and any(states[1:]))
         self.assertIn(f"area {float(area):.6f}\n", self.page)
-        parts = sum(slabs.common(self.zones["forest"], parcel) for parcel in self.parcels.values())
+        parts = sum((slabs.common(self.zones["forest"], parcel) for parcel in self.parcels.values()), Fraction(0))
         for number in (parts, parts - area):
             self.assertIn(f"{Decimal(round(number * 1000)) / 10**9}".rstrip("0"), self.page)
 

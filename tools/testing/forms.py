@@ -55,6 +55,17 @@ class FilesOfGdal(WithGdal):
             features = json.loads(output.with_suffix(".features.json").read_text())["features"]
             self.assertEqual([one["name"] for one in features][:2], ["Ashe", "Alleghany"])
 
+    def test_a_file_is_what_it_has_whatever_it_is_called(self) -> None:
+        plan = str(self.file("plan.geojson", FIRST))
+        wanted = outcome(to_script, plan, "--factor", 2, "--name", "a")[1]
+        for made in (self.made("a.gpkg", plan), self.made("a.fgb", plan), self.made("b.csv", plan, "-lco", "GEOMETRY=AS_WKT")):
+            for name in ("odd.json", "odd.txt", "odd"):
+                made = made.rename(self.folder / name)
+                self.assertEqual(outcome(to_script, made, "--factor", 2, "--name", "a")[:2], (0, wanted), made)
+        store = self.made("a.gpkg", plan).rename(self.folder / "odd.csv")
+        self.assertEqual(outcome(to_script, store, "--factor", 2, "--name", "a")[:2], (0, wanted))
+        self.assertEqual(outcome(to_script, "")[0], 2)
+
     def test_coordinates_are_named(self) -> None:
         plan = self.file("plan.geojson", f'{{"type": "FeatureCollection", "crs": {{"type": "name", "properties": '
                                          f'{{"name": "urn:ogc:def:crs:EPSG::25832"}}}}, "features": [{FIRST}]}}')

@@ -178,6 +178,27 @@ class ByWindows(WithLive):
             self.assertEqual([wrong for _, wrong in told], [0] * SEEDS)
             self.assertGreater(sum(looked for looked, _ in told), 40)
 
+    def test_a_feature_of_too_many_steps_for_a_window_and_a_wide_core(self) -> None:
+        program = windows.found(str(Programs.live))
+        if program is None:
+            self.skipTest("overlay_window is not there")
+        teeth = [point for at in range(700) for x in [4 * at] for point in ((x, 9), (x + 2, 9), (x + 2, 1), (x + 4, 1))]
+        comb = [(0, 0), *teeth[:-2], (4 * 700 - 2, 0)]
+        far = 2**20 + 3000  # wider than a slot holds
+        wide = [(0, 0), (2**19, 1), (far, 0), (far, 2**19), (2**19, 2**19 + 7), (0, 2**19)]
+        wholes = [WholeMap(), WholeMap()]
+        wholes[0].add("comb", [comb])
+        wholes[0].add("wide", [wide])
+        wholes[1].add("box", [[(-5, -5), (2**19, -5), (far + 5, -5), (far + 5, 2**19), (far + 5, 2**19 + 9), (2**19, 2**19 + 9),
+                               (-5, 2**19 + 9), (-5, 2**19)]])
+        question = planning.Question("", COMMON, *wholes, Fraction(1))
+        for drawing in (drawing_in.Plain(), windows.ByWindows(program)):
+            planned = planning.common_jobs(*map(planning.boxes_of, wholes))
+            rows = [row for task in planning.tasks_of(question, planned)
+                    for row in jobs.run(task, self.program, drawing).rows]
+            self.assertEqual({row.own: row.area for row in rows},
+                             {0: abs(auditing.plain_area([comb])), 1: abs(auditing.plain_area([wide]))})
+
     def test_a_text_s_rings_come_back(self) -> None:
         self.assertEqual(windows.rings_of("MULTIPOLYGON (((0 1, 2 3, 4 -5, 0 1), (1 1, 2 2, 2 2, 1 1)), ((7 7, 8 8, 9 7, 7 7)))",
                                           (10, -10)),

@@ -73,7 +73,7 @@ def connected(layers: Sequence[Sequence[Ring]], inside: Callable[[list[bool]], b
         for low, high in trapezoids(owned, left, right, len(layers), inside):
             number = len(areas)
             sides = [height(high, x) - height(low, x) for x in (left, right)]
-            areas.append(sum(sides) / 2 * (right - left))
+            areas.append(sum(sides, Fraction(0)) / 2 * (right - left))
             joined.append(number)
             for other, bottom, top in before:
                 if max(bottom, height(low, left)) < min(top, height(high, left)):
@@ -98,7 +98,8 @@ def trapezoids(owned: list[tuple[Segment, int]], left: Fraction, right: Fraction
     middle = (left + right) / 2
     passing = sorted((height(segment, middle), number, segment) for segment, number in owned
                      if segment[0][0] <= left and right <= segment[1][0])
-    states, found = [False] * count, []
+    states = [False] * count
+    found: list[tuple[Segment, Segment]] = []
     for (low, number, under), (high, _, over) in zip(passing, passing[1:]):
         states[number] = not states[number]
         if inside(states) and low < high:
