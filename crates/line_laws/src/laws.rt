@@ -4,11 +4,18 @@ ghost use Rattle.std.specs.Prelude.{Bool};
 ghost use Rattle.script_form.specs.Transcript.{store_by};
 ghost use Rattle.line_laws.specs.Deciding.{LinesDecide, TranscriptsHaveTurns};
 
-/// Of which history the transcripts of a law may tell the durable number.
+use std::marker::Brand;
+
+/// Of which history the transcripts of a law may tell the durable number. A call that passes `Brand` picks it.
 pub trait Tells {
     ghost use Rattle.overlay_terms.specs.Histories.{History};
 
     ghost told: { History → Type 0 };
+}
+
+impl Tells for Brand {
+    // Where a call picks nothing, nothing is asked.
+    ghost told = { λ history. Unit {0} };
 }
 
 /// Where no one else's command was accepted meanwhile, the number and the layers of the version after each line or batch,

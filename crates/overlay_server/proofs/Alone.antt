@@ -4,6 +4,7 @@ use mathlib.Core.List.{IsPrefix}
 use Rattle.std.proofs.lemmas.Bool.{eq-eqb}
 use Rattle.std.proofs.lemmas.List.{append-nil}
 use Rattle.std.proofs.lemmas.List.Elements.{All-head, All-tail}
+use Rattle.disk_model.specs.declared.disk.Disk.{Ghosts}
 use Rattle.overlay_terms.specs.Batches.{Batch}
 use Rattle.overlay_terms.specs.Histories.{Entry, History, IsHistory, accepted_in, commands_in, commands_of}
 use Rattle.overlay_terms.proofs.HistoryFolds.{own_are_among_all}
@@ -14,7 +15,7 @@ use Rattle.line_laws.specs.Deciding.{AreTurnsOf, made_by}
 use Rattle.line_laws.proofs.Entries.{accepted_more, count, history_front}
 use Rattle.line_laws.proofs.Runs.{transcripts_have_turns, turns_grow}
 use Rattle.overlay_server.specs.Alone.{OneSessionIsAlone, first_session}
-use Rattle.server_session.specs.Stores.{any_store}
+use Rattle.overlay_server.specs.Serving.{store_from}
 
 -- all that are numbered below 1 have the number 0
 keep_all : (cs : List (ℕ × Batch)) → All (λ (c : ℕ × Batch). c.0 < 1) cs → filter (λ c. c.0 == 0) cs ≡ cs
@@ -51,16 +52,17 @@ all_of_it front [] whole is long = sym (is ∙ append-nil front)
 all_of_it front (b ∷ behind) whole is long =
     absurd (omega (arith, long, ap (λ (bs : List Batch). length bs) is, length-append front (b ∷ behind)))
 
-pub one_session_is_alone : OneSessionIsAlone
-one_session_is_alone stored book start log turns now replies valid only first own run =
+pub one_session_is_alone : {D : Type 0} (g : Ghosts D) → OneSessionIsAlone g
+one_session_is_alone g start store book log turns now replies valid only first own run =
+    let stored = store_from g start store in
     let was = first_session book start in
-    let told : AreTurnsOf (any_store stored) 0 (seen was) _ = transcripts_have_turns (any_store stored) 0 (seen was) (record { turns = turns; after = seen now; made = run.made; replies = replies }) run.told in
+    let told : AreTurnsOf stored 0 (seen was) _ = transcripts_have_turns stored 0 (seen was) (record { turns = turns; after = seen now; made = run.made; replies = replies }) run.told in
     let front = front_of now.log log valid own.longer in
     let made : accepted_in (history_of log).entries ≡ run.made =
     sym (own_are_all (history_of log).entries only) ∙ sym (commands_in_log 0 log valid)
     ∙ ap (λ (k : ℕ). commands_of k log) (sym first) ∙ own.own ∙ run.only in
     let grown : count (seen was) + length (made_by told.all) ≤ count (seen now) =
-    subst (λ (h : History). count (seen was) + length (made_by told.all) ≤ count h) told.same_after (turns_grow (any_store stored) 0 (seen was) told.all told.told) in
+    subst (λ (h : History). count (seen was) + length (made_by told.all) ≤ count h) told.same_after (turns_grow stored 0 (seen was) told.all told.told) in
     let same : length (made_by told.all) ≡ length (accepted_in (history_of log).entries) =
     ap (λ (bs : List Batch). length bs) (told.same_made ∙ sym made) in
     let all : accepted_in (seen now).entries ≡ accepted_in (history_of log).entries =

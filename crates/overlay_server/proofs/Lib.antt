@@ -1,6 +1,7 @@
 pub mod Alone
 pub mod Counts
 pub mod Durable
+pub mod Held
 pub mod Listened
 pub mod Lists
 pub mod Parts
@@ -11,3 +12,4 @@ pub mod SentStore
 pub mod ServedParts
 pub mod Stores
 pub mod Strangers
+pub mod Weaker

@@ -1,5 +1,5 @@
 -- From what a server of ports leaves, where the replies are kept as lists of bytes, to what `serve` owes.
-use Rattle.std.proofs.Common.{◌≡◌, ◌∷◌, ◌<◌, [], ℕ, suc, All, Bool, List, Option, Some, is_some, length, map, refl, ap, sym, ◌∙◌, subst}
+use Rattle.std.proofs.Common.{◌≡◌, ◌∷◌, ◌<◌, [], ℕ, suc, All, List, Option, Some, length, map, refl, ap, sym, ◌∙◌, subst}
 use Rattle.std.specs.Arc.{arc_value}
 use Rattle.std.specs.List.{AllByRecursion}
 use Rattle.std.proofs.lemmas.List.{length-map}
@@ -16,12 +16,12 @@ use Rattle.overlay_terms.specs.Histories.{Version, Entry, commands_in}
 use Rattle.book_history.specs.Known.{Known}
 use Rattle.book_lock.specs.Steps.{beginners}
 use Rattle.script_form.specs.Lines.{script_max}
-use Rattle.server_session.specs.Stores.{any_store}
+use Rattle.script_form.specs.Transcript.{BookStore}
 use Rattle.server_session.specs.Session.{IsSessionWithin}
 use Rattle.session_threads.specs.declared.port.Finished.{Finished}
 use Rattle.session_threads.specs.declared.port.Port.{Port}
 use Rattle.overlay_server.specs.Listening.{bytes_in, limit_in, no_bytes, outcome_of, reader_in, script_limit}
-use Rattle.overlay_server.specs.Serving.{AreServed, ArePortsServed, IsLeftFrom, IsLeftOfStore, IsServedFrom, IsServed, IsPortServed, Part, PortPart, first_log}
+use Rattle.overlay_server.specs.Serving.{AreServed, ArePortsServed, IsLeftFrom, IsLeftOfStore, IsServedFrom, IsServed, IsPortServed, Part, PortPart, first_log, store_from}
 use Rattle.overlay_server.specs.declared.outcome.Outcome.{Outcome}
 
 -- the first of two lists that are the same
@@ -62,7 +62,7 @@ module _ {R : Type 0} where
   outcomes_same [] = refl
   outcomes_same (p ∷ ps) = ap (λ (os : List Outcome). outcome_of p.finished ∷ os) (outcomes_same ps)
 
-  each_served : (stored : Bool) (remaining : R → Option (List ℕ)) (log : List Entry) (ps : List (Kept R))
+  each_served : (stored : BookStore) (remaining : R → Option (List ℕ)) (log : List Entry) (ps : List (Kept R))
       → map limit_in (map (λ (p : Kept R). p.port) ps) ≡ map script_limit (map (λ (p : Kept R). p.port.reader) ps)
       → map bytes_in (map (λ (p : Kept R). p.port) ps) ≡ map no_bytes (map (λ (p : Kept R). p.port.reader) ps)
       → AllByRecursion (IsPortServed stored remaining held log) ps → AllByRecursion (IsServed stored remaining log) (map part_of ps)
@@ -78,8 +78,8 @@ module _ {R : Type 0} where
           same = one.same;
           goes_on = one.goes_on;
           ran =
-              subst (λ (bytes : List ℕ). IsSessionWithin script_max (any_store stored) p.finished.end p.session one.now (remaining p.port.reader) one.left (Some bytes) (Some p.finished.writer.items)) none
-              (subst (λ (n : ℕ). IsSessionWithin n (any_store stored) p.finished.end p.session one.now (remaining p.port.reader) one.left (Some p.port.writer.items) (Some p.finished.writer.items)) most one.ran);
+              subst (λ (bytes : List ℕ). IsSessionWithin script_max stored p.finished.end p.session one.now (remaining p.port.reader) one.left (Some bytes) (Some p.finished.writer.items)) none
+              (subst (λ (n : ℕ). IsSessionWithin n stored p.finished.end p.session one.now (remaining p.port.reader) one.left (Some p.port.writer.items) (Some p.finished.writer.items)) most one.ran);
           own = one.own;
         },
         each_served stored remaining log ps (others_same _ _ _ _ limits) (others_same _ _ _ _ empty) served.1,
@@ -96,7 +96,7 @@ module _ {R : Type 0} where
   map_twice {A} f [] = refl
   map_twice {A} f (p ∷ ps) = ap (λ (xs : List A). f p.port.reader ∷ xs) (map_twice f ps)
 
-  pub listened_served : (stored : Bool) (remaining : R → Option (List ℕ)) (start : Version) (log : List Entry) (ports : List (Port R (Vec ℕ Global)))
+  pub listened_served : (stored : BookStore) (remaining : R → Option (List ℕ)) (start : Version) (log : List Entry) (ports : List (Port R (Vec ℕ Global)))
       (readers : List R) (finished : List (Finished (Vec ℕ Global)))
       → map reader_in ports ≡ readers → map limit_in ports ≡ map script_limit readers → map bytes_in ports ≡ map no_bytes readers
       → ArePortsServed stored remaining held start log ports finished → AreServed stored remaining start log readers (map outcome_of finished)
@@ -118,7 +118,7 @@ module _ {R : Type 0} where
       }
 
   -- as many sessions have ended as there are readers
-  pub as_many_left : (stored : Bool) (remaining : R → Option (List ℕ)) (start : Version) (log : List Entry) (ports : List (Port R (Vec ℕ Global)))
+  pub as_many_left : (stored : BookStore) (remaining : R → Option (List ℕ)) (start : Version) (log : List Entry) (ports : List (Port R (Vec ℕ Global)))
       (readers : List R) (finished : List (Finished (Vec ℕ Global))) → map reader_in ports ≡ readers
       → ArePortsServed stored remaining held start log ports finished → length readers ≡ length finished
   as_many_left stored remaining start log ports readers finished is were =
@@ -137,8 +137,8 @@ module _ {R : Type 0} where
         subst (λ (n : ℕ). All (λ (c : ℕ × Batch). c.0 < n) (commands_in (history_of served.closed.seen_log.log).entries)) (length_by ports readers is)
         (subst (λ (k : Closed D). All (λ (c : ℕ × Batch). c.0 < length ports) (commands_in (history_of k.seen_log.log).entries)) (sym closed) were.only);
     sessions =
-        subst (λ (os : List Outcome). AreServed (is_some store) remaining start served.closed.seen_log.log readers os) (sym outcomes)
-        (subst (λ (k : Closed D). AreServed (is_some store) remaining start k.seen_log.log readers (map outcome_of left.sessions.items)) (sym closed)
-        (listened_served (is_some store) remaining start left.closed.seen_log.log ports readers left.sessions.items is limits empty were.sessions));
+        subst (λ (os : List Outcome). AreServed (store_from g start store) remaining start served.closed.seen_log.log readers os) (sym outcomes)
+        (subst (λ (k : Closed D). AreServed (store_from g start store) remaining start k.seen_log.log readers (map outcome_of left.sessions.items)) (sym closed)
+        (listened_served (store_from g start store) remaining start left.closed.seen_log.log ports readers left.sessions.items is limits empty were.sessions));
     kept = subst (λ (k : Closed D). IsLeftOfStore g start store k) (sym closed) were.kept;
   }

@@ -1,13 +1,15 @@
 -- The sessions of a server, their ports, and what they left, side by side.
-use Rattle.std.proofs.Common.{◌≡◌, ◌∷◌, [], ℕ, zero, suc, Bool, ◌<◌, List, Option, length, map, refl, ap, sym, ◌∙◌, subst, arith}
+use Rattle.std.proofs.Common.{◌≡◌, ◌∷◌, [], ℕ, zero, suc, ◌<◌, List, Option, length, map, refl, ap, sym, ◌∙◌, subst, arith}
 use Rattle.std.specs.List.{All, AllZip, AllByRecursion}
 use Rattle.std.proofs.lemmas.List.Elements.{All-append, All-cons, All-nil, All-head, All-tail}
 use Rattle.logbook.specs.Pages.{Book}
-use Rattle.overlay_terms.specs.Histories.{Version, Entry, History}
+use Rattle.overlay_terms.specs.Histories.{Version, Entry, History, BeginsWith}
 use Rattle.book_history.specs.Known.{Known, seen}
 use Rattle.book_history.specs.Logs.{history_of}
 use Rattle.book_history.proofs.Chains.{begins_with}
 use Rattle.book_lock.specs.Steps.{beginners, HasAllOf}
+use Rattle.script_form.specs.Transcript.{BookStore}
+use Rattle.store_flushing.proofs.Histories.{begins_self}
 use Rattle.session_threads.specs.Running.{IsRunOf}
 use Rattle.session_threads.specs.Seats.{session_of, port_of, ended_session, finished_of}
 use Rattle.session_threads.specs.declared.running.Script.{Script}
@@ -65,7 +67,7 @@ each_script P [] h = tt
 each_script P (s ∷ ss) h = (All-head P s ss h, each_script P ss (All-tail P s ss h))
 
 -- of all sessions that have ended
-pub of_ended : {R W : Type 0} (book : Book) (stored : Bool) (remaining : R → Option (List ℕ)) (contents : W → Option (List ℕ)) (ss : List (Script R W)) (es : List (Ended R W))
+pub of_ended : {R W : Type 0} (book : Book) (stored : BookStore) (remaining : R → Option (List ℕ)) (contents : W → Option (List ℕ)) (ss : List (Script R W)) (es : List (Ended R W))
     → AllZip (IsRunOf book stored remaining contents) ss es → All (λ (k : Known). k.book ≡ book) (map ended_session es)
 of_ended book stored remaining contents [] [] h = All-nil (λ (k : Known). k.book ≡ book)
 of_ended book stored remaining contents [] (e ∷ es) h = absurd h
@@ -76,7 +78,7 @@ of_ended book stored remaining contents (s ∷ ss) (e ∷ es) h =
 -- ---- what a server owes
 
 -- each session that ran was served, where the log has all of it
-served : {R W : Type 0} (book : Book) (stored : Bool) (remaining : R → Option (List ℕ)) (contents : W → Option (List ℕ)) (log : List Entry) (ss : List (Script R W)) (es : List (Ended R W))
+served : {R W : Type 0} (book : Book) (stored : BookStore) (remaining : R → Option (List ℕ)) (contents : W → Option (List ℕ)) (log : List Entry) (ss : List (Script R W)) (es : List (Ended R W))
     → AllZip (IsRunOf book stored remaining contents) ss es → All (HasAllOf log) (map ended_session es) → AllByRecursion (IsPortServed stored remaining contents log) (parts_of ss es)
 served book stored remaining contents log [] es ran own = tt
 served book stored remaining contents log (s ∷ ss) [] ran own = absurd ran
@@ -93,7 +95,7 @@ served book stored remaining contents log (s ∷ ss) (e ∷ es) ran own = (
 )
 
 -- the first session's history shows where the log begins
-begins_there : {R W : Type 0} (book : Book) (stored : Bool) (remaining : R → Option (List ℕ)) (contents : W → Option (List ℕ)) (start : Version) (log : List Entry) (ss : List (Script R W)) (es : List (Ended R W))
+begins_there : {R W : Type 0} (book : Book) (stored : BookStore) (remaining : R → Option (List ℕ)) (contents : W → Option (List ℕ)) (start : Version) (log : List Entry) (ss : List (Script R W)) (es : List (Ended R W))
     → AllZip (IsRunOf book stored remaining contents) ss es → AllByRecursion (λ (s : Script R W). (seen s.session).start ≡ start) ss
     → All (HasAllOf log) (map ended_session es) → 0 < length ss → (history_of log).start ≡ start
 begins_there book stored remaining contents start log [] es ran begun own some = absurd (omega (arith, some))
@@ -121,6 +123,14 @@ starts_there book start ports scripts seated =
     each_script (λ s. P (session_of s)) scripts
     (of_scripts P scripts (subst (All P) (sym seated.sessions) (all_begin book start P (λ n. refl) (length ports))))
 
+-- each of their sessions has seen the first version
+pub begin_there : {R W : Type 0} (book : Book) (start : Version) (ports : List (Port R W)) (scripts : List (Script R W)) → AreSeated book start ports scripts
+    → AllByRecursion (λ (s : Script R W). BeginsWith (seen s.session) (history_of (first_log start))) scripts
+begin_there book start ports scripts seated =
+    let P : Known → Type 0 = λ k. BeginsWith (seen k) (history_of (first_log start)) in
+    each_script (λ s. P (session_of s)) scripts
+    (of_scripts P scripts (subst (All P) (sym seated.sessions) (all_begin book start P (λ n. begins_self (history_of (first_log start))) (length ports))))
+
 length-map_reader : {R W : Type 0} (ss : List (Script R W)) → length (map port_of ss) ≡ length ss
 length-map_reader [] = refl
 length-map_reader (s ∷ ss) = ap suc (length-map_reader ss)
@@ -130,7 +140,7 @@ pub as_many : {R W : Type 0} (book : Book) (start : Version) (ports : List (Port
     → length scripts ≡ length ports
 as_many book start ports scripts seated = sym (length-map_reader scripts) ∙ ap (λ (rs : List _). length rs) seated.ports_are
 
-module _ {R W : Type 0} (book : Book) (stored : Bool) (remaining : R → Option (List ℕ)) (contents : W → Option (List ℕ)) (start : Version) (ports : List (Port R W)) (scripts : List (Script R W)) (seated : AreSeated book start ports scripts)
+module _ {R W : Type 0} (book : Book) (stored : BookStore) (remaining : R → Option (List ℕ)) (contents : W → Option (List ℕ)) (start : Version) (ports : List (Port R W)) (scripts : List (Script R W)) (seated : AreSeated book start ports scripts)
     (ended : List (Ended R W)) (ran : AllZip (IsRunOf book stored remaining contents) scripts ended) (log : List Entry) (own : All (HasAllOf log) (map ended_session ended)) where
   pub are_served : ArePortsServed stored remaining contents start log ports (map finished_of ended)
   are_served = record {

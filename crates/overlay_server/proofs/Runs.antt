@@ -19,7 +19,7 @@ use Rattle.overlay_engine.specs.Lives.{TriesTo}
 use Rattle.store_flushing.specs.Storing.{IsStoreOf}
 use Rattle.store_flushing.proofs.Storage.{store_begins, store_more}
 use Rattle.overlay_server.specs.Durability.{start_of_batches}
-use Rattle.overlay_server.specs.Runs.{Moment, batches_at, durable_at, IsRunning, CallsTo, ClosesTo, CutTo, Runs, StandsAt, RunsLoseNothing}
+use Rattle.overlay_server.specs.Runs.{Moment, batches_at, durable_at, IsRunning, CallsTo, ClosesTo, CutTo, Runs, StandsAt, cut_call, CutStands, RunsLoseNothing}
 use Rattle.overlay_server.proofs.Durable.{files_are_covered}
 
 -- ---- durable numbers of a history
@@ -136,7 +136,8 @@ module _ {D : Type 0} (g : Ghosts D) (start : Start) where
   tried least batches disk (next ∷ more) last (tries, later) all =
       tried least batches next more last later (λ c left. (tries.moments least batches all).each c (tries.leaves c left))
 
-  over_a_crash : (old new : Moment D g) → CutTo g start old new → IsRunning g start old → StandsAt g start old new
+  -- all that was told durable within the call that was cut stands behind it
+  over_a_crash : (old new : Moment D g) (cut : CutTo g start old new) → IsRunning g start old → StandsAt g start (cut_call g start old new cut) new
   over_a_crash old new cut running =
       let kept = cut.keeps running.store in
       let first : cut.history.start ≡ old.history.start = ap (λ (h : History). h.start) kept.goes_on.1 in
@@ -149,10 +150,9 @@ module _ {D : Type 0} (g : Ghosts D) (start : Start) where
       (files_are_covered cut.history least c cut.valid exact (kept.moments.each c (cut.leaves c leaves)))) in
       let is = cut.recovered least all (tried least all cut.disk cut.tried cut.last cut.tries left) in
       let e = cut.engine in
-      let d = durable_at old in
-      let rises : d ≤ (newest cut.history).durable = durable_rises old.history cut.history kept.goes_on cut.valid in
-      let within : d ≤ e.version.number = omega (arith, rises, kept.told, is.no_less) in
-      subst (StandsAt g start old) (sym cut.next)
+      let d = (newest cut.history).durable in
+      let within : d ≤ e.version.number = omega (arith, kept.told, is.no_less) in
+      subst (StandsAt g start (cut_call g start old new cut)) (sym cut.next)
       (record {
         running = record {
           valid = tt;
@@ -165,7 +165,7 @@ module _ {D : Type 0} (g : Ghosts D) (start : Start) where
         durable = omega (arith, within, is.durable);
         same =
             ap (λ (bs : List Batch). up_to start d bs) (append-nil (up_to start e.version.number all))
-            ∙ take-take (d - start.number) (e.version.number - start.number) all (omega (arith, within)) ∙ same_front old cut.history kept.goes_on running;
+            ∙ take-take (d - start.number) (e.version.number - start.number) all (omega (arith, within));
       })
 
   -- ---- through any number of runs
@@ -184,7 +184,9 @@ module _ {D : Type 0} (g : Ghosts D) (start : Start) where
   over_one : (old new : Moment D g) → CallsTo g start old new ⊎ (ClosesTo g start old new ⊎ CutTo g start old new) → IsRunning g start old → StandsAt g start old new
   over_one old new (inl calls) running = over_a_call old new calls running
   over_one old new (inr (inl closes)) running = over_an_end old new closes running
-  over_one old new (inr (inr cut)) running = over_a_crash old new cut running
+  over_one old new (inr (inr cut)) running =
+      let kept = cut.keeps running.store in
+      onward old (cut_call g start old new cut) new (goes_on old cut.history cut.end running kept.goes_on cut.valid kept.store) (over_a_crash old new cut running)
 
   -- what stands at a moment stands on
   stands_on : (first m : Moment D g) (later : List (Moment D g)) → StandsAt g start first m → Runs g start m later → AllByRecursion (StandsAt g start first) later
@@ -193,5 +195,18 @@ module _ {D : Type 0} (g : Ghosts D) (start : Start) where
       let on = onward first m next stands (over_one m next one stands.running) in
       (on, stands_on first next more on runs)
 
+  cut_stands : (m next : Moment D g) (more : List (Moment D g)) → IsRunning g start m → (one : CallsTo g start m next ⊎ (ClosesTo g start m next ⊎ CutTo g start m next)) → Runs g start next more
+      → CutStands g start m next one (next ∷ more)
+  cut_stands m next more running (inl calls) runs = tt
+  cut_stands m next more running (inr (inl closes)) runs = tt
+  cut_stands m next more running (inr (inr cut)) runs =
+      let stands = over_a_crash m next cut running in
+      (stands, stands_on (cut_call g start m next cut) next more stands runs)
+
   pub runs_lose_nothing : RunsLoseNothing g start
-  runs_lose_nothing m later running runs = stands_on m m later (record { running = running; durable = omega arith; same = refl }) runs
+  runs_lose_nothing m [] running runs = tt
+  runs_lose_nothing m (next ∷ more) running runs = (
+    stands_on m m (next ∷ more) (record { running = running; durable = omega arith; same = refl }) runs,
+    cut_stands m next more running runs.0 runs.1,
+    runs_lose_nothing next more (over_one m next runs.0 running).running runs.1,
+  )

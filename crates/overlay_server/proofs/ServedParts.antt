@@ -1,5 +1,5 @@
 -- From what the threads of a server gave back, and what `close` tells, to what the server owes.
-use Rattle.std.proofs.Common.{◌≡◌, ◌+◌, ◌<◌, ℕ, Bool, is_some, List, [], Option, All, length, map, sym, subst}
+use Rattle.std.proofs.Common.{◌≡◌, ◌+◌, ◌<◌, ℕ, List, [], Option, All, length, map, sym, subst}
 use Rattle.std.specs.Arc.{arc_value}
 use Rattle.std.specs.List.{AllZip}
 use Rattle.logbook.specs.Pages.{Book}
@@ -16,7 +16,7 @@ use Rattle.session_threads.specs.declared.port.Port.{Port}
 use Rattle.session_threads.specs.declared.running.Script.{Script}
 use Rattle.session_threads.specs.declared.running.Ended.{Ended}
 use Rattle.overlay_server.specs.Keeping.{IsStoreKept}
-use Rattle.overlay_server.specs.Serving.{ArePortsServed, IsLeftFrom, first_log}
+use Rattle.overlay_server.specs.Serving.{ArePortsServed, IsLeftFrom, first_log, store_from}
 use Rattle.overlay_server.specs.declared.outcome.Left.{Left}
 use Rattle.overlay_server.specs.declared.storing.Store.{Store}
 use Rattle.overlay_server.proofs.Parts.{AreSeated, are_served, begins_first}
@@ -31,10 +31,9 @@ pub record Began {R W D : Type 0} {g : Ghosts D} (book : Book) (start : Version)
   pub seated : AreSeated book start ports scripts
 
 -- its threads have returned
-pub record Ran {R W D : Type 0} (g : Ghosts D) (book : Book) (stored : Bool) (remaining : R → Option (List ℕ)) (contents : W → Option (List ℕ)) (store after : Store D g) (scripts : List (Script R W)) (ended : List (Ended R W)) : Type 0 where
-  pub sessions : AllZip (IsRunOf book stored remaining contents) scripts ended
+pub record Ran {R W D : Type 0} (g : Ghosts D) (book : Book) (start : Version) (remaining : R → Option (List ℕ)) (contents : W → Option (List ℕ)) (store after : Store D g) (scripts : List (Script R W)) (ended : List (Ended R W)) : Type 0 where
+  pub sessions : AllZip (IsRunOf book (store_from g start store.flusher) remaining contents) scripts ended
   pub kept : IsStoreKept book g store after
-  pub stored_is : stored ≡ is_some store.flusher
 
 -- its book is closed
 pub record IsClosed {R W D : Type 0} (g : Ghosts D) (start : Version) (after : Store D g) (ended : List (Ended R W)) (left : Left W D) : Type 0 where
@@ -45,20 +44,22 @@ pub record IsClosed {R W D : Type 0} (g : Ghosts D) (start : Version) (after : S
   pub finished : left.sessions.items ≡ map finished_of ended
   pub store : Closes g after.reporter (told_in after.told) after.flusher left.closed
 
-pub served_from : {R W D : Type 0} (g : Ghosts D) (book : Book) (stored : Bool) (remaining : R → Option (List ℕ)) (contents : W → Option (List ℕ)) (start : Version) (ports : List (Port R W)) (store after : Store D g)
-    (scripts : List (Script R W)) (ended : List (Ended R W)) (left : Left W D) → Began book start ports store scripts → Ran g book stored remaining contents store after scripts ended
+pub served_from : {R W D : Type 0} (g : Ghosts D) (book : Book) (remaining : R → Option (List ℕ)) (contents : W → Option (List ℕ)) (start : Version) (ports : List (Port R W)) (store after : Store D g)
+    (scripts : List (Script R W)) (ended : List (Ended R W)) (left : Left W D) → Began book start ports store scripts → Ran g book start remaining contents store after scripts ended
     → IsClosed g start after ended left → IsLeftFrom remaining contents g start store.flusher ports left
-served_from {W = W} g book stored remaining contents start ports store after scripts ended left began ran closed = record {
-  version = closed.version;
-  log = closed.log;
-  begins = begins_first book stored remaining contents start ports scripts began.seated ended ran.sessions left.closed.seen_log.log closed.sessions began.some;
-  only =
-      no_other book stored remaining contents start ports scripts ended left.closed.seen_log.log began.seated ran.sessions closed.sessions closed.log
-      (begins_first book stored remaining contents start ports scripts began.seated ended ran.sessions left.closed.seen_log.log closed.sessions began.some) closed.number;
-  sessions =
-      subst (λ (b : Bool). ArePortsServed b remaining contents start left.closed.seen_log.log ports left.sessions.items) ran.stored_is
-      (subst (λ (os : List (Finished W)). ArePortsServed stored remaining contents start left.closed.seen_log.log ports os) (sym closed.finished)
-      (are_served book stored remaining contents start ports scripts began.seated ended ran.sessions left.closed.seen_log.log closed.sessions));
-  kept = left_by g start store.reporter after.reporter (told_in store.told) (told_in after.told) store.flusher after.flusher left.closed
-      began.log began.none_told ran.kept.flushed closed.store;
-}
+served_from {W = W} g book remaining contents start ports store after scripts ended left began ran closed =
+    let stored = store_from g start store.flusher in
+    let log = left.closed.seen_log.log in
+    let begins = begins_first book stored remaining contents start ports scripts began.seated ended ran.sessions log closed.sessions began.some in
+    record {
+      version = closed.version;
+      log = closed.log;
+      begins = begins;
+      only =
+          no_other book stored remaining contents start ports scripts ended log began.seated ran.sessions closed.sessions closed.log begins closed.number;
+      sessions =
+          subst (λ (os : List (Finished W)). ArePortsServed stored remaining contents start log ports os) (sym closed.finished)
+          (are_served book stored remaining contents start ports scripts began.seated ended ran.sessions log closed.sessions);
+      kept = left_by g start store.reporter after.reporter (told_in store.told) (told_in after.told) store.flusher after.flusher left.closed
+          began.log began.none_told ran.kept.flushed closed.store;
+    }

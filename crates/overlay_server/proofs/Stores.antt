@@ -63,9 +63,13 @@ module _ {D : Type 0} (g : Ghosts D) where
 
   -- ---- what may be told durable
 
+  -- what counts as stored is what the store of a version held
+  abbrev pub CountsAs : (List Entry → ℕ → Type 0) → Version → Option (Flusher D g) → Type 0
+  CountsAs stored start store = (log : List Entry) (number : ℕ) → stored log number ↔ IsStoredOf g start store log number
+
   -- what holds of all that the store of a book comes to hold
-  pub holds_first : (stored : List Entry → ℕ → Type 0) (start : Version) (store : Option (Flusher D g))
-      → ((log : List Entry) (number : ℕ) → stored log number ↔ IsStoredOf g start store log number) → HoldsOfStore g stored (first_log start) store
+  pub holds_first : (stored : List Entry → ℕ → Type 0) (start : Version) (store : Option (Flusher D g)) → CountsAs stored start store
+      → HoldsOfStore g stored (first_log start) store
   holds_first stored start None same = tt
   holds_first stored start (Some f) same = λ log h on. (same log h.commit.root.version).1 (λ is. record { store = h; followed = on is; at = refl })
 

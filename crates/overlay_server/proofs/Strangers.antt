@@ -1,5 +1,5 @@
 -- A book that is as many batches behind its first version as its sessions made has no other's.
-use Rattle.std.proofs.Common.{◌≡◌, ◌<◌, ◌+◌, ◌∷◌, [], ℕ, zero, suc, Bool, List, Option, length, map, refl, ap, sym, ◌∙◌, arith}
+use Rattle.std.proofs.Common.{◌≡◌, ◌<◌, ◌+◌, ◌∷◌, [], ℕ, zero, suc, List, Option, length, map, refl, ap, sym, ◌∙◌, arith}
 use Rattle.std.specs.List.{All, AllZip, sum_by}
 use Rattle.std.proofs.lemmas.List.{length-map, map-append}
 use Rattle.std.proofs.lemmas.List.Elements.{All-head, All-tail}
@@ -14,6 +14,7 @@ use Rattle.book_history.specs.Logs.{history_of, newest_in, IsLog}
 use Rattle.book_history.proofs.Chains.{commands_in_log, is_history}
 use Rattle.book_lock.specs.Steps.{beginners, HasAllOf}
 use Rattle.session_threads.specs.Counting.{made_in}
+use Rattle.script_form.specs.Transcript.{BookStore}
 use Rattle.session_threads.specs.Running.{IsRunOf}
 use Rattle.session_threads.specs.Seats.{session_of, ended_session}
 use Rattle.session_threads.specs.declared.port.Port.{Port}
@@ -49,7 +50,7 @@ beginners_counted book_log log (suc n) =
     ∙ sum_by_push (own_in log) (numbers (beginners book_log n)) n ∙ ap (λ (m : ℕ). m + own_in log n) (beginners_counted book_log log n)
 
 -- a session that ran keeps its number
-numbers_kept : {R W : Type 0} (book : Book) (stored : Bool) (remaining : R → Option (List ℕ)) (contents : W → Option (List ℕ)) (ss : List (Script R W)) (es : List (Ended R W))
+numbers_kept : {R W : Type 0} (book : Book) (stored : BookStore) (remaining : R → Option (List ℕ)) (contents : W → Option (List ℕ)) (ss : List (Script R W)) (es : List (Ended R W))
     → AllZip (IsRunOf book stored remaining contents) ss es → numbers (map ended_session es) ≡ numbers (map session_of ss)
 numbers_kept book stored remaining contents [] [] ran = refl
 numbers_kept book stored remaining contents [] (e ∷ es) ran = absurd ran
@@ -65,7 +66,7 @@ counted_in_log (suc n) log valid =
     ap (λ (m : ℕ). m + length (commands_of n log)) (counted_in_log n log valid)
     ∙ ap (λ (bs : List Batch). counted n (history_of log).entries + length bs) (commands_in_log n log valid)
 
-pub no_other : {R W : Type 0} (book : Book) (stored : Bool) (remaining : R → Option (List ℕ)) (contents : W → Option (List ℕ)) (start : Version) (ports : List (Port R W)) (scripts : List (Script R W))
+pub no_other : {R W : Type 0} (book : Book) (stored : BookStore) (remaining : R → Option (List ℕ)) (contents : W → Option (List ℕ)) (start : Version) (ports : List (Port R W)) (scripts : List (Script R W))
     (ended : List (Ended R W)) (log : List Entry) → AreSeated book start ports scripts → AllZip (IsRunOf book stored remaining contents) scripts ended
     → All (HasAllOf log) (map ended_session ended) → IsLog log → (history_of log).start ≡ start → (newest_in log).number ≡ start.number + made_in (map ended_session ended)
     → All (λ (c : ℕ × Batch). c.0 < length ports) (commands_in (history_of log).entries)

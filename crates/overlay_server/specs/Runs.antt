@@ -1,5 +1,6 @@
 -- Runs of a store one after another: calls of the store's keeper, the end of a book, crashes within a call, and openings.
 use Rattle.std.specs.Prelude.{◌≡◌, ◌⊎◌, ◌+◌, ◌≤◌, ℕ, List, [], ◌∷◌, ◌++◌, length}
+use Rattle.std.proofs.Common.{inl, inr}
 use Rattle.std.specs.List.{AllByRecursion}
 use Rattle.disk_model.specs.declared.disk.Disk.{Ghosts}
 use Rattle.disk_model.specs.Moments.{Leaves}
@@ -86,6 +87,21 @@ module _ {D : Type 0} (g : Ghosts D) (start : Start) where
     pub durable : durable_at old ≤ durable_at new
     pub same : up_to start (durable_at old) (batches_at new) ≡ up_to start (durable_at old) (batches_at old)
 
-  -- through any number of runs nothing is lost that was told durable at some moment
+  -- the moment to which a call that was cut would have come: all that was told durable within it is told there
+  abbrev pub cut_call : (old new : Moment D g) → CutTo old new → Moment D g
+  cut_call old new cut = record { before = old.before; history = cut.history; flusher = cut.end }
+
+  -- what was told durable within a call that was cut stands at these moments
+  abbrev pub CutStands : (old new : Moment D g) → CallsTo old new ⊎ (ClosesTo old new ⊎ CutTo old new) → List (Moment D g) → Type 0
+  CutStands old new (inl calls) later = Unit {0}
+  CutStands old new (inr (inl closes)) later = Unit {0}
+  CutStands old new (inr (inr cut)) later = AllByRecursion (StandsAt (cut_call old new cut)) later
+
+  -- what was told durable at any of the moments, or within a call that was cut, stands at each later moment
+  abbrev pub AllStand : (m : Moment D g) (later : List (Moment D g)) → Runs m later → Type 0
+  AllStand m [] runs = Unit {0}
+  AllStand m (next ∷ more) runs = AllByRecursion (StandsAt m) (next ∷ more) × CutStands m next runs.0 (next ∷ more) × AllStand next more runs.1
+
+  -- through any number of runs nothing is lost that was told durable
   abbrev pub RunsLoseNothing : Type 0
-  RunsLoseNothing = (m : Moment D g) (later : List (Moment D g)) → IsRunning m → Runs m later → AllByRecursion (StandsAt m) later
+  RunsLoseNothing = (m : Moment D g) (later : List (Moment D g)) → IsRunning m → (runs : Runs m later) → AllStand m later runs

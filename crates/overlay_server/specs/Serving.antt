@@ -1,12 +1,12 @@
 -- What a server leaves: its sessions' replies, and its store.
-use Rattle.std.specs.Prelude.{◌≡◌, ◌⊎◌, ◌∷◌, ◌<◌, ◌≤◌, ℕ, Bool, false, is_some, List, [], length, map, All, Option, Some, None}
+use Rattle.std.specs.Prelude.{◌≡◌, ◌⊎◌, ◌∷◌, ◌<◌, ◌≤◌, ℕ, false, is_some, List, [], length, map, All, Option, Some, None}
 use Rattle.std.specs.Arc.{arc_value}
 use Rattle.std.specs.List.{AllByRecursion}
 use Rattle.logbook.specs.Pages.{Book}
 use Rattle.disk_model.specs.declared.disk.Disk.{Ghosts}
 use Rattle.disk_model.specs.Disk as device
 use Rattle.disk_model.specs.Moments.{Leaves, LeavesOnly}
-use Rattle.overlay_terms.specs.Histories.{Version, Entry, BeginsWith, commands_in, empty_version}
+use Rattle.overlay_terms.specs.Histories.{Version, Entry, History, BeginsWith, newest, commands_in, empty_version}
 use Rattle.root_store.specs.Running.{is_busy}
 use Rattle.root_store.specs.declared.phase.Phase.TheVariants.{Failed}
 use Rattle.flush_core.specs.declared.flusher.Flusher.{Flusher}
@@ -14,7 +14,7 @@ use Rattle.overlay_engine.specs.declared.engine.Engine.{Engine}
 use Rattle.book_history.specs.Known.{Known, seen}
 use Rattle.book_history.specs.Logs.{entry, no_event, history_of, newest_in, IsLog}
 use Rattle.book_lock.specs.Steps.{beginners, HasAllOf}
-use Rattle.server_session.specs.Stores.{any_store}
+use Rattle.script_form.specs.Transcript.{BookStore, store_by}
 use Rattle.server_session.specs.Session.{IsSessionWithin, IsSharedSession}
 use Rattle.store_flushing.specs.Among.{IsFileIn, IsFileExactlyIn}
 use Rattle.store_flushing.specs.Storing.{IsStoreOf, IsStored}
@@ -43,6 +43,34 @@ flusher_of (Some engine) = Some engine.flusher
 abbrev pub first_log : Version → List Entry
 first_log start = entry no_event start ∷ []
 
+-- ---- what is stored, and what may be told durable
+
+-- of which log which number is stored: what the first version's store held when it had been followed to that log; without
+-- a store, nothing is
+abbrev pub IsStoredOf : {D : Type 0} (g : Ghosts D) → Version → Option (Flusher D g) → List Entry → ℕ → Type 0
+IsStoredOf g start None log number = ⊥
+IsStoredOf g start (Some old) log number =
+    IsStoreOf g (history_of (first_log start)) old → IsStored g (history_of (first_log start)) old log number
+
+-- a number that a history tells durable was stored: a store of the first version, followed to a beginning of this history,
+-- held that number then, or a later one
+pub record WasHeld {D : Type 0} (g : Ghosts D) (start : Version) (old : Flusher D g) (history : History) (number : ℕ) : Type 0 where
+  pub log : List Entry
+  pub before : BeginsWith history (history_of log)
+  pub held : ℕ
+  pub no_less : number ≤ held
+  pub stored : IsStored g (history_of (first_log start)) old log held
+
+-- of which history a server tells a session the durable number: of one whose number was stored; without a store, of none
+abbrev pub IsHeldOf : {D : Type 0} (g : Ghosts D) → Version → Option (Flusher D g) → History → Type 0
+IsHeldOf g start None history = ⊥
+IsHeldOf g start (Some old) history =
+    IsStoreOf g (history_of (first_log start)) old → WasHeld g start old history (newest history).durable
+
+-- what the sessions of a server know of its store
+abbrev pub store_from : {D : Type 0} (g : Ghosts D) → Version → Option (Flusher D g) → BookStore
+store_from g start store = store_by (IsHeldOf g start store) (is_some store)
+
 -- ---- sessions
 
 -- a session's part in a server: what it had seen at first, its reader, and what it left
@@ -52,17 +80,17 @@ pub record Part (R : Type 0) : Type 0 where
   pub outcome : Outcome
 
 -- a session was served: what it wrote are the replies to its reader's lines, by histories that it has seen then; the log
--- has all of that, and of the session's batches just those that it made; `stored` says whether there is a store
-pub record IsServed {R : Type 0} (stored : Bool) (remaining : R → Option (List ℕ)) (log : List Entry) (part : Part R) : Type 0 where
+-- has all of that, and of the session's batches just those that it made; `stored` is what is known of the store
+pub record IsServed {R : Type 0} (stored : BookStore) (remaining : R → Option (List ℕ)) (log : List Entry) (part : Part R) : Type 0 where
   pub now : Known
   pub left : Option (List ℕ)
   pub same : now.session ≡ part.session.session
   pub goes_on : BeginsWith (seen now) (seen part.session)
-  pub ran : IsSharedSession (any_store stored) part.outcome.end part.session now (remaining part.reader) left (Some []) (Some part.outcome.bytes.items)
+  pub ran : IsSharedSession stored part.outcome.end part.session now (remaining part.reader) left (Some []) (Some part.outcome.bytes.items)
   pub own : HasAllOf log now
 
 -- each reader has a session of the book that begins with a version, by their order, and was served
-pub record AreServed {R : Type 0} (stored : Bool) (remaining : R → Option (List ℕ)) (start : Version) (log : List Entry) (readers : List R) (outcomes : List Outcome) : Type 0 where
+pub record AreServed {R : Type 0} (stored : BookStore) (remaining : R → Option (List ℕ)) (start : Version) (log : List Entry) (readers : List R) (outcomes : List Outcome) : Type 0 where
   pub book : Book
   pub parts : List (Part R)
   pub sessions : map (λ (part : Part R). part.session) parts ≡ beginners (record { book = book; log = first_log start }) (length readers)
@@ -81,16 +109,16 @@ pub record PortPart (R W : Type 0) : Type 0 where
 -- a session was served: what it put behind what its writer had are the replies to its
 -- reader's lines, by histories that it has seen then; the log has all of that, and of the session's batches just those that
 -- it made
-pub record IsPortServed {R W : Type 0} (stored : Bool) (remaining : R → Option (List ℕ)) (contents : W → Option (List ℕ)) (log : List Entry) (part : PortPart R W) : Type 0 where
+pub record IsPortServed {R W : Type 0} (stored : BookStore) (remaining : R → Option (List ℕ)) (contents : W → Option (List ℕ)) (log : List Entry) (part : PortPart R W) : Type 0 where
   pub now : Known
   pub left : Option (List ℕ)
   pub same : now.session ≡ part.session.session
   pub goes_on : BeginsWith (seen now) (seen part.session)
-  pub ran : IsSessionWithin part.port.most (any_store stored) part.finished.end part.session now (remaining part.port.reader) left (contents part.port.writer) (contents part.finished.writer)
+  pub ran : IsSessionWithin part.port.most stored part.finished.end part.session now (remaining part.port.reader) left (contents part.port.writer) (contents part.finished.writer)
   pub own : HasAllOf log now
 
 -- each port has a session of the book that begins with a version, by their order, and was served
-pub record ArePortsServed {R W : Type 0} (stored : Bool) (remaining : R → Option (List ℕ)) (contents : W → Option (List ℕ)) (start : Version) (log : List Entry) (ports : List (Port R W)) (finished : List (Finished W)) : Type 0 where
+pub record ArePortsServed {R W : Type 0} (stored : BookStore) (remaining : R → Option (List ℕ)) (contents : W → Option (List ℕ)) (start : Version) (log : List Entry) (ports : List (Port R W)) (finished : List (Finished W)) : Type 0 where
   pub book : Book
   pub parts : List (PortPart R W)
   pub sessions : map (λ (part : PortPart R W). part.session) parts ≡ beginners (record { book = book; log = first_log start }) (length ports)
@@ -149,15 +177,6 @@ module _ {D : Type 0} (g : Ghosts D) where
   StoreComesBack start None back = back ≡ None
   StoreComesBack start (Some old) back = ComesBack start old back
 
--- ---- what is stored
-
--- of which log which number is stored: what the first version's store held when it had been followed to that log; without
--- a store, nothing is
-abbrev pub IsStoredOf : {D : Type 0} (g : Ghosts D) → Version → Option (Flusher D g) → List Entry → ℕ → Type 0
-IsStoredOf g start None log number = ⊥
-IsStoredOf g start (Some old) log number =
-    IsStoreOf g (history_of (first_log start)) old → IsStored g (history_of (first_log start)) old log number
-
 -- ---- the server
 
 -- a server ran: from a version and its store to the end of its book, in which the sessions of its readers alone, numbered
@@ -167,7 +186,7 @@ pub record IsServedFrom {R D : Type 0} (remaining : R → Option (List ℕ)) (g 
   pub log : IsLog served.closed.seen_log.log
   pub begins : (history_of served.closed.seen_log.log).start ≡ start
   pub only : All (λ c. c.0 < length readers) (commands_in (history_of served.closed.seen_log.log).entries)
-  pub sessions : AreServed (is_some store) remaining start served.closed.seen_log.log readers served.sessions.items
+  pub sessions : AreServed (store_from g start store) remaining start served.closed.seen_log.log readers served.sessions.items
   pub kept : IsLeftOfStore g start store served.closed
 
 -- the same of a server of ports
@@ -176,7 +195,7 @@ pub record IsLeftFrom {R W D : Type 0} (remaining : R → Option (List ℕ)) (co
   pub log : IsLog left.closed.seen_log.log
   pub begins : (history_of left.closed.seen_log.log).start ≡ start
   pub only : All (λ c. c.0 < length ports) (commands_in (history_of left.closed.seen_log.log).entries)
-  pub sessions : ArePortsServed (is_some store) remaining contents start left.closed.seen_log.log ports left.sessions.items
+  pub sessions : ArePortsServed (store_from g start store) remaining contents start left.closed.seen_log.log ports left.sessions.items
   pub kept : IsLeftOfStore g start store left.closed
 
 -- a server could not run: for want of memory or of a thread, or of places in the book. Its number is that of what the book

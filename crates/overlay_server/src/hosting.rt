@@ -1,24 +1,24 @@
 //! The book of a server, from its opening to its end.
-ghost use Rattle.std.specs.Prelude.{◌≡◌, ◌⊎◌, ◌<◌, ◌≤◌, ◌∷◌, ◌↔◌, [], None, ℕ, List, length, IfOk, IfErr, is_some};
+ghost use Rattle.std.specs.Prelude.{◌≡◌, ◌⊎◌, ◌<◌, ◌≤◌, ◌↔◌, [], None, ℕ, List, length, IfOk, IfErr, is_some};
 ghost use Rattle.book_history.specs.Fault.{no_memory};
-ghost use Rattle.book_history.specs.Logs.{entry, no_event};
 ghost use Rattle.book_history.specs.Rules.{head_of};
 ghost use Rattle.book_lock.specs.Steps.{beginners};
 ghost use Rattle.overlay_terms.specs.Histories.{Entry};
 ghost use Rattle.version_book.specs.Store.{has_store};
 ghost use Rattle.store_flushing.specs.Told.{told_in};
 ghost use Rattle.overlay_server.specs.Answering.{answer_in, fault_of, refusal_code};
-ghost use Rattle.overlay_server.specs.Keeping.{HoldsOfStore};
-ghost use Rattle.overlay_server.specs.Serving.{IsLeftFrom, IsRefusedFrom, IsServedFrom, IsStoredOf, first_log};
+ghost use Rattle.overlay_server.specs.Moments.{HasOnlyNow};
+ghost use Rattle.overlay_server.specs.Serving.{IsLeftFrom, IsRefusedFrom, IsServedFrom, IsStoredOf, first_log, flusher_of, start_of};
 
 use crate::listening::{Listeners, gathered, listened};
 use crate::opening::{Begun, BookAnswer, open_book};
 use crate::outcome::{Left, Served, ServerFault};
-use crate::refusing::refused;
+use crate::refusing::{only_now, refused};
 use crate::storing::{Store, keep_store};
 use crate::threads::{Returned, Work, run_threads};
 use disk_model::disk::Disk;
 use flush_core::flusher::Flusher;
+use overlay_engine::engine::Engine;
 use session_threads::counting::{await_number, made_by_all};
 use session_threads::port::Port;
 use session_threads::seating::{Parts, Seats, parted, seated};
@@ -36,14 +36,14 @@ use version_book::session::Session;
 use version_book::shared::Shared;
 use versions::Version;
 
-/// A book that is to be opened: the history of one version, and the store that it was read from.
+/// A book that is to be opened: the history of an engine's version, or of no command where there is none. The engine is in
+/// it whole, so the book begins with the durable number that this engine has.
 pub struct Opened<D: Disk> {
     pub head: LogWord,
     pub seen_log: SeenLog,
-    pub version: Version,
-    pub flusher: Option<Flusher<D>>,
+    pub engine: Option<Engine<D>>,
     pub ghost head_is: { head ≡ head_of seen_log.book },
-    pub ghost begun: { seen_log.log ≡ entry no_event version ∷ [] },
+    pub ghost begun: { seen_log.log ≡ first_log (start_of engine) },
 }
 
 /// The version that a book begins with, and its number.
@@ -71,20 +71,20 @@ fn ask_book<J: BookName, S: Wait + Drop, D: Disk>(
 ) -> Asked<J, S, D>
     requires book { opened.seen_log.book ≡ J.book }
     requires sessions { (0 < sessions) × (sessions ≤ 4) }
-    ensures start { result.start.version.value ≡ opened.version }
-    ensures flusher { result.flusher ≡ opened.flusher }
-    ensures stored { IfOk result.begun (λ b. has_store b.0 ≡ is_some opened.flusher) }
-    ensures reporter { IfOk result.begun (λ b. (b.1.book ≡ J.book) × (b.1.log ≡ first_log opened.version)) }
-    ensures sessions { IfOk result.begun (λ b. b.2.items ≡ beginners (record { book = J.book; log = first_log opened.version }) sessions) }
+    ensures start { result.start.version.value ≡ start_of opened.engine }
+    ensures flusher { result.flusher ≡ flusher_of opened.engine }
+    ensures stored { IfOk result.begun (λ b. has_store b.0 ≡ is_some (flusher_of opened.engine)) }
+    ensures reporter { IfOk result.begun (λ b. (b.1.book ≡ J.book) × (b.1.log ≡ first_log (start_of opened.engine))) }
+    ensures sessions { IfOk result.begun (λ b. b.2.items ≡ beginners (record { book = J.book; log = first_log (start_of opened.engine) }) sessions) }
     ensures fault { IfErr result.begun (λ fault. (fault ≡ no_memory) ⊎ (fault ≡ BookFault.Gone)) }
     ensures answer { answer_in result.answer ≡ fault_of result.begun }
 {
     let Opened {
         head,
         seen_log,
-        version,
-        flusher,
+        engine,
     } = opened;
+    let (version, flusher) = parts_of(alloc, engine);
     let start = Start {
         number: version.number(),
         version: Snapshot::of(&version),
@@ -96,6 +96,20 @@ fn ask_book<J: BookName, S: Wait + Drop, D: Disk>(
         begun,
         answer,
         flusher,
+    }
+}
+
+/// The version that a book begins with, and its store, where there is one.
+fn parts_of<D: Disk>(alloc: Global, engine: Option<Engine<D>>) -> (Version, Option<Flusher<D>>)
+    ensures version { result.0 ≡ start_of engine }
+    ensures flusher { result.1 ≡ flusher_of engine }
+{
+    match engine {
+        Some(engine) => {
+            let (version, flusher) = engine.into_parts();
+            (version, Some(flusher))
+        }
+        None => (Version::empty(alloc), None),
     }
 }
 
@@ -115,10 +129,10 @@ where
     G: Gate + Sync,
     Q: Threads + Wait + Sync,
     requires book { opened.seen_log.book ≡ J.book }
-    requires stored { (log : List Entry) (number : ℕ) → J.stored log number ↔ IsStoredOf D.Disk opened.version opened.flusher log number }
+    requires stored { (log : List Entry) (number : ℕ) → J.stored log number ↔ IsStoredOf D.Disk (start_of opened.engine) (flusher_of opened.engine) log number }
     requires readers { (0 < length readers.items) × (length readers.items ≤ 4) }
-    ensures served { IfOk result (IsServedFrom R.remaining D.Disk opened.version opened.flusher readers.items) }
-    ensures refused { IfErr result (IsRefusedFrom D.Disk opened.version opened.flusher) }
+    ensures served { IfOk result (IsServedFrom R.remaining D.Disk (start_of opened.engine) (flusher_of opened.engine) readers.items) }
+    ensures refused { IfErr result (IsRefusedFrom D.Disk (start_of opened.engine) (flusher_of opened.engine)) }
 {
     let asked = ask_book::<J, &Q, D>(rt, alloc, opened, readers.len());
     let Some(Listeners { ports, outcomes }) = listened(alloc, readers) else {
@@ -151,10 +165,10 @@ where
     G: Gate + Sync,
     Q: Threads + Wait + Sync,
     requires book { opened.seen_log.book ≡ J.book }
-    requires stored { (log : List Entry) (number : ℕ) → J.stored log number ↔ IsStoredOf D.Disk opened.version opened.flusher log number }
+    requires stored { (log : List Entry) (number : ℕ) → J.stored log number ↔ IsStoredOf D.Disk (start_of opened.engine) (flusher_of opened.engine) log number }
     requires ports { (0 < length ports.items) × (length ports.items ≤ 4) }
-    ensures left { IfOk result (IsLeftFrom R.remaining W.contents D.Disk opened.version opened.flusher ports.items) }
-    ensures refused { IfErr result (IsRefusedFrom D.Disk opened.version opened.flusher) }
+    ensures left { IfOk result (IsLeftFrom R.remaining W.contents D.Disk (start_of opened.engine) (flusher_of opened.engine) ports.items) }
+    ensures refused { IfErr result (IsRefusedFrom D.Disk (start_of opened.engine) (flusher_of opened.engine)) }
 {
     let asked = ask_book::<J, &Q, D>(rt, alloc, opened, ports.len());
     asked.serve(rt, alloc, workers, gate, ports)
@@ -184,7 +198,7 @@ where
         requires stored { IfOk self.begun (λ b. has_store b.0 ≡ is_some self.flusher) }
         requires reporter { IfOk self.begun (λ b. (b.1.book ≡ J.book) × (b.1.log ≡ first_log self.start.version.value)) }
         requires sessions { IfOk self.begun (λ b. b.2.items ≡ beginners (record { book = J.book; log = first_log self.start.version.value }) (length ports.items)) }
-        requires durable { HoldsOfStore D.Disk J.stored (first_log self.start.version.value) self.flusher }
+        requires meant { (log : List Entry) (number : ℕ) → J.stored log number ↔ IsStoredOf D.Disk self.start.version.value self.flusher log number }
         requires fault { IfErr self.begun (λ fault. (fault ≡ no_memory) ⊎ (fault ≡ BookFault.Gone)) }
         requires answer { answer_in self.answer ≡ fault_of self.begun }
         ensures left { IfOk result (IsLeftFrom R.remaining W.contents D.Disk self.start.version.value self.flusher ports.items) }
@@ -198,6 +212,8 @@ where
             answer,
             flusher,
         } = self;
+        // What the book begins with is what the store holds now: the clauses rest on that.
+        only_now::<D>();
         match begun {
             Ok((shared, reporter, sessions)) => {
                 let store = Store {
@@ -248,10 +264,11 @@ where
     ) -> Result<Left<W, D>, ServerFault<D>>
         requires ports { 0 < length self.ports.items }
         requires answer { answer_in self.answer ≡ None }
+        requires now { HasOnlyNow D.Disk }
         requires stored { has_store self.shared ≡ is_some self.store.flusher }
         requires reporter { (self.store.reporter.book ≡ J.book) × (self.store.reporter.log ≡ first_log self.start.version.value) }
         requires told { told_in self.store.told ≡ [] }
-        requires durable { HoldsOfStore D.Disk J.stored self.store.reporter.log self.store.flusher }
+        requires meant { (log : List Entry) (number : ℕ) → J.stored log number ↔ IsStoredOf D.Disk self.start.version.value self.store.flusher log number }
         requires sessions { self.sessions.items ≡ beginners (record { book = J.book; log = first_log self.start.version.value }) (length self.ports.items) }
         ensures left { IfOk result (IsLeftFrom R.remaining W.contents D.Disk self.start.version.value self.store.flusher self.ports.items) }
         ensures refused { IfErr result (IsRefusedFrom D.Disk self.start.version.value self.store.flusher) }

@@ -35,6 +35,6 @@ fn disk_of<D: Disk>(flusher: Option<Flusher<D>>) -> Option<D>
 }
 
 /// Says that since now there is no other moment; it does nothing.
-fn only_now<D: Disk>()
+pub fn only_now<D: Disk>()
     ensures { HasOnlyNow D.Disk }
 {}

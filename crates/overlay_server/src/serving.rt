@@ -74,21 +74,15 @@ where
 
 /// The book of an engine, or of no command where there is none, before it is opened.
 fn history_of_engine<D: Disk>(alloc: Global, engine: Option<Engine<D>>) -> Opened<D>
-    ensures version { result.version ≡ start_of engine }
-    ensures flusher { result.flusher ≡ flusher_of engine }
+    ensures { result.engine ≡ engine }
 {
-    let (version, flusher) = match engine {
-        Some(engine) => {
-            let (version, flusher) = engine.into_parts();
-            (version, Some(flusher))
-        }
-        None => (Version::empty(alloc), None),
+    let (head, seen_log) = match &engine {
+        Some(engine) => open(engine.version()),
+        None => open(&Version::empty(alloc)),
     };
-    let (head, seen_log) = open(&version);
     Opened {
         head,
         seen_log,
-        version,
-        flusher,
+        engine,
     }
 }

@@ -1,6 +1,7 @@
 //! The threads of a server: workers, the store, and a session for each port.
 ghost use Rattle.std.specs.Prelude.{◌≡◌};
 ghost use Rattle.overlay_server.specs.Working.{HasWorked, IsReady};
+ghost use Rattle.server_session.specs.Stores.{store_of};
 ghost use Rattle.version_book.specs.Store.{has_store};
 
 use crate::storing::{Store, start_store};
@@ -50,14 +51,14 @@ where
     W: Write + Send + Drop,
     D: Disk + Send + Drop,
     requires { IsReady J.book J.stored work }
-    ensures { HasWorked J.book (has_store shared.now) R.remaining W.contents D.Disk work result }
+    ensures { HasWorked J.book (store_of J.stored (has_store shared.now)) R.remaining W.contents D.Disk work result }
 {
     thread::scope(
         thread::scope_env(),
         rt,
         |scope| -> Returned<R, W, D>
             requires { IsReady J.book J.stored work }
-            ensures { HasWorked J.book (has_store shared.entry.now) R.remaining W.contents D.Disk work result }
+            ensures { HasWorked J.book (store_of J.stored (has_store shared.entry.now)) R.remaining W.contents D.Disk work result }
         { run_in(scope, rt, alloc, gate, shared, work) },
     )
 }
@@ -80,7 +81,7 @@ where
     W: Write + Send + Drop + 's,
     D: Disk + Send + Drop + 's,
     requires { IsReady J.book J.stored work }
-    ensures { HasWorked J.book (has_store shared.now) R.remaining W.contents D.Disk work result }
+    ensures { HasWorked J.book (store_of J.stored (has_store shared.now)) R.remaining W.contents D.Disk work result }
 {
     let Work {
         workers,

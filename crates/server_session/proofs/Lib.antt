@@ -4,6 +4,5 @@ pub mod Steps
 pub mod Endings
 pub mod BatchFaults
 pub mod AnswerLemmas
-pub mod Weaker
 pub mod Anywhere
 pub mod TileAnswers

@@ -13,10 +13,6 @@ IsToldOf stored history = (log : List Entry) × (history_of log ≡ history) × 
 abbrev pub store_of : (List Entry → ℕ → Type 0) → Bool → BookStore
 store_of stored there = store_by (IsToldOf stored) there
 
--- the same, where nothing is asked of what may be told
-abbrev pub any_store : Bool → BookStore
-any_store there = store_by (λ history. Unit {0}) there
-
 -- none, for a reply that does not ask it
 abbrev pub no_store : BookStore
 no_store = store_by (λ history. ⊥) false

@@ -1,6 +1,7 @@
 //! Sessions in threads of their own, one for each reader.
 ghost use Rattle.std.specs.Prelude.{◌≡◌, All, length, IfSome};
 ghost use Rattle.std.specs.List.{AllZip};
+ghost use Rattle.server_session.specs.Stores.{store_of};
 ghost use Rattle.session_threads.specs.Rooms.{IsReserved, HasRooms};
 ghost use Rattle.session_threads.specs.Running.{IsRunOf};
 ghost use Rattle.version_book.specs.Store.{has_store};
@@ -43,9 +44,10 @@ pub struct RunsScript<J: BookName, R, W> {
 }
 
 impl<J: BookName, R: Read, W: Write> Promise<Ended<R, W>> for RunsScript<J, R, W> {
+    ghost use Rattle.server_session.specs.Stores.{store_of};
     ghost use Rattle.session_threads.specs.Running.{IsRunOf};
 
-    ghost kept_by = { λ p r. IsRunOf J.book p.stored R.remaining W.contents p.begun.value r };
+    ghost kept_by = { λ p r. IsRunOf J.book (store_of J.stored p.stored) R.remaining W.contents p.begun.value r };
 }
 
 /// A thread that runs a script.
@@ -75,7 +77,7 @@ where
     W: Write + Send + Drop + 's,
     requires scripts { All (λ script. script.session.book ≡ J.book) scripts.items }
     requires rooms { HasRooms rooms (length scripts.items) }
-    ensures { IfSome result (λ list. AllZip (λ script ended. IsRunOf J.book (has_store shared.now) R.remaining W.contents script ended) scripts.items list.items) }
+    ensures { IfSome result (λ list. AllZip (λ script ended. IsRunOf J.book (store_of J.stored (has_store shared.now)) R.remaining W.contents script ended) scripts.items list.items) }
 {
     let Rooms { mut running, ended } = rooms;
     for script in scripts {
@@ -111,7 +113,7 @@ where
             promise,
             move || -> Ended<R, W>
                 requires { script.session.book ≡ J.book }
-                ensures { IsRunOf J.book (has_store shared.entry.now) R.remaining W.contents script result }
+                ensures { IsRunOf J.book (store_of J.stored (has_store shared.entry.now)) R.remaining W.contents script result }
             { run_script(rt, alloc, shared, script) },
         )
         .ok()
@@ -124,7 +126,7 @@ fn join_sessions<J: BookName, Q: Threads, R: Read + Drop, W: Write + Drop>(
     mut list: Vec<Ended<R, W>>,
 ) -> Vec<Ended<R, W>>
     requires { IsReserved list (length running.items) }
-    ensures { AllZip (λ h ended. IsRunOf J.book h.promise.stored R.remaining W.contents h.promise.begun.value ended) running.items result.items }
+    ensures { AllZip (λ h ended. IsRunOf J.book (store_of J.stored h.promise.stored) R.remaining W.contents h.promise.begun.value ended) running.items result.items }
 {
     for handle in running {
         list.push_reserved(handle.join(rt));
@@ -140,7 +142,7 @@ fn run_script<J: BookName, S: Wait + Drop, Q: Threads + Wait + Sync, R: Read, W:
     script: Script<R, W>,
 ) -> Ended<R, W>
     requires { script.session.book ≡ J.book }
-    ensures { IsRunOf J.book (has_store shared.now) R.remaining W.contents script result }
+    ensures { IsRunOf J.book (store_of J.stored (has_store shared.now)) R.remaining W.contents script result }
 {
     let Script { mut session, port } = script;
     let Port {

@@ -91,7 +91,8 @@ pub record IsFollowed {D : Type 0} (g : Ghosts D) (was : History) (old : Flusher
   pub no_less : old.commit.root.version ≤ new.commit.root.version
   pub moments : LeavesOnly g old.commit.disk new.commit.disk (IsFileIn now old.commit.root.version)
 
--- a number is stored of a log: that of the store, when it had been followed to that log
+-- a number is stored of a log: some store to which the first one was followed, by that log, holds it. That it is the store of
+-- the run itself is not said
 pub record IsStored {D : Type 0} (g : Ghosts D) (was : History) (old : Flusher D g) (log : List Entry) (number : ℕ) : Type 0 where
   pub store : Flusher D g
   pub followed : IsFollowed g was old (history_of log) store

@@ -2,4 +2,4 @@ use Rattle.overlay_server.proofs.Alone.{one_session_is_alone}
 use Rattle.overlay_server.proofs.laws.one_session_is_alone.Goals as goal
 
 pub returns : goal.returns
-returns c = one_session_is_alone
+returns g c = one_session_is_alone g.D.Disk

@@ -1,6 +1,6 @@
 -- The book is named by the history that was just opened, and what is stored of it is what its store holds.
-use Rattle.overlay_server.specs.Serving.{IsStoredOf}
+use Rattle.overlay_server.specs.Serving.{IsStoredOf, flusher_of, start_of}
 use Rattle.overlay_server.proofs.serving.serve_ports.Given as goal
 
 abbrev pub ghosts-serve_in : goal.ghosts-serve_in
-ghosts-serve_in g a = record { book = a.opened.seen_log.book; stored = IsStoredOf g.D.Disk a.opened.version a.opened.flusher }
+ghosts-serve_in g a = record { book = a.opened.seen_log.book; stored = IsStoredOf g.D.Disk (start_of a.opened.engine) (flusher_of a.opened.engine) }

@@ -2,6 +2,7 @@ use Rattle.std.proofs.Common.{◌≡◌, ◌++◌, ◌≤◌, length}
 use Rattle.std.specs.List.{AllZip}
 use Rattle.std.specs.Vec.{vec_len, vec_capacity}
 use Rattle.std.specs.Vec.Iter.{into_iter_items, into_iter_len}
+use Rattle.server_session.specs.Stores.{store_of}
 use Rattle.session_threads.specs.Running.{IsRunOf}
 use Rattle.session_threads.proofs.running.join_sessions.Given as goal
 
@@ -12,5 +13,5 @@ invariant-loop-handle g l = record {
   left : into_iter_len l.handle-iterator ≡ length (into_iter_items l.handle-iterator);
   grown : vec_len l.list ≡ length l.yielded;
   room : length (into_iter_items l.initial.handle-iterator) ≤ vec_capacity l.list;
-  kept : AllZip (λ h ended. IsRunOf g.J.BookName.book h.promise.stored g.R.Read.remaining g.W.Write.contents h.promise.begun.value ended) l.yielded l.list.items;
+  kept : AllZip (λ h ended. IsRunOf g.J.BookName.book (store_of g.J.BookName.stored h.promise.stored) g.R.Read.remaining g.W.Write.contents h.promise.begun.value ended) l.yielded l.list.items;
 }

@@ -5,6 +5,7 @@ use Rattle.std.specs.Vec.Iter.{into_iter_items}
 use Rattle.overlay_terms.proofs.Lists.{in_middle}
 use Rattle.version_book.specs.Store.{has_store}
 use Rattle.session_threads.specs.Rooms.{IsReserved}
+use Rattle.server_session.specs.Stores.{store_of}
 use Rattle.session_threads.specs.Running.{IsRunOf}
 use Rattle.session_threads.proofs.Lists.{beside_length, beside_pushed, beside_through, gone_by_count, one_less, one_longer, one_on, room_left}
 use Rattle.session_threads.proofs.running.run_sessions.Goals as goal
@@ -56,8 +57,8 @@ returns g c =
     c.into_iter-script-iterator.ensures.into_iter_gives.0 at.invariant.left c.in-None.ensures.steps.0 in
     let begun = subst (λ scripts. AllZip (λ script h. (h.promise.begun.value ≡ script) × (h.promise.stored ≡ stored)) scripts running.items) all at.invariant.begun in
     beside_through (λ script h. (h.promise.begun.value ≡ script) × (h.promise.stored ≡ stored))
-    (λ h ended. IsRunOf g.J.BookName.book h.promise.stored g.R.Read.remaining g.W.Write.contents h.promise.begun.value ended)
-    (λ script ended. IsRunOf g.J.BookName.book stored g.R.Read.remaining g.W.Write.contents script ended)
-    (λ script h ended same ran. subst (λ b. IsRunOf g.J.BookName.book b g.R.Read.remaining g.W.Write.contents script ended) same.1
-    (subst (λ s. IsRunOf g.J.BookName.book h.promise.stored g.R.Read.remaining g.W.Write.contents s ended) same.0 ran))
+    (λ h ended. IsRunOf g.J.BookName.book (store_of g.J.BookName.stored h.promise.stored) g.R.Read.remaining g.W.Write.contents h.promise.begun.value ended)
+    (λ script ended. IsRunOf g.J.BookName.book (store_of g.J.BookName.stored stored) g.R.Read.remaining g.W.Write.contents script ended)
+    (λ script h ended same ran. subst (λ b. IsRunOf g.J.BookName.book (store_of g.J.BookName.stored b) g.R.Read.remaining g.W.Write.contents script ended) same.1
+    (subst (λ s. IsRunOf g.J.BookName.book (store_of g.J.BookName.stored h.promise.stored) g.R.Read.remaining g.W.Write.contents s ended) same.0 ran))
     c.args.scripts.items running.items c.join_sessions.result.items begun c.join_sessions.ensures

@@ -1,8 +1,4 @@
-use Rattle.std.proofs.Common.{◌≡◌, IfOk, List, subst, sym}
-use Rattle.overlay_terms.specs.Histories.{Entry}
 use Rattle.overlay_server.specs.Answering.{answer_in}
-use Rattle.overlay_server.specs.Keeping.{HoldsOfStore}
-use Rattle.overlay_server.specs.Serving.{first_log}
 use Rattle.overlay_server.proofs.Refusals.{may_answer, refused_from}
 use Rattle.overlay_server.proofs.Stores.{stopped_at_once}
 use Rattle.overlay_server.proofs.hosting.Asked.serve.Goals as goal
@@ -14,8 +10,5 @@ returns-in-Err-clause-refused g c =
     (may_answer asked.begun (answer_in asked.answer) c.requires.answer c.requires.fault)
     (stopped_at_once g.D.Disk asked.start.version.value asked.flusher c.refused.result.disk c.refused.ensures.now c.refused.ensures.disk)
 
-pub run-requires-clause-durable : goal.run-requires-clause-durable
-run-requires-clause-durable g c κs within =
-    let first = first_log c.args.self.start.version.value in
-    let begun = subst (λ r. IfOk r (λ b. (b.1.book ≡ g.J.BookName.book) × (b.1.log ≡ first))) c.in-Ok.is c.requires.reporter in
-    subst (λ (log : List Entry). HoldsOfStore g.D.Disk g.J.BookName.stored log c.args.self.flusher) (sym begun.1) c.requires.durable
+pub run-requires-clause-now : goal.run-requires-clause-now
+run-requires-clause-now g c κs within = c.only_now.ensures

@@ -12,10 +12,13 @@ use Rattle.session_threads.specs.Rooms.{HasParts, HasRooms}
 use Rattle.session_threads.specs.Running.{IsRunOf}
 use Rattle.session_threads.specs.Seats.{port_of, session_of}
 use Rattle.session_threads.proofs.Lists.{beside_length}
+use Rattle.server_session.specs.Stores.{store_of}
+use Rattle.overlay_server.specs.Keeping.{HoldsOfStore}
 use Rattle.overlay_server.specs.Serving.{first_log}
+use Rattle.overlay_server.proofs.Held.{runs_held}
 use Rattle.overlay_server.proofs.Refusals.{MayAnswer, refused_from}
-use Rattle.overlay_server.proofs.Parts.{AreSeated, all_of_book, as_many, of_ended}
-use Rattle.overlay_server.proofs.Stores.{holds_on, kept_twice, stopped_at_once, stopped_by}
+use Rattle.overlay_server.proofs.Parts.{AreSeated, all_of_book, as_many, begin_there, of_ended}
+use Rattle.overlay_server.proofs.Stores.{holds_first, holds_on, kept_twice, stopped_at_once, stopped_by}
 use Rattle.overlay_server.proofs.ServedParts.{served_from}
 use Rattle.overlay_server.proofs.hosting.Hosted.run.Goals as goal
 
@@ -38,7 +41,8 @@ run_threads-store-requires-after_bounds g c κs within =
     let seated : AreSeated g.J.BookName.book c.args.self.start.version.value c.args.self.ports.items seats.scripts.items = record { sessions = sessions ∙ c.requires.sessions; ports_are = ports } in
     record {
       store = c.requires.reporter.0;
-      durable = c.requires.durable;
+      durable = subst (λ log. HoldsOfStore g.D.Disk g.J.BookName.stored log c.args.self.store.flusher) (sym c.requires.reporter.1)
+          (holds_first g.D.Disk g.J.BookName.stored c.args.self.start.version.value c.args.self.store.flusher c.requires.meant);
       scripts = all_of_book g.J.BookName.book c.args.self.start.version.value c.args.self.ports.items seats.scripts.items seated;
       rooms = subst (HasRooms seats.rooms) (sym (as_many g.J.BookName.book c.args.self.start.version.value c.args.self.ports.items seats.scripts.items seated)) rooms;
     }
@@ -48,7 +52,9 @@ keep_store-reporter-requires-clause-stored g c =
     let old = c.args.self.store in
     let after = c.run_threads-store.result.store in
     holds_on g.D.Disk g.J.BookName.stored old.reporter after.reporter (told_in old.told) (told_in after.told) old.flusher after.flusher
-    c.run_threads-store.ensures.store.flushed c.requires.durable
+    c.run_threads-store.ensures.store.flushed
+    (subst (λ log. HoldsOfStore g.D.Disk g.J.BookName.stored log old.flusher) (sym c.requires.reporter.1)
+    (holds_first g.D.Disk g.J.BookName.stored c.args.self.start.version.value old.flusher c.requires.meant))
 
 pub returns-in_default-ended-clause-refused : goal.returns-in_default-ended-clause-refused
 returns-in_default-ended-clause-refused g c =
@@ -65,7 +71,7 @@ parted-sessions-requires g c =
     let seats = c.in-Some.seats in
     let scripts = seats.scripts.items in
     let ended = c.in-Some-ended.ended.items in
-    let stored = has_store c.args.self.shared in
+    let stored = store_of g.J.BookName.stored (has_store c.args.self.shared) in
     let sessions : map session_of scripts ≡ c.args.self.sessions.items = c.in-Some.ensures.sessions in
     let ports : map port_of scripts ≡ c.args.self.ports.items = c.in-Some.ensures.ports in
     let parts : HasParts seats.parts (length c.args.self.ports.items) = c.in-Some.ensures.parts in
@@ -80,7 +86,7 @@ pub close-closed-requires-clause-sessions : goal.close-closed-requires-clause-se
 close-closed-requires-clause-sessions g c =
     let scripts = c.in-Some.seats.scripts.items in
     let ended = c.in-Some-ended.ended.items in
-    let stored = has_store c.args.self.shared in
+    let stored = store_of g.J.BookName.stored (has_store c.args.self.shared) in
     let ran : AllZip (IsRunOf g.J.BookName.book stored g.R.Read.remaining g.W.Write.contents) scripts ended =
     subst (λ o. IfSome o (λ list. AllZip (IsRunOf g.J.BookName.book stored g.R.Read.remaining g.W.Write.contents) scripts list.items)) c.in-Some-ended.is c.run_threads-store.ensures.ended in
     subst (All (λ (k : Known). k.book ≡ g.J.BookName.book)) (sym c.parted-sessions.ensures.sessions)
@@ -91,7 +97,7 @@ returns-clause-left g c =
     let seats = c.in-Some.seats in
     let scripts = seats.scripts.items in
     let ended = c.in-Some-ended.ended.items in
-    let stored = has_store c.args.self.shared in
+    let stored = store_of g.J.BookName.stored (has_store c.args.self.shared) in
     let after = c.run_threads-store.result.store in
     let last = c.keep_store-reporter.result in
     let closed = c.close-closed.ensures in
@@ -99,18 +105,24 @@ returns-clause-left g c =
     let ports : map port_of scripts ≡ c.args.self.ports.items = c.in-Some.ensures.ports in
     let ran : AllZip (IsRunOf g.J.BookName.book stored g.R.Read.remaining g.W.Write.contents) scripts ended =
     subst (λ o. IfSome o (λ list. AllZip (IsRunOf g.J.BookName.book stored g.R.Read.remaining g.W.Write.contents) scripts list.items)) c.in-Some-ended.is c.run_threads-store.ensures.ended in
-    served_from g.D.Disk g.J.BookName.book stored g.R.Read.remaining g.W.Write.contents c.args.self.start.version.value c.args.self.ports.items c.args.self.store last scripts ended
+    let start = c.args.self.start.version.value in
+    let flusher = c.args.self.store.flusher in
+    let seated : AreSeated g.J.BookName.book start c.args.self.ports.items scripts = record { sessions = sessions ∙ c.requires.sessions; ports_are = ports } in
+    let there = subst (λ b. AllZip (IsRunOf g.J.BookName.book (store_of g.J.BookName.stored b) g.R.Read.remaining g.W.Write.contents) scripts ended) c.requires.stored ran in
+    let held =
+    runs_held g.D.Disk c.requires.now start g.J.BookName.stored g.J.BookName.book flusher g.R.Read.remaining g.W.Write.contents
+    (λ log number. (c.requires.meant log number).0) scripts ended (begin_there g.J.BookName.book start c.args.self.ports.items scripts seated) there in
+    served_from g.D.Disk g.J.BookName.book g.R.Read.remaining g.W.Write.contents start c.args.self.ports.items c.args.self.store last scripts ended
     (record { sessions = c.parted-sessions.result.finished; closed = c.close-closed.result })
     (record {
       log = c.requires.reporter.1;
       none_told = c.requires.told;
       some = c.requires.ports;
-      seated = record { sessions = sessions ∙ c.requires.sessions; ports_are = ports };
+      seated = seated;
     })
     (record {
-      sessions = ran;
+      sessions = held;
       kept = kept_twice g.D.Disk g.J.BookName.book c.args.self.store after last c.run_threads-store.ensures.store c.keep_store-reporter.ensures;
-      stored_is = c.requires.stored;
     })
     (record {
       version = closed.version;

@@ -1,0 +1,87 @@
+-- What a book may tell durable was held by the store of the version that it began with.
+use Rattle.std.proofs.Common.{◌≡◌, inl, inr, ℕ, ◌≤◌, IsTrue, List, [], ◌∷◌, Option, Some, None, is_some, refl, sym, ap, subst, arith}
+use mathlib.Core.List.{IsPrefix}
+use Rattle.std.specs.List.{AllByRecursion, AllZip}
+use Rattle.std.proofs.lemmas.Bool.{false≢true}
+use Rattle.logbook.specs.Pages.{Book}
+use Rattle.disk_model.specs.declared.disk.Disk.{Ghosts}
+use Rattle.overlay_terms.specs.Histories.{Version, Entry, History, BeginsWith, newest}
+use Rattle.flush_core.specs.declared.flusher.Flusher.{Flusher}
+use Rattle.book_history.specs.Known.{seen}
+use Rattle.book_history.specs.Logs.{history_of, newest_in}
+use Rattle.book_history.proofs.Chains.{begins_with}
+use Rattle.script_form.specs.Transcript.{store_by}
+use Rattle.server_session.specs.Stores.{IsToldOf, store_of}
+use Rattle.store_flushing.specs.Storing.{IsStoreOf, IsStored}
+use Rattle.store_flushing.proofs.Following.{by_run}
+use Rattle.store_flushing.proofs.Storage.{begun}
+use Rattle.session_threads.specs.Running.{IsRunOf}
+use Rattle.session_threads.specs.declared.running.Script.{Script}
+use Rattle.session_threads.specs.declared.running.Ended.{Ended}
+use Rattle.overlay_server.specs.Moments.{HasOnlyNow}
+use Rattle.overlay_server.specs.Serving.{IsHeldOf, IsStoredOf, WasHeld, first_log}
+use Rattle.overlay_server.proofs.Weaker.{session_weaker}
+
+module _ {D : Type 0} (g : Ghosts D) (now : HasOnlyNow g) (start : Version) (stored : List Entry → ℕ → Type 0) where
+  -- a history that goes on from a log goes on from each beginning of it to which the first version's store was followed
+  before : (was log : List Entry) (history : History) → IsPrefix was log → history_of log ≡ history → BeginsWith history (history_of (first_log start))
+      → BeginsWith (history_of was) (history_of (first_log start)) → BeginsWith history (history_of was)
+  before [] log history longer same on first =
+      subst (λ (v : Version). BeginsWith history (record { start = v; entries = [] })) (sym (ap (λ (h : History). h.start) first.1)) on
+  before (x ∷ xs) log history longer same on first =
+      subst (λ (h : History). BeginsWith h (history_of (x ∷ xs))) same (begins_with (x ∷ xs) log (omega arith) longer)
+
+  -- the number that was told as the book began
+  first_held : (old : Flusher D g) (history : History) → BeginsWith history (history_of (first_log start)) → (newest history).durable ≡ history.start.durable
+      → IsStoreOf g (history_of (first_log start)) old → WasHeld g start old history (newest history).durable
+  first_held old history on first is =
+      let h = history_of (first_log start) in
+      let begins : history.start.durable ≡ start.durable = ap (λ (k : History). k.start.durable) on.1 in
+      let reported : start.durable ≤ old.commit.root.version = is.reported in
+      record {
+        log = first_log start;
+        before = on;
+        held = old.commit.root.version;
+        no_less = omega (arith, first, begins, reported);
+        stored = record { store = old; followed = by_run g h h old old (begun g h old (λ c left. now old.commit.disk c is.honest left) is); at = refl };
+      }
+
+  later_held : (old : Flusher D g) (was log : List Entry) (history : History) → BeginsWith history (history_of (first_log start)) → history_of log ≡ history → IsPrefix was log
+      → IsStored g (history_of (first_log start)) old was (newest_in log).durable → WasHeld g start old history (newest history).durable
+  later_held old was log history on same longer is = record {
+    log = was;
+    before = before was log history longer same on is.followed.goes_on;
+    held = (newest_in log).durable;
+    no_less = omega (arith, ap (λ (h : History). (newest h).durable) same);
+    stored = is;
+  }
+
+  was_held : (store : Option (Flusher D g)) → ((log : List Entry) (number : ℕ) → stored log number → IsStoredOf g start store log number) → IsTrue (is_some store)
+      → (history : History) → BeginsWith history (history_of (first_log start)) → IsToldOf stored history → IsHeldOf g start store history
+  was_held None meant there history on told = absurd (false≢true there)
+  was_held (Some old) meant there history on (log, same, inl first) =
+      first_held old history on (subst (λ (h : History). (newest h).durable ≡ h.start.durable) same first)
+  was_held (Some old) meant there history on (log, same, inr may) = λ is.
+      later_held old may.was log history on same may.longer (meant may.was (newest_in log).durable may.holds is)
+
+  -- the sessions of a book, by what its store held
+  pub runs_held : {R W : Type 0} (book : Book) (store : Option (Flusher D g)) (remaining : R → Option (List ℕ)) (contents : W → Option (List ℕ))
+      → ((log : List Entry) (number : ℕ) → stored log number → IsStoredOf g start store log number)
+      → (ss : List (Script R W)) (es : List (Ended R W)) → AllByRecursion (λ (s : Script R W). BeginsWith (seen s.session) (history_of (first_log start))) ss
+      → AllZip (IsRunOf book (store_of stored (is_some store)) remaining contents) ss es
+      → AllZip (IsRunOf book (store_by (IsHeldOf g start store) (is_some store)) remaining contents) ss es
+  runs_held book store remaining contents meant [] [] begin ran = tt
+  runs_held book store remaining contents meant [] (e ∷ es) begin ran = absurd ran
+  runs_held book store remaining contents meant (s ∷ ss) [] begin ran = absurd ran
+  runs_held book store remaining contents meant (s ∷ ss) (e ∷ es) begin ran =
+      let one = ran.0 in (
+        record {
+          of = one.of;
+          same = one.same;
+          begun = one.begun;
+          goes_on = one.goes_on;
+          ran = session_weaker (IsToldOf stored) (IsHeldOf g start store) (is_some store) (history_of (first_log start)) (was_held store meant) s.port.most e.end s.session e.session
+              _ _ _ _ begin.0 one.ran;
+        },
+        runs_held book store remaining contents meant ss es begin.1 ran.1,
+      )

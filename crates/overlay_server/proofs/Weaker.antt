@@ -1,0 +1,103 @@
+-- What is told of a book's store may be told by another measure.
+use Rattle.std.proofs.Common.{ℕ, Bool, IsTrue, List, Option, inl, inr, [], ◌∷◌}
+use Rattle.overlay_terms.specs.Batches.{Batch}
+use Rattle.overlay_terms.specs.Histories.{History, BeginsWith}
+use Rattle.book_history.specs.Known.{Known, seen}
+use Rattle.script_form.specs.declared.session_end.SessionEnd.{SessionEnd}
+use Rattle.script_form.specs.declared.session_end.SessionEnd.TheVariants.{End, Failed}
+use Rattle.script_form.specs.Requests.{Request, nothing, too_long, malformed, put_text, define_text, remove_name, locate, grid, list_layers, edges, wait, verify, sync, batch}
+use Rattle.script_form.specs.Transcript.{store_by, IsAnswered, IsTurnAnswered, IsTranscript}
+use Rattle.script_form.specs.Turns.{Turn, alone, together, cut_off}
+use Rattle.server_session.specs.Session.{IsSharedRun, IsPastLimit, IsReadFault, IsCutOff, IsWriteFault, EndsSo, IsSessionWithin}
+use Rattle.store_flushing.proofs.Histories.{begins_trans}
+
+-- of a book with a store, by the histories that go on from a first one
+module _ (told more : History → Type 0) (there : Bool) (first : History) (weak : IsTrue there → (history : History) → BeginsWith history first → told history → more history) where
+  answered : (session : ℕ) (before after : History) (request : Request) (made : List Batch) (reply : List ℕ) → BeginsWith after first
+      → IsAnswered (store_by told there) session before request after made reply → IsAnswered (store_by more there) session before request after made reply
+  answered session before after nothing made reply on is = is
+  answered session before after too_long made reply on is = is
+  answered session before after malformed made reply on is = is
+  answered session before after (put_text name text) made reply on is = is
+  answered session before after (define_text name text) made reply on is = is
+  answered session before after (remove_name name) made reply on is = is
+  answered session before after (locate name x y w) made reply on is = is
+  answered session before after (grid name x y step nx ny) made reply on is = is
+  answered session before after list_layers made reply on is = is
+  answered session before after (edges name k) made reply on is = is
+  answered session before after (wait name) made reply on is = is
+  answered session before after (verify name k) made reply on is = is
+  answered session before after (batch size) made reply on is = is
+  answered session before after sync made reply on (inl none) = inl none
+  answered session before after sync made reply on (inr (inl gone)) = inr (inl gone)
+  answered session before after sync made reply on (inr (inr (inl (one, is)))) =
+      inr (inr (inl (one, record { nothing_made = is.nothing_made; reached = is.reached; may = weak one after on is.may; told = is.told })))
+  answered session before after sync made reply on (inr (inr (inr is))) = inr (inr (inr is))
+
+  turn_answered : (session : ℕ) (before after : History) (turn : Turn) (made : List Batch) (reply : List ℕ) → BeginsWith after first
+      → IsTurnAnswered (store_by told there) session before turn after made reply → IsTurnAnswered (store_by more there) session before turn after made reply
+  turn_answered session before after (alone request) made reply on (inl memory) = inl memory
+  turn_answered session before after (alone request) made reply on (inr is) = inr (answered session before after request made reply on is)
+  turn_answered session before after (together requests) made reply on is = is
+  turn_answered session before after (cut_off requests) made reply on is = is
+
+  transcript : (session : ℕ) (seen : History) (turns : List Turn) (after : History) (made : List Batch) (replies : List ℕ) → BeginsWith seen first
+      → IsTranscript (store_by told there) session seen turns after made replies → IsTranscript (store_by more there) session seen turns after made replies
+  transcript session seen [] after made replies on is = is
+  transcript session seen (turn ∷ turns) after made replies on (mid, these, others, reply, rest, taken, run, all_made, all_told) =
+      let later = begins_trans first seen mid on taken.goes_on in (
+        mid,
+        these,
+        others,
+        reply,
+        rest,
+        record { goes_on = taken.goes_on; answered = turn_answered session seen mid turn these reply later taken.answered },
+        transcript session mid turns after others rest later run,
+        all_made,
+        all_told,
+      )
+
+  run : (was : Known) (turns : List Turn) (now : Known) (replies : List ℕ) → BeginsWith (seen was) first → IsSharedRun (store_by told there) was turns now replies → IsSharedRun (store_by more there) was turns now replies
+  run was turns now replies on is = record { made = is.made; told = transcript was.session (seen was) turns (seen now) is.made replies on is.told; only = is.only }
+
+  past_limit : (most : ℕ) (was now : Known) (taken line written : List ℕ) → BeginsWith (seen was) first → IsPastLimit most (store_by told there) was now taken line written → IsPastLimit most (store_by more there) was now taken line written
+  past_limit most was now taken line written on is = record { one_more = is.one_more; replies = is.replies; told = run was _ now is.replies on is.told; fault = is.fault }
+
+  read_fault : (most : ℕ) (was now : Known) (taken line written : List ℕ) → BeginsWith (seen was) first → IsReadFault most (store_by told there) was now taken line written → IsReadFault most (store_by more there) was now taken line written
+  read_fault most was now taken line written on is = record { short = is.short; replies = is.replies; told = run was _ now is.replies on is.told; fault = is.fault }
+
+  cut : (was now : Known) (turns : List Turn) (written : List ℕ) → BeginsWith (seen was) first → IsCutOff (store_by told there) was now turns written → IsCutOff (store_by more there) was now turns written
+  cut was now turns written on is = record {
+    before = is.before;
+    last = is.last;
+    later = is.later;
+    read = is.read;
+    between = is.between;
+    stays = is.stays;
+    replies = is.replies;
+    whole = run was is.before is.between is.replies on is.whole;
+    front = is.front;
+    cut = record { reply = is.cut.reply; told = run is.between _ now is.cut.reply (begins_trans first (seen was) (seen is.between) on is.stays.goes_on) is.cut.told; cut = is.cut.cut };
+    written_is = is.written_is;
+  }
+
+  write_fault : (most : ℕ) (was now : Known) (taken : List ℕ) (left : Option (List ℕ)) (written : List ℕ) → BeginsWith (seen was) first
+      → IsWriteFault most (store_by told there) was now taken left written → IsWriteFault most (store_by more there) was now taken left written
+  write_fault most was now taken left written on (inl is) = inl (cut was now _ written on is)
+  write_fault most was now taken left written on (inr (inl (at_end, short, is))) = inr (inl (at_end, short, cut was now _ written on is))
+  write_fault most was now taken left written on (inr (inr (inl (front, short, is)))) = inr (inr (inl (front, short, past_limit most was now taken front written on is)))
+  write_fault most was now taken left written on (inr (inr (inr (front, short, is)))) = inr (inr (inr (front, short, read_fault most was now taken front written on is)))
+
+  ends_so : (most : ℕ) (end : SessionEnd) (was now : Known) (taken : List ℕ) (left : Option (List ℕ)) (written : List ℕ) → BeginsWith (seen was) first
+      → EndsSo most (store_by told there) end was now taken left written → EndsSo most (store_by more there) end was now taken left written
+  ends_so most End was now taken left written on is = record { all_taken = is.all_taken; short = is.short; told = run was _ now written on is.told }
+  ends_so most (Failed code) was now taken left written on (inl (number, is)) = inl (number, past_limit most was now taken _ written on is)
+  ends_so most (Failed code) was now taken left written on (inr (inl (number, is))) = inr (inl (number, read_fault most was now taken _ written on is))
+  ends_so most (Failed code) was now taken left written on (inr (inr (inl (number, is)))) = inr (inr (inl (number, write_fault most was now taken left written on is)))
+  ends_so most (Failed code) was now taken left written on (inr (inr (inr is))) = inr (inr (inr is))
+
+  -- a session
+  pub session_weaker : (most : ℕ) (end : SessionEnd) (was now : Known) (input left output all : Option (List ℕ)) → BeginsWith (seen was) first
+      → IsSessionWithin most (store_by told there) end was now input left output all → IsSessionWithin most (store_by more there) end was now input left output all
+  session_weaker most end was now input left output all on is =
+      record { taken = is.taken; written = is.written; reads = is.reads; writes = is.writes; ended = ends_so most end was now is.taken left is.written on is.ended }
