@@ -24,6 +24,7 @@ from typing import Any
 sys.path.insert(0, str(pathlib.Path(__file__).resolve().parents[2]))
 
 from bench.reference import model  # noqa: E402
+from tools.limits import COLUMNS  # noqa: E402
 
 UNJUDGED = {30, 31, 35, 36, 40, 43, 44}
 
@@ -311,7 +312,7 @@ class Session:
 
         def may_be_pending(version: int) -> bool:
             key = history.key_at(name, version)
-            if key is None or not history.meanings.is_derived(key) or not 0 <= question.numbers[0] < model.COLUMNS:
+            if key is None or not history.meanings.is_derived(key) or not 0 <= question.numbers[0] < COLUMNS:
                 return False
             built = history.built_until(name, version)
             return built is None or (version <= built and self.built.get(name, -1) != built)
