@@ -11,28 +11,37 @@ sent. EDGES and VERIFY may be pending only where no session was told that the la
 since. Refusals of UNJUDGED are counted apart.
 """
 
+from __future__ import annotations
+
 import bisect
 import collections
 import itertools
 import pathlib
 import sys
+from collections.abc import Callable, Iterable, Iterator, Sequence
+from typing import Any
 
 sys.path.insert(0, str(pathlib.Path(__file__).resolve().parents[2]))
 
 from bench.reference import model  # noqa: E402
+from tools.limits import COLUMNS  # noqa: E402
 
 UNJUDGED = {30, 31, 35, 36, 40, 43, 44}
 
 Batch = collections.namedtuple("Batch", "commands")  # commands that make one version, or none
 CHANGES = (model.Put, model.Define, model.Drop, Batch)
 REFUSALS = (model.Refused, model.RefusedAt)
+# What a line or a batch asks: a command, a batch or a question of the model, or why it is refused.
+Request = Any
+# The lines of a reply.
+Reply = list[str]
 
 
 class Wrong(Exception):
     """What is wrong with a reply."""
 
 
-def sections(output, sessions):
+def sections(output: str, sessions: int) -> list[list[Reply]]:
     """The replies of each session, as the program writes them behind each other."""
     lines = output.split("\n")
     if lines.pop() != "":
@@ -45,16 +54,18 @@ def sections(output, sessions):
     return [model.split_replies(lines[start + 1 : end]) for start, end in zip(heads, heads[1:] + [len(lines)])]
 
 
-def read_or_refusal(line):
+def read_or_refusal(line: bytes) -> Request:
+    """What a line asks, or why it is refused."""
     try:
         return model.read_line(line)
     except model.Refused as refusal:
         return refusal
 
 
-def requests_of(lines):
+def requests_of(lines: list[bytes]) -> list[Request]:
     """What lines ask, a reply each: those of a batch are one request."""
-    requests, at = [], 0
+    requests: list[Request] = []
+    at = 0
     while at < len(lines):
         line, at = lines[at], at + 1
         try:
@@ -69,7 +80,7 @@ def requests_of(lines):
     return requests
 
 
-def refusal_of(layers, request):
+def refusal_of(layers: Any, request: Request) -> str | None:
     """The line that refuses a command or a batch over some layers, or None."""
     if not isinstance(request, Batch):
         code = layers.refusal(request)
@@ -81,13 +92,13 @@ def refusal_of(layers, request):
         return refusal.line()
 
 
-def code_of(reply):
+def code_of(reply: Reply) -> int | None:
     """The number of a refusal, None for another reply."""
     words = reply[0].split(" ")
     return int(words[1]) if words[0] == "error" else None
 
 
-def number_of(reply):
+def number_of(reply: Reply) -> int:
     """The word of a reply and its number."""
     word, _, number = reply[0].partition(" ")
     if not number.isdigit():
@@ -98,16 +109,16 @@ def number_of(reply):
 class History:
     """The versions that accepted commands make: version n is at n, version 0 is empty."""
 
-    def __init__(self, meanings):
+    def __init__(self, meanings: Any) -> None:
         self.meanings = meanings
         self.versions = [model.Layers()]
         self.shapes = [0]  # the versions at which names or definitions change
-        self.changes = collections.defaultdict(lambda: [(0, None)])  # by name: version and key
-        self.touched = collections.defaultdict(lambda: [0])  # by name: the versions that may touch its tiles
-        self.keys = {}
-        self.told_built = collections.defaultdict(list)
+        self.changes: dict[str, list[tuple[int, Any]]] = collections.defaultdict(lambda: [(0, None)])  # by name: version and key
+        self.touched: dict[str, list[int]] = collections.defaultdict(lambda: [0])  # by name: the versions that may touch its tiles
+        self.keys: dict[str, Any] = {}
+        self.told_built: dict[str, list[int]] = collections.defaultdict(list)
 
-    def renew(self, name, layers, is_touched):
+    def renew(self, name: str, layers: Any, is_touched: bool) -> None:
         """Takes down the key of a name at the last version."""
         version = len(self.versions) - 1
         content = layers.contents.get(name)
@@ -123,7 +134,7 @@ class History:
         else:
             self.keys[name] = key
 
-    def add(self, request):
+    def add(self, request: Request) -> None:
         """The next version, that of a command or of a batch."""
         line = refusal_of(self.versions[-1], request)
         if line is not None:
@@ -132,7 +143,7 @@ class History:
         for command in request.commands if isinstance(request, Batch) else [request]:
             self.step(command)
 
-    def step(self, command):
+    def step(self, command: Request) -> None:
         """Takes a command into the last version."""
         before = self.versions[-1]
         layers = self.versions[-1] = before.after(command)
@@ -143,7 +154,7 @@ class History:
         self.renew(command.name, layers, is_other)
         self.renew_those_behind(command.name, layers, is_other)
 
-    def renew_those_behind(self, changed, layers, is_other):
+    def renew_those_behind(self, changed: str, layers: Any, is_other: bool) -> None:
         """The keys of all layers that reach one that was changed."""
         reaching = {changed}
         for name in layers.names:
@@ -153,7 +164,7 @@ class History:
                 if name != changed:
                     self.renew(name, layers, is_other)
 
-    def cut(self, last):
+    def cut(self, last: int) -> None:
         """Takes back all versions behind one."""
         del self.versions[last + 1 :], self.shapes[bisect.bisect_right(self.shapes, last) :]
         for name, changes in self.changes.items():
@@ -165,14 +176,16 @@ class History:
         for touched in self.touched.values():
             del touched[bisect.bisect_right(touched, last) :]
 
-    def last(self):
+    def last(self) -> int:
+        """The number of the last version."""
         return len(self.versions) - 1
 
-    def key_at(self, name, version):
+    def key_at(self, name: str, version: int) -> Any:
+        """The key of a name at a version, None where no layer has it."""
         changes = self.changes[name]
         return changes[bisect.bisect_right(changes, version, key=lambda change: change[0]) - 1][1]
 
-    def keys_between(self, name, low, high):
+    def keys_between(self, name: str, low: int, high: int) -> Iterator[tuple[int, Any]]:
         """Each key that a name has from one version to another, with the first version at which it has it there."""
         changes = self.changes[name]
         place = bisect.bisect_right(changes, low, key=lambda change: change[0]) - 1
@@ -180,7 +193,7 @@ class History:
             yield max(low, changes[place][0]), changes[place][1]
             place += 1
 
-    def shapes_between(self, low, high):
+    def shapes_between(self, low: int, high: int) -> Iterator[int]:
         """The first versions of each run in which names and definitions stay as they are."""
         yield low
         place = bisect.bisect_right(self.shapes, low)
@@ -188,7 +201,7 @@ class History:
             yield self.shapes[place]
             place += 1
 
-    def built_until(self, name, version):
+    def built_until(self, name: str, version: int) -> int | None:
         """The first number at which the layer was told built since it was touched last, or None."""
         touched = self.touched[name]
         place = bisect.bisect_right(touched, version)
@@ -198,7 +211,7 @@ class History:
         first = bisect.bisect_left(told, start)
         return told[first] if first < len(told) and told[first] < end else None
 
-    def runs_between(self, name, low, high):
+    def runs_between(self, name: str, low: int, high: int) -> Iterator[int]:
         """The first versions of each run in which no tile of a layer is touched."""
         yield low
         touched = self.touched[name]
@@ -211,25 +224,26 @@ class History:
 class Session:
     """One session: what it asked and was answered, and the least version that it has seen."""
 
-    def __init__(self, history, asked, replies, seen, has_store):
+    def __init__(self, history: History, asked: list[Request], replies: list[Reply], seen: int, has_store: bool) -> None:
         self.history = history
         self.has_store = has_store
         self.asked = asked
         self.replies = replies
         self.seen = seen
-        self.built = {}  # by layer: the number of this session's last `built`
+        self.built: dict[str, int] = {}  # by layer: the number of this session's last `built`
         self.bounds = self.upper_bounds()
 
-    def upper_bounds(self):
+    def upper_bounds(self) -> list[int]:
         """For each reply the newest version at which it may stand: one below the session's next accepted command."""
-        bounds, bound = [], self.history.last()
+        bounds: list[int] = []
+        bound = self.history.last()
         for reply in reversed(self.replies):
             bounds.append(bound)
             if reply[0].startswith("ok "):
                 bound = number_of(reply) - 1
         return bounds[::-1]
 
-    def first(self, versions, test, what):
+    def first(self, versions: Iterable[int], test: Callable[[int], bool], what: str) -> None:
         """Goes on to the first of some versions at which a test holds."""
         for version in versions:
             if test(version):
@@ -237,7 +251,8 @@ class Session:
                 return
         raise Wrong(what)
 
-    def judge_command(self, command, reply, high):
+    def judge_command(self, command: Request, reply: Reply, high: int) -> None:
+        """A command or a batch: accepted under a number, or refused as a version refuses it."""
         if reply[0].startswith("ok "):
             number = number_of(reply)
             if len(reply) != 1 or number <= self.seen:
@@ -248,18 +263,20 @@ class Session:
         tries = self.history.shapes_between(self.seen, high)
         self.first(tries, lambda v: [refusal_of(versions[v], command)] == reply, f"no version to {high} refuses it so")
 
-    def exact(self, reply, refusal):
+    def exact(self, reply: Reply, refusal: Request) -> None:
+        """Looks that a reply is this refusal."""
         if reply != [refusal.line()]:
             raise Wrong(f"not `{refusal.line()}`")
 
-    def judge_number(self, word, reply, high):
+    def judge_number(self, word: str, reply: Reply, high: int) -> None:
         """`built N` or `durable N`."""
         number = number_of(reply)
         if not reply[0].startswith(word + " ") or len(reply) != 1 or not self.seen <= number <= high:
             raise Wrong(f"not {word} of a version from {self.seen} to {high}")
         self.seen = number
 
-    def judge_wait(self, name, reply, high):
+    def judge_wait(self, name: str, reply: Reply, high: int) -> None:
+        """A WAIT: built, or refused as a version refuses it."""
         meanings = self.history.meanings
         code = code_of(reply)
         if code is None:
@@ -275,11 +292,12 @@ class Session:
         fits = [v for v, key in tries if model.answer_or_refusal(meanings, question, key) == reply]
         self.first(fits, lambda v: True, f"no version to {high} refuses it so")
 
-    def judge_layers(self, reply, high):
+    def judge_layers(self, reply: Reply, high: int) -> None:
+        """LAYERS: those of a version."""
         versions = self.history.versions
         first = f"layers {len(reply) - 1}"
 
-        def is_list(version):
+        def is_list(version: int) -> bool:
             layers = versions[version]
             return len(layers.names) == len(reply) - 1 and layers.lines() == reply[1:]
 
@@ -287,14 +305,14 @@ class Session:
             raise Wrong(f"not `{first}`")
         self.first(range(self.seen, high + 1), is_list, f"no version from {self.seen} to {high} has these layers")
 
-    def judge_pending(self, question, reply, high):
+    def judge_pending(self, question: Request, reply: Reply, high: int) -> None:
         """A refusal of EDGES or VERIFY as pending."""
         self.exact(reply, model.Refused(21))
         history, name = self.history, question.name
 
-        def may_be_pending(version):
+        def may_be_pending(version: int) -> bool:
             key = history.key_at(name, version)
-            if key is None or not history.meanings.is_derived(key) or not 0 <= question.numbers[0] < model.COLUMNS:
+            if key is None or not history.meanings.is_derived(key) or not 0 <= question.numbers[0] < COLUMNS:
                 return False
             built = history.built_until(name, version)
             return built is None or (version <= built and self.built.get(name, -1) != built)
@@ -302,13 +320,14 @@ class Session:
         tries = history.runs_between(name, self.seen, high)
         self.first(tries, may_be_pending, f"built, and not touched to {high}")
 
-    def judge_question(self, question, reply, high):
+    def judge_question(self, question: Request, reply: Reply, high: int) -> None:
+        """Any other question: answered as at a version."""
         meanings = self.history.meanings
         tries = self.history.keys_between(question.name, self.seen, high)
         fits = (version for version, key in tries if model.answer_or_refusal(meanings, question, key) == reply)
         self.first(fits, lambda v: True, f"no version from {self.seen} to {high} answers so")
 
-    def judge(self, place):
+    def judge(self, place: int) -> bool:
         """Judges a reply; whether it could be judged."""
         asked, reply, high = self.asked[place], self.replies[place], self.bounds[place]
         if isinstance(asked, REFUSALS):
@@ -335,22 +354,22 @@ class Session:
 class Judged:
     """What came of judging: the history, counts, and the lines that tell what is wrong."""
 
-    def __init__(self, history):
+    def __init__(self, history: History) -> None:
         self.history = history
-        self.histories = []  # all by which the replies are right, where sessions were cut off
-        self.replies = collections.Counter()
-        self.unjudged = collections.Counter()
-        self.outside = []  # the replies that can't be judged: session, place and number of the refusal
-        self.sessions = []
-        self.wrong = []
-        self.seen = []
+        self.histories: list[History] = []  # all by which the replies are right, where sessions were cut off
+        self.replies: collections.Counter[str] = collections.Counter()
+        self.unjudged: collections.Counter[str] = collections.Counter()
+        self.outside: list[tuple[Session, int, int]] = []  # the replies that can't be judged: session, place and number of the refusal
+        self.sessions: list[Session] = []
+        self.wrong: list[str] = []
+        self.seen: list[int] = []
         self.durable = 0
         self.turns = 0  # how often the next accepted command is of another session
 
 
-def accepted_of(asked, replies):
+def accepted_of(asked: list[list[Request]], replies: list[list[Reply]]) -> dict[int, Request]:
     """The accepted commands of all sessions by their numbers."""
-    accepted = {}
+    accepted: dict[int, Request] = {}
     for requests, answers in zip(asked, replies):
         for request, reply in zip(requests, answers):
             if reply[0].startswith("ok "):
@@ -363,7 +382,7 @@ def accepted_of(asked, replies):
     return accepted
 
 
-def history_of(accepted, meanings):
+def history_of(accepted: dict[int, Request], meanings: Any) -> History:
     """The history of accepted commands, given by their numbers."""
     history = History(meanings)
     for number in range(1, len(accepted) + 1):
@@ -373,16 +392,16 @@ def history_of(accepted, meanings):
     return history
 
 
-def turns_of(replies):
+def turns_of(replies: list[list[Reply]]) -> int:
     """How often the accepted commands go on with another session."""
-    owners = {}
+    owners: dict[int, int] = {}
     for session, answers in enumerate(replies):
         owners.update((number_of(reply), session) for reply in answers if reply[0].startswith("ok "))
     order = [owners[number] for number in sorted(owners)]
     return sum(before != after for before, after in zip(order, order[1:]))
 
 
-def cut_off(asked, replies):
+def cut_off(asked: list[list[Request]], replies: list[list[Reply]]) -> list[Request]:
     """The commands that may have been accepted though their sessions were cut off before the replies."""
     return [
         requests[len(answers)]
@@ -391,11 +410,12 @@ def cut_off(asked, replies):
     ]
 
 
-def histories_with(accepted, unanswered):
+def histories_with(accepted: dict[int, Request], unanswered: list[Request]) -> list[History]:
     """The histories of accepted commands, with those of the unanswered ones that fill its gaps, and all others that fit
     at its end, in any order: nobody was told which came first."""
     missing = [number for number in range(1, max(accepted, default=0)) if number not in accepted]
-    histories, first = [], None
+    histories: list[History] = []
+    first: Wrong | None = None
     for order in itertools.permutations(unanswered):
         filled = accepted | dict(zip(missing, order))
         try:
@@ -407,12 +427,13 @@ def histories_with(accepted, unanswered):
             if refusal_of(history.versions[-1], command) is None:
                 history.add(command)
         histories.append(history)
-    if not histories:
+    if first and not histories:
         raise first
     return histories
 
 
-def judge(scripts, output, before=(), has_store=True, is_cut=False):
+def judge(scripts: list[bytes], output: str, before: Sequence[Request] = (), has_store: bool = True,
+          is_cut: bool = False) -> Judged:
     """Judges the output of the program for these scripts, over the book that the accepted commands `before` left.
 
     Where is_cut, sessions may have ended before all their lines were answered.
@@ -434,7 +455,8 @@ def judge(scripts, output, before=(), has_store=True, is_cut=False):
     return judged
 
 
-def judged_by(history, asked, replies, before, has_store):
+def judged_by(history: History, asked: list[list[Request]], replies: list[list[Reply]], before: Sequence[Request],
+              has_store: bool) -> Judged:
     """What comes of judging all sessions by a history."""
     judged = Judged(history)
     judged.turns = turns_of(replies)
@@ -446,7 +468,7 @@ def judged_by(history, asked, replies, before, has_store):
     return judged
 
 
-def take_down_built(history, asked, replies):
+def take_down_built(history: History, asked: list[list[Request]], replies: list[list[Reply]]) -> None:
     """All numbers at which layers were told built."""
     for requests, answers in zip(asked, replies):
         for request, reply in zip(requests, answers):
@@ -456,16 +478,18 @@ def take_down_built(history, asked, replies):
         told.sort()
 
 
-def judge_session(session, number, judged):
+def judge_session(session: Session, number: int, judged: Judged) -> None:
+    """Judges the replies of a session."""
     for place, (request, reply) in enumerate(zip(session.asked, session.replies)):
-        kind = reply[0].split(" ")[0] if code_of(reply) is None else f"error {code_of(reply)}"
+        code = code_of(reply)
+        kind = reply[0].split(" ")[0] if code is None else f"error {code}"
         judged.replies[kind] += 1
         if kind == "durable":
             judged.durable = max(judged.durable, number_of(reply))
         try:
-            if not session.judge(place):
+            if not session.judge(place) and code is not None:
                 judged.unjudged[kind] += 1
-                judged.outside.append((session, place, code_of(reply)))
+                judged.outside.append((session, place, code))
         except Wrong as fault:
             asked = request.line() if isinstance(request, REFUSALS) else request
             judged.wrong.append(f"script {number}, reply {place + 1}: {reply[:3]}: {fault}; asked {str(asked)[:200]}")
@@ -527,7 +551,7 @@ CUT_OFF = [
 ]
 
 
-def found_wrong(scripts, output, is_cut=False):
+def found_wrong(scripts: list[bytes], output: str, is_cut: bool = False) -> int | None:
     """How many replies are wrong, or None where the output is as a whole."""
     try:
         return len(judge(scripts, output, is_cut=is_cut).wrong)
@@ -535,7 +559,7 @@ def found_wrong(scripts, output, is_cut=False):
         return None
 
 
-def test():
+def test() -> int:
     """Judges the outputs above, and gives the exit status."""
     wrong = 0
     for scripts, output, count in CUT_OFF:
@@ -552,7 +576,8 @@ def test():
     return 1 if wrong else 0
 
 
-def main():
+def main() -> int:
+    """Judges an output, or tests the judge."""
     words = sys.argv[1:]
     if words == ["--test"]:
         return test()

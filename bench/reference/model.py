@@ -12,13 +12,16 @@ All is by counting over all segments, in whole numbers and fractions. What was o
 kept under a key.
 """
 
-import collections
+from __future__ import annotations
+
 import fractions
 import functools
 import math
 import pathlib
 import re
 import sys
+from collections.abc import Callable, Iterable, Sequence, Set
+from typing import Any, NamedTuple
 
 sys.path.insert(0, str(pathlib.Path(__file__).resolve().parents[2]))
 
@@ -37,33 +40,68 @@ TEXTS = {
     45: "grid size", 46: "no store", 47: "read limit", 48: "read", 49: "write", 50: "words",
 }
 
-Put = collections.namedtuple("Put", "name rings")
-Define = collections.namedtuple("Define", "name tree")
-Drop = collections.namedtuple("Drop", "name")
-Question = collections.namedtuple("Question", "word name numbers")  # every other line
+Whole = tuple[int, int]
+Ring = tuple[Whole, ...]
+Rings = tuple[Ring, ...]
+# A name, or an operator with its two operands.
+Tree = Any
+# The left end and the right one of a segment.
+Segment = tuple[int, ...]
+Point = tuple[fractions.Fraction, fractions.Fraction]
+Piece = tuple[Point, Point]
+
+
+class Put(NamedTuple):
+    """A base layer."""
+
+    name: str
+    rings: Rings
+
+
+class Define(NamedTuple):
+    """A derived layer."""
+
+    name: str
+    tree: Tree
+
+
+class Drop(NamedTuple):
+    """A layer that is to go."""
+
+    name: str
+
+
+class Question(NamedTuple):
+    """Every other line; of one without a layer the name is None."""
+
+    word: str
+    name: Any
+    numbers: tuple[int, ...]
 
 
 class Refused(Exception):
     """A refusal, with the number that it carries or None."""
 
-    def __init__(self, code, carried=None):
+    def __init__(self, code: int, carried: int | None = None) -> None:
         super().__init__(code)
         self.code = code
         self.carried = carried
 
-    def line(self):
+    def line(self) -> str:
+        """The reply."""
         return f"error {self.code} " + TEXTS[self.code].replace("#", str(self.carried))
 
 
 class RefusedAt(Exception):
     """A refusal of a batch for one of its commands."""
 
-    def __init__(self, place, why):
+    def __init__(self, place: int, why: Refused) -> None:
         super().__init__(place)
         self.place = place
         self.why = why
 
-    def line(self):
+    def line(self) -> str:
+        """The reply."""
         return f"refused {self.place} {self.why.line()}"
 
 
@@ -77,12 +115,12 @@ WKT_NUMBER = re.compile(rb"[+-]?(?:[0-9]+(?:\.[0-9]*)?|\.[0-9]+)")
 class WktReader:
     """Reads a text from left to right and stops at the first fault."""
 
-    def __init__(self, text):
+    def __init__(self, text: bytes) -> None:
         self.text = text
         self.at = 0
-        self.rings = []
+        self.rings: list[Ring] = []
 
-    def peek(self):
+    def peek(self) -> bytes | None:
         """The next token, None at the end; a byte that begins no token is a token that can stand nowhere."""
         while self.at < len(self.text) and self.text[self.at] in WKT_SPACE:
             self.at += 1
@@ -91,7 +129,7 @@ class WktReader:
         found = WKT_TOKEN.match(self.text, self.at)
         return found.group() if found else b"\0"
 
-    def take(self, *allowed):
+    def take(self, *allowed: bytes) -> bytes:
         """The next token in upper case, which has to be one of these."""
         token = self.peek()
         if token is None or token.upper() not in allowed:
@@ -99,7 +137,8 @@ class WktReader:
         self.at += len(token)
         return token.upper()
 
-    def number(self):
+    def number(self) -> int:
+        """A coordinate."""
         token = self.peek()
         if token is None or not WKT_NUMBER.fullmatch(token):
             raise Refused(1, self.at)
@@ -112,23 +151,26 @@ class WktReader:
         self.at += len(token)
         return value
 
-    def listed(self, read):
+    def listed(self, read: Callable[[], None]) -> None:
         """Members between commas, the opening bracket being taken."""
         read()
         while self.take(b",", b")") == b",":
             read()
 
-    def polygon(self):
+    def polygon(self) -> None:
+        """A polygon: none, or its rings."""
         if self.take(b"EMPTY", b"(") == b"(":
             self.listed(self.ring)
 
-    def ring(self):
+    def ring(self) -> None:
+        """A ring, its opening bracket too."""
         self.take(b"(")
-        ring = []
+        ring: list[Whole] = []
         self.listed(lambda: ring.append((self.number(), self.number())))
         self.rings.append(tuple(ring))
 
-    def whole(self):
+    def whole(self) -> Rings:
+        """The rings of the whole text."""
         if self.take(b"POLYGON", b"MULTIPOLYGON") == b"POLYGON":
             self.polygon()
         elif self.take(b"EMPTY", b"(") == b"(":
@@ -139,7 +181,8 @@ class WktReader:
 
 
 @functools.lru_cache(maxsize=100000)
-def wkt_or_refusal(text):
+def wkt_or_refusal(text: bytes) -> Rings | Refused:
+    """The rings of a text, or why it is refused."""
     try:
         rings = WktReader(text).whole()
         for place, ring in enumerate(rings):
@@ -154,7 +197,7 @@ def wkt_or_refusal(text):
         return refusal
 
 
-def read_wkt(text):
+def read_wkt(text: bytes) -> Rings:
     """The rings of a text, each a tuple of points."""
     read = wkt_or_refusal(text)
     if isinstance(read, Refused):
@@ -163,7 +206,8 @@ def read_wkt(text):
 
 
 @functools.lru_cache(maxsize=100000)
-def wkt_of(rings):
+def wkt_of(rings: Rings) -> str:
+    """Rings as LAYERS writes them."""
     if not rings:
         return "MULTIPOLYGON EMPTY"
     members = ("((" + ", ".join(f"{x} {y}" for x, y in ring) + "))" for ring in rings)
@@ -175,15 +219,17 @@ def wkt_of(rings):
 NAME = re.compile(rb"[A-Za-z][A-Za-z0-9_]*")
 
 
-def read_name(text):
+def read_name(text: bytes) -> str:
+    """A name, if it is one."""
     if len(text) > NAME_MAX or not NAME.fullmatch(text):
         raise Refused(9)
     return text.decode()
 
 
-def tokens_of(text):
+def tokens_of(text: bytes) -> list[str]:
     """The tokens of an expression, each of which may stand where it does."""
-    tokens, at, depth, operand = [], 0, 0, True
+    tokens: list[str] = []
+    at, depth, operand = 0, 0, True
     while True:
         while at < len(text) and text[at] in WKT_SPACE:
             at += 1
@@ -206,10 +252,10 @@ def tokens_of(text):
     return tokens
 
 
-def tree_of(tokens):
+def tree_of(tokens: list[str]) -> Tree:
     """The tree of tokens that make an expression; takes them away."""
 
-    def atom():
+    def atom() -> Tree:
         token = tokens.pop(0)
         if token != "(":
             return token
@@ -217,13 +263,13 @@ def tree_of(tokens):
         tokens.pop(0)
         return inner
 
-    def product():
+    def product() -> Tree:
         tree = atom()
         while tokens and tokens[0] == "&":
             tree = (tokens.pop(0), tree, atom())
         return tree
 
-    def chain():
+    def chain() -> Tree:
         tree = product()
         while tokens and tokens[0] in "|-^":
             tree = (tokens.pop(0), tree, product())
@@ -232,16 +278,18 @@ def tree_of(tokens):
     return chain()
 
 
-def read_expression(text):
+def read_expression(text: bytes) -> Tree:
+    """The tree of a text."""
     return tree_of(tokens_of(text))
 
 
-def bracketed(tree, needs):
+def bracketed(tree: Tree, needs: bool) -> str:
+    """A tree in brackets where it needs them."""
     return "(" + spelled(tree) + ")" if needs else spelled(tree)
 
 
 @functools.lru_cache(maxsize=100000)
-def spelled(tree):
+def spelled(tree: Tree) -> str:
     """The one spelling of a tree."""
     if isinstance(tree, str):
         return tree
@@ -252,7 +300,7 @@ def spelled(tree):
 
 
 @functools.lru_cache(maxsize=100000)
-def leaves(tree):
+def leaves(tree: Tree) -> tuple[str, ...]:
     """The names of a tree from left to right."""
     return (tree,) if isinstance(tree, str) else leaves(tree[1]) + leaves(tree[2])
 
@@ -266,32 +314,35 @@ QUESTIONS = {
 }
 
 
-def lines_of(script):
+def lines_of(script: bytes) -> list[bytes]:
     """The lines of a script that have a reply."""
     lines = script.split(b"\n")
     lines = [line[:-1] if line.endswith(b"\r") else line for line in lines[:-1]] + lines[-1:]
     return [line for line in lines if is_answered(line)]
 
 
-def is_answered(line):
+def is_answered(line: bytes) -> bool:
+    """Whether a line has a reply."""
     return len(line) > LINE_MAX or not (line.startswith(b"#") or not line.strip(b" \t"))
 
 
-def put_of(rest):
+def put_of(rest: bytes) -> Put:
+    """A PUT, by what follows its word."""
     found = re.fullmatch(rb"([^ \t]+)[ \t]+([^ \t].*)", rest, re.DOTALL)
     if not found:
         raise Refused(41)
     return Put(read_name(found.group(1)), read_wkt(found.group(2)))
 
 
-def define_of(rest):
+def define_of(rest: bytes) -> Define:
+    """A DEFINE, by what follows its word."""
     found = re.fullmatch(rb"([^ \t=]+)[ \t]*=(.*)", rest, re.DOTALL)
     if not found:
         raise Refused(41)
     return Define(read_name(found.group(1)), read_expression(found.group(2).lstrip(WKT_SPACE)))
 
 
-def check_numbers(word, numbers):
+def check_numbers(word: str, numbers: Sequence[int]) -> None:
     """The refusals that come before the book is asked."""
     if word == "LOCATE" and not is_in_plane(*numbers):
         raise Refused(20)
@@ -301,7 +352,8 @@ def check_numbers(word, numbers):
             raise Refused(45)
 
 
-def question_of(word, words):
+def question_of(word: bytes, words: list[bytes]) -> Question:
+    """A question, by its word and those after it."""
     counts = QUESTIONS[word]
     if counts is None:
         if words:
@@ -319,11 +371,12 @@ def question_of(word, words):
     return question
 
 
-def read_line(line):
+def read_line(line: bytes) -> Any:
     """What a line asks; refuses it for reasons of its own."""
     if len(line) > LINE_MAX:
         raise Refused(42)
     start = re.match(rb"[ \t]*([^ \t]*)[ \t]*", line)
+    assert start
     word, rest = start.group(1), line[start.end() :]
     if word == b"PUT":
         return put_of(rest)
@@ -339,7 +392,7 @@ def read_line(line):
     return question_of(word, words)
 
 
-def batch_size(line):
+def batch_size(line: bytes) -> int | None:
     """How many lines belong to a BATCH line; none for another line."""
     words = re.findall(rb"[^ \t]+", line)
     if len(line) > LINE_MAX or words[0] != b"BATCH":
@@ -351,14 +404,14 @@ def batch_size(line):
     return int(words[1])
 
 
-def command_of(line):
+def command_of(line: bytes) -> Any:
     """The command of a line of a batch."""
     if len(line) <= LINE_MAX and re.findall(rb"[^ \t]+", line)[0] not in (b"PUT", b"DEFINE", b"DROP"):
         raise Refused(41)
     return read_line(line)
 
 
-def commands_of(lines, size):
+def commands_of(lines: list[bytes], size: int) -> list[Any]:
     """The commands of as many lines as belong to a batch, or of those that are left of a script."""
     if len(lines) < size:
         raise Refused(41)
@@ -377,17 +430,19 @@ def commands_of(lines, size):
 class Layers:
     """An ordered list of layers, never changed: names, and for each its rings or its tree."""
 
-    def __init__(self, names=(), contents=None):
+    def __init__(self, names: tuple[str, ...] = (), contents: dict[str, Any] | None = None) -> None:
         self.names = names
         self.contents = contents or {}
 
-    def place(self, name):
+    def place(self, name: str) -> int:
+        """The place of a layer, or the one after all."""
         return self.names.index(name) if name in self.contents else len(self.names)
 
-    def is_derived(self, name):
+    def is_derived(self, name: str) -> bool:
+        """Whether a derived layer has the name."""
         return name in self.contents and is_tree(self.contents[name])
 
-    def refusal(self, command):
+    def refusal(self, command: Any) -> int | None:
         """The number of the first reason against a command, or None."""
         name = command.name
         stands = name in self.contents
@@ -406,7 +461,7 @@ class Layers:
                     return 13
         return 15 if not stands and len(self.names) == LAYERS_MAX else None
 
-    def after(self, command):
+    def after(self, command: Any) -> Layers:
         """The layers after a command that isn't refused."""
         contents = dict(self.contents)
         if isinstance(command, Drop):
@@ -415,11 +470,12 @@ class Layers:
         contents[command.name] = command[1]
         return Layers(self.names if command.name in self.contents else self.names + (command.name,), contents)
 
-    def lines(self):
+    def lines(self) -> list[str]:
+        """The lines of LAYERS."""
         return [layer_line(name, self.contents[name]) for name in self.names]
 
 
-def after_all(layers, commands):
+def after_all(layers: Layers, commands: Sequence[Any]) -> Layers:
     """The layers after commands; refused for the first that is refused after those before it."""
     for place, command in enumerate(commands):
         code = layers.refusal(command)
@@ -429,67 +485,74 @@ def after_all(layers, commands):
     return layers
 
 
-def is_tree(content):
+def is_tree(content: Any) -> bool:
     """Whether a content is a tree: a name, or a triple that begins with an operator."""
     return isinstance(content, str) or (len(content) == 3 and isinstance(content[0], str))
 
 
 @functools.lru_cache(maxsize=100000)
-def layer_line(name, content):
+def layer_line(name: str, content: Any) -> str:
+    """A layer as LAYERS writes it."""
     return f"{name} = {spelled(content)}" if is_tree(content) else f"{name} {wkt_of(content)}"
 
 
 # ---- points and tiles
 
 
-def is_in_plane(x, y, w):
+def is_in_plane(x: int, y: int, w: int) -> bool:
+    """Whether a point that is asked is one."""
     return 1 <= w <= WEIGHT_MAX and abs(x) <= COORDINATE_MAX * w and abs(y) <= COORDINATE_MAX * w
 
 
-def border(column):
+def border(column: int) -> int:
+    """Where a column begins."""
     return COLUMN_WIDTH * column - COORDINATE_MAX
 
 
 @functools.lru_cache(maxsize=100000)
-def segments_of(rings):
+def segments_of(rings: Rings) -> tuple[Segment, ...]:
     """The segments of rings, left end first, each with its whole numbers (lx, ly, rx, ry)."""
     steps = [step for ring in rings for step in zip(ring, ring[1:]) if step[0] != step[1]]
     return tuple(min(step) + max(step) for step in steps)
 
 
-def side(segment, x, y, w):
+def side(segment: Segment, x: int, y: int, w: int) -> int:
     """Above 0 where the point is above the segment's line, 0 on it."""
     lx, ly, rx, ry = segment
     return (rx - lx) * (y - ly * w) - (ry - ly) * (x - lx * w)
 
 
-def is_on(segment, x, y, w):
+def is_on(segment: Segment, x: int, y: int, w: int) -> bool:
+    """Whether a segment holds a point."""
     lx, ly, rx, ry = segment
     if not lx * w <= x <= rx * w or side(segment, x, y, w) != 0:
         return False
     return min(ly, ry) * w <= y <= max(ly, ry) * w
 
 
-def is_below(segment, x, y, w):
+def is_below(segment: Segment, x: int, y: int, w: int) -> bool:
+    """Whether a segment passes under a point; its right end does not count."""
     return segment[0] * w <= x < segment[2] * w and side(segment, x, y, w) > 0
 
 
-def count(test, segments, x, y, w):
+def count(test: Callable[..., bool], segments: Iterable[Segment], x: int, y: int, w: int) -> int:
+    """How many segments pass a test at a point."""
     return sum(test(segment, x, y, w) for segment in segments)
 
 
-def whole(point):
+def whole(point: Point) -> tuple[int, int, int]:
     """The whole numbers x, y and w of a pair of fractions, without a common divisor."""
     w = math.lcm(point[0].denominator, point[1].denominator)
     return (int(point[0] * w), int(point[1] * w), w)
 
 
-def along(segment, part):
+def along(segment: Segment, part: fractions.Fraction) -> Point:
+    """The point that far from the left end to the right one."""
     lx, ly, rx, ry = segment
     return (lx + (rx - lx) * part, ly + (ry - ly) * part)
 
 
-def crossing(first, second):
+def crossing(first: Segment, second: Segment) -> Point | None:
     """The one point that two segments that are not parallel have in common, or None."""
     lx, ly, rx, ry = first
     kx, ky, sx, sy = second
@@ -507,7 +570,7 @@ def crossing(first, second):
     return along(first, fractions.Fraction(part, turn))
 
 
-def own_nodes(segment, column):
+def own_nodes(segment: Segment, column: int) -> set[Point]:
     """The ends of a segment, and where it meets the borders of a column."""
     lx, ly, rx, ry = segment
     nodes = {(fractions.Fraction(lx), fractions.Fraction(ly)), (fractions.Fraction(rx), fractions.Fraction(ry))}
@@ -517,7 +580,7 @@ def own_nodes(segment, column):
     return nodes
 
 
-def nodes_of(segments, column):
+def nodes_of(segments: Sequence[Segment], column: int) -> list[set[Point]]:
     """The nodes on each segment."""
     nodes = [own_nodes(segment, column) for segment in segments]
     for i, first in enumerate(segments):
@@ -531,7 +594,7 @@ def nodes_of(segments, column):
     return nodes
 
 
-def add_ends(nodes, segments, i, j):
+def add_ends(nodes: list[set[Point]], segments: Sequence[Segment], i: int, j: int) -> None:
     """The ends of each of two parallel segments that are on the other one."""
     for at, other in ((i, j), (j, i)):
         for x, y in (segments[other][:2], segments[other][2:]):
@@ -539,10 +602,10 @@ def add_ends(nodes, segments, i, j):
                 nodes[at].add((fractions.Fraction(x), fractions.Fraction(y)))
 
 
-def pieces_of(segments, column):
+def pieces_of(segments: Sequence[Segment], column: int) -> list[Piece]:
     """The pieces that begin in a column, each once, in order."""
     left, right = border(column), border(column + 1)
-    pieces = set()
+    pieces: set[Piece] = set()
     for nodes in nodes_of(segments, column):
         inside = sorted(node for node in nodes if left <= node[0] <= right)
         pieces.update(piece for piece in zip(inside, inside[1:]) if piece[0][0] < right)
@@ -552,34 +615,37 @@ def pieces_of(segments, column):
 class Meanings:
     """What layers mean, by keys."""
 
-    def __init__(self):
-        self.keys = {}
-        self.meanings = []
-        self.places = {}
-        self.reaches = {}
-        self.tiles = {}
+    def __init__(self) -> None:
+        self.keys: dict[Any, int] = {}
+        self.meanings: list[Any] = []
+        self.places: dict[tuple[int, int, int, int], str] = {}
+        self.reaches: dict[int, frozenset[int]] = {}
+        self.tiles: dict[tuple[int, int], list[Piece] | None] = {}
 
-    def key_of(self, meaning):
+    def key_of(self, meaning: Any) -> int:
+        """The key of a meaning, a new one where it has none."""
         if meaning not in self.keys:
             self.keys[meaning] = len(self.meanings)
             self.meanings.append(meaning)
         return self.keys[meaning]
 
-    def key(self, content, keys):
+    def key(self, content: Any, keys: dict[str, int]) -> int:
         """The key of a layer's content, with the keys of the layers that it names."""
         if not is_tree(content):
             return self.key_of(("base", content))
         return self.key_of(("derived", self.keyed(content, keys)))
 
-    def keyed(self, tree, keys):
+    def keyed(self, tree: Tree, keys: dict[str, int]) -> Any:
+        """A tree with keys in place of names."""
         if isinstance(tree, str):
             return keys[tree]
         return (tree[0], self.keyed(tree[1], keys), self.keyed(tree[2], keys))
 
-    def is_derived(self, key):
-        return self.meanings[key][0] == "derived"
+    def is_derived(self, key: int) -> bool:
+        """Whether a key is of a derived layer."""
+        return bool(self.meanings[key][0] == "derived")
 
-    def reach(self, key):
+    def reach(self, key: int) -> frozenset[int]:
         """The keys of the base layers in reach."""
         if key not in self.reaches:
             kind, content = self.meanings[key]
@@ -587,7 +653,7 @@ class Meanings:
             self.reaches[key] = frozenset(found)
         return self.reaches[key]
 
-    def value(self, key, insides, known=None):
+    def value(self, key: int, insides: Set[int], known: dict[int, bool] | None = None) -> bool:
         """Whether a layer has a point, from the base layers that have it; what was worked out is known."""
         known = {} if known is None else known
         if key not in known:
@@ -595,13 +661,14 @@ class Meanings:
             known[key] = key in insides if kind == "base" else self.tree_value(content, insides, known)
         return known[key]
 
-    def tree_value(self, tree, insides, known):
+    def tree_value(self, tree: Any, insides: Set[int], known: dict[int, bool]) -> bool:
+        """The same of a tree of keys."""
         if isinstance(tree, int):
             return self.value(tree, insides, known)
         left, right = self.tree_value(tree[1], insides, known), self.tree_value(tree[2], insides, known)
         return {"&": left and right, "|": left or right, "-": left and not right, "^": left != right}[tree[0]]
 
-    def place_in_base(self, key, x, y, w):
+    def place_in_base(self, key: int, x: int, y: int, w: int) -> str:
         """`+` on an edge, `#` inside, `.` outside."""
         at = (key, x, y, w)
         if at not in self.places:
@@ -612,27 +679,28 @@ class Meanings:
                 self.places[at] = "#" if count(is_below, segments, x, y, w) % 2 else "."
         return self.places[at]
 
-    def place(self, key, x, y, w):
+    def place(self, key: int, x: int, y: int, w: int) -> str:
+        """The same of any layer."""
         bases = {base: self.place_in_base(base, x, y, w) for base in self.reach(key)}
         if "+" in bases.values():
             return "+"
         return "#" if self.value(key, {base for base, place in bases.items() if place == "#"}) else "."
 
-    def grid(self, key, x, y, step, across, up):
+    def grid(self, key: int, x: int, y: int, step: int, across: int, up: int) -> list[str]:
         """The lines of a grid; refused where a point is beyond the plane."""
         if not (is_in_plane(x, y, 1) and is_in_plane(x + (across - 1) * step, y + (up - 1) * step, 1)):
             raise Refused(20)
         rows = ("".join(self.place(key, x + i * step, y + j * step, 1) for i in range(across)) for j in range(up))
         return [f"grid {across} {up}", *rows]
 
-    def has_two_sides(self, key, bases, piece):
+    def has_two_sides(self, key: int, bases: dict[int, list[Segment]], piece: Piece) -> bool:
         """Whether the sides of a piece differ."""
-        x, y, w = whole(tuple((piece[0][i] + piece[1][i]) / 2 for i in (0, 1)))
+        x, y, w = whole(((piece[0][0] + piece[1][0]) / 2, (piece[0][1] + piece[1][1]) / 2))
         under = {base for base, segments in bases.items() if count(is_below, segments, x, y, w) % 2}
         over = {base for base, segments in bases.items() if (base in under) != (count(is_on, segments, x, y, w) % 2)}
         return self.value(key, under) != self.value(key, over)
 
-    def tile(self, key, column):
+    def tile(self, key: int, column: int) -> list[Piece] | None:
         """The boundary pieces of a column, or None where they are too many."""
         at = (key, column)
         if at not in self.tiles:
@@ -646,7 +714,7 @@ class Meanings:
             self.tiles[at] = found if len(found) <= PIECES_MAX else None
         return self.tiles[at]
 
-    def edges(self, key, column):
+    def edges(self, key: int, column: int) -> list[str]:
         """The lines of a reply to EDGES."""
         pieces = self.tile(key, column)
         if pieces is None:
@@ -654,19 +722,20 @@ class Meanings:
         return edge_lines(pieces)
 
 
-def edge_lines(pieces):
+def edge_lines(pieces: list[Piece]) -> list[str]:
     """The lines of a reply to EDGES, of a tile's pieces."""
     return [f"edges {len(pieces)}"] + [" ".join(f"{x} {y} {w}" for x, y, w in map(whole, p)) for p in pieces]
 
 
-def keys_in(tree):
+def keys_in(tree: Any) -> list[int]:
+    """The keys of a tree from left to right."""
     return [tree] if isinstance(tree, int) else keys_in(tree[1]) + keys_in(tree[2])
 
 
 PLACES = {"+": "edge", "#": "in", ".": "out"}
 
 
-def answer(meanings, question, key):
+def answer(meanings: Meanings, question: Question, key: int | None) -> list[str]:
     """The lines that answer a question of a layer with a key, None where it doesn't stand; tiles are finished."""
     word, _, numbers = question
     if key is None:
@@ -682,7 +751,8 @@ def answer(meanings, question, key):
     return ["same"] if word == "VERIFY" else meanings.edges(key, numbers[0])
 
 
-def answer_or_refusal(meanings, question, key):
+def answer_or_refusal(meanings: Meanings, question: Question, key: int | None) -> list[str]:
+    """The same, or the line that refuses it."""
     try:
         return answer(meanings, question, key)
     except Refused as refusal:
@@ -695,13 +765,13 @@ def answer_or_refusal(meanings, question, key):
 class Book:
     """Layers with their keys, and how many commands were accepted."""
 
-    def __init__(self, meanings):
+    def __init__(self, meanings: Meanings) -> None:
         self.meanings = meanings
         self.number = 0
         self.layers = Layers()
-        self.keys = {}
+        self.keys: dict[str, int] = {}
 
-    def submit(self, commands):
+    def submit(self, commands: Sequence[Any]) -> None:
         """Accepts commands at once, or is refused for the first that is refused after those before it."""
         self.layers = after_all(self.layers, commands)
         self.number += 1
@@ -709,7 +779,7 @@ class Book:
         for name in self.layers.names:
             self.keys[name] = self.meanings.key(self.layers.contents[name], self.keys)
 
-    def reply(self, line):
+    def reply(self, line: bytes) -> list[str]:
         """The lines of the reply to a line."""
         asked = read_line(line)
         if not isinstance(asked, Question):
@@ -729,15 +799,16 @@ class Book:
             return [f"built {self.number}"]
         return answer(self.meanings, asked, self.keys.get(asked.name))
 
-    def reply_to_batch(self, lines, size):
+    def reply_to_batch(self, lines: list[bytes], size: int) -> list[str]:
         """The reply to as many lines as belong to a batch, or to those that are left of a script."""
         self.submit(commands_of(lines, size))
         return [f"ok {self.number}"]
 
 
-def replies_of(script):
+def replies_of(script: bytes) -> list[list[str]]:
     """The reply, a list of lines, of each line of a script that has one, and of each batch."""
-    book, replies, lines = Book(Meanings()), [], lines_of(script)
+    book, lines = Book(Meanings()), lines_of(script)
+    replies: list[list[str]] = []
     while lines:
         line, lines = lines[0], lines[1:]
         try:
@@ -768,13 +839,13 @@ def split_replies(lines: list[str]) -> list[list[str]]:
     return replies
 
 
-def is_modelled(script):
+def is_modelled(script: pathlib.Path) -> bool:
     """Whether an example is one session in memory, and soon done."""
     alone = not script.read_text(errors="replace").startswith("# overlayd ")
     return alone and script.with_suffix(".expected").exists() and script.name != "dense-grid.txt"
 
 
-def test():
+def test() -> int:
     """Runs the scripts of the examples, and gives the exit status."""
     folder = pathlib.Path(__file__).resolve().parents[2] / "examples"
     count_of = {"replies": 0, "wrong": 0, "pending": 0}
@@ -791,12 +862,13 @@ def test():
             elif reply != right:
                 print(f"{script.name}: reply {place + 1}: {reply}, not {right}")
                 count_of["wrong"] += 1
-    right = count_of["replies"] - count_of["wrong"]
-    print(f"{right} passed, {count_of['wrong']} failed, {count_of['pending']} of the replies pending")
+    passed = count_of["replies"] - count_of["wrong"]
+    print(f"{passed} passed, {count_of['wrong']} failed, {count_of['pending']} of the replies pending")
     return 1 if count_of["wrong"] or not count_of["replies"] else 0
 
 
-def main():
+def main() -> int:
+    """Prints the replies of a script, or runs the examples."""
     words = sys.argv[1:]
     if words == ["--test"]:
         return test()
