@@ -299,7 +299,7 @@ def check_place(tries: Tries, source: Source, path: pathlib.Path, folder: pathli
     far = max(beyond(placed[key].shape, one.shape) for key, one in wanted.items()) * DEGREE
     most = 2**0.5 * told.moved * unit * 1.01 + CENTIMETRE
     tries.that(far < most, f"{source.name}: each corner is at most {far:.3g} m from ogr2ogr's copy of the source, as told: "
-                           f"{most:.3g} m; {rings_of(placed)} of {rings_of(wanted)} rings, the others are told as left out")
+                           f"{most:.3g} m; of {rings_of(wanted)} rings, less those left out, {rings_of(placed)} have come")
 
 
 # ---- editing
