@@ -1,4 +1,4 @@
--- A session, and the log under the lock, may go from thread to thread.
+-- A session, the reporter, and the log under the lock, may go from thread to thread.
 use denote.RattleType.{RattleType}
 use denote.Param.Send.{IsSend, SendAt, recorded_send_of, recorded_send_at, struct_send, struct_send_at, view_send, sendable}
 use denote.Array.{Array}
@@ -15,9 +15,11 @@ use Rattle.logbook.proofs.word.Word.TheSendSync as words
 use Rattle.book_lock.specs.contracts.locked_log.LockedLog as log
 use Rattle.book_lock.specs.contracts.locked_log.LockedLog.TheInside as inside
 use Rattle.book_history.specs.declared.seen_log.BookName as book_name
+use Rattle.book_lock.specs.contracts.reporter.Reporter as reporter
 use Rattle.book_lock.specs.contracts.room.Room as room
 use Rattle.book_lock.specs.contracts.session.Session as session
 use Rattle.book_history.proofs.seen_log.SeenLog.TheSendSync as seen_logs
+use Rattle.book_lock.proofs.reporter.Reporter.TheSendSync as reporters
 use Rattle.std.proofs.Crossing.{crosses}
 use Rattle.std.specs.contracts.alloc.Global as global
 use Rattle.std.specs.contracts.impls.GlobalAllocator.TheImpl as heap
@@ -31,6 +33,9 @@ use Rattle.book_history.proofs.Sent.{place_send, publisher_send, version_send, v
 
 pub room_send : IsSend (room.the_field).row
 room_send = struct_send (shape room.the_type) (search (sendable, crosses, version_send, version_sync) depth 20, tt)
+
+pub reporter_send : IsSend reporter.the_row
+reporter_send = reporters.the_send
 
 pub session_send : IsSend session.the_row
 session_send = search (sendable, crosses, seen_logs.the_send, place_send) depth 20

@@ -1,3 +1,4 @@
+pub mod Heard
 pub mod Steps
 pub mod Telling
 pub mod Refused

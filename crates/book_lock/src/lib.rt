@@ -5,6 +5,7 @@ pub mod change;
 pub mod closed;
 pub mod locked_log;
 pub mod refused;
+pub mod reporter;
 pub mod room;
 pub mod session;
 mod sessionless_entries;

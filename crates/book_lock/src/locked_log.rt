@@ -10,10 +10,12 @@ ghost use Rattle.book_history.specs.Causes.{event_of, HasSeat};
 ghost use Rattle.book_history.specs.Fault.{no_memory};
 ghost use Rattle.book_history.specs.Logs.{entry, no_event, newest_in, IsLog};
 ghost use Rattle.book_history.specs.Rules.{head_of};
+ghost use Rattle.book_lock.specs.Heard.{HasHeard};
 ghost use Rattle.book_lock.specs.Steps.{HasLooked, IsLevel, beginners};
 ghost use Rattle.book_lock.specs.Telling.{IsToldIn, MayTell};
 
 use crate::closed::ClosedBook;
+use crate::reporter::Reporter;
 use crate::session::Session;
 use crate::shared_version::shared;
 use book_history::entry::{Cause, counted};
@@ -59,7 +61,7 @@ impl<J: BookName, R: Wait + Drop> Model for LockedLog<J, R> {
 }
 
 impl<J: BookName, R: Wait + Drop> LockedLog<J, R> {
-    /// The log under the lock, of one version, and sessions that have seen just that.
+    /// The log under the lock, of one version, its reporter, and sessions that have seen just that.
     pub fn open(
         rt: R,
         alloc: Global,
@@ -67,16 +69,18 @@ impl<J: BookName, R: Wait + Drop> LockedLog<J, R> {
         seen_log: SeenLog,
         version: Version,
         sessions: usize,
-    ) -> Result<(LockedLog<J, R>, Vec<Session>), BookFault>
+    ) -> Result<(LockedLog<J, R>, Reporter, Vec<Session>), BookFault>
         requires head { head ≡ head_of J.book }
         requires seen_log { (seen_log.book ≡ J.book) × (seen_log.log ≡ entry no_event version ∷ []) }
         requires sessions { (0 < sessions) × (sessions ≤ 4) }
         ensures log { IfOk result (λ r. r.0 ≡ seen_log.log) }
-        ensures sessions { IfOk result (λ r. r.1.items ≡ beginners seen_log sessions) }
+        ensures reporter { IfOk result (λ r. r.1 ≡ record { book = seen_log.book; log = seen_log.log; given = 0 }) }
+        ensures sessions { IfOk result (λ r. r.2.items ≡ beginners seen_log sessions) }
         ensures err { IfErr result (λ fault. (fault ≡ no_memory) ⊎ (fault ≡ BookFault.Gone)) }
     {
         let first = seen_log.again();
         let number = version.number();
+        let reporter = Reporter::new(seen_log.again(), version.durable());
         let version = shared(alloc, version)?;
         let begun = Published { version, seen_log };
         let Some(publisher) = first_publisher(&rt, alloc, begun, sessions + 1) else {
@@ -91,7 +95,7 @@ impl<J: BookName, R: Wait + Drop> LockedLog<J, R> {
             rt,
             of: PhantomData,
         };
-        Ok((log, list?))
+        Ok((log, reporter, list?))
     }
 
     /// What is published last.
@@ -148,6 +152,25 @@ impl<J: BookName, R: Wait + Drop> LockedLog<J, R> {
         let number = last.version.number();
         me.move_on(&last.seen_log, number);
         Ok(number)
+    }
+
+    /// Whether it has all that the reporter has seen, and no durable number that the reporter did not report.
+    pub fn has_heard(&self, me: &Reporter) -> bool
+        requires { me.now.book ≡ J.book }
+        ensures { IsTrue result ↔ HasHeard self.now me.now }
+    {
+        let last = self.last();
+        me.is_level(&last.seen_log, last.version.durable())
+    }
+
+    /// The reporter sees all of it, with the count of news that it gives with it.
+    pub fn tell(&self, me: &mut Reporter, given: u64)
+        requires book { me.old.book ≡ J.book }
+        requires heard { HasHeard self.now me.old }
+        ensures { me.new ≡ record { book = me.old.book; log = self.now; given = given } }
+    {
+        let last = self.last();
+        me.move_on(&last.seen_log, last.version.durable(), given);
     }
 
     /// Adds an entry that follows the newest version, or nothing.

@@ -1,11 +1,13 @@
 //! Entries that no session makes: a tile that is kept, a number that is durable.
-ghost use Rattle.std.specs.Prelude.{◌≡◌, ◌⊎◌, IfOk, IfErr};
+ghost use Rattle.std.specs.Prelude.{◌≡◌, ◌⊎◌, ◌<◌, length, Err, IfOk, IfErr};
 ghost use Rattle.book_history.specs.Fault.{no_memory};
-ghost use Rattle.book_history.specs.Logs.{newest_in};
+ghost use Rattle.book_history.specs.Logs.{newest_in, IsLog};
+ghost use Rattle.book_lock.specs.Heard.{HasHeard};
 ghost use Rattle.book_lock.specs.Steps.{IsFinishedIn, IsReportedIn};
 ghost use Rattle.book_lock.specs.Telling.{MayTell};
 
 use crate::locked_log::LockedLog;
+use crate::reporter::Reporter;
 use crate::room::Room;
 use crate::shared_version::{kept_version, reported_version};
 use book_history::entry::Cause;
@@ -36,9 +38,39 @@ impl<J: BookName, R: Wait + Drop> LockedLog<J, R> {
         Ok(true)
     }
 
-    /// Reports a number durable: the one entry that this adds, or nothing. It answers the durable number then. The memory
-    /// for the entry's version is what was taken ahead for it, where there was some.
-    pub fn report(&mut self, alloc: Global, room: &mut Room, number: u64) -> Result<u64, BookFault>
+    /// Reports a number durable for the reporter of the book, who has seen each number that was: the one entry that this
+    /// adds, or nothing. It answers the durable number then, and the reporter has seen it. The memory for the entry's version
+    /// is what was taken ahead for it, where there was some.
+    pub fn report(
+        &mut self,
+        alloc: Global,
+        room: &mut Room,
+        me: &mut Reporter,
+        number: u64,
+    ) -> Result<u64, BookFault>
+        requires book { me.old.book ≡ J.book }
+        requires stored { J.stored me.old.log number }
+        ensures ok { IfOk result (λ durable. IsReportedIn self.old number self.new
+            × ((newest_in self.new).durable ≡ durable)) }
+        ensures seen { IfOk result (λ _. HasHeard self.old me.old
+            × (me.new ≡ record { book = me.old.book; log = self.new; given = me.old.given })
+            × IsLog self.new) }
+        ensures begun { 0 < length me.old.log }
+        ensures err { IfErr result (λ fault. (self.new ≡ self.old) × (me.new ≡ me.old)
+            × ((fault ≡ no_memory) ⊎ (fault ≡ BookFault.Gone))) }
+        ensures heard { result ≡ Err no_memory → HasHeard self.old me.old }
+    {
+        let given = me.given();
+        if !self.has_heard(me) {
+            return Err(BookFault::Gone);
+        }
+        let durable = self.raise(alloc, room, number)?;
+        me.move_on(&self.last().seen_log, durable, given);
+        Ok(durable)
+    }
+
+    // Adds the entry of a number that is durable, where it is news.
+    fn raise(&mut self, alloc: Global, room: &mut Room, number: u64) -> Result<u64, BookFault>
         requires stored { MayTell J.stored self.old number }
         ensures ok { IfOk result (λ durable. IsReportedIn self.old number self.new
             × ((newest_in self.new).durable ≡ durable)) }

@@ -13,7 +13,7 @@ use Rattle.commit_plan.specs.contracts.live_records.LiveRecords as live
 use Rattle.root_store.proofs.phase.Phase.TheSendSync as phases
 use Rattle.root_store.specs.contracts.commit.Commit as commit
 use Rattle.flush_core.specs.contracts.flusher.Flusher as flusher
-use Rattle.version_book.proofs.reporter.Reporter.TheSendSync as reporters
+use Rattle.version_book.proofs.Sent.{reporter_send}
 use Rattle.store_flushing.proofs.keeper.told_log.ToldLog.TheSendSync as tolds
 use Rattle.overlay_server.specs.contracts.storing.Store as store
 
@@ -51,4 +51,4 @@ store_send D g d =
     let O = store.the_type D g in
     let one = flusher_send D g d in
     recorded_send _ _ _ O.to_one
-    (struct_send (shape O) (reporters.the_send, (search (sendable, crosses, one) depth 20, (tolds.the_field_send, tt))))
+    (struct_send (shape O) (reporter_send, (search (sendable, crosses, one) depth 20, (tolds.the_field_send, tt))))

@@ -6,7 +6,7 @@ use Rattle.overlay_terms.specs.Histories.{Entry}
 use Rattle.root_store.specs.Running.{is_busy}
 use Rattle.flush_core.specs.declared.flusher.Flusher.{Flusher}
 use Rattle.book_history.specs.Logs.{history_of, IsLog}
-use Rattle.version_book.specs.Heard.{Heard}
+use Rattle.book_lock.specs.Heard.{Heard}
 use Rattle.store_flushing.specs.Storing.{IsStoreOf, Flushes, HoldsOfStored}
 use Rattle.store_flushing.specs.Told.{TellsOn, told_in}
 use Rattle.store_flushing.specs.declared.keeper.told_log.Told.{Told}

@@ -8,7 +8,7 @@ use Rattle.root_store.specs.declared.phase.Phase.TheVariants.{Idle}
 use Rattle.commit_plan.proofs.Reading.{calm_stands}
 use Rattle.flush_core.specs.declared.flusher.Flusher.{Flusher}
 use Rattle.book_history.specs.Logs.{newest_in}
-use Rattle.version_book.specs.Heard.{Heard, HasHeard}
+use Rattle.book_lock.specs.Heard.{Heard, HasHeard}
 use Rattle.store_flushing.specs.Among.{IsFileIn, IsFileExactlyIn}
 use Rattle.store_flushing.specs.Storing.{IsStoreAt, IsStoreOf}
 use Rattle.store_flushing.specs.Told.{TellsOn}

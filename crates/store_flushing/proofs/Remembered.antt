@@ -6,7 +6,7 @@ use Rattle.commit_plan.specs.Live.{live_content}
 use Rattle.commit_plan.specs.declared.live_records.LiveRecords.{LiveRecords}
 use Rattle.flush_core.specs.declared.flusher.Flusher.{Flusher}
 use Rattle.book_history.specs.BookLogs.{BookLog}
-use Rattle.version_book.specs.Heard.{Heard}
+use Rattle.book_lock.specs.Heard.{Heard}
 use Rattle.store_flushing.specs.Since.{IsRemembered}
 use Rattle.store_flushing.specs.declared.keeper.Keeper.{Keeper}
 

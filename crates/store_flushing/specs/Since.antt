@@ -5,7 +5,7 @@ use Rattle.overlay_terms.specs.Histories.{Tile, Finished, tile_at, Version, Even
 use Rattle.commit_plan.specs.Staying.{LiveContent}
 use Rattle.book_history.specs.BookLogs.{BookLog}
 use Rattle.book_history.specs.Logs.{newest_in}
-use Rattle.version_book.specs.Heard.{Heard}
+use Rattle.book_lock.specs.Heard.{Heard}
 
 -- the tile that an event keeps
 abbrev pub tile_kept : Event → Option Finished

@@ -10,7 +10,7 @@ use Rattle.commit_plan.specs.Kept.{Kept}
 use Rattle.root_store.specs.Running.{StoreStandsFor, Runs, FailsByDevice}
 use Rattle.flush_core.specs.declared.flusher.Flusher.{Flusher}
 use Rattle.book_history.specs.Logs.{history_of}
-use Rattle.version_book.specs.Heard.{Heard}
+use Rattle.book_lock.specs.Heard.{Heard}
 use Rattle.store_flushing.specs.Among.{IsHeldIn, IsFileIn}
 
 module _ {D : Type 0} (g : Ghosts D) (history : History) where

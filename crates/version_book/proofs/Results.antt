@@ -17,7 +17,7 @@ use Rattle.book_lock.specs.Refused.{batch_fault, command_fault}
 use Rattle.book_lock.specs.declared.refused.Refused.{Refused}
 use Rattle.book_lock.specs.declared.refused.Refused.TheVariants.{Gone, Closing, Version as Refuses}
 use Rattle.book_lock.specs.Steps.{HasLooked, IsAcceptedIn, IsRefusedIn, IsReportedIn}
-use Rattle.version_book.specs.Heard.{Heard, HasHeard, IsReportedBy}
+use Rattle.book_lock.specs.Heard.{Heard, HasHeard, IsReportedBy}
 use Rattle.version_book.specs.Waits.{IsSyncRefused, IsSyncRefusedAt, IsWaitRefused, Looks}
 use Rattle.version_book.specs.declared.book_state.BookState.{BookState}
 use Rattle.book_history.specs.declared.fault.BookFault.{BookFault}

@@ -17,7 +17,6 @@ use Rattle.book_history.specs.declared.fault.BookFault.TheVariants as fault
 use Rattle.book_lock.specs.Steps.{IsTurnedAway}
 use Rattle.book_lock.specs.declared.refused.Refused.{Refused}
 use Rattle.book_lock.specs.declared.refused.Refused.TheVariants.{Gone}
-use Rattle.version_book.specs.Heard.{Heard}
 use Rattle.version_book.specs.Jobs.{IsHandedOut, IsJob}
 use Rattle.version_book.specs.Waits.{IsAfterTold, Looks}
 
@@ -75,21 +74,7 @@ keeps_marks o x P Q is p = subst (λ o. IfSome o (λ _. P) × IfNone o Q) (sym i
 pub loses_marks : {A : Type 0} (o : Option A) (P Q : Type 0) → o ≡ None → Q → IfSome o (λ _. P) × IfNone o Q
 loses_marks o P Q is q = subst (λ o. IfSome o (λ _. P) × IfNone o Q) (sym is) (tt, q)
 
--- ---- of a reporter, and of a result that was looked at
--- a reporter has moved on to a log of its book
-pub moved : (was now : Heard) (to : BookLog) (given n : ℕ) (book : Book) (log : List Entry)
-    → now ≡ record { book = was.book; log = to.log; given = given } → to ≡ record { book = book; log = log }
-    → given ≡ n → now ≡ record { book = was.book; log = log; given = n }
-moved was now to given n book log is at news =
-    is ∙ ap (λ (t : BookLog). record { book = was.book; log = t.log; given = given }) at
-    ∙ ap (λ k. record { book = was.book; log = log; given = k }) news
-
--- the durable number that stands in the version of a log's end
-pub durable_there : (at : BookLog) (book : Book) (log : List Entry) (end version : Version) {durable : ℕ} → at ≡ record { book = book; log = log }
-    → end ≡ newest_in log → version ≡ end → durable ≡ version.durable → (newest_in at.log).durable ≡ durable
-durable_there at book log end version is newest same told =
-    ap (λ (t : BookLog). (newest_in t.log).durable) is ∙ ap (λ (v : Version). v.durable) (sym newest ∙ sym same) ∙ sym told
-
+-- ---- of a result that was looked at
 pub on_ok : {T E : Type 0} (r : Result T E) (b : Bool) (P : Type 0) → b ≡ is_err r → b ≡ false → OnOk r P → P
 on_ok (Ok n) b P is so p = p
 on_ok (Err f) b P is so p = absurd (true≢false (sym is ∙ so))

@@ -1,4 +1,4 @@
-pub mod Heard
+pub use Rattle.book_lock.specs.Heard
 pub mod Jobs
 pub mod Store
 pub mod Waits

@@ -5,7 +5,6 @@ mod book_state;
 mod held_tiles;
 mod locked_book;
 mod pending;
-pub mod reporter;
 pub mod sending;
 pub mod shared;
 mod turns;
@@ -28,6 +27,11 @@ pub mod fault {
 /// What a thread does that was refused memory, before it asks again.
 pub mod resting {
     pub use book_history::resting::rest;
+}
+
+/// The one token that may report durable numbers.
+pub mod reporter {
+    pub use book_lock::reporter::Reporter;
 }
 
 /// A session: what it has seen and made.

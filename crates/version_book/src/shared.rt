@@ -10,7 +10,7 @@ ghost use Rattle.book_history.specs.Logs.{entry, history_of, newest_in, no_event
 ghost use Rattle.book_history.specs.Rules.{head_of};
 ghost use Rattle.book_lock.specs.Steps.{beginners, HasAllOf, IsAcceptedIn, IsRefusedIn};
 ghost use Rattle.book_lock.specs.Telling.{IsToldIn};
-ghost use Rattle.version_book.specs.Heard.{HasHeard, IsReportedBy};
+ghost use Rattle.book_lock.specs.Heard.{HasHeard, IsReportedBy};
 ghost use Rattle.version_book.specs.Jobs.{IsFinishedBy, IsJob};
 ghost use Rattle.version_book.specs.Store.{has_store};
 ghost use Rattle.version_book.specs.Waits.{IsBuiltAt, IsSyncRefused, IsWaitRefused};
@@ -21,13 +21,13 @@ use crate::locked_book::LockedBook;
 use crate::locked_book::closing::{begin_close, has_all_of, into_closed};
 use crate::locked_book::reports::{report, store_failed};
 use crate::locked_book::waits::{Awaited, tell_built, tell_durable, tell_news, tell_no_store};
-use crate::reporter::Reporter;
 use crate::turns::{TurnKind, Turns};
 use book_history::fault::{BookFault, ToldFault};
 use book_history::seen_log::{BookName, LogWord, SeenLog};
 use book_lock::change::Change;
 use book_lock::locked_log::LockedLog;
 use book_lock::refused::Refused;
+use book_lock::reporter::Reporter;
 use book_lock::session::Session;
 use layer_book::batch::Batch;
 use layer_book::batch_fault::BatchFault;
@@ -66,8 +66,7 @@ impl<J: BookName, R: Wait + Drop> Shared<J, R> {
         ensures store { IfOk result (λ r. has_store r.0 ≡ store) }
         ensures err { IfErr result (λ fault. (fault ≡ no_memory) ⊎ (fault ≡ BookFault.Gone)) }
     {
-        let reporter = Reporter::new(seen_log.again(), version.durable());
-        let (log, list) = LockedLog::open(rt, alloc, head, seen_log, version, sessions)?;
+        let (log, reporter, list) = LockedLog::open(rt, alloc, head, seen_log, version, sessions)?;
         let shared = Shared {
             turns: Turns::new(LockedBook::new(alloc, log)),
             store,

@@ -4,13 +4,13 @@ ghost use Rattle.std.specs.Arc.{arc_value};
 ghost use Rattle.book_history.specs.Logs.{newest_in, IsLog};
 ghost use Rattle.version_book.specs.BookState.{IsAfterClosing};
 ghost use Rattle.book_lock.specs.Steps.{HasAllOf, IsLevel};
-ghost use Rattle.version_book.specs.Heard.{HasHeard};
+ghost use Rattle.book_lock.specs.Heard.{HasHeard};
 
 use crate::locked_book::LockedBook;
-use crate::reporter::Reporter;
 use book_history::seen_log::BookName;
 use book_lock::closed::ClosedBook;
 use book_lock::locked_log::LockedLog;
+use book_lock::reporter::Reporter;
 use book_lock::session::Session;
 use std::sync::Wait;
 
@@ -36,9 +36,7 @@ pub(crate) fn has_all_of<J: BookName, R: Wait + Drop>(
     ensures level { HasHeard locked.now.log reporter.now
         → All (λ session. IsLevel locked.now.log session) sessions.now → IsTrue result }
 {
-    let last = locked.log.last();
-    reporter.is_level(&last.seen_log, last.version.durable())
-        && has_all_of_each(&locked.log, sessions)
+    locked.log.has_heard(reporter) && has_all_of_each(&locked.log, sessions)
 }
 
 /// The newest version and the log. It waits for the readers.

@@ -4,12 +4,12 @@ ghost use Rattle.book_history.specs.Fault.{no_memory};
 ghost use Rattle.book_history.specs.Logs.{newest_in, IsLog};
 ghost use Rattle.version_book.specs.BookState.{IsAfterFailure};
 ghost use Rattle.book_lock.specs.Steps.{IsReportedIn};
-ghost use Rattle.version_book.specs.Heard.{HasHeard};
+ghost use Rattle.book_lock.specs.Heard.{HasHeard};
 
 use crate::locked_book::LockedBook;
-use crate::reporter::Reporter;
 use book_history::fault::{BookFault, ToldFault};
 use book_history::seen_log::BookName;
+use book_lock::reporter::Reporter;
 use book_lock::room::Room;
 use std::alloc::Global;
 use std::sync::Wait;
@@ -35,15 +35,11 @@ pub(crate) fn report<J: BookName, R: Wait + Drop>(
         × ((fault ≡ no_memory) ⊎ (fault ≡ BookFault.Gone))) }
     ensures heard { result ≡ Err no_memory → HasHeard locked.old.log me.old }
 {
-    let given = me.given();
-    let last = locked.log.last();
-    if !me.is_level(&last.seen_log, last.version.durable()) {
-        return Err(BookFault::Gone);
+    let durable = locked.log.report(alloc, &mut locked.room, me, number);
+    if durable.is_ok() {
+        locked.room = Room::new(alloc);
     }
-    let durable = locked.log.report(alloc, &mut locked.room, number)?;
-    me.move_on(&locked.log.last().seen_log, durable, given);
-    locked.room = Room::new(alloc);
-    Ok(durable)
+    durable
 }
 
 /// The store told a fault.

@@ -4,15 +4,15 @@ ghost use Rattle.std.specs.Arc.{arc_value};
 ghost use Rattle.book_history.specs.Fault.{no_memory};
 ghost use Rattle.book_history.specs.Logs.{newest_in, IsLog};
 ghost use Rattle.book_lock.specs.Steps.{IsLevel};
+ghost use Rattle.book_lock.specs.Heard.{HasHeard};
 ghost use Rattle.book_lock.specs.Telling.{IsToldIn};
-ghost use Rattle.version_book.specs.Heard.{HasHeard};
 ghost use Rattle.version_book.specs.Waits.{IsAfterTold, IsBuilding, IsBuiltAt, IsIdle, IsQuiet, IsSyncRefusedAt};
 ghost use Rattle.version_book.specs.Waits.{IsWaitRefused, IsWriting, Looks, Waits};
 
 use crate::locked_book::LockedBook;
-use crate::reporter::Reporter;
 use book_history::fault::{BookFault, NO_MEMORY};
 use book_history::seen_log::BookName;
+use book_lock::reporter::Reporter;
 use book_lock::session::Session;
 use layer_expr::name::Name;
 use std::alloc::Global;
@@ -169,17 +169,15 @@ pub(crate) fn tell_news<J: BookName, R: Wait + Drop>(
     ensures gone { result ≡ Err BookFault.Gone → ¬ (HasHeard locked.now.log me.old) }
     ensures heard { result ≡ Err no_memory → HasHeard locked.now.log me.old }
 {
-    let last = locked.log.last();
-    let durable = last.version.durable();
-    if !me.is_level(&last.seen_log, durable) {
+    if !locked.log.has_heard(me) {
         return Err(BookFault::Gone);
     }
     if me.given() == locked.state.news {
         return Ok(None);
     }
-    let Ok(version) = Arc::try_clone(&last.version) else {
+    let Ok(version) = Arc::try_clone(&locked.log.last().version) else {
         return Err(NO_MEMORY);
     };
-    me.move_on(&last.seen_log, durable, locked.state.news);
+    locked.log.tell(me, locked.state.news);
     Ok(Some(version))
 }

@@ -1,6 +1,6 @@
 use Rattle.std.proofs.Common.{ap, subst, sym}
 use Rattle.book_history.specs.Logs.{history_of, newest_in}
-use Rattle.version_book.specs.Heard.{Heard}
+use Rattle.book_lock.specs.Heard.{Heard}
 use Rattle.store_flushing.specs.Storing.{Flushes}
 use Rattle.store_flushing.specs.declared.keeper.Keeper.{Keeper}
 use Rattle.store_flushing.specs.Told.{KeepsTelling}

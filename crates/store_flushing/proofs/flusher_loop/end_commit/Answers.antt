@@ -1,6 +1,6 @@
 use Rattle.std.proofs.Common.{Ok, refl, ap, sym, ◌∙◌, subst}
 use Rattle.book_history.specs.Logs.{history_of, newest_in}
-use Rattle.version_book.specs.Heard.{Heard}
+use Rattle.book_lock.specs.Heard.{Heard}
 use Rattle.flush_core.specs.Stored.{stored_after}
 use Rattle.store_flushing.specs.Storing.{Flushes}
 use Rattle.store_flushing.specs.Told.{KeepsTelling}

@@ -2,7 +2,7 @@ use Rattle.std.proofs.Common.{◌≡◌, ◌≤◌, ◌⊎◌, subst, sym}
 use Rattle.overlay_terms.specs.Histories.{BeginsWith}
 use Rattle.book_history.specs.Logs.{history_of, newest_in}
 use Rattle.book_history.proofs.Chains.{is_history}
-use Rattle.version_book.specs.Heard.{Heard}
+use Rattle.book_lock.specs.Heard.{Heard}
 use Rattle.store_flushing.proofs.ReportLemmas.{reported_durable}
 use Rattle.store_flushing.proofs.reports.report.Goals as goal
 

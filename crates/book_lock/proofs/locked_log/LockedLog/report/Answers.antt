@@ -1,52 +1,57 @@
-use Rattle.std.proofs.Common.{◌⊎◌, ◌<◌, ◌≤◌, ap, sym, ◌∙◌, subst, refl, arith, inl, inr}
-use Rattle.overlay_terms.specs.Histories.{FollowsReport}
-use Rattle.book_history.specs.Logs.{newest_in}
-use Rattle.book_lock.specs.Telling.{MayTell}
+use Rattle.std.proofs.Common.{inr, refl, ap, sym, ◌∙◌, subst}
 use Rattle.std.proofs.lemmas.Result.{IfOk-from_err}
+use Rattle.book_history.specs.Logs.{newest_in}
+use mathlib.Core.List.{IsPrefix}
+use Rattle.book_history.specs.BookLogs.{BookLog}
+use Rattle.book_history.proofs.Fronts.{prefix_trans}
 use Rattle.book_history.proofs.Gone.{passed}
-use Rattle.book_lock.proofs.Growing.{newest_of, told_by, reports}
+use Rattle.book_lock.proofs.Growing.{report_longer}
+use Rattle.book_lock.proofs.Hearing.{moved}
 use Rattle.book_lock.proofs.locked_log.LockedLog.report.Goals as goal
-use Rattle.book_lock.proofs.locked_log.LockedLog.report.Goals.{then-number-durable-via-then-number-durable, then-number-durable-via-else-number-durable+then-number}
 
--- the number is durable already, or there is none such
-pub returns-then-number-durable : goal.returns-then-number-durable
-returns-then-number-durable g c =
-    let durable = c.durable-durable.ensures.value ∙ ap (λ v. v.durable) (c.deref.ensures ∙ c.last.ensures.version) in
-    let last = newest_in c.args.self.now in
-    let no_news : (c.args.number ≤ last.durable) ⊎ (last.number < c.args.number) = elim c.then-number-durable.branch [
-      | then-number-durable-via-then-number-durable w ↦ inl (omega (arith, durable, w.if-number-durable.true))
-      | then-number-durable-via-else-number-durable+then-number w ↦ inr (omega (arith, w.number.ensures.value, ap (λ v. v.number) (w.deref-else-number-durable.ensures ∙ c.last.ensures.version), w.if-number.true))
-    ] in
-    record { ok = (inr (record { no_news = no_news; same = refl }, refl), sym durable); err = tt }
+pub raise-requires : goal.raise-requires
+raise-requires g c =
+    let heard = c.if-not-has_heard.ensures.0 refl in
+    record { stored = record { was = c.args.me.now.log; longer = heard.longer; holds = c.requires.stored } }
 
-pub returns-in_err-version : goal.returns-in_err-version
-returns-in_err-version g c =
+pub move_on-requires : goal.move_on-requires
+move_on-requires g c =
+    let last = c.last.ensures.seen_log in
+    let heard = c.if-not-has_heard.ensures.0 refl in
+    let more = report_longer _ _ _ c.in_ok-durable.ensures.ok.0 in
+    record {
+      durable = ap (λ t. (newest_in t.log).durable) last ∙ c.in_ok-durable.ensures.ok.1;
+      book = ap (λ t. t.book) last ∙ sym c.requires.book;
+      longer = subst (λ (t : BookLog). IsPrefix c.args.me.now.log t.log) (sym last) (prefix_trans _ _ _ heard.longer more);
+    }
+
+pub returns-then-not-has_heard : goal.returns-then-not-has_heard
+returns-then-not-has_heard g c =
+    record { ok = tt; seen = tt; begun = c.given-given.ensures.begun; err = (refl, refl, inr refl); heard = λ is. absurd (cc) }
+
+pub returns-in_err-durable : goal.returns-in_err-durable
+returns-in_err-durable g c =
     let failed = c.from_residual.ensures in
-    record { ok = IfOk-from_err _ _ failed.0; err = passed _ _ _ failed.1 (refl, inl c.in_err-version.ensures.err) }
-
-pub add-requires : goal.add-requires
-add-requires g c =
-    let last = newest_in c.args.self.now in
-    let durable = c.durable-durable.ensures.value ∙ ap (λ v. v.durable) (c.deref.ensures ∙ c.last.ensures.version) in
-    let number = c.number.ensures.value ∙ ap (λ v. v.number) (c.deref-else-number-durable.ensures ∙ c.last.ensures.version) in
-    let old = c.deref-2.ensures ∙ c.last.ensures.version in
-    let told = reports _ last _ c.args.number _ _ old c.in_ok-version.ensures.ok durable number c.if-number-durable.false c.if-number.false in
-    record { follows = told; seat = tt; told = inr (subst (MayTell g.J.BookName.stored c.args.self.now) (sym told.durable) c.requires.stored) }
-
-pub returns-in_err-add : goal.returns-in_err-add
-returns-in_err-add g c =
-    let failed = c.from_residual-in_err-add.ensures in
-    let e = c.in_err-add.ensures.err in
-    record { ok = IfOk-from_err _ _ failed.0; err = passed _ _ _ failed.1 (e.1, inr e.0) }
+    let e = c.in_err-durable.ensures.err in
+    record {
+      ok = IfOk-from_err _ _ failed.0;
+      seen = IfOk-from_err _ _ failed.0;
+      begun = c.given-given.ensures.begun;
+      err = passed _ _ _ failed.1 (e.0, refl, e.1);
+      heard = λ _. c.if-not-has_heard.ensures.0 refl;
+    }
 
 pub returns : goal.returns
 returns g c =
-    let last = newest_in c.args.self.now in
-    let is = c.in_ok-add.ensures.ok in
-    let new = newest_of c.args.self.now c.add.new.self _ is in
-    let durable = c.durable-durable.ensures.value ∙ ap (λ v. v.durable) (c.deref.ensures ∙ c.last.ensures.version) in
-    let number = c.number.ensures.value ∙ ap (λ v. v.number) (c.deref-else-number-durable.ensures ∙ c.last.ensures.version) in
-    let old = c.deref-2.ensures ∙ c.last.ensures.version in
-    let told = reports _ last _ c.args.number _ _ old c.in_ok-version.ensures.ok durable number c.if-number-durable.false c.if-number.false in
-    let then : FollowsReport last c.args.number (newest_in c.add.new.self) = subst (FollowsReport last c.args.number) (sym new) told in
-    record { ok = (inl (then, told_by c.args.self.now c.add.new.self _ _ _ refl is), then.durable); err = tt }
+    let last = c.last.ensures in
+    record {
+      ok = c.in_ok-durable.ensures.ok;
+      seen = (
+        c.if-not-has_heard.ensures.0 refl,
+        moved c.args.me.now _ _ _ _ _ _ c.move_on.ensures last.seen_log c.given-given.ensures.value,
+        last.log,
+      );
+      begun = c.given-given.ensures.begun;
+      err = tt;
+      heard = λ is. absurd (cc);
+    }

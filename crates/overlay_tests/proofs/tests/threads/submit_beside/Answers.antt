@@ -8,7 +8,7 @@ use denote.Struct.Tuple.{TupleAt, type_at}
 use Rattle.std.proofs.Crossing.{sync}
 use Rattle.std.specs.contracts.alloc.Global as global
 use Rattle.version_book.proofs.SentBook.{shared_sync}
-use Rattle.version_book.proofs.reporter.Reporter.TheSendSync as reporters
+use Rattle.version_book.proofs.Sent.{reporter_send}
 use Rattle.version_book.specs.contracts.reporter.Reporter as reporter
 use Rattle.version_book.specs.contracts.shared.Shared as shared
 use Rattle.version_book.specs.declared.seen_log.BookName as book_name
@@ -24,7 +24,7 @@ module _ (J R : RattleType) (g : book_name.Ghosts J.Denot) (j : IsSend J) (s : I
   captures_send ν a b c d e a' b' c' d' e' =
       let O = type_at ν (ShrRef a a' R ∷ ShrRef b b' global.the_row ∷ ShrRef c c' (shared.the_row J (ShrRef d d' R) g) ∷ MutRef e e' reporter.the_row ∷ []) in
       let book = shared_sync J (ShrRef d d' R) g j (shr_send d d' R s) in
-      recorded_send _ _ _ O.to_one (struct_send (shape O) (shr_send a a' R s, (shr_send b b' global.the_row sync, (shr_send c c' _ book, (mut_send e e' reporter.the_row reporters.the_send, tt)))))
+      recorded_send _ _ _ O.to_one (struct_send (shape O) (shr_send a a' R s, (shr_send b b' global.the_row sync, (shr_send c c' _ book, (mut_send e e' reporter.the_row reporter_send, tt)))))
 
 pub join_mut-reported-requires-send-F : goal.join_mut-reported-requires-send-F
 join_mut-reported-requires-send-F g c κs within =

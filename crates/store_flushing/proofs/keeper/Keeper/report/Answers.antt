@@ -1,7 +1,7 @@
 use Rattle.std.proofs.Common.{ℕ, ◌≡◌, ◌≤◌, ◌⊎◌, ◌++◌, refl, subst, sym}
 use Rattle.book_history.specs.Logs.{history_of, newest_in}
 use Rattle.book_history.proofs.Chains.{is_history}
-use Rattle.version_book.specs.Heard.{Heard}
+use Rattle.book_lock.specs.Heard.{Heard}
 use Rattle.store_flushing.specs.Told.{news_in, told_at, told_in}
 use Rattle.store_flushing.proofs.Remembered.{still}
 use Rattle.store_flushing.proofs.Storage.{all_told, report_kept, stored_level}

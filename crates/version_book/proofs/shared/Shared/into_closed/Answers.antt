@@ -1,6 +1,6 @@
 use Rattle.std.proofs.Common.{ap, refl, sym, subst}
 use Rattle.std.specs.List.{All}
-use Rattle.version_book.specs.Heard.{HasHeard}
+use Rattle.book_lock.specs.Heard.{HasHeard}
 use Rattle.book_history.specs.BookLogs.{BookLog}
 use Rattle.book_lock.specs.Steps.{HasAllOf}
 use Rattle.version_book.proofs.shared.Shared.into_closed.Goals as goal

@@ -1,17 +1,10 @@
 use Rattle.std.proofs.Common.{◌≡◌, length, refl, ap, sym, ◌∙◌, subst}
 use Rattle.std.specs.List.{All}
 use Rattle.book_history.specs.Known.{Known}
-use Rattle.book_history.specs.Logs.{newest_in}
-use Rattle.book_history.specs.BookLogs.{BookLog}
 use Rattle.book_lock.proofs.Beginning.{all_begin, count_of}
 use Rattle.book_history.proofs.Gone.{passed}
 use Rattle.version_book.proofs.Told.{gone_ok}
 use Rattle.version_book.proofs.shared.Shared.start.Goals as goal
-
-pub new-reporter-requires : goal.new-reporter-requires
-new-reporter-requires g c =
-    ap (λ (t : BookLog). (newest_in t.log).durable) c.again.ensures ∙ ap (λ l. (newest_in l).durable) c.requires.seen_log.1
-    ∙ sym c.durable.ensures.value
 
 pub returns-in_err-log : goal.returns-in_err-log
 returns-in_err-log g c =
@@ -30,7 +23,7 @@ returns-in_err-log g c =
 pub returns : goal.returns
 returns g c =
     let all = c.in_ok-log.ensures.sessions in
-    let begun = c.new-reporter.ensures ∙ ap (λ t. record { book = t.book; log = t.log; given = 0 }) c.again.ensures in
+    let begun = c.in_ok-log.ensures.reporter in
     record {
       reporter = begun;
       sessions = all;

@@ -2,13 +2,13 @@
 ghost use Rattle.std.specs.Prelude.{◌≡◌, ◌<◌, ◌↔◌, length, IsTrue};
 ghost use mathlib.Core.List.{IsPrefix};
 ghost use Rattle.book_history.specs.Logs.{newest_in, IsLog};
-ghost use Rattle.version_book.specs.Heard.{HasHeard};
+ghost use Rattle.book_lock.specs.Heard.{HasHeard};
 
 use book_history::seen_log::SeenLog;
 use std::marker::Model;
 
-/// The one token that may report durable numbers: what it has seen, the durable number there, and which news it gave
-/// last.
+/// The one token that may report durable numbers, which `LockedLog::open` makes: what it has seen, the durable number
+/// there, and which news it gave last.
 #[derive(Debug, Drop)]
 pub struct Reporter {
     seen_log: SeenLog,
@@ -19,7 +19,7 @@ pub struct Reporter {
 impl Model for Reporter {
     ghost use Rattle.std.specs.Prelude.{◌≡◌};
     ghost use Rattle.book_history.specs.Logs.{newest_in};
-    ghost use Rattle.version_book.specs.Heard.{Heard, heard_code};
+    ghost use Rattle.book_lock.specs.Heard.{Heard, heard_code};
 
     ghost Value = { Heard };
 
