@@ -9,5 +9,7 @@ pub mod Runs
 pub mod Sent
 pub mod SentStore
 pub mod ServedParts
+pub mod StoppedParts
+pub mod Stopping
 pub mod Stores
 pub mod Strangers

@@ -1,4 +1,4 @@
-use Rattle.std.proofs.Common.{◌∙◌, rules}
+use Rattle.std.proofs.Common.{◌∙◌}
 use Rattle.version_book.specs.Store.{has_store}
 use Rattle.server_session.specs.Stores.{IsToldOf}
 use Rattle.server_session.proofs.Weaker.{session_weaker}
