@@ -1,5 +1,6 @@
 pub mod Alone
 pub mod Counts
+mod Disks
 pub mod Durable
 pub mod Listened
 pub mod Lists

@@ -1,5 +1,5 @@
 //! A server: from readers and an engine to what the sessions wrote, and what is left of the book and its store.
-ghost use Rattle.std.specs.Prelude.{◌≡◌, ◌<◌, ◌≤◌, length, IfOk, IfErr};
+ghost use Rattle.std.specs.Prelude.{◌≡◌, ◌<◌, ◌≤◌, is_some, length, IfOk, IfErr};
 ghost use Rattle.overlay_server.specs.Refusing.{IsRefusedFrom, given_by, given_to};
 ghost use Rattle.overlay_server.specs.Serving.{IsLeftFrom, IsServedFrom, flusher_of, start_of};
 
@@ -41,6 +41,8 @@ where
     requires readers { (0 < length readers.items) × (length readers.items ≤ 4) }
     // Each reader has its replies; what is left of book and store stands for the log that has all that was seen.
     ensures served { IfOk result (IsServedFrom R.remaining D.Disk (start_of engine) (flusher_of engine) readers.items) }
+    // A disk comes back just where there was an engine.
+    ensures disk { IfOk result (λ served. is_some served.closed.disk ≡ is_some engine) }
     // The number is that of what the book answered as it was to be opened, and 40 where it was opened. The disk comes back,
     // and a crash at any moment left a file that stands for a version of the history that comes with it. In that history
     // the readers' sessions alone had commands accepted, those of their scripts, and none where no session was begun.
@@ -68,6 +70,7 @@ where
     Q: Threads + Wait + Sync,
     requires ports { (0 < length ports.items) × (length ports.items ≤ 4) }
     ensures left { IfOk result (IsLeftFrom R.remaining W.contents D.Disk (start_of engine) (flusher_of engine) ports.items) }
+    ensures disk { IfOk result (λ left. is_some left.closed.disk ≡ is_some engine) }
     ensures refused { IfErr result (IsRefusedFrom D.Disk (start_of engine) (flusher_of engine) (given_to R.remaining W.contents ports.items)) }
 {
     let opened = history_of_engine(alloc, engine);
