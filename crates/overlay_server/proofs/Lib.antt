@@ -1,5 +1,6 @@
 pub mod Alone
 pub mod Counts
+mod Disks
 pub mod Durable
 pub mod Held
 pub mod Listened
@@ -10,6 +11,8 @@ pub mod Runs
 pub mod Sent
 pub mod SentStore
 pub mod ServedParts
+pub mod StoppedParts
+pub mod Stopping
 pub mod Stores
 pub mod Strangers
 pub mod Weaker

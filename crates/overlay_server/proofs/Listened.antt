@@ -21,6 +21,7 @@ use Rattle.server_session.specs.Session.{IsSessionWithin}
 use Rattle.session_threads.specs.declared.port.Finished.{Finished}
 use Rattle.session_threads.specs.declared.port.Port.{Port}
 use Rattle.overlay_server.specs.Listening.{bytes_in, limit_in, no_bytes, outcome_of, reader_in, script_limit}
+use Rattle.overlay_server.specs.Refusing.{Given, given_by, given_from, given_to}
 use Rattle.overlay_server.specs.Serving.{AreServed, ArePortsServed, IsLeftFrom, IsLeftOfStore, IsServedFrom, IsServed, IsPortServed, Part, PortPart, first_log, store_from}
 use Rattle.overlay_server.specs.declared.outcome.Outcome.{Outcome}
 
@@ -142,3 +143,22 @@ module _ {R : Type 0} where
         (listened_served (store_from g start store) remaining start left.closed.seen_log.log ports readers left.sessions.items is limits empty were.sessions));
     kept = subst (λ (k : Closed D). IsLeftOfStore g start store k) (sym closed) were.kept;
   }
+
+  given_same : (remaining : R → Option (List ℕ)) (ports : List (Port R (Vec ℕ Global)))
+      → map limit_in ports ≡ map script_limit (map reader_in ports) → map bytes_in ports ≡ map no_bytes (map reader_in ports)
+      → given_to remaining held ports ≡ given_by remaining (map reader_in ports)
+  unfolding script_max
+  given_same remaining [] limits empty = refl
+  given_same remaining (p ∷ ps) limits empty =
+      let most = first_same 0 _ _ _ _ limits in
+      let none = first_same [] _ _ _ _ empty in
+      ap (λ (n : ℕ). record { most = n; script = remaining p.reader; held = Some p.writer.items } ∷ given_to remaining held ps) most
+      ∙ ap (λ (bytes : List ℕ). record { most = script_max; script = remaining p.reader; held = Some bytes } ∷ given_to remaining held ps) none
+      ∙ ap (λ (gs : List Given). given_from remaining p.reader ∷ gs) (given_same remaining ps (others_same _ _ _ _ limits) (others_same _ _ _ _ empty))
+
+  -- what the sessions of such ports are given
+  pub listened_given : (remaining : R → Option (List ℕ)) (ports : List (Port R (Vec ℕ Global))) (readers : List R) → map reader_in ports ≡ readers
+      → map limit_in ports ≡ map script_limit readers → map bytes_in ports ≡ map no_bytes readers → given_to remaining held ports ≡ given_by remaining readers
+  listened_given remaining ports readers is limits empty =
+      given_same remaining ports (limits ∙ ap (λ (rs : List R). map script_limit rs) (sym is)) (empty ∙ ap (λ (rs : List R). map no_bytes rs) (sym is))
+      ∙ ap (λ (rs : List R). given_by remaining rs) is

@@ -1,16 +1,23 @@
--- The number of a server that could not run.
-use Rattle.std.proofs.Common.{◌≡◌, ◌⊎◌, ◌∙◌, inl, inr, ⊎_elim, refl, Option, Some, None, IfSome, Result, Ok, Err, ap, sym, subst}
-use Rattle.std.specs.Prelude.{IfErr}
+-- What a server that could not run owes: its number, what is left of its book, and its store.
+use Rattle.std.proofs.Common.{◌≡◌, ◌⊎◌, ◌∙◌, ◌<◌, inl, inr, ⊎_elim, refl, ℕ, Option, Some, None, IfSome, Result, Ok, Err, List, [], All, length, ap, sym, subst}
+use Rattle.std.specs.Prelude.{IfErr, IsErrAnd}
 use Rattle.disk_model.specs.declared.disk.Disk.{Ghosts}
-use Rattle.overlay_terms.specs.Histories.{Version}
+use Rattle.std.proofs.lemmas.List.Elements.{All-nil}
+use Rattle.overlay_terms.specs.Batches.{Batch}
+use Rattle.overlay_terms.specs.Histories.{Entry, Version, commands_in}
 use Rattle.flush_core.specs.declared.flusher.Flusher.{Flusher}
 use Rattle.book_history.specs.Fault.{code_of, no_memory}
 use Rattle.book_history.specs.declared.fault.BookFault.{BookFault}
 use Rattle.book_history.specs.declared.fault.BookFault.TheVariants.{Gone}
 use Rattle.overlay_server.specs.Answering.{answer_in, fault_of, refusal_code}
-use Rattle.overlay_server.specs.Serving.{IsRefusedFrom, StoreComesBack}
+use Rattle.book_history.specs.Logs.{history_of, IsLog}
+use Rattle.store_flushing.specs.Told.{told_in}
+use Rattle.store_flushing.specs.declared.keeper.told_log.Told.{Told}
+use Rattle.overlay_server.specs.Refusing.{AreStopped, Given, IsRefusedFrom, StoreComesBack}
+use Rattle.overlay_server.specs.Serving.{first_log, store_from}
 use Rattle.overlay_server.specs.declared.opening.BookAnswer.{BookAnswer}
 use Rattle.overlay_server.specs.declared.outcome.ServerFault.{ServerFault}
+use Rattle.overlay_server.proofs.StoppedParts.{none_stopped}
 
 -- what a book may answer
 abbrev pub MayAnswer : Option BookFault → Type 0
@@ -24,10 +31,53 @@ pub may_answer : {B : Type 0} (begun : Result B BookFault) (o : Option BookFault
 may_answer (Ok b) o is may = subst MayAnswer (sym is) tt
 may_answer (Err fault) o is may = subst MayAnswer (sym is) may
 
-pub refused_from : {D : Type 0} (g : Ghosts D) (start : Version) (store : Option (Flusher D g)) (fault : ServerFault D) (answer : BookAnswer) → fault.code ≡ refusal_code (answer_in answer)
-    → fault.answer ≡ answer → MayAnswer (answer_in answer) → StoreComesBack g start store fault.disk → IsRefusedFrom g start store fault
-refused_from g start store fault answer code same may back = record {
-  code = ⊎_elim (λ is. inl (code ∙ is)) (λ is. inr (code ∙ is)) (code_by (answer_in answer) may);
-  exactly = code ∙ ap (λ (a : BookAnswer). refusal_code (answer_in a)) (sym same);
-  back = back;
-}
+-- what is said of an error holds of it as it is passed on
+pub passed_on : {T E : Type 0} (P : E → Type 0) (r : Result T E) (x : E) → IsErrAnd r (λ (e : E). e ≡ x) → P x → IfErr r P
+passed_on P (Ok y) x same is = tt
+passed_on P (Err y) x same is = subst P (sym same) is
+
+-- the number and the answer of a fault
+pub record IsAnswered {D : Type 0} (fault : ServerFault D) (answer : BookAnswer) : Type 0 where
+  pub code : fault.code ≡ refusal_code (answer_in answer)
+  pub same : fault.answer ≡ answer
+  pub may : MayAnswer (answer_in answer)
+
+module _ {D : Type 0} (g : Ghosts D) (start : Version) (store : Option (Flusher D g)) (all : List Given) (fault : ServerFault D) where
+  -- what is left of its book
+  pub record IsHistoryLeft : Type 0 where
+    pub log : IsLog fault.seen_log.log
+    pub begins : (history_of fault.seen_log.log).start ≡ start
+    pub only : All (λ (c : ℕ × Batch). c.0 < length fault.sessions.items) (commands_in (history_of fault.seen_log.log).entries)
+    pub none : fault.sessions.items ≡ [] → commands_in (history_of fault.seen_log.log).entries ≡ []
+    pub sessions : AreStopped (store_from g start store) start fault.seen_log.log all fault.sessions.items
+
+  pub refused_from : (answer : BookAnswer) → IsAnswered fault answer → IsHistoryLeft → StoreComesBack g start fault.seen_log.log (told_in fault.told) store fault.disk
+      → IsRefusedFrom g start store all fault
+  refused_from answer answered left back = record {
+    code = ⊎_elim (λ is. inl (answered.code ∙ is)) (λ is. inr (answered.code ∙ is)) (code_by (answer_in answer) answered.may);
+    exactly = answered.code ∙ ap (λ (a : BookAnswer). refusal_code (answer_in a)) (sym answered.same);
+    log = left.log;
+    begins = left.begins;
+    only = left.only;
+    none = left.none;
+    sessions = left.sessions;
+    back = back;
+  }
+
+  -- no session was begun, and the history is the first version alone
+  nothing_left : fault.seen_log.log ≡ first_log start → fault.sessions.items ≡ [] → IsHistoryLeft
+  nothing_left first none = record {
+    log = subst IsLog (sym first) (refl, tt);
+    begins = ap (λ (es : List Entry). (history_of es).start) first;
+    only = subst (λ (es : List Entry). All (λ (c : ℕ × Batch). c.0 < length fault.sessions.items) (commands_in (history_of es).entries)) (sym first)
+        (All-nil (λ (c : ℕ × Batch). c.0 < length fault.sessions.items));
+    none = λ _. ap (λ (es : List Entry). commands_in (history_of es).entries) first;
+    sessions = none_stopped (store_from g start store) start fault.seen_log.log all fault.sessions.items fault.seen_log.book none;
+  }
+
+  pub refused_at_once : (answer : BookAnswer) → IsAnswered fault answer → fault.seen_log.log ≡ first_log start → told_in fault.told ≡ [] → fault.sessions.items ≡ []
+      → StoreComesBack g start (first_log start) [] store fault.disk → IsRefusedFrom g start store all fault
+  refused_at_once answer answered first untold none back =
+      refused_from answer answered (nothing_left first none)
+      (subst (λ (ts : List Told). StoreComesBack g start fault.seen_log.log ts store fault.disk) (sym untold)
+      (subst (λ (es : List Entry). StoreComesBack g start es [] store fault.disk) (sym first) back))

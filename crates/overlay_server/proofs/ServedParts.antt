@@ -15,12 +15,13 @@ use Rattle.session_threads.specs.declared.port.Finished.{Finished}
 use Rattle.session_threads.specs.declared.port.Port.{Port}
 use Rattle.session_threads.specs.declared.running.Script.{Script}
 use Rattle.session_threads.specs.declared.running.Ended.{Ended}
+use Rattle.overlay_server.specs.Closing.{IsClosedOf}
 use Rattle.overlay_server.specs.Keeping.{IsStoreKept}
 use Rattle.overlay_server.specs.Serving.{ArePortsServed, IsLeftFrom, first_log, store_from}
 use Rattle.overlay_server.specs.declared.outcome.Left.{Left}
 use Rattle.overlay_server.specs.declared.storing.Store.{Store}
 use Rattle.overlay_server.proofs.Parts.{AreSeated, are_served, begins_first}
-use Rattle.overlay_server.proofs.Stores.{Closes, left_by}
+use Rattle.overlay_server.proofs.Stores.{left_by}
 use Rattle.overlay_server.proofs.Strangers.{no_other}
 
 -- a server began so: its store's log, and the scripts with their sessions
@@ -42,7 +43,7 @@ pub record IsClosed {R W D : Type 0} (g : Ghosts D) (start : Version) (after : S
   pub sessions : All (HasAllOf left.closed.seen_log.log) (map ended_session ended)
   pub number : (newest_in left.closed.seen_log.log).number ≡ start.number + made_in (map ended_session ended)
   pub finished : left.sessions.items ≡ map finished_of ended
-  pub store : Closes g after.reporter (told_in after.told) after.flusher left.closed
+  pub store : IsClosedOf g after.reporter (told_in after.told) after.flusher left.closed
 
 pub served_from : {R W D : Type 0} (g : Ghosts D) (book : Book) (remaining : R → Option (List ℕ)) (contents : W → Option (List ℕ)) (start : Version) (ports : List (Port R W)) (store after : Store D g)
     (scripts : List (Script R W)) (ended : List (Ended R W)) (left : Left W D) → Began book start ports store scripts → Ran g book start remaining contents store after scripts ended

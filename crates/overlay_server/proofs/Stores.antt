@@ -1,16 +1,16 @@
 -- The store of a server through its runs, and what is left of it at the end.
-use Rattle.std.proofs.Common.{◌≡◌, ◌⊎◌, inl, inr, ⊎_elim, false, ℕ, ◌≤◌, List, [], Option, Some, None, IfSome, IfNone, MatchOption, All, refl, sym, ◌∙◌, ◌↔◌, ap, subst, arith}
+use Rattle.std.proofs.Common.{◌≡◌, ◌⊎◌, inl, inr, ⊎_elim, false, ℕ, ◌≤◌, List, [], Option, Some, None, IfSome, MatchOption, All, refl, sym, ◌∙◌, ◌↔◌, subst, arith}
 use Rattle.logbook.specs.Pages.{Book}
 use Rattle.disk_model.specs.declared.disk.Disk.{Ghosts}
 use Rattle.disk_model.specs.Moments.{Leaves, LeavesOnly}
 use Rattle.disk_model.proofs.Runs.{widened}
-use Rattle.overlay_terms.specs.Histories.{Entry, History, Version, BeginsWith}
+use Rattle.overlay_terms.specs.Histories.{Entry, History, Version, BeginsWith, IsHistory}
 use Rattle.std.proofs.lemmas.Bool.{false≢true}
 use Rattle.root_store.specs.declared.phase.Phase.{Phase}
 use Rattle.root_store.specs.declared.phase.Phase.TheVariants.{Idle, Close, Settle, Put, Open, Finish, Failed}
 use Rattle.root_store.specs.Running.{is_busy}
 use Rattle.flush_core.specs.declared.flusher.Flusher.{Flusher}
-use Rattle.book_history.specs.Logs.{history_of, newest_in, IsLog}
+use Rattle.book_history.specs.Logs.{history_of, newest_in}
 use Rattle.book_lock.specs.Heard.{Heard}
 use Rattle.store_flushing.specs.Among.{IsFileIn, IsFileExactlyIn}
 use Rattle.store_flushing.specs.Storing.{IsStoreOf}
@@ -18,12 +18,14 @@ use Rattle.store_flushing.specs.Told.{StaysTold, TellsOn, told_in}
 use Rattle.store_flushing.proofs.Following.{by_run, handed_on}
 use Rattle.store_flushing.proofs.Histories.{file_more}
 use Rattle.store_flushing.proofs.Storage.{begun, store_leaves, then}
-use Rattle.store_flushing.proofs.ToldLemmas.{none_yet, tells_then}
+use Rattle.store_flushing.proofs.ToldLemmas.{none_yet, tells_then, told_at_end}
 use Rattle.store_flushing.specs.declared.closed.Closed.{Closed}
 use Rattle.store_flushing.specs.declared.keeper.told_log.Told.{Told}
+use Rattle.overlay_server.specs.Closing.{IsClosedOf}
 use Rattle.overlay_server.specs.Moments.{HasOnlyNow}
 use Rattle.overlay_server.specs.Keeping.{AreFlushed, HoldsOfStore, IsStoreKept}
-use Rattle.overlay_server.specs.Serving.{IsLeftOfStore, IsStoredOf, StoreComesBack, first_log}
+use Rattle.overlay_server.specs.Refusing.{StoreComesBack}
+use Rattle.overlay_server.specs.Serving.{IsLeftOfStore, IsStoredOf, first_log}
 use Rattle.overlay_server.specs.declared.storing.Store.{Store}
 
 -- no commit is under way
@@ -94,18 +96,6 @@ module _ {D : Type 0} (g : Ghosts D) where
   at_disk P back disk stored number is same left =
       subst (λ (n : ℕ). Leaves g disk (P n)) same (subst (λ (o : Option D). IfSome o (λ (d : D). Leaves g d (P stored))) is left)
 
-  -- what `close` tells of a store, where the log goes on from what its reporter has seen
-  pub record Closes (now : Heard) (written : List Told) (store : Option (Flusher D g)) (closed : Closed D) : Type 0 where
-    pub on : BeginsWith (history_of closed.seen_log.log) (history_of now.log)
-    pub none : IfNone store ((closed.stored ≡ 0) × (closed.disk ≡ None))
-    pub disk : IfSome store (λ (f : Flusher D g). (closed.stored ≡ f.commit.root.version) × (closed.disk ≡ Some f.commit.disk))
-    pub reported : IfSome store (λ (f : Flusher D g). (newest_in now.log).durable ≤ f.commit.root.version → All (λ (e : Entry). e.version.durable ≤ closed.stored) closed.seen_log.log)
-    pub files : IfSome store (λ (f : Flusher D g). Leaves g f.commit.disk (IsFileIn (history_of now.log) f.commit.root.version)
-        → IfSome closed.disk (λ (d : D). Leaves g d (IsFileIn (history_of closed.seen_log.log) closed.stored)))
-    pub exactly : IfSome store (λ (f : Flusher D g). IsStoreOf g (history_of now.log) f → f.commit.phase ≡ Idle
-        → IfSome closed.disk (λ (d : D). Leaves g d (IsFileExactlyIn (history_of closed.seen_log.log) closed.stored)))
-    pub told : IfSome store (λ (f : Flusher D g). IfSome closed.disk (λ (d : D). TellsOn g (history_of now.log) written f.commit.disk (history_of closed.seen_log.log) (told_in closed.told) d))
-
   -- nothing was told as the book began
   none_yet_by : (start : Version) (was : Heard) (told : List Told) (disk : D) → was.log ≡ first_log start → told ≡ []
       → StaysTold g (history_of was.log) told disk disk
@@ -114,7 +104,7 @@ module _ {D : Type 0} (g : Ghosts D) where
       (subst (λ (es : List Entry). StaysTold g (history_of es) [] disk disk) (sym first) (none_yet g start disk))
 
   pub left_by : (start : Version) (was now : Heard) (x y : List Told) (old new : Option (Flusher D g)) (closed : Closed D) → was.log ≡ first_log start → x ≡ []
-      → AreFlushed g was x old now y new → Closes now y new closed → IsLeftOfStore g start old closed
+      → AreFlushed g was x old now y new → IsClosedOf g now y new closed → IsLeftOfStore g start old closed
   left_by start was now x y None None closed first none flushed closes = closes.none
   left_by start was now x y None (Some l) closed first none flushed closes = absurd flushed
   left_by start was now x y (Some f) None closed first none flushed closes = absurd flushed
@@ -146,40 +136,35 @@ module _ {D : Type 0} (g : Ghosts D) where
 
   -- ---- where a server could not run
 
-  pub stopped_by : (start : Version) (was now : Heard) (x y : List Told) (old new : Option (Flusher D g)) (back : Option D) → was.log ≡ first_log start → x ≡ [] → IsLog now.log
-      → AreFlushed g was x old now y new → MatchOption new (back ≡ None) (λ (f : Flusher D g). back ≡ Some f.commit.disk) → StoreComesBack g start old back
-  stopped_by start was now x y None None back first none valid flushed is = is
-  stopped_by start was now x y None (Some l) back first none valid flushed is = absurd flushed
-  stopped_by start was now x y (Some f) None back first none valid flushed is = absurd flushed
-  stopped_by start was now x y (Some f) (Some l) back first none valid flushed is = record {
+  -- after its threads have returned, told of the longer log that the book has then
+  pub stopped_by : (start : Version) (was now : Heard) (log : List Entry) (x y : List Told) (old new : Option (Flusher D g)) (back : Option D) → was.log ≡ first_log start → x ≡ []
+      → BeginsWith (history_of log) (history_of now.log) → IsHistory (history_of log) → (newest_in log).durable ≡ (newest_in now.log).durable
+      → AreFlushed g was x old now y new → MatchOption new (back ≡ None) (λ (f : Flusher D g). back ≡ Some f.commit.disk) → StoreComesBack g start log y old back
+  stopped_by start was now log x y None None back first none on valid durable flushed is = is
+  stopped_by start was now log x y None (Some l) back first none on valid durable flushed is = absurd flushed
+  stopped_by start was now log x y (Some f) None back first none on valid durable flushed is = absurd flushed
+  stopped_by start was now log x y (Some f) (Some l) back first none on valid durable flushed is = record {
     disk = l.commit.disk;
     there = is;
     stopped = λ store.
-        let was_store = subst (λ (log : List Entry). IsStoreOf g (history_of log) f) (sym first) store in
-        let run = flushed.flushes was_store in
+        let was_store = subst (λ (es : List Entry). IsStoreOf g (history_of es) f) (sym first) store in
+        let end = told_at_end g (history_of now.log) (history_of log) y l.commit.disk on valid durable in
+        let whole = tells_then g (history_of was.log) (history_of now.log) (history_of log) x y y f.commit.disk l.commit.disk l.commit.disk (flushed.tells was_store) end in
         record {
-          log = now.log;
-          valid = valid;
-          begins = ap (λ (h : History). h.start) run.goes_on.1 ∙ ap (λ (log : List Entry). (history_of log).start) first;
-          moments = run.moments;
-          written = y;
-          told = (flushed.tells was_store).stays f.commit.disk (omega arith) (none_yet_by start was x f.commit.disk first none);
+          moments = moments_on (history_of now.log) (history_of log) f.commit.root.version f.commit.disk l.commit.disk on (flushed.flushes was_store).moments;
+          told = whole.stays f.commit.disk (omega arith) (none_yet_by start was x f.commit.disk first none);
         };
   }
 
-  -- before any thread ran
+  -- before any session was begun
   pub stopped_at_once : (start : Version) (old : Option (Flusher D g)) (back : Option D) → HasOnlyNow g
-      → MatchOption old (back ≡ None) (λ (f : Flusher D g). back ≡ Some f.commit.disk) → StoreComesBack g start old back
+      → MatchOption old (back ≡ None) (λ (f : Flusher D g). back ≡ Some f.commit.disk) → StoreComesBack g start (first_log start) [] old back
   stopped_at_once start None back now is = is
   stopped_at_once start (Some f) back now is = record {
     disk = f.commit.disk;
     there = is;
     stopped = λ store. record {
-      log = first_log start;
-      valid = (refl, tt);
-      begins = refl;
       moments = (begun g (history_of (first_log start)) f (λ c left. now f.commit.disk c store.honest left) store).moments;
-      written = [];
       told = none_yet g start f.commit.disk;
     };
   }

@@ -1,9 +1,11 @@
 pub mod Alone
 pub mod Answering
+pub mod Closing
 pub mod Durability
 pub mod Keeping
 pub mod Listening
 pub mod Moments
+pub mod Refusing
 pub mod Runs
 pub mod Serving
 pub mod Working

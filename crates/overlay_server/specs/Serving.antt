@@ -23,11 +23,9 @@ use Rattle.store_flushing.specs.declared.closed.Closed.{Closed}
 use Rattle.store_flushing.specs.declared.keeper.told_log.Told.{Told}
 use Rattle.session_threads.specs.declared.port.Finished.{Finished}
 use Rattle.session_threads.specs.declared.port.Port.{Port}
-use Rattle.overlay_server.specs.Answering.{answer_in, refusal_code}
 use Rattle.overlay_server.specs.declared.outcome.Left.{Left}
 use Rattle.overlay_server.specs.declared.outcome.Outcome.{Outcome}
 use Rattle.overlay_server.specs.declared.outcome.Served.{Served}
-use Rattle.overlay_server.specs.declared.outcome.ServerFault.{ServerFault}
 
 -- the version that a server begins with
 abbrev pub start_of : {D : Type 0} {g : Ghosts D} → Option (Engine D g) → Version
@@ -155,28 +153,6 @@ module _ {D : Type 0} (g : Ghosts D) where
   IsLeftOfStore start None closed = (closed.stored ≡ 0) × (closed.disk ≡ None)
   IsLeftOfStore start (Some old) closed = IsLeft start old closed
 
-  -- a server that could not run left a store: a crash at any moment left a file that stands for a version of a log that
-  -- begins with the first version; and from moments that the refusal does not give, a crash leaves none older than what
-  -- that log tells durable
-  pub record IsStoppedBy (start : Version) (old : Flusher D g) (disk : D) : Type 0 where
-    pub log : List Entry
-    pub valid : IsLog log
-    pub begins : (history_of log).start ≡ start
-    pub moments : LeavesOnly g old.commit.disk disk (IsFileIn (history_of log) old.commit.root.version)
-    pub written : List Told
-    pub told : StaysTold g (history_of log) written old.commit.disk disk
-
-  -- the disk comes back
-  pub record ComesBack (start : Version) (old : Flusher D g) (back : Option D) : Type 0 where
-    pub disk : D
-    pub there : back ≡ Some disk
-    pub stopped : IsStoreOf g (history_of (first_log start)) old → IsStoppedBy start old disk
-
-  -- the same where there was one
-  abbrev pub StoreComesBack : Version → Option (Flusher D g) → Option D → Type 0
-  StoreComesBack start None back = back ≡ None
-  StoreComesBack start (Some old) back = ComesBack start old back
-
 -- ---- the server
 
 -- a server ran: from a version and its store to the end of its book, in which the sessions of its readers alone, numbered
@@ -197,10 +173,3 @@ pub record IsLeftFrom {R W D : Type 0} (remaining : R → Option (List ℕ)) (co
   pub only : All (λ c. c.0 < length ports) (commands_in (history_of left.closed.seen_log.log).entries)
   pub sessions : ArePortsServed (store_from g start store) remaining contents start left.closed.seen_log.log ports left.sessions.items
   pub kept : IsLeftOfStore g start store left.closed
-
--- a server could not run: for want of memory or of a thread, or of places in the book. Its number is that of what the book
--- answered as it was to be opened, and 40 where it was opened; the disk comes back
-pub record IsRefusedFrom {D : Type 0} (g : Ghosts D) (start : Version) (store : Option (Flusher D g)) (fault : ServerFault D) : Type 0 where
-  pub code : (fault.code ≡ 40) ⊎ (fault.code ≡ 44)
-  pub exactly : fault.code ≡ refusal_code (answer_in fault.answer)
-  pub back : StoreComesBack g start store fault.disk

@@ -1,5 +1,5 @@
 -- What the threads of a server begin with, and what they give back.
-use Rattle.std.specs.Prelude.{◌≡◌, ℕ, List, length, All, Option, IfSome}
+use Rattle.std.specs.Prelude.{◌≡◌, ℕ, List, length, All, Option}
 use Rattle.std.specs.List.{AllZip}
 use Rattle.logbook.specs.Pages.{Book}
 use Rattle.disk_model.specs.declared.disk.Disk.{Ghosts}
@@ -21,8 +21,8 @@ pub record IsReady {J R W D : Type 0} {g : Ghosts D} (book : Book) (stored : Lis
   pub scripts : All (λ (script : Script R W). script.session.book ≡ book) work.scripts.items
   pub rooms : HasRooms work.rooms (length work.scripts.items)
 
--- the threads have returned: the store's committed versions of the book alone, and where each had its thread, each session
--- ran its script; `stored` is what is known of the book's store
+-- the threads have returned: the store's committed versions of the book alone, and each session ran its script, or was not
+-- begun and is as it was; `stored` is what is known of the book's store
 pub record HasWorked {J R W D : Type 0} (book : Book) (stored : BookStore) (remaining : R → Option (List ℕ)) (contents : W → Option (List ℕ)) (g : Ghosts D) (work : Work J R W D g) (returned : Returned R W D g) : Type 0 where
   pub store : IsStoreKept book g work.store returned.store
-  pub ended : IfSome returned.ended (λ list. AllZip (λ (script : Script R W) (ended : Ended R W). IsRunOf book stored remaining contents script ended) work.scripts.items list.items)
+  pub ended : AllZip (λ (script : Script R W) (ended : Ended R W). IsRunOf book stored remaining contents script ended) work.scripts.items returned.ended.items

@@ -8,8 +8,10 @@ ghost use Rattle.version_book.specs.Store.{has_store};
 ghost use Rattle.store_flushing.specs.Told.{told_in};
 ghost use Rattle.overlay_server.specs.Answering.{answer_in, fault_of, refusal_code};
 ghost use Rattle.overlay_server.specs.Moments.{HasOnlyNow};
-ghost use Rattle.overlay_server.specs.Serving.{IsLeftFrom, IsRefusedFrom, IsServedFrom, IsStoredOf, first_log, flusher_of, start_of};
+ghost use Rattle.overlay_server.specs.Refusing.{IsRefusedFrom, given_by, given_to};
+ghost use Rattle.overlay_server.specs.Serving.{IsLeftFrom, IsServedFrom, IsStoredOf, first_log, flusher_of, start_of};
 
+use crate::ending::Ending;
 use crate::listening::{Listeners, gathered, listened};
 use crate::opening::{Begun, BookAnswer, open_book};
 use crate::outcome::{Left, Served, ServerFault};
@@ -19,7 +21,8 @@ use crate::threads::{Returned, Work, run_threads};
 use disk_model::disk::Disk;
 use flush_core::flusher::Flusher;
 use overlay_engine::engine::Engine;
-use session_threads::counting::{await_number, made_by_all};
+use session_threads::counting::any_begun;
+use session_threads::halt::Halt;
 use session_threads::port::Port;
 use session_threads::seating::{Parts, Seats, parted, seated};
 use std::alloc::Global;
@@ -27,7 +30,6 @@ use std::io::{Read, Write};
 use std::snapshot::Snapshot;
 use std::sync::Wait;
 use std::thread::Threads;
-use store_flushing::closed::close;
 use store_flushing::keeper::told_log::ToldLog;
 use tile_workers::gate::Gate;
 use version_book::fault::BookFault;
@@ -46,11 +48,12 @@ pub struct Opened<D: Disk> {
     pub ghost begun: { seen_log.log ≡ first_log (start_of engine) },
 }
 
-/// The version that a book begins with, and its number.
+/// The version that a book begins with, its number, and the history that it begins.
 #[derive(Drop)]
 struct Start {
     number: u64,
     version: Snapshot<Version>,
+    seen_log: SeenLog,
     ghost same: { number ≡ version.value.number },
 }
 
@@ -74,6 +77,7 @@ fn ask_book<J: BookName, S: Wait + Drop, D: Disk>(
     ensures start { result.start.version.value ≡ start_of opened.engine }
     ensures flusher { result.flusher ≡ flusher_of opened.engine }
     ensures stored { IfOk result.begun (λ b. has_store b.0 ≡ is_some (flusher_of opened.engine)) }
+    ensures first { result.start.seen_log.log ≡ first_log result.start.version.value }
     ensures reporter { IfOk result.begun (λ b. (b.1.book ≡ J.book) × (b.1.log ≡ first_log (start_of opened.engine))) }
     ensures sessions { IfOk result.begun (λ b. b.2.items ≡ beginners (record { book = J.book; log = first_log (start_of opened.engine) }) sessions) }
     ensures fault { IfErr result.begun (λ fault. (fault ≡ no_memory) ⊎ (fault ≡ BookFault.Gone)) }
@@ -88,6 +92,7 @@ fn ask_book<J: BookName, S: Wait + Drop, D: Disk>(
     let start = Start {
         number: version.number(),
         version: Snapshot::of(&version),
+        seen_log: seen_log.again(),
     };
     let stored = flusher.is_some();
     let (begun, answer) = open_book::<J, S>(rt, alloc, head, seen_log, version, stored, sessions);
@@ -132,17 +137,17 @@ where
     requires stored { (log : List Entry) (number : ℕ) → J.stored log number ↔ IsStoredOf D.Disk (start_of opened.engine) (flusher_of opened.engine) log number }
     requires readers { (0 < length readers.items) × (length readers.items ≤ 4) }
     ensures served { IfOk result (IsServedFrom R.remaining D.Disk (start_of opened.engine) (flusher_of opened.engine) readers.items) }
-    ensures refused { IfErr result (IsRefusedFrom D.Disk (start_of opened.engine) (flusher_of opened.engine)) }
+    ensures refused { IfErr result (IsRefusedFrom D.Disk (start_of opened.engine) (flusher_of opened.engine) (given_by R.remaining readers.items)) }
 {
     let asked = ask_book::<J, &Q, D>(rt, alloc, opened, readers.len());
     let Some(Listeners { ports, outcomes }) = listened(alloc, readers) else {
         let Asked {
-            start: _start,
+            start,
             begun: _begun,
             answer,
             flusher,
         } = asked;
-        return Err(refused(answer, flusher));
+        return Err(refused(alloc, answer, flusher, start.seen_log));
     };
     let left = asked.serve(rt, alloc, workers, gate, ports)?;
     Ok(gathered(left, outcomes))
@@ -168,7 +173,7 @@ where
     requires stored { (log : List Entry) (number : ℕ) → J.stored log number ↔ IsStoredOf D.Disk (start_of opened.engine) (flusher_of opened.engine) log number }
     requires ports { (0 < length ports.items) × (length ports.items ≤ 4) }
     ensures left { IfOk result (IsLeftFrom R.remaining W.contents D.Disk (start_of opened.engine) (flusher_of opened.engine) ports.items) }
-    ensures refused { IfErr result (IsRefusedFrom D.Disk (start_of opened.engine) (flusher_of opened.engine)) }
+    ensures refused { IfErr result (IsRefusedFrom D.Disk (start_of opened.engine) (flusher_of opened.engine) (given_to R.remaining W.contents ports.items)) }
 {
     let asked = ask_book::<J, &Q, D>(rt, alloc, opened, ports.len());
     asked.serve(rt, alloc, workers, gate, ports)
@@ -195,6 +200,7 @@ where
         G: Gate + Sync,
         Q: Threads + Wait + Sync,
         requires ports { 0 < length ports.items }
+        requires first { self.start.seen_log.log ≡ first_log self.start.version.value }
         requires stored { IfOk self.begun (λ b. has_store b.0 ≡ is_some self.flusher) }
         requires reporter { IfOk self.begun (λ b. (b.1.book ≡ J.book) × (b.1.log ≡ first_log self.start.version.value)) }
         requires sessions { IfOk self.begun (λ b. b.2.items ≡ beginners (record { book = J.book; log = first_log self.start.version.value }) (length ports.items)) }
@@ -202,7 +208,7 @@ where
         requires fault { IfErr self.begun (λ fault. (fault ≡ no_memory) ⊎ (fault ≡ BookFault.Gone)) }
         requires answer { answer_in self.answer ≡ fault_of self.begun }
         ensures left { IfOk result (IsLeftFrom R.remaining W.contents D.Disk self.start.version.value self.flusher ports.items) }
-        ensures refused { IfErr result (IsRefusedFrom D.Disk self.start.version.value self.flusher) }
+        ensures refused { IfErr result (IsRefusedFrom D.Disk self.start.version.value self.flusher (given_to R.remaining W.contents ports.items)) }
         // Of a book that was refused it is that refusal's number: so 44 tells that it gave no places, and nothing else.
         ensures code { IfErr result (λ fault. fault.code ≡ refusal_code (fault_of self.begun)) }
     {
@@ -231,7 +237,7 @@ where
                 };
                 hosted.run(rt, alloc, workers, gate)
             }
-            Err(_) => Err(refused(answer, flusher)),
+            Err(_) => Err(refused(alloc, answer, flusher, start.seen_log)),
         }
     }
 }
@@ -263,6 +269,7 @@ where
         gate: &G,
     ) -> Result<Left<W, D>, ServerFault<D>>
         requires ports { 0 < length self.ports.items }
+        requires first { self.start.seen_log.log ≡ first_log self.start.version.value }
         requires answer { answer_in self.answer ≡ None }
         requires now { HasOnlyNow D.Disk }
         requires stored { has_store self.shared ≡ is_some self.store.flusher }
@@ -271,7 +278,7 @@ where
         requires meant { (log : List Entry) (number : ℕ) → J.stored log number ↔ IsStoredOf D.Disk self.start.version.value self.store.flusher log number }
         requires sessions { self.sessions.items ≡ beginners (record { book = J.book; log = first_log self.start.version.value }) (length self.ports.items) }
         ensures left { IfOk result (IsLeftFrom R.remaining W.contents D.Disk self.start.version.value self.store.flusher self.ports.items) }
-        ensures refused { IfErr result (IsRefusedFrom D.Disk self.start.version.value self.store.flusher) }
+        ensures refused { IfErr result (IsRefusedFrom D.Disk self.start.version.value self.store.flusher (given_to R.remaining W.contents self.ports.items)) }
         ensures code { IfErr result (λ fault. fault.code ≡ 40) }
     {
         let Hosted {
@@ -283,7 +290,7 @@ where
             ports,
         } = self;
         let Some(seats) = seated::<J, R, W>(alloc, sessions, ports) else {
-            return Err(refused(answer, store.flusher));
+            return Err(refused(alloc, answer, store.flusher, start.seen_log));
         };
         let Seats {
             scripts,
@@ -296,20 +303,21 @@ where
             scripts,
             rooms,
         };
-        let Returned { store, ended } = run_threads(rt, alloc, gate, &shared, work);
+        let halt = Halt::new();
+        let Returned { store, ended } = run_threads(rt, alloc, gate, &shared, &halt, work);
         // What was finished after the last commit is committed now that the workers have returned.
-        let Store {
-            reporter,
-            flusher,
-            told,
-        } = keep_store(rt, alloc, &shared, store);
-        let Some(ended) = ended else {
-            return Err(refused(answer, flusher));
-        };
+        let store = keep_store(rt, alloc, &shared, store);
         let Parts { sessions, finished } = parted(ended, parts);
-        let made = made_by_all(rt, &sessions);
-        let closed = close(rt, alloc, shared, reporter, flusher, told, sessions);
-        await_number(rt, start.number, made, &closed.version);
+        let ending = Ending {
+            first: start.number,
+            shared,
+            store,
+            sessions,
+        };
+        if halt.is_set() {
+            return Err(ending.refused(rt, alloc, answer, any_begun(&finished)));
+        }
+        let closed = ending.closed(rt, alloc);
         Ok(Left {
             sessions: finished,
             closed,

@@ -5,6 +5,9 @@ use crate::opening::BookAnswer;
 use script_form::SessionEnd;
 use session_threads::port::Finished;
 use store_flushing::closed::Closed;
+use store_flushing::keeper::told_log::ToldLog;
+use version_book::seen_log::SeenLog;
+use version_book::session::Session;
 
 /// What a server is run with.
 #[derive(Clone, Copy, Debug, Drop)]
@@ -47,4 +50,11 @@ pub struct ServerFault<D> {
     pub disk: Option<D>,
     /// What the book answered as it was to be opened.
     pub answer: BookAnswer,
+    /// The book's history, to its end.
+    pub seen_log: SeenLog,
+    /// What was told durable, and when.
+    pub told: ToldLog,
+    /// The sessions, in the order of the ports or readers, with what they have seen and made. None where none was begun,
+    /// and then no command was accepted.
+    pub sessions: Vec<Session>,
 }

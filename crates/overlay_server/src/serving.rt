@@ -1,6 +1,7 @@
 //! A server: from readers and an engine to what the sessions wrote, and what is left of the book and its store.
-ghost use Rattle.std.specs.Prelude.{◌≡◌, ◌<◌, ◌≤◌, length, IfOk, IfErr};
-ghost use Rattle.overlay_server.specs.Serving.{IsLeftFrom, IsServedFrom, IsRefusedFrom, flusher_of, start_of};
+ghost use Rattle.std.specs.Prelude.{◌≡◌, ◌<◌, ◌≤◌, is_some, length, IfOk, IfErr};
+ghost use Rattle.overlay_server.specs.Refusing.{IsRefusedFrom, given_by, given_to};
+ghost use Rattle.overlay_server.specs.Serving.{IsLeftFrom, IsServedFrom, flusher_of, start_of};
 
 use crate::hosting::{Opened, listen_in, serve_in};
 use crate::outcome::{Left, ServeOptions, Served, ServerFault};
@@ -40,9 +41,12 @@ where
     requires readers { (0 < length readers.items) × (length readers.items ≤ 4) }
     // Each reader has its replies; what is left of book and store stands for the log that has all that was seen.
     ensures served { IfOk result (IsServedFrom R.remaining D.Disk (start_of engine) (flusher_of engine) readers.items) }
+    // A disk comes back just where there was an engine.
+    ensures disk { IfOk result (λ served. is_some served.closed.disk ≡ is_some engine) }
     // The number is that of what the book answered as it was to be opened, and 40 where it was opened. The disk comes back,
-    // and a crash at any moment left a file that stands for a version of the book.
-    ensures refused { IfErr result (IsRefusedFrom D.Disk (start_of engine) (flusher_of engine)) }
+    // and a crash at any moment left a file that stands for a version of the history that comes with it. In that history
+    // the readers' sessions alone had commands accepted, those of their scripts, and none where no session was begun.
+    ensures refused { IfErr result (IsRefusedFrom D.Disk (start_of engine) (flusher_of engine) (given_by R.remaining readers.items)) }
 {
     let opened = history_of_engine(alloc, engine);
     listen_in::<Brand, D, R, G, Q>(rt, alloc, options.workers, gate, opened, readers)
@@ -66,7 +70,8 @@ where
     Q: Threads + Wait + Sync,
     requires ports { (0 < length ports.items) × (length ports.items ≤ 4) }
     ensures left { IfOk result (IsLeftFrom R.remaining W.contents D.Disk (start_of engine) (flusher_of engine) ports.items) }
-    ensures refused { IfErr result (IsRefusedFrom D.Disk (start_of engine) (flusher_of engine)) }
+    ensures disk { IfOk result (λ left. is_some left.closed.disk ≡ is_some engine) }
+    ensures refused { IfErr result (IsRefusedFrom D.Disk (start_of engine) (flusher_of engine) (given_to R.remaining W.contents ports.items)) }
 {
     let opened = history_of_engine(alloc, engine);
     serve_in::<Brand, D, R, W, G, Q>(rt, alloc, options.workers, gate, opened, ports)

@@ -6,6 +6,7 @@ ghost use Rattle.version_book.specs.Store.{has_store};
 
 use crate::storing::{Store, start_store};
 use disk_model::disk::Disk;
+use session_threads::halt::Halt;
 use session_threads::running::{Ended, Rooms, Script, run_sessions};
 use std::alloc::Global;
 use std::io::{Read, Write};
@@ -26,20 +27,22 @@ pub struct Work<J: BookName, R: Read, W: Write, D: Disk> {
     pub rooms: Rooms<J, R, W>,
 }
 
-/// What the threads gave back: the store, and the sessions that have ended, where each thread could start.
+/// What the threads gave back: the store, and the sessions that have ended or were not begun.
 #[derive(Drop)]
 pub struct Returned<R, W, D: Disk> {
     pub store: Store<D>,
-    pub ended: Option<Vec<Ended<R, W>>>,
+    pub ended: Vec<Ended<R, W>>,
 }
 
 /// Runs workers, the store and a session for each script in threads of their own, and takes them in. Where a thread is
-/// refused, the book closes, and the others end.
+/// refused, the run halts and the book closes, the others end, and sessions that are not begun by then come back as they
+/// were.
 pub fn run_threads<J, S, G, Q, R, W, D>(
     rt: &Q,
     alloc: Global,
     gate: &G,
     shared: &Shared<J, S>,
+    halt: &Halt,
     work: Work<J, R, W, D>,
 ) -> Returned<R, W, D>
 where
@@ -59,7 +62,7 @@ where
         |scope| -> Returned<R, W, D>
             requires { IsReady J.book J.stored work }
             ensures { HasWorked J.book (store_of J.stored (has_store shared.entry.now)) R.remaining W.contents D.Disk work result }
-        { run_in(scope, rt, alloc, gate, shared, work) },
+        { run_in(scope, rt, alloc, gate, shared, halt, work) },
     )
 }
 
@@ -70,6 +73,7 @@ fn run_in<'s, E, J, S, G, Q, R, W, D>(
     alloc: Global,
     gate: &'s G,
     shared: &'s Shared<J, S>,
+    halt: &'s Halt,
     work: Work<J, R, W, D>,
 ) -> Returned<R, W, D>
 where
@@ -91,10 +95,10 @@ where
     } = work;
     let working = start_workers(scope, rt, alloc, gate, shared, workers);
     let keeping = start_store(scope, rt, alloc, shared, store);
-    let mut ended = None;
-    if working && keeping.is_ok() {
-        ended = run_sessions(scope, rt, alloc, shared, scripts, rooms);
+    if !working || keeping.is_err() {
+        halt.set();
     }
+    let ended = run_sessions(scope, rt, alloc, shared, halt, scripts, rooms);
     shared.begin_close(rt);
     let store = match keeping {
         Ok(handle) => handle.join(rt),

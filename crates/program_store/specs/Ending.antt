@@ -75,9 +75,9 @@ is_read_only Existing = false
 is_read_only New = false
 is_read_only ReadOnly = true
 
--- all is where the words have it: in memory alone, or in the store
-abbrev pub is_kept : {D : Type 0} → Opening → Closed D → Bool
-is_kept opening closed = is_read_only opening || not (is_some closed.disk) || is_stored closed
+-- all is where the words have it: in memory alone where they name no store, or in the store
+abbrev pub is_kept : {D : Type 0} → Keeping → Closed D → Bool
+is_kept keeping closed = is_read_only keeping.opening || not (is_some keeping.store) || is_stored closed
 
 -- why a version is not stored: of a store that failed, the device's fault that it failed by
 abbrev pub told_of : StoreFault → StoreFault
@@ -94,5 +94,5 @@ unstored None = Ok false
 unstored (Some fault) = Err (Store (told_of fault))
 
 -- whether the newest version is where it is to be, and the store's fault where it told one
-abbrev pub kept_by : {D : Type 0} → Opening → Closed D → Result Bool ProgramFault
-kept_by opening closed = if is_kept opening closed then Ok true else unstored closed.fault
+abbrev pub kept_by : {D : Type 0} → Keeping → Closed D → Result Bool ProgramFault
+kept_by keeping closed = if is_kept keeping closed then Ok true else unstored closed.fault

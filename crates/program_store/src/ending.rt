@@ -1,5 +1,5 @@
 //! How a run ends.
-ghost use Rattle.std.specs.Prelude.{◌≡◌, true, IfOk, Ok};
+ghost use Rattle.std.specs.Prelude.{◌≡◌, true, is_some, IfOk, Ok};
 ghost use Rattle.program_store.specs.Ending.{conclusion, exit_status, is_end, is_kept, is_read_only, is_stored, kept_by, told_of, unsaid, was_run, was_written};
 
 use crate::fault::ProgramFault;
@@ -21,20 +21,22 @@ pub struct Ends {
 
 /// The end of a run: whether each script was read to its end and the newest version is in the store, where it is to be. A
 /// fault is one that no session's replies tell: the store's, or else that the replies could not be written or that a
-/// session had no memory.
+/// session had no memory. What is left of the book is that of the store that the words name.
 pub fn end_run<D>(
     keeping: &Keeping,
     closed: &Closed<D>,
     printed: bool,
     ends: Ends,
 ) -> Result<bool, ProgramFault>
-    ensures value { result ≡ conclusion (kept_by keeping.now.opening closed.now) printed ends }
+    // A disk came back just where the words name a store.
+    requires named { is_some closed.now.disk ≡ is_some keeping.now.store }
+    ensures value { result ≡ conclusion (kept_by keeping.now closed.now) printed ends }
     // Status 0 means that nothing is missing.
-    ensures whole { result ≡ Ok true → (is_kept keeping.now.opening closed.now ≡ true) × (printed ≡ true) × (ends.at_end ≡ true) }
+    ensures whole { result ≡ Ok true → (is_kept keeping.now closed.now ≡ true) × (printed ≡ true) × (ends.at_end ≡ true) }
     // Where no fault is told, each session has told its end itself.
     ensures told { IfOk result (λ complete. (printed ≡ true) × (ends.run ≡ true) × (ends.written ≡ true)) }
 {
-    let stored = has_stored(keeping.opening, closed)?;
+    let stored = has_stored(keeping, closed)?;
     if !printed {
         return Err(ProgramFault::Write);
     }
@@ -45,11 +47,11 @@ pub fn end_run<D>(
 }
 
 /// Whether the newest version is where it is to be. The fault is why the store does not take it.
-fn has_stored<D>(opening: Opening, closed: &Closed<D>) -> Result<bool, ProgramFault>
-    ensures value { result ≡ kept_by opening closed.now }
-    ensures kept { result ≡ Ok true → is_kept opening closed.now ≡ true }
+fn has_stored<D>(keeping: &Keeping, closed: &Closed<D>) -> Result<bool, ProgramFault>
+    ensures value { result ≡ kept_by keeping.now closed.now }
+    ensures kept { result ≡ Ok true → is_kept keeping.now closed.now ≡ true }
 {
-    if is_read_only(opening) || closed.disk.is_none() || is_stored(closed) {
+    if is_read_only(keeping.opening) || keeping.store.is_none() || is_stored(closed) {
         return Ok(true);
     }
     match closed.fault {

@@ -16,6 +16,8 @@ use Rattle.book_history.specs.declared.seen_log.BookName as book_name
 use Rattle.session_threads.specs.contracts.running.Script as script
 use Rattle.session_threads.specs.contracts.running.Ended as ended
 use Rattle.session_threads.specs.contracts.port.Port as port
+use Rattle.session_threads.specs.contracts.halt.Halt as halt
+use Rattle.session_threads.proofs.halt.Halt.TheSendSync as halts
 
 pub heap_send : IsSend global.the_row
 heap_send = search (sendable, crosses)
@@ -41,3 +43,11 @@ module _ (J S Q : RattleType) (g : book_name.Ghosts J.Denot) (j : IsSend J) (s :
       let O = type_at ν (ShrRef a a' Q ∷ global.the_row ∷ ShrRef b b' (shared.the_row J S g) ∷ T ∷ []) in
       let book = shared_sync J S g j s in
       recorded_send _ _ _ O.to_one (struct_send (shape O) (shr_send a a' Q q, (heap_send, (shr_send b b' _ book, (t, tt)))))
+
+  -- and whether the run halts
+  pub halting_send : (T : RattleType) → IsSend T → (ν : Sym) (a b c : Lifetime) (a' b' c' : Lft)
+      → IsSend (TupleAt ν (ShrRef a a' Q ∷ global.the_row ∷ ShrRef b b' (shared.the_row J S g) ∷ ShrRef c c' halt.the_row ∷ T ∷ []))
+  halting_send T t ν a b c a' b' c' =
+      let O = type_at ν (ShrRef a a' Q ∷ global.the_row ∷ ShrRef b b' (shared.the_row J S g) ∷ ShrRef c c' halt.the_row ∷ T ∷ []) in
+      let book = shared_sync J S g j s in
+      recorded_send _ _ _ O.to_one (struct_send (shape O) (shr_send a a' Q q, (heap_send, (shr_send b b' _ book, (shr_send c c' _ halts.the_sync, (t, tt))))))

@@ -1,7 +1,11 @@
-//! Whether all that a book accepted was made by its sessions.
+//! Whether all that a book accepted was made by its sessions, and whether any was begun.
 ghost use Rattle.std.specs.Prelude.{◌≡◌, ◌+◌};
+ghost use Rattle.std.specs.List.{list_any};
 ghost use Rattle.session_threads.specs.Counting.{made_in};
+ghost use Rattle.session_threads.specs.Running.{was_begun};
 
+use crate::port::Finished;
+use script_form::SessionEnd;
 use std::sync::Wait;
 use version_book::session::Session;
 use versions::Version;
@@ -27,6 +31,23 @@ pub fn await_number<Q: Wait>(rt: &Q, first: u64, made: u64, last: &Version)
 {
     if first.checked_add(made) != Some(last.number()) {
         never(rt)
+    }
+}
+
+/// Whether any of these sessions was begun.
+pub fn any_begun<W>(finished: &[Finished<W>]) -> bool
+    ensures { result ≡ list_any (λ one. was_begun one.end) finished.now }
+{
+    finished.iter().any(was_begun)
+}
+
+/// Whether a session was begun. One that was not ended for want of memory or of a thread.
+fn was_begun<W>(finished: &Finished<W>) -> bool
+    ensures { result ≡ was_begun finished.now.end }
+{
+    match finished.end {
+        SessionEnd::End => true,
+        SessionEnd::Failed(code) => code != 40,
     }
 }
 

@@ -1,11 +1,12 @@
 //! Sessions in threads of their own, one for each reader.
-ghost use Rattle.std.specs.Prelude.{◌≡◌, All, length, IfSome};
+ghost use Rattle.std.specs.Prelude.{◌≡◌, ◌<◌, All, length, MatchResult};
 ghost use Rattle.std.specs.List.{AllZip};
 ghost use Rattle.server_session.specs.Stores.{store_of};
 ghost use Rattle.session_threads.specs.Rooms.{IsReserved, HasRooms};
-ghost use Rattle.session_threads.specs.Running.{IsRunOf};
+ghost use Rattle.session_threads.specs.Running.{IsNotBegunOf, IsRunOf};
 ghost use Rattle.version_book.specs.Store.{has_store};
 
+use crate::halt::Halt;
 use crate::port::Port;
 use script_form::SessionEnd;
 use server_session::session::session_run_within;
@@ -53,22 +54,28 @@ impl<J: BookName, R: Read, W: Write> Promise<Ended<R, W>> for RunsScript<J, R, W
 /// A thread that runs a script.
 pub type Running<J, R, W> = PromisedHandle<Ended<R, W>, RunsScript<J, R, W>>;
 
+/// A thread that runs a script, or the script that came back as none could start.
+pub type Begun<J, R, W> = Result<Running<J, R, W>, Ended<R, W>>;
+
 /// Room for the threads of sessions, and for what they leave.
 #[derive(Drop)]
 pub struct Rooms<J: BookName, R: Read, W: Write> {
-    pub running: Vec<Running<J, R, W>>,
+    pub running: Vec<Begun<J, R, W>>,
     pub ended: Vec<Ended<R, W>>,
 }
 
-/// Runs a thread for each script, and takes them in. None comes where a thread is refused.
+/// Runs a thread for each script, and takes them in, in their order. Where a thread is refused, the run halts and the book
+/// closes: the scripts that are begun by then end as in a book that closes, and the others come back as they were, as those
+/// of sessions that had no memory (40).
 pub fn run_sessions<'s, E, J, S, Q, R, W>(
     scope: &'s Scope<'s, E>,
     rt: &'s Q,
     alloc: Global,
     shared: &'s Shared<J, S>,
+    halt: &'s Halt,
     scripts: Vec<Script<R, W>>,
     rooms: Rooms<J, R, W>,
-) -> Option<Vec<Ended<R, W>>>
+) -> Vec<Ended<R, W>>
 where
     J: BookName + Send + Sync,
     S: Wait + Drop + Send + 's,
@@ -77,23 +84,25 @@ where
     W: Write + Send + Drop + 's,
     requires scripts { All (λ script. script.session.book ≡ J.book) scripts.items }
     requires rooms { HasRooms rooms (length scripts.items) }
-    ensures { IfSome result (λ list. AllZip (λ script ended. IsRunOf J.book (store_of J.stored (has_store shared.now)) R.remaining W.contents script ended) scripts.items list.items) }
+    ensures { AllZip (λ script ended. IsRunOf J.book (store_of J.stored (has_store shared.now)) R.remaining W.contents script ended) scripts.items result.items }
 {
     let Rooms { mut running, ended } = rooms;
     for script in scripts {
-        running.push_reserved(start_session(scope, rt, alloc, shared, script)?);
+        running.push_reserved(start_session(scope, rt, alloc, shared, halt, script));
     }
-    Some(join_sessions(rt, running, ended))
+    join_sessions(rt, running, ended)
 }
 
-/// Starts a thread for a script.
+/// Starts a thread for a script, where the run has not halted. Where it is refused the run halts, the book closes, and the
+/// script comes back.
 fn start_session<'s, E, J, S, Q, R, W>(
     scope: &'s Scope<'s, E>,
     rt: &'s Q,
     alloc: Global,
     shared: &'s Shared<J, S>,
+    halt: &'s Halt,
     script: Script<R, W>,
-) -> Option<Running<J, R, W>>
+) -> Begun<J, R, W>
 where
     J: BookName + Send + Sync,
     S: Wait + Drop + Send + 's,
@@ -101,37 +110,98 @@ where
     R: Read + Send + Drop + 's,
     W: Write + Send + Drop + 's,
     requires { script.session.book ≡ J.book }
-    ensures { IfSome result (λ h. (h.promise.begun.value ≡ script) × (h.promise.stored ≡ has_store shared.now)) }
+    ensures { MatchResult result
+        (λ h. (h.promise.begun.value ≡ script) × (h.promise.stored ≡ has_store shared.now))
+        (λ back. IsRunOf J.book (store_of J.stored (has_store shared.now)) R.remaining W.contents script back) }
 {
+    if halt.is_set() {
+        return Err(not_begun(script));
+    }
     let promise = RunsScript {
         begun: Snapshot::of(&script),
         stored: shared.has_store(),
         of: PhantomData,
     };
-    scope
-        .spawn_with(
-            promise,
-            move || -> Ended<R, W>
-                requires { script.session.book ≡ J.book }
-                ensures { IsRunOf J.book (store_of J.stored (has_store shared.entry.now)) R.remaining W.contents script result }
-            { run_script(rt, alloc, shared, script) },
-        )
-        .ok()
+    let started = scope.spawn_with(
+        promise,
+        move || -> Ended<R, W>
+            requires { script.session.book ≡ J.book }
+            ensures { IsRunOf J.book (store_of J.stored (has_store shared.entry.now)) R.remaining W.contents script result }
+        { begin_script(rt, alloc, shared, halt, script) },
+    );
+    match started {
+        Ok(handle) => Ok(handle),
+        Err(refused) => {
+            // In a run that has halted the closure begins nothing, and gives the script back.
+            halt.set();
+            shared.begin_close(rt);
+            Err((refused.value)())
+        }
+    }
 }
 
 /// Takes the threads of the scripts in, in their order.
 fn join_sessions<J: BookName, Q: Threads, R: Read + Drop, W: Write + Drop>(
     rt: &Q,
-    running: Vec<Running<J, R, W>>,
+    running: Vec<Begun<J, R, W>>,
     mut list: Vec<Ended<R, W>>,
 ) -> Vec<Ended<R, W>>
     requires { IsReserved list (length running.items) }
-    ensures { AllZip (λ h ended. IsRunOf J.book (store_of J.stored h.promise.stored) R.remaining W.contents h.promise.begun.value ended) running.items result.items }
+    ensures { AllZip (λ begun ended. MatchResult begun
+        (λ h. IsRunOf J.book (store_of J.stored h.promise.stored) R.remaining W.contents h.promise.begun.value ended)
+        (λ back. ended ≡ back)) running.items result.items }
 {
-    for handle in running {
-        list.push_reserved(handle.join(rt));
+    for begun in running {
+        list.push_reserved(join_session(rt, begun));
     }
     list
+}
+
+/// Takes the thread of a script in, where it has one.
+fn join_session<J: BookName, Q: Threads, R: Read + Drop, W: Write + Drop>(
+    rt: &Q,
+    begun: Begun<J, R, W>,
+) -> Ended<R, W>
+    ensures { MatchResult begun
+        (λ h. IsRunOf J.book (store_of J.stored h.promise.stored) R.remaining W.contents h.promise.begun.value result)
+        (λ back. result ≡ back) }
+{
+    match begun {
+        Ok(handle) => handle.join(rt),
+        Err(back) => back,
+    }
+}
+
+/// Runs a script, where the run has not halted.
+fn begin_script<J: BookName, S: Wait + Drop, Q: Threads + Wait + Sync, R: Read, W: Write>(
+    rt: &Q,
+    alloc: Global,
+    shared: &Shared<J, S>,
+    halt: &Halt,
+    script: Script<R, W>,
+) -> Ended<R, W>
+    requires { script.session.book ≡ J.book }
+    ensures { IsRunOf J.book (store_of J.stored (has_store shared.now)) R.remaining W.contents script result }
+{
+    if halt.is_set() {
+        not_begun(script)
+    } else {
+        run_script(rt, alloc, shared, script)
+    }
+}
+
+/// A script that is not begun, with its session, its reader and its writer as they were.
+fn not_begun<R, W>(script: Script<R, W>) -> Ended<R, W>
+    ensures { IsNotBegunOf script result }
+{
+    let Script { session, port } = script;
+    // It has seen some version: the clause rests on that.
+    let _ = session.number();
+    Ended {
+        session,
+        port,
+        end: SessionEnd::Failed(40),
+    }
 }
 
 /// Runs a script into its writer.

@@ -1,0 +1,111 @@
+-- What a server leaves that could not run: the book's history, what its sessions made, and its store.
+use Rattle.std.specs.Prelude.{◌≡◌, ◌⊎◌, ◌<◌, ◌++◌, ℕ, List, [], length, map, All, Option, Some, None}
+use Rattle.std.specs.List.{AllByRecursion}
+use Rattle.logbook.specs.Pages.{Book}
+use Rattle.disk_model.specs.declared.disk.Disk.{Ghosts}
+use Rattle.disk_model.specs.Moments.{LeavesOnly}
+use Rattle.overlay_terms.specs.Histories.{Version, Entry, BeginsWith, commands_in}
+use Rattle.flush_core.specs.declared.flusher.Flusher.{Flusher}
+use Rattle.book_history.specs.Known.{Known, seen}
+use Rattle.book_history.specs.Logs.{history_of, IsLog}
+use Rattle.book_lock.specs.Steps.{beginners, HasAllOf}
+use Rattle.script_form.specs.Lines.{script_max}
+use Rattle.script_form.specs.Transcript.{BookStore}
+use Rattle.script_form.specs.declared.session_end.SessionEnd.{SessionEnd}
+use Rattle.server_session.specs.Session.{IsSessionWithin}
+use Rattle.store_flushing.specs.Among.{IsFileIn}
+use Rattle.store_flushing.specs.Storing.{IsStoreOf}
+use Rattle.store_flushing.specs.Told.{StaysTold, told_in}
+use Rattle.store_flushing.specs.declared.keeper.told_log.Told.{Told}
+use Rattle.session_threads.specs.declared.port.Port.{Port}
+use Rattle.overlay_server.specs.Answering.{answer_in, refusal_code}
+use Rattle.overlay_server.specs.Serving.{first_log, store_from}
+use Rattle.overlay_server.specs.declared.outcome.ServerFault.{ServerFault}
+
+-- ---- what sessions are given
+
+-- what a session is given: what its reader has, so many bytes of it at most, and what its writer has
+pub record Given : Type 0 where
+  pub most : ℕ
+  pub script : Option (List ℕ)
+  pub held : Option (List ℕ)
+
+-- by a port
+abbrev pub given_at : {R W : Type 0} (remaining : R → Option (List ℕ)) (contents : W → Option (List ℕ)) → Port R W → Given
+given_at remaining contents port = record { most = port.most; script = remaining port.reader; held = contents port.writer }
+
+abbrev pub given_to : {R W : Type 0} (remaining : R → Option (List ℕ)) (contents : W → Option (List ℕ)) → List (Port R W) → List Given
+given_to remaining contents ports = map (given_at remaining contents) ports
+
+-- by a reader alone, where the replies are kept as lists of bytes: the limit of scripts, and nothing written
+abbrev pub given_from : {R : Type 0} (remaining : R → Option (List ℕ)) → R → Given
+given_from remaining reader = record { most = script_max; script = remaining reader; held = Some [] }
+
+abbrev pub given_by : {R : Type 0} (remaining : R → Option (List ℕ)) → List R → List Given
+given_by remaining readers = map (given_from remaining) readers
+
+-- ---- sessions
+
+-- a session's part: what it had seen at first, what it was given, and what it has seen and made then
+pub record StoppedPart : Type 0 where
+  pub session : Known
+  pub given : Given
+  pub now : Known
+
+-- it ran the script that it was given, or was not begun and made nothing: there are replies to its lines, by histories that
+-- it has seen then; the log has all of that, and of the session's batches just those that it made
+pub record IsStopped (stored : BookStore) (log : List Entry) (part : StoppedPart) : Type 0 where
+  pub end : SessionEnd
+  pub left : Option (List ℕ)
+  pub written : Option (List ℕ)
+  pub same : part.now.session ≡ part.session.session
+  pub goes_on : BeginsWith (seen part.now) (seen part.session)
+  pub ran : IsSessionWithin part.given.most stored end part.session part.now part.given.script left part.given.held written
+  pub own : HasAllOf log part.now
+
+-- these sessions, of the book that begins with a version, were given the first of what was to be given, and ran it
+pub record AreStopped (stored : BookStore) (start : Version) (log : List Entry) (all : List Given) (sessions : List Known) : Type 0 where
+  pub book : Book
+  pub parts : List StoppedPart
+  pub others : List Given
+  pub begin : map (λ (part : StoppedPart). part.session) parts ≡ beginners (record { book = book; log = first_log start }) (length parts)
+  pub given : map (λ (part : StoppedPart). part.given) parts ++ others ≡ all
+  pub come_to : map (λ (part : StoppedPart). part.now) parts ≡ sessions
+  pub stopped : AllByRecursion (IsStopped stored log) parts
+
+-- ---- the store
+
+module _ {D : Type 0} (g : Ghosts D) where
+  -- what is left of a store: a crash at any moment left a file that stands for a version of this log, no older than what was
+  -- stored at first. What the log tells durable was written down as it was told, and from that moment on a crash leaves no
+  -- older version
+  pub record IsStoppedBy (log : List Entry) (written : List Told) (old : Flusher D g) (disk : D) : Type 0 where
+    pub moments : LeavesOnly g old.commit.disk disk (IsFileIn (history_of log) old.commit.root.version)
+    pub told : StaysTold g (history_of log) written old.commit.disk disk
+
+  -- the disk comes back
+  pub record ComesBack (start : Version) (log : List Entry) (written : List Told) (old : Flusher D g) (back : Option D) : Type 0 where
+    pub disk : D
+    pub there : back ≡ Some disk
+    pub stopped : IsStoreOf g (history_of (first_log start)) old → IsStoppedBy log written old disk
+
+  -- the same where there was one
+  abbrev pub StoreComesBack : Version → List Entry → List Told → Option (Flusher D g) → Option D → Type 0
+  StoreComesBack start log written None back = back ≡ None
+  StoreComesBack start log written (Some old) back = ComesBack start log written old back
+
+-- ---- the server
+
+-- a server could not run: for want of memory or of a thread, or of places in the book. Its number is that of what the book
+-- answered as it was to be opened, and 40 where it was opened. The history that it leaves begins with the first version; the
+-- sessions that come back, numbered from 0, alone had commands accepted, those of their scripts; where none comes back, none
+-- was accepted. The disk comes back
+pub record IsRefusedFrom {D : Type 0} (g : Ghosts D) (start : Version) (store : Option (Flusher D g)) (all : List Given) (fault : ServerFault D) : Type 0 where
+  pub code : (fault.code ≡ 40) ⊎ (fault.code ≡ 44)
+  pub exactly : fault.code ≡ refusal_code (answer_in fault.answer)
+  pub log : IsLog fault.seen_log.log
+  pub begins : (history_of fault.seen_log.log).start ≡ start
+  pub only : All (λ c. c.0 < length fault.sessions.items) (commands_in (history_of fault.seen_log.log).entries)
+  pub none : fault.sessions.items ≡ [] → commands_in (history_of fault.seen_log.log).entries ≡ []
+  pub sessions : AreStopped (store_from g start store) start fault.seen_log.log all fault.sessions.items
+  pub back : StoreComesBack g start fault.seen_log.log (told_in fault.told) store fault.disk

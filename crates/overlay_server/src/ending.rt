@@ -1,0 +1,108 @@
+//! The end of a server's book: it is closed where each thread could start, and else told as far as it came.
+ghost use Rattle.std.specs.Prelude.{◌≡◌, ◌+◌, ◌<◌, [], length, All, None, Some, MatchOption, MatchBool};
+ghost use Rattle.std.specs.Arc.{arc_value};
+ghost use Rattle.book_history.specs.Logs.{newest_in, IsLog};
+ghost use Rattle.book_lock.specs.Steps.{HasAllOf};
+ghost use Rattle.session_threads.specs.Counting.{made_in};
+ghost use Rattle.store_flushing.specs.Told.{told_in};
+ghost use Rattle.book_lock.specs.Heard.{HasHeard};
+ghost use Rattle.overlay_server.specs.Answering.{answer_in, refusal_code};
+ghost use Rattle.overlay_server.specs.Closing.{IsClosedOf};
+
+use crate::opening::BookAnswer;
+use crate::outcome::ServerFault;
+use crate::refusing::disk_of;
+use crate::storing::Store;
+use disk_model::disk::Disk;
+use session_threads::counting::{await_number, made_by_all};
+use std::alloc::Global;
+use std::sync::Wait;
+use store_flushing::closed::{Closed, close};
+use version_book::seen_log::BookName;
+use version_book::session::Session;
+use version_book::shared::Shared;
+
+/// A book whose threads have returned, with its store and all sessions that it began with, and the number of its first
+/// version.
+pub(crate) struct Ending<J: BookName, S: Wait + Drop, D: Disk> {
+    pub first: u64,
+    pub shared: Shared<J, S>,
+    pub store: Store<D>,
+    pub sessions: Vec<Session>,
+}
+
+impl<J: BookName, S: Wait + Drop, D: Disk> Ending<J, S, D> {
+    /// Closes the book. Were its last number not the first one and so many more as the sessions made batches, which cannot
+    /// come, it would wait for ever.
+    pub fn closed<Q: Wait>(self, rt: &Q, alloc: Global) -> Closed<D>
+        requires reporter { self.store.reporter.book ≡ J.book }
+        requires begun { 0 < length self.store.reporter.log }
+        requires sessions { All (λ session. session.book ≡ J.book) self.sessions.items }
+        ensures version { arc_value result.version ≡ newest_in result.seen_log.log }
+        ensures log { IsLog result.seen_log.log }
+        ensures sessions { All (λ session. HasAllOf result.seen_log.log session) self.sessions.items }
+        ensures number { (newest_in result.seen_log.log).number ≡ self.first + made_in self.sessions.items }
+        ensures store { IsClosedOf D.Disk self.store.reporter (told_in self.store.told) self.store.flusher result }
+    {
+        let Ending {
+            first,
+            shared,
+            store,
+            sessions,
+        } = self;
+        let Store {
+            reporter,
+            flusher,
+            told,
+        } = store;
+        let made = made_by_all(rt, &sessions);
+        let closed = close(rt, alloc, shared, reporter, flusher, told, sessions);
+        await_number(rt, first, made, &closed.version);
+        closed
+    }
+
+    /// Ends the book of a server that could not run: the disk comes back, and what the book has come to. The sessions come
+    /// back where one of them was begun.
+    pub fn refused<Q: Wait>(
+        self,
+        rt: &Q,
+        alloc: Global,
+        answer: BookAnswer,
+        begun: bool,
+    ) -> ServerFault<D>
+        requires reporter { self.store.reporter.book ≡ J.book }
+        requires sessions { All (λ session. session.book ≡ J.book) self.sessions.items }
+        ensures code { result.code ≡ refusal_code (answer_in answer) }
+        ensures answer { result.answer ≡ answer }
+        ensures disk { MatchOption self.store.flusher (result.disk ≡ None) (λ f. result.disk ≡ Some f.commit.disk) }
+        ensures told { result.told ≡ self.store.told }
+        ensures log { IsLog result.seen_log.log }
+        ensures heard { HasHeard result.seen_log.log self.store.reporter }
+        ensures has_all { All (λ session. HasAllOf result.seen_log.log session) self.sessions.items }
+        ensures number { (newest_in result.seen_log.log).number ≡ self.first + made_in self.sessions.items }
+        ensures sessions { MatchBool begun (result.sessions.items ≡ self.sessions.items) (result.sessions.items ≡ []) }
+    {
+        let Ending {
+            first,
+            shared,
+            store,
+            sessions,
+        } = self;
+        let Store {
+            reporter,
+            flusher,
+            told,
+        } = store;
+        let made = made_by_all(rt, &sessions);
+        let closed = shared.into_closed(rt, &reporter, &sessions);
+        await_number(rt, first, made, &closed.version);
+        ServerFault {
+            code: answer.code(),
+            disk: disk_of(flusher),
+            answer,
+            seen_log: closed.seen_log,
+            told,
+            sessions: if begun { sessions } else { Vec::new(alloc) },
+        }
+    }
+}
