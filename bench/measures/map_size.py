@@ -28,8 +28,8 @@ EACH = 0.25  # seconds between two looks
 def below(number: int) -> list[int]:
     """A process and all that it has begun, and those that these have."""
     found = [number]
-    for tasks in pathlib.Path(f"/proc/{number}/task").glob("*/children"):
-        with contextlib.suppress(OSError):
+    with contextlib.suppress(OSError):  # where it has ended
+        for tasks in pathlib.Path(f"/proc/{number}/task").glob("*/children"):
             for child in map(int, tasks.read_text().split()):
                 found += below(child)
     return found

@@ -59,8 +59,8 @@ class Process:
 def below(number: int) -> list[Process]:
     """All processes that a process has begun, and those that these have, nearest first."""
     found: list[Process] = []
-    for tasks in pathlib.Path(f"/proc/{number}/task").glob("*/children"):
-        with contextlib.suppress(OSError):
+    with contextlib.suppress(OSError):  # where it has ended
+        for tasks in pathlib.Path(f"/proc/{number}/task").glob("*/children"):
             for child in map(int, tasks.read_text().split()):
                 one = Process.of(child)
                 found += [one] if one else []
