@@ -120,6 +120,7 @@ def unsealed(path: pathlib.Path, advice: str) -> bytes:
 
 def begin(path: pathlib.Path, run: Mapping[str, Any], tasks: Iterable[bytes]) -> TaskFolder:
     """The folder with the tasks of a run: they are written where they do not all stand yet, else none is looked at.
+    Where no plan stands, no result is taken for one of this run's.
 
     run: what is asked, as JSON has it; a folder that has tasks of anything else is refused.
     """
@@ -132,6 +133,8 @@ def begin(path: pathlib.Path, run: Mapping[str, Any], tasks: Iterable[bytes]) ->
     foreign = sorted(entry.name for entry in path.iterdir() if not _is_ours(entry.name))
     if foreign:
         raise FolderFault(f"{path}: {foreign[0]} is no task; take an empty folder, or one that is not there yet")
+    for result in path.glob("*.result"):  # of tasks whose plan is gone, which may have asked something else
+        result.unlink()
     count = 0
     for count, task in enumerate(tasks, 1):
         put(folder.task(count - 1), sealed(task))
@@ -158,7 +161,7 @@ def held(path: pathlib.Path) -> Iterator[None]:
     with (path / "lock").open("a+b") as lock:
         try:
             fcntl.lockf(lock, fcntl.LOCK_EX | fcntl.LOCK_NB)
-        except OSError:
+        except (BlockingIOError, PermissionError):
             raise FolderFault(f"{path}: another run is at work in it; wait, or take another folder") from None
         yield
 

@@ -1,5 +1,6 @@
 """Tests of task folders and of what does their tasks, by Python alone: no map and no program is needed."""
 
+import errno
 import functools
 import importlib.util
 import io
@@ -154,6 +155,20 @@ class Folders(InTasks):
             other.kill()
         with tasks.held(self.work):
             pass
+
+    def test_without_locks_a_folder_is_not_told_to_be_another_run_s(self) -> None:
+        fault = OSError(errno.ENOLCK, os.strerror(errno.ENOLCK))
+        with mock.patch("fcntl.lockf", side_effect=fault), self.assertRaises(OSError) as raised, tasks.held(self.work):
+            pass
+        self.assertIs(raised.exception, fault)
+
+    def test_results_without_a_plan_are_none_of_the_run_that_is_begun(self) -> None:
+        folder = self.begun(factor="1000")
+        for number in range(12):
+            tasks.do(Reversing(self.marks), folder, number)
+        folder.plan.unlink()
+        again = self.begun([name.upper() for name in NAMES], factor="100")
+        self.assertEqual(again.left(), list(range(12)))
 
     def test_numbers_are_handed_out_by_others(self) -> None:
         folder = self.begun()
