@@ -38,7 +38,7 @@ OUTPUTS = ("pieces", "gaps")  # of these tasks know whether they are wanted
 def add_words(parser: argparse.ArgumentParser) -> None:
     """The words of who does the tasks, and where they stand."""
     parser.add_argument("--jobs", type=number_of_jobs, metavar="N", default=os.cpu_count() or 1,
-                        help="processes of this machine (default: %(default)s); 0: the tasks are only written")
+                        help="processes of this machine (default: its processors); 0: the tasks are only written")
     parser.add_argument("--dask", nargs="?", const="", metavar="ADDRESS",
                         help="workers of Dask: of the scheduler there, or of this machine where none is named")
     parser.add_argument("--work", type=pathlib.Path, metavar="FOLDER",

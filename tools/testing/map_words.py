@@ -1,5 +1,6 @@
 """Tests of overlay_maps.py by its words: tables of small maps, and what is refused."""
 
+import argparse
 import csv
 import json
 import os
@@ -11,7 +12,7 @@ from unittest import mock
 
 import overlay_maps
 import writing
-from maps import boundaries, exact_area
+from maps import boundaries, doing, exact_area
 from testing.common import InFolder, Programs, outcome
 
 Position = list[float]
@@ -19,6 +20,18 @@ Position = list[float]
 
 def square(x: float, y: float, side: float) -> list[Position]:
     return [[x, y], [x + side, y], [x + side, y + side], [x, y + side], [x, y]]
+
+
+class Help(unittest.TestCase):
+    def test_it_is_the_same_on_each_machine(self) -> None:
+        told: set[str] = set()
+        for processors in (1, 97):
+            with mock.patch("os.cpu_count", return_value=processors):
+                parser = argparse.ArgumentParser(prog="overlay_maps.py")
+                doing.add_words(parser)
+                self.assertEqual(parser.parse_args([]).jobs, processors)
+                told.add(parser.format_help())
+        self.assertEqual(len(told), 1)
 
 
 class WithMaps(InFolder):
