@@ -156,8 +156,8 @@ class Source:
     def _features(self) -> Iterator[Any]:
         try:
             yield from self.table
-        except RuntimeError as fault:
-            raise MapFault(f"{self.path}: {fault}") from None
+        except RuntimeError as fault:  # of some faults GDAL has no words
+            raise MapFault(f"{self.path}: {str(fault) or 'GDAL cannot read it to its end'}") from None
 
     def _add(self, flat: Flat, feature: Any) -> None:
         name = feature.GetFieldAsString(self.place) if self.place >= 0 else str(feature.GetFID())

@@ -136,6 +136,11 @@ class Reading(WithFiles):
         self.refused("nowhere.gpkg: ", str(self.folder / "nowhere.gpkg"))
         self.refused("odd.gpkg: ", str(self.file("odd.gpkg", "no map")))
 
+    def test_a_file_that_was_cut_is_refused_with_a_reason(self) -> None:
+        cut = pathlib.Path(self.made(*["POLYGON ((0 0, 10 0, 10 10, 0 10, 0 0))"] * 1000, suffix="shp", layers=("map",)))
+        cut.write_bytes(cut.read_bytes()[:100_000])
+        self.refused(r"map.shp: \w", str(cut))
+
     def test_long_edges_are_refused_or_bent(self) -> None:
         path = self.made("POLYGON ((0 0, 1000 0, 1000 1000, 0 1000, 0 0))")
         self.refused("--bend", path, Fraction(1000))
