@@ -27,6 +27,7 @@ import sys
 import tarfile
 import tempfile
 import unittest
+import unittest.mock
 import urllib.request
 from types import ModuleType
 from typing import Any
@@ -202,6 +203,33 @@ class Versions(unittest.TestCase):
         self.assertEqual((done.returncode, done.stderr),
                          (1, "release/make: SOURCE_DATE_EPOCH=soon: no number of seconds\n"))
         self.assertFalse(none.exists())
+
+
+class Commits(unittest.TestCase):
+    def test_a_tree_that_differs_from_its_commit_is_refused(self) -> None:
+        with tempfile.TemporaryDirectory() as made, unittest.mock.patch.object(make, "TOP", pathlib.Path(made)):
+            page, other, scratch = (pathlib.Path(made, name) for name in ("README.md", "docs/OTHER.md", "scratch.txt"))
+            page.write_text("a page\n")
+            scratch.write_text("of nobody's concern\n")
+            for words in (["init", "-q"], ["add", "README.md"], ["commit", "-qm", "a page"]):
+                self.git(made, *words)
+            self.assertEqual(make.time_of({}), SECONDS)
+            other.parent.mkdir()
+            other.write_text("another page\n")
+            with self.assertRaisesRegex(contents.Unmade, "docs/OTHER.md: not as it was committed"):
+                make.time_of({})
+            other.unlink()
+            page.write_text("another page\n")
+            with self.assertRaisesRegex(contents.Unmade, "README.md: not as it was committed"):
+                make.time_of({})
+            self.assertEqual(make.time_of({"SOURCE_DATE_EPOCH": "7"}), 7)
+
+    def git(self, folder: str, *words: str) -> None:
+        """Git in a folder, by an identity and at a time of its own."""
+        time = f"{SECONDS} +0000"
+        told = {**os.environ, "GIT_AUTHOR_DATE": time, "GIT_COMMITTER_DATE": time}
+        subprocess.run(["git", "-C", folder, "-c", "user.name=A", "-c", "user.email=a@b.example", *words], env=told,
+                       check=True)
 
 
 class Texts(unittest.TestCase):
