@@ -182,6 +182,8 @@ def check_target(path: pathlib.Path) -> None:
     """Refuses a file that cannot be written, before there is anything to write."""
     if path.suffix.lower() not in WRITTEN:
         raise GdalFault(f"{path}: written are .geojson, {', '.join(WRITTEN)}")
+    if reason := writing.in_hand(path):
+        raise GdalFault(f"{path}: {reason}")
     if not shutil.which("ogr2ogr"):
         line = f"ogr2ogr -f {WRITTEN[path.suffix.lower()]} {path} {path.stem}.geojson"
         raise missing(f"{path}: {FORMS[path.suffix.lower()]}", line)

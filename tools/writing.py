@@ -23,6 +23,16 @@ def beside(path: pathlib.Path, end: str = "") -> pathlib.Path:
     return path.with_name(f".{path.name}.{OWN}.{os.getpid()}.{threading.get_ident()}.new{end}")
 
 
+def in_hand(path: pathlib.Path) -> str | None:
+    """Why a store of SQLite, as a GeoPackage, must not be replaced: a program that has it open, or was cut off in it,
+    keeps changes beside it, which would be made in another file of this name as well."""
+    target = path.resolve()
+    for kept in (target.with_name(target.name + end) for end in ("-wal", "-journal")):
+        if kept.is_file() and kept.stat().st_size:
+            return f"{kept.name} has changes of it that a program has in hand; end that one, or take another name"
+    return None
+
+
 def take_places(written: Mapping[pathlib.Path, pathlib.Path]) -> None:
     """Has files take the places of others, each with the rights of the one that stood there."""
     for new, target in written.items():

@@ -123,6 +123,8 @@ def not_writable(given: str, path: pathlib.Path) -> str | None:
         return "a store of layers; take another name"
     if path.exists() and not path.is_file():
         return None  # a pipe, or a device
+    if reason := writing.in_hand(path):
+        return reason
     folder = path.resolve().parent
     if not folder.is_dir():
         return f"{folder} is no folder" if folder.exists() else f"no folder {folder}"

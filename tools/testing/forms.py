@@ -12,6 +12,7 @@ import gdal_files
 import map_reading
 import to_geojson
 import to_script
+import writing
 from testing.common import SECONDS, SQUARE, InFolder, on_file, outcome
 from testing.maps import COUNTIES, area_of_script
 
@@ -140,6 +141,16 @@ class WithoutGdal(InFolder):
             with self.assertRaises(SystemExit) as ended, unittest.mock.patch("sys.stderr"):
                 to_geojson.main([str(script), "--output", name])
             self.assertEqual(ended.exception.code, 2)
+
+    def test_a_geopackage_that_a_program_has_in_hand_is_not_replaced(self) -> None:
+        for end in ("-wal", "-journal"):
+            with self.subTest(end):
+                path, kept = self.folder / "n.gpkg", self.file(f"n.gpkg{end}", b"")
+                self.assertIsNone(writing.in_hand(path))
+                kept.write_bytes(b"pages")
+                with self.assertRaisesRegex(gdal_files.GdalFault, f"n.gpkg{end} has changes of it that a program"):
+                    gdal_files.check_target(path)
+                kept.unlink()
 
     def test_geojson_is_written_whole(self) -> None:
         script, output = self.file("plan.txt", f"PUT A {SQUARE}\n"), self.folder / "out.geojson"

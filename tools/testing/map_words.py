@@ -347,6 +347,9 @@ class Outputs(WithMaps):
         self.assertEqual(self.check("--out", out, "--gaps", out), "--gaps o.csv: this is --out too; take another name")
         store = self.file("o.db", b"\0" * 16 + b"OVLSTORE")
         self.assertEqual(self.check("--out", store), "--out o.db: a store of layers; take another name")
+        self.file("p.gpkg-journal", b"pages")
+        self.assertEqual(self.check("--gaps", self.folder / "p.gpkg"), "--gaps p.gpkg: p.gpkg-journal has changes of it "
+                         "that a program has in hand; end that one, or take another name")
         self.assertEqual(self.check("--out", ""), "--out : no name of a file")
         self.assertEqual(self.check("--gaps", self.folder / "x"), "--gaps x: a folder; say a file in it")
         self.assertIn("is no folder", self.check("--gaps", self.whole / "gaps.geojson"))
