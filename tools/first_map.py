@@ -170,6 +170,8 @@ def stores_for(words: argparse.Namespace, program: str, errors: TextIO) -> tuple
         for script in scripts:
             make_store(script, program)
         made = sorted(pathlib.Path(folder).iterdir(), key=lambda path: path.suffix == ".db")
+        if late := [store for store in stores_of(words.folder / f"{stem}.txt") if store not in there]:
+            raise Unmade(1, f"{late[0]}: another run has made it meanwhile, and may serve it; say the same again")
         before = [path.with_suffix(".txt") for path in there]
         check_targets(words, [*before, *(words.folder / path.name for path in made)])
         for path in (*there, *before):

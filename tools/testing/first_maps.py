@@ -3,10 +3,12 @@
 import fcntl
 import json
 import os
+import pathlib
 import signal
 import subprocess
 import sys
 import unittest
+import unittest.mock
 import urllib.request
 from typing import Any
 
@@ -137,6 +139,19 @@ class FirstMaps(WithProgram):
         self.assertEqual((status, errors), (1, f"{store}: another program has it; end that one first\n"))
         self.assertEqual({name: (store.parent / name).stat().st_ino for name in self.names()}, before)
         self.assertEqual(self.made(given, "--again")[0], 0)
+
+    def test_a_store_that_another_run_has_made_meanwhile_stays(self) -> None:
+        given, make, store = self.file("city.geojson", MAP), first_map.make_store, self.folder / "maps" / "city.db"
+
+        def meanwhile(script: pathlib.Path, program: str) -> None:
+            make(script, program)
+            for end in (".txt", ".db"):
+                store.with_suffix(end).write_text("of another run")
+
+        with unittest.mock.patch.object(first_map, "make_store", meanwhile):
+            status, _, errors = self.made(given)
+        self.assertEqual((status, self.names(), store.read_text()), (1, ["city.db", "city.txt"], "of another run"))
+        self.assertIn(f"{store}: another run has made it meanwhile, and may serve it; say the same again", errors)
 
     def test_a_map_is_not_written_over(self) -> None:
         text = "POLYGON ((0 0, 4 0, 4 4, 0 4, 0 0))\n"
