@@ -59,6 +59,12 @@ class Refusals(RefusalCase):
         for host in ("127.0.0.1", "localhost:9", "LOCALHOST", "[::1]:8080"):
             self.assertEqual(self.client.ask("/status", headers={"HTTP_HOST": host}).status, 200, host)
 
+    def test_how_many_numbers_are_wanted_is_told(self) -> None:
+        told = self.refused(400, "/locate?x=a&y=1").value
+        self.assertEqual(told["description"], "x: a number is wanted")
+        told = self.refused(400, "/collections/A/items?bbox=1,2,3").value
+        self.assertEqual(told["description"], "bbox: 4 or 6 numbers are wanted")
+
     def test_pages_of_other_sites_change_nothing(self) -> None:
         for origin in (
             "https://evil.example",

@@ -71,7 +71,8 @@ class Request:
         except (ValueError, KeyError):
             found = []
         if len(found) not in counts:
-            raise Problem(400, f"{name}: {' or '.join(map(str, counts))} numbers are wanted")
+            several = f"{' or '.join(map(str, counts))} numbers are wanted"
+            raise Problem(400, f"{name}: {'a number is wanted' if counts == (1,) else several}")
         return found
 
     def count(self, name: str, usual: int, least: int, most: int) -> int:
