@@ -83,8 +83,8 @@ def opened_as(path: pathlib.Path) -> Opened:
 
 
 def begin_of(path: pathlib.Path) -> bytes:
-    """The begin of a file; of a folder, as a file geodatabase is, nothing."""
-    if path.is_dir():
+    """The begin of a file; nothing of a folder, as a file geodatabase is, nor of a pipe, which gives its bytes once."""
+    if path.exists() and not path.is_file():
         return b""
     with path.open("rb") as file:
         return file.read(BEGIN)

@@ -1,6 +1,7 @@
 """Tests of maps of other forms than GeoJSON and Well-Known Text, which GDAL reads and writes where it is installed."""
 
 import json
+import os
 import pathlib
 import shutil
 import sqlite3
@@ -141,6 +142,15 @@ class WithoutGdal(InFolder):
             with self.assertRaises(SystemExit) as ended, unittest.mock.patch("sys.stderr"):
                 to_geojson.main([str(script), "--output", name])
             self.assertEqual(ended.exception.code, 2)
+
+    def test_a_map_of_a_pipe_is_read_from_its_begin(self) -> None:
+        text = b"".join(b"POLYGON ((%d 0, %d 0, %d 1, %d 0))" % (at, at + 1, at, at) + b"\n" for at in range(1000))
+        end, begin = os.pipe()
+        self.addCleanup(os.close, end)
+        with os.fdopen(begin, "wb") as given:
+            given.write(text)
+        status, _, errors = outcome(to_script, f"/dev/fd/{end}", "--split", "--output", self.folder / "piped.txt")
+        self.assertEqual((status, "polygons 1000," in errors), (0, True), errors)
 
     def test_a_geopackage_that_a_program_has_in_hand_is_not_replaced(self) -> None:
         for end in ("-wal", "-journal"):
