@@ -227,9 +227,11 @@ class Commits(unittest.TestCase):
     def git(self, folder: str, *words: str) -> None:
         """Git in a folder, by an identity and at a time of its own."""
         time = f"{SECONDS} +0000"
-        told = {**os.environ, "GIT_AUTHOR_DATE": time, "GIT_COMMITTER_DATE": time}
-        subprocess.run(["git", "-C", folder, "-c", "user.name=A", "-c", "user.email=a@b.example", *words], env=told,
-                       check=True)
+        own = {name: value for name, value in os.environ.items() if not name.startswith("GIT_")}
+        told = {**own, "GIT_AUTHOR_DATE": time, "GIT_COMMITTER_DATE": time}
+        given = ["user.name=A", "user.email=a@b.example", "commit.gpgsign=false"]
+        configured = [word for one in given for word in ("-c", one)]
+        subprocess.run(["git", "-C", folder, *configured, *words], env=told, check=True)
 
 
 class Texts(unittest.TestCase):
