@@ -64,7 +64,8 @@ def words_of(arguments: list[str]) -> argparse.Namespace:
     parser.add_argument("--crs", help="the name of the coordinates, where the files do not say it")
     parser.add_argument("--source-layer", metavar="NAME", help="the layer of files that have several, as GeoPackages")
     parser.add_argument("--folder", type=pathlib.Path, default=pathlib.Path(), help="where the store is made")
-    parser.add_argument("--again", action="store_true", help="make a store anew that stands there")
+    parser.add_argument("--again", action="store_true",
+                        help="make a store anew that stands there; what was changed in it since is lost")
     parser.add_argument("--writable", action="store_true", help="let the page and HTTP change the map")
     parser.add_argument("--port", type=int, default=8080, help="of the first front; 0 for one that is free (default 8080)")
     parser.add_argument("--no-browser", action="store_true", help="open no browser")
