@@ -114,8 +114,8 @@ def found_of(stage: str, made: Iterable[Task], words: argparse.Namespace) -> Ite
 
 def drawn_told(by_window: int, count: int) -> str:
     """By what features were drawn in, so that it is known what the table stands on."""
-    others = "" if by_window == count else "; Python drew them in otherwise, which is tested and not proved"
-    return f"features drawn in by overlay_window in {by_window} of {count} tasks{others}"
+    others = "what is too large for a window" if by_window == count else "the others and what is too large for a window"
+    return f"features drawn in by overlay_window in {by_window} of {count} tasks; {others} by Python, tested and not proved"
 
 
 def written(made: Iterable[Task]) -> Iterator[bytes]:

@@ -308,13 +308,13 @@ class OverTool(InTasks):
     def test_windows_and_python_have_one_table_and_which_it_was_is_told(self) -> None:
         status, table, told = self.table("--jobs", 1, "--no-window")
         self.assertEqual(status, 0)
-        self.assertRegex(told, r"drawn in by overlay_window in 0 of \d+ tasks; Python drew them in otherwise")
+        self.assertRegex(told, r"drawn in by overlay_window in 0 of \d+ tasks; the others and .* by Python")
         window = windows.found(str(Programs.live))
         if window is not None:
             self.assertEqual(self.table("--jobs", 1, "--window", window, "--work", self.work)[:2], (0, table))
             status, again, told = self.table("--jobs", 1, "--no-window", "--work", self.work)
             self.assertEqual((status, again), (0, table))
-            self.assertRegex(told, r"drawn in by overlay_window in (\d+) of \1 tasks\n")
+            self.assertRegex(told, r"drawn in by overlay_window in (\d+) of \1 tasks; what is too large for a window by Python")
         for wrong in (self.folder, self.folder / "none", ""):
             self.assertEqual(self.table("--window", wrong), (2, "", f"--window {wrong}: no program; leave the word out, or "
                                                              "say --no-window\n"))
