@@ -12,7 +12,8 @@ DEBIANS = "/usr/bin/python3"
 @functools.cache
 def debians_python_has_numpy() -> bool:
     try:
-        return not subprocess.run([DEBIANS, "-c", "import numpy"], capture_output=True, check=False, timeout=SECONDS).returncode
+        words = [DEBIANS, "-c", "import numpy; numpy.ndarray"]
+        return not subprocess.run(words, capture_output=True, check=False, timeout=SECONDS).returncode
     except OSError:
         return False
 
