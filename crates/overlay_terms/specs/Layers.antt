@@ -98,7 +98,8 @@ steps_in_reach layers name =
     let definitions = filter_map derived_of (layers_in_reach layers name) in
     record { bases = length bases; definitions = map (λ d. relabel (source_of (map (λ b. b.0) bases) (map (λ e. e.0) definitions)) d.1) definitions }
 
--- in, out, or on an edge: the interior, exterior and boundary of ISO 19125-1:2004, 6.1.14.2
+-- in, out, or edge: off the edges the first two are the interior and exterior of ISO 19125-1:2004, 6.1.14.2; edge is any
+-- point on a segment of a base layer in reach
 pub data Location : Type 0 where
   inside : Location
   outside : Location
