@@ -13,7 +13,10 @@ import urllib.request
 from collections.abc import Iterator
 from typing import Any
 
-TOP = pathlib.Path(__file__).resolve().parent.parent
+import overlay_client
+
+from bench import TOP
+
 PROGRAM = TOP / "crates/overlay_live/out/overlay_live"
 DEBIAN_PYTHON = "/usr/bin/python3"
 SCALE = {
@@ -26,9 +29,6 @@ SCALE = {
     "digits": 7,
 }
 DEFINITIONS = {"both": "iceland_110m & iceland_50m", "one": "iceland_110m ^ iceland_50m"}
-
-sys.path.append(str(TOP / "web"))
-import overlay_client  # noqa: E402
 
 
 class Tries:

@@ -1,7 +1,6 @@
-#!/usr/bin/env python3
 """How long does a pair of polygons take by web/overlay_client.py: one line at a time, and with many lines ahead?
 
-    python3 bench/measures/ahead.py PROGRAM [--pairs N]
+    python3 -m bench.measures.ahead PROGRAM [--pairs N]
 
 PROGRAM is the built overlay_live. Each pair is a polygon of 8 corners and one of 40, whose common boundary is asked.
 Each way prints microseconds of processors for a pair, of Python and of the program; the pieces are compared.
@@ -9,18 +8,14 @@ Each way prints microseconds of processors for a pair, of Python and of the prog
 
 import argparse
 import math
-import pathlib
 import random
 import resource
 import sys
 import time
 from collections.abc import Callable, Iterator
 
-TOP = pathlib.Path(__file__).resolve().parents[2]
-sys.path[:0] = [str(TOP / "web"), str(TOP / "tools")]
-
-import limits  # noqa: E402
-from overlay_client import COLUMNS, Piece, Server, Session, edges_lines  # noqa: E402
+import limits
+from overlay_client import COLUMNS, Piece, Server, Session, edges_lines
 
 Pairs = list[tuple[str, str, list[int]]]
 Way = Callable[[Session, Pairs], Iterator[list[Piece]]]

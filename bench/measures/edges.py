@@ -1,7 +1,6 @@
-#!/usr/bin/env python3
 """How long the reply of EDGES takes beside the building of the tile that WAIT waits for.
 
-python3 bench/measures/edges.py [--built PROGRAM].. [--beside COMMIT]
+python3 -m bench.measures.edges [--built PROGRAM].. [--beside COMMIT]
 
 Maps of two layers of so many edges each in one column, the SymDifference of which is asked for: stars and slivers (ends
 at fractions), parcels and combs (whole ends). WAIT is the input, the tile and the version that keeps it; EDGES is the
@@ -13,13 +12,10 @@ is taken, and all have to write the same text.
 import argparse
 import pathlib
 import subprocess
-import sys
 import tempfile
 
-sys.path.insert(0, str(pathlib.Path(__file__).resolve().parents[2]))
-
-from bench import tile_texts, unproved  # noqa: E402
-from bench.measures import tiles, turns  # noqa: E402
+from bench import tile_texts, unproved
+from bench.measures import tiles, turns
 
 HERE = pathlib.Path(__file__).resolve().parent
 # 512 edges; the tile of two combs of 512 has too many pieces.

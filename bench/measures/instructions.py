@@ -1,8 +1,7 @@
-#!/usr/bin/env python3
 """Counts the instructions of a WAIT and of EDGES of all columns by several programs, with valgrind's callgrind.
 
-python3 bench/measures/instructions.py PROGRAM.. [--only NAME]..
-python3 bench/measures/instructions.py --test
+python3 -m bench.measures.instructions PROGRAM.. [--only NAME]..
+python3 -m bench.measures.instructions --test
 
 PROGRAM is built by `python3 bench/unproved.py --unchecked crates/overlayd/src PROGRAM`, an older one by the same in a
 worktree of its commit. Told are millions of instructions, which hang little on what else the machine does, and how many
@@ -21,11 +20,9 @@ import sys
 import tempfile
 from collections.abc import Iterator, Sequence
 
-sys.path.insert(0, str(pathlib.Path(__file__).resolve().parents[2]))
-
-from bench.measures import peers, tiles  # noqa: E402
-from bench.tile_texts import Layer, closed  # noqa: E402
-from tools.limits import COLUMNS  # noqa: E402
+from bench.measures import peers, tiles
+from bench.tile_texts import Layer, closed
+from limits import COLUMNS
 
 SHAPES = [("star", 64), ("parcels", 64), ("sliver", 64), ("star", 512), ("parcels", 512)]
 SQUARES = [[closed([(low, low), (low + 10, low), (low + 10, low + 10), (low, low + 10)])] for low in (0, 5)]

@@ -1,8 +1,7 @@
-#!/usr/bin/env python3
 """Measures the live program beside what else a user would take, and prints a table in Markdown.
 
-python3 bench/measures/live.py PROGRAM [--quick] [--folder FOLDER] [--install]
-python3 bench/measures/live.py --test
+python3 -m bench.measures.live PROGRAM [--quick] [--folder FOLDER] [--install]
+python3 -m bench.measures.live --test
 
 PROGRAM is overlay_live. A client in C (live.c) sends a line when the reply to the one before has come.
 
@@ -28,9 +27,7 @@ import time
 from collections.abc import Iterator, Sequence
 from typing import NamedTuple
 
-sys.path.insert(0, str(pathlib.Path(__file__).resolve().parents[2]))
-
-from bench.measures import serving  # noqa: E402
+from bench.measures import serving
 
 HERE = pathlib.Path(__file__).resolve().parent
 STEPS, QUESTIONS, ROUNDS, SESSIONS = 2000, 10000, 5, 4

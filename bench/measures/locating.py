@@ -1,7 +1,6 @@
-#!/usr/bin/env python3
 """How long a LOCATE takes: by a pending tile and by a finished one, and as a line of a script.
 
-python3 bench/measures/locating.py [--program PROGRAM].. [--built PROGRAM]..
+python3 -m bench.measures.locating [--program PROGRAM].. [--built PROGRAM]..
 
 - The call alone, over two layers of so many edges each (stars, parcels, combs) in one column, while its tile is pending
   and when it is finished: by the program of bench/measures/locating, built unproved (minutes); --built names ones that
@@ -14,13 +13,10 @@ Several programs run in turns, five times each, and the least time is taken.
 
 import argparse
 import pathlib
-import sys
 import tempfile
 
-sys.path.insert(0, str(pathlib.Path(__file__).resolve().parents[2]))
-
-from bench import tile_texts, unproved  # noqa: E402
-from bench.measures import serving, tiles, turns  # noqa: E402
+from bench import tile_texts, unproved
+from bench.measures import serving, tiles, turns
 
 HERE = pathlib.Path(__file__).resolve().parent
 POINTS = 20000

@@ -1,7 +1,6 @@
-#!/usr/bin/env python3
 """How long do the overlaps of two maps take, and what are they: overlay_maps.py beside shapely, geopandas and PostGIS?
 
-    /usr/bin/python3 bench/measures/map_peers.py LIVE [--parcels N] [--zones N] [--lattice] [--folder FOLDER] [--only PEER]..
+    /usr/bin/python3 -m bench.measures.map_peers LIVE [--parcels N] [--zones N] [--lattice] [--folder FOLDER] [--only PEER]..
 
 LIVE is the built overlay_live. The maps are those of bench/map_making.py. Each peer reads both files and writes a table
 of the pairs whose common part has an area; of each are told processor seconds and memory of the whole run, how many
@@ -23,8 +22,8 @@ import time
 from collections.abc import Iterator
 from typing import Any, NamedTuple
 
-TOP = pathlib.Path(__file__).resolve().parents[2]
-sys.path.insert(0, str(TOP))
+from bench import TOP
+
 PYTHON = "/usr/bin/python3"
 Table = dict[tuple[str, str], float]
 
@@ -147,7 +146,6 @@ def line(name: str, run: Run, base: Run, boxes: int) -> str:
 
 def boxes_that_meet(folder: pathlib.Path) -> int:
     """Pairs of boxes with a common part that has an area."""
-    sys.path.insert(0, str(TOP / "tools"))
     from fractions import Fraction
 
     from maps import gdal_maps, numpy_pairs, numpy_planning
@@ -182,7 +180,7 @@ def main() -> int:
             table.unlink(missing_ok=True)
             try:
                 run = postgis(folder, table) if name == "PostGIS" else timed(
-                    [PYTHON, __file__, words.live, "--folder", str(folder), "--peer", name, str(table)], table)
+                    [PYTHON, "-m", "bench.measures.map_peers", words.live, "--folder", str(folder), "--peer", name, str(table)], table)
                 print(line(name, run, base, boxes), flush=True)
             except Exception as fault:
                 print(f"{name} is left out: {fault}", file=sys.stderr)

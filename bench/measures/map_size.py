@@ -1,7 +1,6 @@
-#!/usr/bin/env python3
 """How long does overlay_maps take for two maps like a land register's, and how much memory do all its processes take?
 
-    /usr/bin/python3 bench/measures/map_size.py LIVE [--parcels N] [--zones N] [--jobs N] [--maps FOLDER] [-- WORD..]
+    /usr/bin/python3 -m bench.measures.map_size LIVE [--parcels N] [--zones N] [--jobs N] [--maps FOLDER] [-- WORD..]
 
 LIVE is the built overlay_live; overlay_window is taken where it stands beside it. The maps are made by ../map_making.py,
 or stand in --maps; words behind -- go to overlay_maps.py. Told are seconds of processors of the run and all that it
@@ -20,7 +19,8 @@ import sys
 import tempfile
 import time
 
-TOP = pathlib.Path(__file__).resolve().parents[2]
+from bench import TOP
+
 PYTHON, TOOL, MAKING = "/usr/bin/python3", TOP / "tools" / "overlay_maps.py", TOP / "bench" / "map_making.py"
 EACH = 0.25  # seconds between two looks
 

@@ -1,7 +1,6 @@
-#!/usr/bin/env python3
 """How long does tools/ take over maps with many rings and many features?
 
-    python3 bench/measures/map_tools.py PROGRAM [--rings N] [--features N]
+    python3 -m bench.measures.map_tools PROGRAM [--rings N] [--features N]
 
 PROGRAM is the built overlay_live. Rings that lie in each other (squares and diamonds), and squares apart from each other
 in one hole, are joined of their pieces; features of four sides, each with a common border with its neighbours, some of
@@ -19,11 +18,9 @@ import tempfile
 import time
 from collections.abc import Callable, Iterator
 
-TOP = pathlib.Path(__file__).resolve().parents[2]
-sys.path.insert(0, str(TOP / "tools"))
-
-import to_rings  # noqa: E402
-from sessions import Piece  # noqa: E402
+import to_rings
+from bench import TOP
+from sessions import Piece
 
 Ring = list[tuple[int, int]]
 SIDE = 1000  # rings apart from each other in a row

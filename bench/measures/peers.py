@@ -1,7 +1,6 @@
-#!/usr/bin/env python3
 """Times WAIT with EDGES, and LOCATE, beside what else a user can install: CGAL, Boost.Geometry, GEOS.
 
-python3 bench/measures/peers.py PROGRAM.. [--edges N].. [--only NAME]..
+python3 -m bench.measures.peers PROGRAM.. [--edges N].. [--only NAME]..
 
 Several programs of this repository run in turns. Of the peers in bench/measures/peers, those are taken that g++ can
 compile (Debian's libcgal-dev libgmp-dev libmpfr-dev, libboost-dev, libgeos++-dev).
@@ -20,11 +19,9 @@ import subprocess
 import sys
 import tempfile
 
-sys.path.insert(0, str(pathlib.Path(__file__).resolve().parents[2]))
-
-from bench import tile_texts  # noqa: E402
-from bench.measures import serving, tiles  # noqa: E402
-from tools.limits import COLUMNS, COORDINATE_MAX  # noqa: E402
+from bench import tile_texts
+from bench.measures import serving, tiles
+from limits import COLUMNS, COORDINATE_MAX
 
 HERE = pathlib.Path(__file__).resolve().parent
 COMPILE = "g++ -std=c++17 -O2 -DNDEBUG -w".split()

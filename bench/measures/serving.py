@@ -1,8 +1,7 @@
-#!/usr/bin/env python3
 """Measures the program as a server with a store, and prints a table in Markdown.
 
-python3 bench/measures/serving.py PROGRAM [--quick] [--folder FOLDER]
-python3 bench/measures/serving.py --test
+python3 -m bench.measures.serving PROGRAM [--quick] [--folder FOLDER]
+python3 -m bench.measures.serving --test
 
 - A commit of one changed layer, alone, beside 16 others and beside 29 derived ones with all their tiles: 200 times PUT
   and SYNC less the same script with none, beside the same writes and syncs in C (sync.c).
@@ -22,10 +21,8 @@ import sys
 import tempfile
 import time
 
-sys.path.insert(0, str(pathlib.Path(__file__).resolve().parents[2]))
-
-from bench.processor_time import processor  # noqa: E402
-from tools.limits import COLUMNS  # noqa: E402
+from bench.processor_time import processor
+from limits import COLUMNS
 
 HERE = pathlib.Path(__file__).resolve().parent
 SQUARE = "POLYGON ((0 0, 10 0, 10 10, 0 10, 0 0))"

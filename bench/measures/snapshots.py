@@ -1,7 +1,6 @@
-#!/usr/bin/env python3
 """Times a snapshot of a book, beside what it costs to take a counted value from behind a lock in C.
 
-python3 bench/measures/snapshots.py [PROGRAM]
+python3 -m bench.measures.snapshots [PROGRAM]
 
 Builds the program of bench/measures/snapshots over the libraries, unproved (minutes); PROGRAM is one that was built
 before. It has a book of 32 layers and takes a million snapshots of it, by itself and while another session puts 20,000
@@ -15,9 +14,7 @@ import subprocess
 import sys
 import tempfile
 
-sys.path.insert(0, str(pathlib.Path(__file__).resolve().parents[2]))
-
-from bench import unproved  # noqa: E402
+from bench import unproved
 
 HERE = pathlib.Path(__file__).resolve().parent
 

@@ -1,8 +1,7 @@
-#!/usr/bin/env python3
 """Measures the store: records to bytes and back, what a commit writes, and opening a big file.
 
-python3 bench/measures/store.py [PROGRAM]..
-python3 bench/measures/store.py --test
+python3 -m bench.measures.store [PROGRAM]..
+python3 -m bench.measures.store --test
 
 Builds the program of bench/measures/store over the store's crates, unproved (minutes); PROGRAM is one that was built
 before. Of several the reading and writing of records is told side by side, all else of the first. The files and records
@@ -17,12 +16,10 @@ import subprocess
 import sys
 import tempfile
 
-sys.path.insert(0, str(pathlib.Path(__file__).resolve().parents[2]))
-
-from bench import unproved  # noqa: E402
-from bench.processor_time import processor  # noqa: E402
-from bench.reference import read_store  # noqa: E402
-from tools.limits import COLUMNS, COORDINATE_MAX, LAYERS_MAX, column_begin  # noqa: E402
+from bench import unproved
+from bench.processor_time import processor
+from bench.reference import read_store
+from limits import COLUMNS, COORDINATE_MAX, LAYERS_MAX, column_begin
 
 HERE = pathlib.Path(__file__).resolve().parent
 BLOCK = 4096

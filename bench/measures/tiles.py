@@ -1,7 +1,6 @@
-#!/usr/bin/env python3
 """Times tiles that are built by the pass from node to node, beside those by all pairs, in one run.
 
-python3 bench/measures/tiles.py [PROGRAM]..
+python3 -m bench.measures.tiles [PROGRAM]..
 
 Builds the program of bench/measures/tiles over tile_build, tile_by_pairs and layer_book, unproved and without checks
 (minutes); PROGRAM is one that was built before, and several are told side by side. Tiles of two layers of so many edges
@@ -14,14 +13,11 @@ import argparse
 import math
 import pathlib
 import subprocess
-import sys
 import tempfile
 
-sys.path.insert(0, str(pathlib.Path(__file__).resolve().parents[2]))
-
-from bench import unproved  # noqa: E402
-from bench.processor_time import processor  # noqa: E402
-from bench.tile_texts import Draws, closed, lines_of  # noqa: E402
+from bench import unproved
+from bench.processor_time import processor
+from bench.tile_texts import Draws, closed, lines_of
 
 HERE = pathlib.Path(__file__).resolve().parent
 

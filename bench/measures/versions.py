@@ -1,7 +1,6 @@
-#!/usr/bin/env python3
 """What a version does under 30 derived layers takes so long: a PUT, keeping all tiles, listing those that are pending.
 
-python3 bench/measures/versions.py [--built PROGRAM]..
+python3 -m bench.measures.versions [--built PROGRAM]..
 
 Cases: a triangle of three steps, and a star of 2,048, each in the place of another; the second changes the tiles of one
 column or of all. Told is a PUT with no tile built and with all built, the building and keeping of a tile, and the list
@@ -12,13 +11,10 @@ built before. Several run in turns, five times each, and the least time is taken
 import argparse
 import math
 import pathlib
-import sys
 import tempfile
 
-sys.path.insert(0, str(pathlib.Path(__file__).resolve().parents[2]))
-
-from bench import unproved  # noqa: E402
-from bench.measures import turns  # noqa: E402
+from bench import unproved
+from bench.measures import turns
 
 HERE = pathlib.Path(__file__).resolve().parent
 REACH = 1 << 20

@@ -1,7 +1,6 @@
-#!/usr/bin/env python3
 """Writes a script that puts two layers and builds their symmetric difference.
 
-python3 bench/measures/wait.py circles 256 | crates/overlayd/out/overlayd
+python3 -m bench.measures.wait circles 256 | crates/overlayd/out/overlayd
 
 circles: two polygons of so many edges round two centres, in one column.
 combs: so many edges in thin rectangles, those of one layer across those of the other.

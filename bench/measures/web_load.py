@@ -1,7 +1,6 @@
-#!/usr/bin/env python3
 """Asks the running front by several clients at once: how many replies a second come, and how long they take.
 
-    python3 bench/measures/web_load.py [--program PATH] [--python PATH] [--clients N] [--seconds S]
+    python3 -m bench.measures.web_load [--program PATH] [--python PATH] [--clients N] [--seconds S]
 
 Each client is a process of its own with one connection, and each answer is checked. The kinds: LOCATE in one layer; in
 all layers; a page of items in a box; the same while another client puts a layer again and again, each time durable.
@@ -21,9 +20,7 @@ import time
 import urllib.parse
 from collections.abc import Callable
 
-sys.path.insert(0, str(pathlib.Path(__file__).resolve().parents[2]))
-
-from bench import web_front  # noqa: E402
+from bench import web_front
 
 Found = list[float]
 Ask = Callable[[http.client.HTTPConnection, int], bool]

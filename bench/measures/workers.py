@@ -1,7 +1,6 @@
-#!/usr/bin/env python3
 """How long all tiles of 30 derived layers take with 1, 2 and 4 workers, and what of processors a tile takes.
 
-python3 bench/measures/workers.py PROGRAM..
+python3 -m bench.measures.workers PROGRAM..
 
 Cases: layers over a triangle across all columns, which is put anew so many times and waited for each time (small
 tiles); layers over two circles of so many steps. All runs of a case, of each number of workers and each program, take
@@ -12,14 +11,11 @@ have 4 idle processors. Beside it stands how many times as much as one program f
 import argparse
 import pathlib
 import subprocess
-import sys
 import tempfile
 import time
 
-sys.path.insert(0, str(pathlib.Path(__file__).resolve().parents[2]))
-
-from bench.measures import serving  # noqa: E402
-from tools.limits import COLUMNS  # noqa: E402
+from bench.measures import serving
+from limits import COLUMNS
 
 LAYERS, ROUNDS, WORKERS = 30, 12, (1, 2, 4)
 

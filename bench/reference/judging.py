@@ -1,8 +1,7 @@
-#!/usr/bin/env python3
 """Judges the replies of sessions that ran side by side over one book, by the plain model.
 
-python3 bench/reference/judging.py OUTPUT SCRIPT..
-python3 bench/reference/judging.py --test
+python3 -m bench.reference.judging OUTPUT SCRIPT..
+python3 -m bench.reference.judging --test
 
 OUTPUT is what the program wrote for the scripts. The numbers behind `ok` give each accepted command its place in the
 one history: each number from 1 on stands just once, and its command is accepted there. Every other reply is right at
@@ -21,10 +20,8 @@ import sys
 from collections.abc import Callable, Iterable, Iterator, Sequence
 from typing import Any
 
-sys.path.insert(0, str(pathlib.Path(__file__).resolve().parents[2]))
-
-from bench.reference import model  # noqa: E402
-from tools.limits import COLUMNS  # noqa: E402
+from bench.reference import model
+from limits import COLUMNS
 
 UNJUDGED = {30, 31, 35, 36, 40, 43, 44}
 

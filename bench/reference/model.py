@@ -1,8 +1,7 @@
-#!/usr/bin/env python3
 """A plain, slow model of the book of layers, as docs/COMMANDS.md tells it: beside the program, not of it.
 
-python3 bench/reference/model.py SCRIPT
-python3 bench/reference/model.py --test
+python3 -m bench.reference.model SCRIPT
+python3 -m bench.reference.model --test
 
 The first prints the replies of one script over an empty book without a store, where all tiles are finished at once:
 SYNC is refused by 46, and EDGES and VERIFY never by 21. The second runs the scripts of examples/ and compares (but for
@@ -23,9 +22,8 @@ import sys
 from collections.abc import Callable, Iterable, Sequence, Set
 from typing import Any, NamedTuple
 
-sys.path.insert(0, str(pathlib.Path(__file__).resolve().parents[2]))
-
-from tools.limits import (  # noqa: E402
+from bench import TOP
+from limits import (
     BATCH_MAX, COLUMN_WIDTH, COLUMNS, COORDINATE_MAX, GRID_MAX, LAYERS_MAX, LINE_MAX, NAME_MAX, PIECES_MAX, STEP_MAX,
     STEPS_MAX, TOKENS_MAX, WEIGHT_MAX,
 )
@@ -847,7 +845,7 @@ def is_modelled(script: pathlib.Path) -> bool:
 
 def test() -> int:
     """Runs the scripts of the examples, and gives the exit status."""
-    folder = pathlib.Path(__file__).resolve().parents[2] / "examples"
+    folder = TOP / "examples"
     count_of = {"replies": 0, "wrong": 0, "pending": 0}
     for script in sorted(filter(is_modelled, folder.glob("*.txt"))):
         wanted = split_replies(script.with_suffix(".expected").read_text().splitlines())

@@ -1,8 +1,7 @@
-#!/usr/bin/env python3
 """Reads a store's file as docs/FORMAT.md tells it, and by nothing else: beside the program, not of it.
 
-python3 bench/reference/read_store.py FILE
-python3 bench/reference/read_store.py --test
+python3 -m bench.reference.read_store FILE
+python3 -m bench.reference.read_store --test
 
 The first prints what the file stands for: `version N`; a line `layer NAME TEXT` or `layer NAME = EXPRESSION` for each
 layer in order; a line `tile NAME COLUMN PIECES` or `tile NAME COLUMN oversize` for each finished tile, by layer and
@@ -21,9 +20,8 @@ import sys
 from collections.abc import Callable
 from typing import Any, NamedTuple, Union
 
-sys.path.insert(0, str(pathlib.Path(__file__).resolve().parents[2]))
-
-from tools.limits import (  # noqa: E402
+from bench import TOP
+from limits import (
     COLUMN_WIDTH, COLUMNS, COORDINATE_MAX, LAYERS_MAX, NAME_MAX, PIECES_MAX, STEPS_MAX, TOKENS_MAX,
 )
 
@@ -32,7 +30,7 @@ GATE_OPEN = 0xA7
 MAGIC = b"OVLSTORE"
 NUMBER_MAX = 2**62
 FORMAT, OLD_FORMAT, OLD_COLUMNS = 2, 1, 17
-FORMAT_PAGE = pathlib.Path(__file__).resolve().parents[2] / "docs" / "FORMAT.md"
+FORMAT_PAGE = TOP / "docs" / "FORMAT.md"
 
 Number = Union[int, fractions.Fraction]
 Point = tuple[Number, Number]

@@ -1,10 +1,9 @@
-#!/usr/bin/env python3
 """Looks at the front's page with a real browser: it draws, clicks, asks, defines and drops a layer.
 
 The picture is compared with the store: at many points of the map the colour has to be that of the layers which have the
 point by LOCATE. It installs chromium and libjs-leaflet of Debian where they are missing. Not of the gate.
 
-    python3 bench/trials/browser.py [--program PATH] [--python PATH] [--pictures FOLDER]
+    python3 -m bench.trials.browser [--program PATH] [--python PATH] [--pictures FOLDER]
 
 Status 0 and a last line `N passed, 0 failed`, or what fell.
 """
@@ -28,10 +27,8 @@ import zlib
 from collections.abc import Callable
 from typing import Any
 
-sys.path.insert(0, str(pathlib.Path(__file__).resolve().parents[2]))
-
-from bench import web_front  # noqa: E402
-from bench.web_front import Tries, asked  # noqa: E402
+from bench import web_front
+from bench.web_front import Tries, asked
 
 SIZE = (1280, 800)
 NARROW = (420, 900)

@@ -1,7 +1,6 @@
-#!/usr/bin/env python3
 """Makes each call of the libraries while its growths are refused in turn, and prints a table.
 
-python3 bench/trials/calls.py [PROGRAM]
+python3 -m bench.trials.calls [PROGRAM]
 
 Builds the program of bench/trials/calls, unproved (minutes); PROGRAM is one that was built before. For each call and
 input the first growth is refused, then the second and so on, until a run meets no refusal. A run is right where it
@@ -16,9 +15,7 @@ import subprocess
 import sys
 import tempfile
 
-sys.path.insert(0, str(pathlib.Path(__file__).resolve().parents[2]))
-
-from bench import unproved  # noqa: E402
+from bench import unproved
 
 HERE = pathlib.Path(__file__).resolve().parent
 # A call that is wrong on purpose: its first growth refused is right, its second has changed what it was called on.

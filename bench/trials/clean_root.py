@@ -1,4 +1,3 @@
-#!/usr/bin/env python3
 """Does a release work on a machine that has nothing but Debian's base and Python, and leave nothing when it is removed?
 
 The Debian package is installed by dpkg in a root that debootstrap makes, and used there by a user without rights: a map
@@ -6,7 +5,7 @@ goes into a store, comes back with its features, is asked and served; then it is
 purged, and each file of the root is looked at. The archive is unpacked there too, and lintian reads the package. Not of
 the gate; it needs root, and installs debootstrap and lintian of Debian where they are missing.
 
-    python3 bench/trials/clean_root.py [--programs FOLDER] [--base FOLDER]
+    python3 -m bench.trials.clean_root [--programs FOLDER] [--base FOLDER]
 
 --base is a root that debootstrap made, which is copied and not changed. Status 0 and a last line `N passed, 0 failed`,
 or what fell.
@@ -23,10 +22,8 @@ import subprocess
 import sys
 import tempfile
 
-sys.path.insert(0, str(pathlib.Path(__file__).resolve().parents[2]))
-
-from bench import web_front  # noqa: E402
-from bench.web_front import TOP, Tries  # noqa: E402
+from bench import web_front
+from bench.web_front import TOP, Tries
 
 SUITE, MIRROR = "bookworm", "http://deb.debian.org/debian"
 # What lintian says of a package for which nobody has chosen a licence.

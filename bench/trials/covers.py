@@ -1,8 +1,7 @@
-#!/usr/bin/env python3
 """Asks of random pairs of triangles whether A covers A & B: of GEOS by shapely, and of the program.
 
-    python3 bench/trials/covers.py [--pairs N] [--seed N] [--limit N] [PROGRAM]
-    python3 bench/trials/covers.py --test
+    python3 -m bench.trials.covers [--pairs N] [--seed N] [--limit N] [PROGRAM]
+    python3 -m bench.trials.covers --test
 
 GEOS rounds the corners of A & B, so it may deny it. The program is asked for the boundary of (A & B) - A, which is
 empty exactly where A covers A & B. Without PROGRAM it is not asked, without shapely GEOS is not. Status 1: the program
@@ -12,14 +11,11 @@ denied it once.
 from __future__ import annotations
 
 import argparse
-import pathlib
 import random
 import subprocess
 import sys
 
-sys.path.insert(0, str(pathlib.Path(__file__).resolve().parents[2]))
-
-from tools.limits import COLUMNS  # noqa: E402
+from limits import COLUMNS
 
 Triangle = tuple[tuple[int, int], tuple[int, int], tuple[int, int]]
 

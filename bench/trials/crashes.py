@@ -1,7 +1,6 @@
-#!/usr/bin/env python3
 """Crashes at each device call of lists of steps, recovers from each, and goes on from one of them.
 
-python3 bench/trials/crashes.py [PROGRAM] [--first SEED] [--lists N] [--steps N] [--lives N]
+python3 -m bench.trials.crashes [PROGRAM] [--first SEED] [--lists N] [--steps N] [--lives N]
 
 Builds the program of bench/trials/crashes, unproved (minutes); PROGRAM is one built before. Drawn lists of steps drive
 an engine over a disk in memory. It is recovered from a crash behind each call, the written bytes old, new, or all 0,
@@ -15,10 +14,8 @@ import subprocess
 import sys
 import tempfile
 
-sys.path.insert(0, str(pathlib.Path(__file__).resolve().parents[2]))
-
-from bench import unproved  # noqa: E402
-from bench.trials import old_files  # noqa: E402
+from bench import unproved
+from bench.trials import old_files
 
 HERE = pathlib.Path(__file__).resolve().parent
 

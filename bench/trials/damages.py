@@ -1,8 +1,7 @@
-#!/usr/bin/env python3
 """Stops, failing calls and damaged files: what a store is recovered as after each.
 
-python3 bench/trials/damages.py [PROGRAM SESSIONS]
-python3 bench/trials/damages.py --test
+python3 -m bench.trials.damages [PROGRAM SESSIONS]
+python3 -m bench.trials.damages --test
 
 Builds its two programs, unproved (minutes), or takes built ones. In memory a store is made, opened and committed to,
 one of format 1 too (old_files.py), while the disk stops at each call or one call fails: 30 comes exactly there, and
@@ -20,11 +19,9 @@ import sys
 import tempfile
 from collections.abc import Iterator
 
-sys.path.insert(0, str(pathlib.Path(__file__).resolve().parents[2]))
-
-from bench import unproved  # noqa: E402
-from bench.reference import model, read_store  # noqa: E402
-from bench.trials import old_files, stress  # noqa: E402
+from bench import unproved
+from bench.reference import model, read_store
+from bench.trials import old_files, stress
 
 HERE = pathlib.Path(__file__).resolve().parent
 STORES = {

@@ -1,8 +1,7 @@
-#!/usr/bin/env python3
 """Makes each call of the store's device fail in turn, on a real file.
 
-python3 bench/trials/faults.py PROGRAM [--live] [--seconds N]
-python3 bench/trials/faults.py --test
+python3 -m bench.trials.faults PROGRAM [--live] [--seconds N]
+python3 -m bench.trials.faults --test
 
 The program loads faults.c, which lets a call on the store's file or folder fail, or that one and all behind it: with
 nothing done, half a write done, interrupted, or the device full. A sync that fails loses what was written since the
@@ -20,10 +19,7 @@ import sys
 import tempfile
 from typing import Any
 
-sys.path.insert(0, str(pathlib.Path(__file__).resolve().parents[2]))
-
-from bench.trials import refusal_cases, refusal_tables, refused_runs, refusing  # noqa: E402
-
+from bench.trials import refusal_cases, refusal_tables, refused_runs, refusing
 
 # What the shim leaves out of a right program, by the number that it is told.
 LEFT_OUT = {1: "no sync of the store is made", 2: "no sync of the folder is made"}

@@ -1,8 +1,7 @@
-#!/usr/bin/env python3
 """Refuses each growth of the program in turn: the first, the second and so on, until a run meets no refusal.
 
-python3 bench/trials/growths.py PROGRAM [--live] [--step N] [--seconds N] [--every]
-python3 bench/trials/growths.py --test
+python3 -m bench.trials.growths PROGRAM [--live] [--step N] [--seconds N] [--every]
+python3 -m bench.trials.growths --test
 
 The program loads growths.c, which refuses a call for memory or a thread (it sees none of a static program). Each run
 ends; its replies are the model's, but that one growth may be told once (refusing.py); the store holds a version no
@@ -18,10 +17,8 @@ import sys
 import tempfile
 from collections.abc import Iterator
 
-sys.path.insert(0, str(pathlib.Path(__file__).resolve().parents[2]))
-
-from bench.trials import refusal_cases, refusal_tables, refused_runs, refusing  # noqa: E402
-from bench.trials.refusing import many_growths, one_growth  # noqa: E402
+from bench.trials import refusal_cases, refusal_tables, refused_runs, refusing
+from bench.trials.refusing import many_growths, one_growth
 
 
 def spread(calls: int, step: int, each: int) -> list[dict[str, int]]:

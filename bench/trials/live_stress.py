@@ -1,8 +1,7 @@
-#!/usr/bin/env python3
 """Stresses the live program: four sessions over one store, each reply judged by the plain model while they run.
 
-python3 bench/trials/live_stress.py PROGRAM [--seconds N] [--seed N] [--keep FOLDER]
-python3 bench/trials/live_stress.py --test
+python3 -m bench.trials.live_stress PROGRAM [--seconds N] [--seed N] [--keep FOLDER]
+python3 -m bench.trials.live_stress --test
 
 PROGRAM is overlay_live. It runs again and again on one store, over pipes with and without names; the sessions share
 layers. Each reply is judged as it comes. Two of three runs end by kill -9, the others by the end of all lines. The file
@@ -29,10 +28,8 @@ import time
 from collections.abc import Iterator, Sequence
 from typing import Any, NamedTuple
 
-sys.path.insert(0, str(pathlib.Path(__file__).resolve().parents[2]))
-
-from bench.reference import judging, model, read_store  # noqa: E402
-from bench.trials import stress  # noqa: E402
+from bench.reference import judging, model, read_store
+from bench.trials import stress
 
 SESSIONS = 4
 PATIENCE = 60

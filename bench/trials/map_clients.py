@@ -1,4 +1,3 @@
-#!/usr/bin/env python3
 """Do clients that nobody here wrote get maps whole, in their place, with every attribute and area? QGIS, GDAL, owslib.
 
 Three maps of Debian's packages go from their files through `./overlay` into stores and out of the front: Tokyo's 262
@@ -8,7 +7,7 @@ compared with the source: each attribute; its place with what ogr2ogr makes of t
 area with GDAL's of the source, within what the told move of its corners can do. Then features are edited by QGIS and
 written by Part 4. Not of the gate.
 
-    /usr/bin/python3 bench/trials/map_clients.py [--program PATH] [--folder FOLDER] [--map NAME]..
+    /usr/bin/python3 -m bench.trials.map_clients [--program PATH] [--folder FOLDER] [--map NAME]..
 
 It needs gdal-bin, python3-gdal, python3-shapely, python3-pyproj, python3-owslib, python3-qgis and qgis-providers of
 Debian; packages with maps are loaded into FOLDER by apt-get download. Where QGIS is not there its part is left out, and
@@ -33,7 +32,6 @@ from dataclasses import dataclass, field
 from typing import Any
 
 os.environ.setdefault("QT_QPA_PLATFORM", "offscreen")
-sys.path.insert(0, str(pathlib.Path(__file__).resolve().parents[2]))
 
 from osgeo import gdal  # noqa: E402
 from owslib.ogcapi.features import Features  # noqa: E402
@@ -43,7 +41,7 @@ from bench import web_front  # noqa: E402
 from bench.reference import read_store  # noqa: E402
 from bench.trials.maps import loaded  # noqa: E402
 from bench.web_front import TOP, Tries, asked  # noqa: E402
-from tools.limits import COLUMN_WIDTH, COORDINATE_MAX  # noqa: E402
+from limits import COLUMN_WIDTH, COORDINATE_MAX  # noqa: E402
 
 try:
     from qgis import core as qgis

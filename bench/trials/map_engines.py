@@ -1,8 +1,7 @@
-#!/usr/bin/env python3
 """Kills workers, programs and runs of overlay_maps.py amid their tasks, by each engine. Is it the same table, is any
 process left?
 
-    /usr/bin/python3 bench/trials/map_engines.py LIVE [--parcels N] [--zones N] [--times N] [--only CASE]..
+    /usr/bin/python3 -m bench.trials.map_engines LIVE [--parcels N] [--zones N] [--times N] [--only CASE]..
 
 LIVE is the built overlay_live; overlay_window is taken where it stands beside it. One process makes the table that all
 others have to have, byte by byte. In each case a
@@ -29,7 +28,8 @@ import time
 from collections.abc import Callable, Iterator
 from dataclasses import dataclass, field
 
-TOP = pathlib.Path(__file__).resolve().parents[2]
+from bench import TOP
+
 PYTHON, TOOL = "/usr/bin/python3", TOP / "tools" / "overlay_maps.py"
 DONE_BEFORE = 3  # tasks, when something is killed
 SECONDS = 300

@@ -1,4 +1,3 @@
-#!/usr/bin/env python3
 """Does a map come back with its names, properties, outlines and places, and does each change of a feature last?
 
 North Carolina goes into stores in degrees and in metres, and comes out of the front through ogr2ogr and owslib; GEOS
@@ -6,7 +5,7 @@ North Carolina goes into stores in degrees and in metres, and comes out of the f
 PUT and DELETE, where also the revision is an old one; the front is killed at random moments amid that and begun anew,
 and each change that was answered must stand, each other one whole or not at all. Not of the gate.
 
-    /usr/bin/python3 bench/trials/map_features.py [--program PATH] [--changes 200] [--seed 1]
+    /usr/bin/python3 -m bench.trials.map_features [--program PATH] [--changes 200] [--seed 1]
 
 It needs gdal-bin, python3-gdal, python3-shapely, python3-pyproj and python3-owslib of Debian. Status 0 and a last line
 `N passed, 0 failed`, or what fell.
@@ -27,14 +26,12 @@ import urllib.error
 import urllib.request
 from typing import Any
 
-sys.path.insert(0, str(pathlib.Path(__file__).resolve().parents[2]))
+from osgeo import gdal
+from owslib.ogcapi.features import Features
+from shapely import geometry, wkb
 
-from osgeo import gdal  # noqa: E402
-from owslib.ogcapi.features import Features  # noqa: E402
-from shapely import geometry, wkb  # noqa: E402
-
-from bench import web_front  # noqa: E402
-from bench.web_front import TOP, Tries, asked  # noqa: E402
+from bench import web_front
+from bench.web_front import TOP, Tries, asked
 
 SOURCE = TOP / "tools/data/north_carolina.geojson"
 METRES = "EPSG:32119"

@@ -1,7 +1,6 @@
-#!/usr/bin/env python3
 """Compares the pairs of two maps by tools/overlay_maps.py with GEOS, and has each difference judged by fractions.
 
-    /usr/bin/python3 bench/trials/map_geos.py LIVE A B --factor F [--a-id P] [--b-id P] [--bend]
+    /usr/bin/python3 -m bench.trials.map_geos LIVE A B --factor F [--a-id P] [--b-id P] [--bend]
 
 LIVE is the built overlay_live; python3-shapely, python3-gdal and python3-numpy are needed. GEOS is asked of the same
 whole numbers, moved to where a feature of A is, and of the same numbers in the maps' unit, where they are. A pair is
@@ -19,8 +18,7 @@ from collections.abc import Iterator
 from dataclasses import dataclass
 from fractions import Fraction
 
-TOP = pathlib.Path(__file__).resolve().parents[2]
-sys.path.insert(0, str(TOP / "tools"))
+from bench import TOP
 
 try:
     import numpy as np

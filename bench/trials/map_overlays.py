@@ -1,7 +1,6 @@
-#!/usr/bin/env python3
 """Overlays random maps by the steps of tools/overlay_maps.py, judges each answer by slabs of fractions, and plants faults.
 
-    python3 bench/trials/map_overlays.py LIVE [--answers N] [--seed S] [--numpy] [--window PATH]
+    python3 -m bench.trials.map_overlays LIVE [--answers N] [--seed S] [--numpy] [--window PATH]
 
 Rings cross themselves and each other, or features have common borders with corners that a neighbour lacks, and holes;
 cells are of 7 units up, slots of 60 steps up. Asked are common parts, what a feature has alone, and gaps. Before that
@@ -12,22 +11,19 @@ numbers of Python. Status 1: an answer is wrong, or a fault is not found.
 
 import argparse
 import collections
-import pathlib
 import random
 import sys
 import unittest
 from collections.abc import Callable
 from fractions import Fraction
 
-sys.path.insert(0, str(pathlib.Path(__file__).resolve().parents[2] / "tools"))
-
-from maps import jobs, map_checks, quickest, rounds  # noqa: E402
-from maps.drawing_in import Plain  # noqa: E402
-from maps.task_form import ALONE, COMMON  # noqa: E402
-from maps.windows import ByWindows  # noqa: E402
-from testing import map_steps, slabs  # noqa: E402
-from testing.common import Programs  # noqa: E402
-from testing.random_maps import divided_maps, random_maps, wrong_answers  # noqa: E402
+from maps import jobs, map_checks, quickest, rounds
+from maps.drawing_in import Plain
+from maps.task_form import ALONE, COMMON
+from maps.windows import ByWindows
+from testing import map_steps, slabs
+from testing.common import Programs
+from testing.random_maps import divided_maps, random_maps, wrong_answers
 
 Counts = dict[str, list[int]]  # by what is asked: how many answers were looked at, and how many are wrong
 

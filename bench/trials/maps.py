@@ -1,8 +1,7 @@
-#!/usr/bin/env python3
 """Takes real maps of Debian's packages into stores, whole, and compares overlays of them with GEOS.
 
-    python3 bench/trials/maps.py PROGRAM [--folder FOLDER]
-    python3 bench/trials/maps.py --test
+    python3 -m bench.trials.maps PROGRAM [--folder FOLDER]
+    python3 -m bench.trials.maps --test
 
 PROGRAM is the built overlayd. The packages are loaded by `apt-get download` and unpacked in the folder; gdal-bin and
 python3-shapely are installed where they lack, which needs root. Of each map: features, steps, layers and stores; how
@@ -25,16 +24,14 @@ from dataclasses import dataclass, field
 from fractions import Fraction
 from typing import Any
 
-TOP = pathlib.Path(__file__).resolve().parents[2]
-sys.path.insert(0, str(TOP / "tools"))
-
-import checking  # noqa: E402
-import limits  # noqa: E402
-import map_reading  # noqa: E402
-import rounding  # noqa: E402
-import scale as scales  # noqa: E402
-import sessions  # noqa: E402
-import wkt  # noqa: E402
+import checking
+import limits
+import map_reading
+import rounding
+import scale as scales
+import sessions
+import wkt
+from bench import TOP
 
 PYTHON = "/usr/bin/python3"  # the one that has Debian's packages
 NEEDED = {"gdal-bin": ["ogr2ogr", "--version"], "python3-shapely": [PYTHON, "-c", "import shapely"]}
@@ -135,8 +132,8 @@ def answers(task: Any) -> dict[str, Any]:
 
 
 def asked_of_geos(task: Any) -> Any:
-    words = [PYTHON, str(pathlib.Path(__file__).resolve()), "--geos"]
-    done = subprocess.run(words, input=json.dumps(task), capture_output=True, text=True, check=False)
+    words = [PYTHON, "-m", "bench.trials.maps", "--geos"]
+    done = subprocess.run(words, input=json.dumps(task), capture_output=True, text=True, check=False, cwd=TOP)
     if done.returncode:
         sys.exit(f"GEOS: {done.stderr}")
     return json.loads(done.stdout)

@@ -1,10 +1,9 @@
-#!/usr/bin/env python3
 """Reads the running front by GDAL's OGC API - Features driver, as QGIS and ogr2ogr users do: lists, filters and copies.
 
 What ogr2ogr copied is compared with the store: the number of polygons, the extent, and the area of each layer with that
 of its exact rings. It installs gdal-bin of Debian where it is missing. Not of the gate.
 
-    python3 bench/trials/oapif.py [--program PATH] [--python PATH]
+    python3 -m bench.trials.oapif [--program PATH] [--python PATH]
 
 Status 0 and a last line `N passed, 0 failed`, or what fell.
 """
@@ -21,10 +20,8 @@ import tempfile
 from fractions import Fraction
 from typing import Any
 
-sys.path.insert(0, str(pathlib.Path(__file__).resolve().parents[2]))
-
-from bench import web_front  # noqa: E402
-from bench.web_front import Tries, overlay_client  # noqa: E402
+from bench import web_front
+from bench.web_front import Tries, overlay_client
 
 BOX = (-22, 63, -16, 66)
 

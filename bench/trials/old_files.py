@@ -8,9 +8,10 @@ import gzip
 import pathlib
 import struct
 
+from bench import TOP
 from bench.reference import read_store
 
-RELEASED = pathlib.Path(__file__).resolve().parents[2] / ".ci" / "fixtures" / "format-1.store.gz"
+RELEASED = TOP / ".ci" / "fixtures" / "format-1.store.gz"
 BLOCK = read_store.BLOCK
 SQUARE = [(0, 0), (10, 0), (10, 10), (0, 10), (0, 0)]
 SIDES = [((0, 0), (0, 10)), ((0, 0), (10, 0)), ((0, 10), (10, 10)), ((10, 0), (10, 10))]

@@ -1,8 +1,7 @@
-#!/usr/bin/env python3
 """Tries every file that a stop of the machine could leave of a store that the program wrote.
 
-python3 bench/trials/stops.py PROGRAM [--most N] [--forget N] [--keep FOLDER]
-python3 bench/trials/stops.py --test
+python3 -m bench.trials.stops PROGRAM [--most N] [--forget N] [--keep FOLDER]
+python3 -m bench.trials.stops --test
 
 Runs the program twice on one new store under strace, line by line. Between two syncs the writes may have come to the
 disk in any order, whole, in part or not at all: each such file is made (files_of). By read_store.py and by the program
@@ -27,10 +26,8 @@ import tempfile
 import termios
 import time
 
-sys.path.insert(0, str(pathlib.Path(__file__).resolve().parents[2]))
-
-from bench.reference import judging, model, read_store  # noqa: E402
-from bench.trials import stress  # noqa: E402
+from bench.reference import judging, model, read_store
+from bench.trials import stress
 
 SECTOR = 512
 CALLS = "read,pwrite64,pwritev,write,fdatasync,fsync,open,openat,ftruncate,fallocate,close"

@@ -1,7 +1,6 @@
-#!/usr/bin/env python3
 """Stresses the program: sessions side by side over a store in a file, each reply judged by the plain model.
 
-python3 bench/trials/stress.py PROGRAM [--commands N] [--sessions N] [--workers N] [--seed N] [--keep FOLDER]
+python3 -m bench.trials.stress PROGRAM [--commands N] [--sessions N] [--workers N] [--seed N] [--keep FOLDER]
     [--without WORD]
 
 Draws scripts of commands of all kinds, good and bad, over names that the sessions share; runs the program on them with
@@ -21,9 +20,7 @@ import sys
 import tempfile
 import time
 
-sys.path.insert(0, str(pathlib.Path(__file__).resolve().parents[2]))
-
-from bench.reference import judging, model, read_store  # noqa: E402
+from bench.reference import judging, model, read_store
 
 BASES = [f"A{n}" for n in range(16)]
 DERIVED = [f"D{n}" for n in range(24)]

@@ -1,7 +1,6 @@
-#!/usr/bin/env python3
 """Builds tiles by the pass from node to node and by all pairs, side by side on drawn inputs.
 
-python3 bench/trials/tiles.py [PROGRAM] [--proved]
+python3 -m bench.trials.tiles [PROGRAM] [--proved]
 
 Builds the program of bench/trials/tiles over tile_build, tile_by_pairs and layer_book, unproved (minutes), or with
 --proved by a proof of all that it reaches (bench/proved.py); PROGRAM is one that was built before. 2,000 inputs from
@@ -16,12 +15,10 @@ import subprocess
 import sys
 import tempfile
 
-sys.path.insert(0, str(pathlib.Path(__file__).resolve().parents[2]))
-
-from bench import proved, unproved  # noqa: E402
-from bench.tile_texts import Draws, closed, lines_of  # noqa: E402
-from tools.limits import COLUMN_WIDTH as WIDTH  # noqa: E402
-from tools.limits import COLUMNS, COORDINATE_MAX  # noqa: E402
+from bench import proved, unproved
+from bench.tile_texts import Draws, closed, lines_of
+from limits import COLUMN_WIDTH as WIDTH
+from limits import COLUMNS, COORDINATE_MAX
 
 HERE = pathlib.Path(__file__).resolve().parent
 

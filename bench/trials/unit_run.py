@@ -1,11 +1,10 @@
-#!/usr/bin/env python3
 """Does the unit of a release run a front by systemd, with all that it takes from it, and bring it up again?
 
 A root of Debian's base gets systemd and the package, and is begun in namespaces and a control group of its own, with
 systemd as its first process. There a map is served by the unit; another one is changed by Part 4, killed, comes up again
 with what was answered, and is stopped; then the package is purged while a front runs. Not of the gate; it needs root.
 
-    python3 bench/trials/unit_run.py [--programs FOLDER] [--base FOLDER]
+    python3 -m bench.trials.unit_run [--programs FOLDER] [--base FOLDER]
 
 --base is a root that debootstrap made, which is copied and not changed. Status 0 and a last line `N passed, 0 failed`,
 or what fell.
@@ -27,10 +26,8 @@ import tempfile
 import time
 from collections.abc import Iterator
 
-sys.path.insert(0, str(pathlib.Path(__file__).resolve().parents[2]))
-
-from bench.trials.clean_root import Done, base_root, made_release  # noqa: E402
-from bench.web_front import TOP, Tries  # noqa: E402
+from bench.trials.clean_root import Done, base_root, made_release
+from bench.web_front import TOP, Tries
 
 WANTED = ["systemd", "systemd-sysv", "dbus"]
 SECONDS = 60

@@ -1,10 +1,9 @@
-#!/usr/bin/env python3
 """Asks a running front by ten clients at once, two of which change layers: is each answer of one version?
 
 What they ask and how each answer is judged is in web/stressing.py, of which the tests of web/ run three seconds without
 HTTP. Here it is a process over a store in a file, asked over HTTP.
 
-    python3 bench/trials/web_stress.py [--program PATH] [--python PATH] [--seconds N]
+    python3 -m bench.trials.web_stress [--program PATH] [--python PATH] [--seconds N]
 
 Status 0 and a last line `N passed, 0 failed`, N answers that were judged, or what was wrong.
 """
@@ -20,12 +19,8 @@ import tempfile
 import urllib.parse
 from typing import Any
 
-TOP = pathlib.Path(__file__).resolve().parents[2]
-sys.path[:0] = [str(TOP), str(TOP / "web"), str(TOP / "tools")]
-
-from stressing import Ask, Stress  # noqa: E402
-
-from bench import web_front  # noqa: E402
+from bench import web_front
+from stressing import Ask, Stress
 
 
 def new_ask(address: str) -> Ask:
