@@ -5,6 +5,8 @@ and of all below these, into a folder of their own, where `rt run` proves what h
 it takes as long as proving these crates, and no less where nothing is kept.
 """
 
+from __future__ import annotations
+
 import pathlib
 import shutil
 import subprocess
@@ -12,7 +14,7 @@ import subprocess
 from bench import unproved
 
 
-def built(sources, folder, words):
+def built(sources: pathlib.Path, folder: pathlib.Path | str, words: list[str]) -> pathlib.Path:
     """Builds the program of a folder of bench/, runs it once with these words, and gives its path."""
     uses, copy, name = unproved.crates(), pathlib.Path(folder) / "copy", f"{sources.name}_bench"
     named = unproved.crates_of(sources)
@@ -21,8 +23,8 @@ def built(sources, folder, words):
         shutil.copytree(unproved.TOP / "crates" / one, copy / "crates" / one, ignore=shutil.ignore_patterns("out"))
     source = copy / "crates" / name / "src"
     source.mkdir(parents=True)
-    for module, one in unproved.files_of(sources).items():
-        shutil.copy(one, source / f"{module}.rt")
+    for module, path in unproved.files_of(sources).items():
+        shutil.copy(path, source / f"{module}.rt")
     lines = [f"{one}: {' '.join(uses[one])}" for one in own] + [f"{name}: {' '.join(named)}"]
     (copy / "crates.txt").write_text("\n".join(lines) + "\n")
     subprocess.run(["rt", "run", "--", *words], cwd=source.parent, stdin=subprocess.DEVNULL, check=True)

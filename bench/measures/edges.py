@@ -9,10 +9,13 @@ libraries of a commit, --built names ones that were built before. Several run in
 is taken, and all have to write the same text.
 """
 
+from __future__ import annotations
+
 import argparse
 import pathlib
 import subprocess
 import tempfile
+from collections.abc import Iterator
 
 from bench import tile_texts, unproved
 from bench.measures import tiles, turns
@@ -22,20 +25,20 @@ HERE = pathlib.Path(__file__).resolve().parent
 MAPS = [(tiles.stars, 512, 20), (tiles.slivers, 512, 10), (tiles.parcels, 512, 50), (tiles.combs, 256, 4)]
 
 
-def cases():
+def cases() -> Iterator[str]:
     """The text that the program of bench/measures/edges reads."""
     for shape, edges, times in MAPS:
         lines = [f"{shape.__name__}-{edges}", times, *map(tile_texts.text_of, shape(edges))]
         yield "\n".join(map(str, lines)) + "\n"
 
 
-def told(words):
+def told(words: list[str]) -> tuple[str, tuple[str, str, str], list[tuple[str, float]]]:
     """A line's case, the pieces and the text of its tile, and its times."""
     case, times, pieces, size, total, *taken = words
     return case, (pieces, size, total), [(what, int(each) / int(times)) for what, each in zip(("WAIT", "EDGES"), taken)]
 
 
-def built_of(commit, folder):
+def built_of(commit: str, folder: pathlib.Path) -> pathlib.Path:
     """The program over the libraries of a commit."""
     tree, place = folder / "tree", folder / "beside"
     place.mkdir()
@@ -48,7 +51,7 @@ def built_of(commit, folder):
         subprocess.run(["git", "-C", here, "worktree", "remove", "--force", tree], check=True)
 
 
-def main():
+def main() -> None:
     parser = argparse.ArgumentParser(description=__doc__, formatter_class=argparse.RawDescriptionHelpFormatter)
     parser.add_argument("--built", type=pathlib.Path, action="append", default=[])
     parser.add_argument("--beside", metavar="COMMIT")

@@ -11,9 +11,12 @@ python3 -m bench.measures.locating [--program PROGRAM].. [--built PROGRAM]..
 Several programs run in turns, five times each, and the least time is taken.
 """
 
+from __future__ import annotations
+
 import argparse
 import pathlib
 import tempfile
+from collections.abc import Iterator
 
 from bench import tile_texts, unproved
 from bench.measures import serving, tiles, turns
@@ -23,7 +26,7 @@ POINTS = 20000
 LINES = 200000
 
 
-def cases():
+def cases() -> Iterator[str]:
     """The text that the program of bench/measures/locating reads."""
     for shape in (tiles.stars, tiles.parcels, tiles.combs):
         for edges in (64, 256, 1024, 2048):
@@ -33,13 +36,13 @@ def cases():
             yield "\n".join(map(str, lines)) + "\n"
 
 
-def told(words):
+def told(words: list[str]) -> tuple[str, tuple[str, str, str], list[tuple[str, float]]]:
     """A line's case, what was found of it, and the time of a point by the state of the tile."""
     case, state, points, pieces, insides, edges, taken = words
     return case, (pieces, insides, edges), [(state, int(taken) / int(points))]
 
 
-def calls(programs, folder):
+def calls(programs: list[pathlib.Path], folder: pathlib.Path) -> None:
     """Times of the call: by program, case and state of the tile."""
     file = folder / "cases"
     file.write_text("".join(cases()))
@@ -52,16 +55,16 @@ def calls(programs, folder):
         print(f"{case}, {pieces} pieces, {insides} inside, {edges} on an edge: " + "; ".join(rows), flush=True)
 
 
-def script(steps, count):
+def script(steps: int, count: int) -> list[str]:
     """A layer of so many steps round the origin, and so many points all over the plane."""
     lines = [f"PUT A {serving.ring(steps, 0, 0, 1000000)}"]
     return lines + [f"LOCATE A {serving.spread(7919 * n)} {serving.spread(104729 * n)}" for n in range(count)]
 
 
-def lines(programs, folder):
+def lines(programs: list[pathlib.Path], folder: pathlib.Path) -> None:
     """Processor times of a line, by program and layer."""
     for steps in (4, 2000):
-        least = {}
+        least: dict[int, float] = {}
         for _ in range(turns.ROUNDS):
             for at, program in enumerate(programs):
                 whole, none = (serving.Runs(program, folder).best([script(steps, n)], 1, False)[1] for n in (LINES, 0))
@@ -71,7 +74,7 @@ def lines(programs, folder):
         print(f"a line of LOCATE over {steps} segments: {rows}", flush=True)
 
 
-def main():
+def main() -> None:
     parser = argparse.ArgumentParser(description=__doc__, formatter_class=argparse.RawDescriptionHelpFormatter)
     parser.add_argument("--program", type=pathlib.Path, action="append", default=[])
     parser.add_argument("--built", type=pathlib.Path, action="append", default=[])

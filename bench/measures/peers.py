@@ -13,6 +13,8 @@ compile (Debian's libcgal-dev libgmp-dev libmpfr-dev, libboost-dev, libgeos++-de
 Processor seconds, the least of several runs; ours is the difference of two scripts.
 """
 
+from __future__ import annotations
+
 import argparse
 import pathlib
 import subprocess
@@ -21,6 +23,7 @@ import tempfile
 
 from bench import tile_texts
 from bench.measures import serving, tiles
+from bench.tile_texts import Layer
 from limits import COLUMNS, COORDINATE_MAX
 
 HERE = pathlib.Path(__file__).resolve().parent
@@ -30,9 +33,9 @@ SIMPLE = {"star", "sliver", "comb"}
 LAYERS, POINTS, ROUNDS = 20, 100000, 5
 
 
-def peers(folder):
+def peers(folder: pathlib.Path) -> dict[str, pathlib.Path]:
     """The programs of the peers that can be compiled here."""
-    built = {}
+    built: dict[str, pathlib.Path] = {}
     for name, libraries in LIBRARIES.items():
         program = folder / name
         words = [*COMPILE, "-o", program, HERE / "peers" / f"{name}.cc", *libraries]
@@ -43,21 +46,21 @@ def peers(folder):
     return built
 
 
-def told(program, *words):
+def told(program: pathlib.Path, *words: object) -> tuple[int, float]:
     """What a peer found, and its seconds."""
     done = subprocess.run([program, *map(str, words)], stdout=subprocess.PIPE, check=True, text=True)
     found, seconds = done.stdout.split()
     return int(found), float(seconds)
 
 
-def over_all_columns(layers):
+def over_all_columns(layers: list[Layer]) -> list[Layer]:
     """The layers, stretched along x as far as they go in whole steps, from the left end of the plane on."""
     end = max(x for layer in layers for ring in layer for x, _ in ring)
     factor = 2 * COORDINATE_MAX // end
     return [[[(factor * x - COORDINATE_MAX, y) for x, y in ring] for ring in layer] for layer in layers]
 
 
-def script(layers, waited, written):
+def script(layers: list[Layer], waited: int, written: int) -> list[str]:
     """Two layers; the same derived layer so many times, waited for; its edges so many times."""
     lines = [f"PUT {name} {tile_texts.text_of(layer)}" for name, layer in zip("AB", layers)]
     for number in range(waited):
@@ -67,9 +70,12 @@ def script(layers, waited, written):
     return lines
 
 
-def least(programs, folder, scripts):
+def least(
+    programs: list[pathlib.Path], folder: pathlib.Path, scripts: list[list[str]],
+) -> tuple[dict[tuple[int, int], float], str]:
     """For each program the least processor seconds of each script, in turns, and what the last script wrote."""
-    best, wrote = {}, None
+    best: dict[tuple[int, int], float] = {}
+    wrote = ""
     for _ in range(ROUNDS):
         for at, program in enumerate(programs):
             runs = serving.Runs(program, folder)
@@ -79,7 +85,9 @@ def least(programs, folder, scripts):
     return best, wrote
 
 
-def overlays(programs, built, folder, sizes, names):
+def overlays(
+    programs: list[pathlib.Path], built: dict[str, pathlib.Path], folder: pathlib.Path, sizes: list[int], names: list[str] | None,
+) -> None:
     for name, family in tiles.FAMILIES.items():
         for edges in sizes if not names or name in names else []:
             layers = over_all_columns(tiles.even(family(edges)))
@@ -105,7 +113,7 @@ def overlays(programs, built, folder, sizes, names):
             print(f"{name} {edges}, {pieces} pieces: {'; '.join(cells)}; {beside}; of CGAL's time {ratios}", flush=True)
 
 
-def locates(programs, built, folder):
+def locates(programs: list[pathlib.Path], built: dict[str, pathlib.Path], folder: pathlib.Path) -> None:
     for steps in (4, 256, 2000):
         ring = serving.ring(steps, 0, 0, 1000000)
         path = folder / "map"
@@ -118,7 +126,7 @@ def locates(programs, built, folder):
         print(f"a line of LOCATE over {steps} segments: {cells}; {geos}", flush=True)
 
 
-def main():
+def main() -> None:
     parser = argparse.ArgumentParser(description=__doc__, formatter_class=argparse.RawDescriptionHelpFormatter)
     parser.add_argument("programs", type=pathlib.Path, nargs="+")
     parser.add_argument("--edges", type=int, action="append")

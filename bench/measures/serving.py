@@ -12,6 +12,8 @@ python3 -m bench.measures.serving --test
 By the clock, so the machine should be quiet. The store is made in FOLDER.
 """
 
+from __future__ import annotations
+
 import argparse
 import math
 import os
@@ -26,9 +28,10 @@ from limits import COLUMNS
 
 HERE = pathlib.Path(__file__).resolve().parent
 SQUARE = "POLYGON ((0 0, 10 0, 10 10, 0 10, 0 0))"
+Row = tuple[str, str, str]  # of the table: what, measured, beside
 
 
-def ring(steps, x, y, radius):
+def ring(steps: int, x: int, y: int, radius: int) -> str:
     """A ring of so many steps round a centre."""
     turns = [2 * math.pi * i / steps for i in range(steps)]
     points = [(x + round(radius * math.cos(turn)), y + round(radius * math.sin(turn))) for turn in turns]
@@ -38,11 +41,11 @@ def ring(steps, x, y, radius):
 class Runs:
     """Runs of the program on scripts in a folder."""
 
-    def __init__(self, program, folder):
+    def __init__(self, program: str | pathlib.Path, folder: pathlib.Path) -> None:
         self.program = program
         self.folder = folder
 
-    def once(self, scripts, workers, has_store):
+    def once(self, scripts: list[list[str]], workers: int, has_store: bool) -> tuple[float, float, str]:
         """Seconds by the clock and by the processor, and what was written."""
         paths = []
         for place, script in enumerate(scripts):
@@ -58,11 +61,11 @@ class Runs:
             sys.exit(f"status {run.returncode}: {run.stderr.decode()}")
         return took[0], took[1], run.stdout.decode()
 
-    def best(self, scripts, workers, has_store, times=3):
+    def best(self, scripts: list[list[str]], workers: int, has_store: bool, times: int = 3) -> tuple[float, float, str]:
         """The best clock time, with the processor time of that run, and what it wrote."""
         return min((self.once(scripts, workers, has_store) for _ in range(times)), key=lambda took: took[0])
 
-    def commit_of_c(self, count, blocks):
+    def commit_of_c(self, count: int, blocks: int) -> float:
         """The mean of as many rounds of writes and three syncs in C."""
         path = self.folder / "plain.db"
         path.unlink(missing_ok=True)
@@ -72,26 +75,24 @@ class Runs:
         return float(done.stdout)
 
 
-def milliseconds(seconds):
+def milliseconds(seconds: float) -> str:
     return f"{1000 * seconds:.2f} ms"
 
 
-def built(steps, count):
+def built(steps: int, count: int) -> list[str]:
     """The lines that make so many derived layers of two rings of so many steps, and build their tiles."""
     bases = [f"PUT P {ring(steps, -1000, 0, 1000000)}", f"PUT Q {ring(steps, 1000, 500, 1000000)}"]
     defined = [f"DEFINE D{n} = P {'^|&-'[n % 4]} Q" for n in range(count)]
     return bases + defined + [f"WAIT D{n}" for n in range(count)]
 
 
-def commits(runs, count):
+def commits(runs: Runs, count: int) -> list[Row]:
     """A commit of one changed layer: alone, beside 16 layers that stay, and beside derived ones with all their tiles."""
     rows = []
-    for beside, head in (
-        ("0 others", []),
-        ("16 others", [f"PUT B{n} {SQUARE}" for n in range(16)]),
-        ("29 derived layers of 600 steps", built(600, 29)),
-    ):
-        head = head + ["SYNC"]
+    heads: dict[str, list[str]] = {"0 others": [], "16 others": [f"PUT B{n} {SQUARE}" for n in range(16)],
+                                   "29 derived layers of 600 steps": built(600, 29)}
+    for beside, lines in heads.items():
+        head = [*lines, "SYNC"]
         puts = [line for n in range(count) for line in (f"PUT A {ring(16, n, 0, 900)}", "SYNC")]
         product, plain, used = [], [], []
         for _ in range(5):
@@ -108,7 +109,7 @@ def commits(runs, count):
     return rows
 
 
-def replies(runs, lines):
+def replies(runs: Runs, lines: int) -> list[Row]:
     """Replies a second of 1 and of 4 sessions."""
     rows = []
     for sessions in (1, 4):
@@ -133,7 +134,7 @@ def replies(runs, lines):
     return rows
 
 
-def waits(runs, steps):
+def waits(runs: Runs, steps: int) -> list[Row]:
     """WAIT of all tiles of some derived layers by 1, 2 and 4 workers."""
     names = [f"D{n}" for n in range(30)]
     head = [f"PUT A {ring(steps, -1000, 0, 1000000)}", f"PUT B {ring(steps, 1000, 500, 1000000)}"]
@@ -151,12 +152,12 @@ def waits(runs, steps):
     return rows
 
 
-def spread(number):
+def spread(number: int) -> int:
     """A coordinate somewhere in the plane."""
     return number % 2000001 - 1000000
 
 
-def locates(runs, count):
+def locates(runs: Runs, count: int) -> list[Row]:
     """What a LOCATE costs, by the layer's steps."""
     rows = []
     for steps in (4, 256, 2048):
@@ -171,16 +172,16 @@ def locates(runs, count):
     return rows
 
 
-def grids(runs, count):
+def grids(runs: Runs, count: int) -> list[Row]:
     head = [f"PUT A {ring(2048, 0, 0, 1000000)}"]
     lines = ["GRID A -1000000 -1000000 7800 256 256"] * count
     whole, empty = runs.best([head + lines], 1, False), runs.best([head], 1, False)
-    clock, used = (whole[i] - empty[i] for i in (0, 1))
+    clock, used = whole[0] - empty[0], whole[1] - empty[1]
     beside = f"of processors; {milliseconds(clock / count)} by the clock"
     return [("GRID of 256 by 256 over 2,048 steps", milliseconds(used / count), beside)]
 
 
-def measure(words, folder):
+def measure(words: argparse.Namespace, folder: pathlib.Path) -> int:
     runs = Runs(words.program, folder)
     subprocess.run(["gcc", "-O2", "-o", str(folder / "sync"), str(HERE / "sync.c")], check=True)
     part = 10 if words.quick else 1
@@ -196,7 +197,7 @@ def measure(words, folder):
     return 0
 
 
-def test():
+def test() -> int:
     """Builds and runs the C part, and looks at a ring."""
     with tempfile.TemporaryDirectory() as place:
         folder = pathlib.Path(place)
@@ -208,7 +209,7 @@ def test():
     return 0 if is_right else 1
 
 
-def main():
+def main() -> int:
     if sys.argv[1:] == ["--test"]:
         return test()
     parser = argparse.ArgumentParser(description=__doc__, formatter_class=argparse.RawDescriptionHelpFormatter)

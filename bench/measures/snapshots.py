@@ -8,6 +8,8 @@ layers; prints the nanoseconds of one by the clock (the best of three runs). Bes
 a count raised, the mutex given back and the count lowered again.
 """
 
+from __future__ import annotations
+
 import argparse
 import pathlib
 import subprocess
@@ -19,13 +21,13 @@ from bench import unproved
 HERE = pathlib.Path(__file__).resolve().parent
 
 
-def best(words):
+def best(words: list[pathlib.Path]) -> list[int]:
     """The least numbers of three runs, column by column."""
     runs = [subprocess.run(words, stdout=subprocess.PIPE, text=True, check=True).stdout.split() for _ in range(3)]
     return [min(int(number) for number in column) for column in zip(*runs)]
 
 
-def main():
+def main() -> int:
     parser = argparse.ArgumentParser(description=__doc__, formatter_class=argparse.RawDescriptionHelpFormatter)
     parser.add_argument("program", type=pathlib.Path, nargs="?")
     words = parser.parse_args()

@@ -9,12 +9,16 @@ that it is given are written here, byte by byte, as docs/FORMAT.md has them. Pro
 those without the work, each on a disk in memory.
 """
 
+from __future__ import annotations
+
 import argparse
 import pathlib
 import struct
 import subprocess
 import sys
 import tempfile
+from collections.abc import Callable
+from typing import Optional
 
 from bench import unproved
 from bench.processor_time import processor
@@ -27,22 +31,25 @@ DERIVED = 30
 # a catalog, the layers, and all tiles but those of one: as bench/measures/store/extents.rattle has them
 EXTENTS = 1 + LAYERS_MAX + (LAYERS_MAX - 1) * COLUMNS
 
+# name, record of the rings or of the definition, and tiles by column (None of a base layer)
+Layer = tuple[bytes, bytes, Optional[dict[int, bytes]]]
 
-def base_record(points):
+
+def base_record(points: list[tuple[int, int]]) -> bytes:
     return struct.pack(">HH", 1, len(points)) + b"".join(struct.pack(">ii", x, y) for x, y in points)
 
 
-def zigzag(steps):
+def zigzag(steps: int) -> bytes:
     points = [(i, i * 7 % 1000) for i in range(steps)]
     return base_record(points + points[:1])
 
 
-def whole_piece(column, i):
+def whole_piece(column: int, i: int) -> bytes:
     left, right = struct.pack(">ii", column_begin(column), i), struct.pack(">ii", column_begin(column) + 1, i)
     return left + right + b"\0" + left + b"\0" + right
 
 
-def short_piece(column, i):
+def short_piece(column: int, i: int) -> bytes:
     # the last column is a line, so its pieces are vertical
     if column < COLUMNS - 1:
         return whole_piece(column, i)
@@ -50,35 +57,35 @@ def short_piece(column, i):
     return low + high + b"\0" + low + b"\0" + high
 
 
-def crossed_piece(column, i):
+def crossed_piece(column: int, i: int) -> bytes:
     x = column_begin(column)
     support = struct.pack(">iiii", x, 4 * i, x + 4, 4 * i)
     across = struct.pack(">iiii", x + 1, 4 * i - 1, x + 2, 4 * i + 1)
     return support + b"\0" + support[:8] + b"\1" + support + across
 
 
-def tile_record(column, count, piece):
+def tile_record(column: int, count: int, piece: Callable[[int, int], bytes]) -> bytes:
     return struct.pack(">BBI", 0, column, count) + b"".join(piece(column, i) for i in range(count))
 
 
-def blocks(record):
+def blocks(record: bytes) -> int:
     return max(1, -(-len(record) // BLOCK))
 
 
-def body(sequence, version, block, size):
+def body(sequence: int, version: int, block: int, size: int) -> bytes:
     return b"OVLSTORE" + struct.pack(">IQQQI", read_store.FORMAT, sequence, version, block, size) + bytes(8)
 
 
-def store(layers):
-    # layers: name, base record or definition record, and tiles by column (None of a base layer)
+def store(layers: list[Layer]) -> bytes:
+    """A file of these layers, each with its tiles one behind the other."""
     entries = [
-        14 + len(name) + sum(13 if c in tiles else 1 for c in range(COLUMNS) if tiles is not None)
+        14 + len(name) + (0 if tiles is None else sum(13 if c in tiles else 1 for c in range(COLUMNS)))
         for name, _, tiles in layers
     ]
     records, catalog = [], struct.pack(">H", len(layers))
     block = 2 + -(-(2 + sum(entries)) // BLOCK)
 
-    def placed(record):
+    def placed(record: bytes) -> bytes:
         nonlocal block
         entry = struct.pack(">QI", block, len(record))
         records.append(record)
@@ -88,33 +95,34 @@ def store(layers):
     for name, record, tiles in layers:
         catalog += struct.pack(">B", len(name)) + name + struct.pack(">B", tiles is not None) + placed(record)
         for column in range(COLUMNS) if tiles is not None else []:
-            catalog += b"\1" + placed(tiles[column]) if column in tiles else b"\0"
+            catalog += b"\1" + placed(tiles[column]) if tiles and column in tiles else b"\0"
     # both gates are open, so that opening writes nothing
     slots = b"".join((b"\xa7" + bytes(15) + body(s, len(layers), 2, len(catalog))).ljust(BLOCK, b"\0") for s in [0, 1])
     return slots + b"".join(r.ljust(blocks(r) * BLOCK, b"\0") for r in [catalog] + records)
 
 
-def built(folder):
+def built(folder: str) -> pathlib.Path:
     return unproved.built(HERE / "store", folder, checked=False)
 
 
-def seconds(program, word, path, times):
-    best = None
+def seconds(program: pathlib.Path, word: str, path: pathlib.Path, times: int) -> float:
+    """The least processor time of five runs."""
+    took = []
     for _ in range(5):
         start = processor()
         subprocess.run([program, word, path, str(times)], stdout=subprocess.DEVNULL, check=True)
-        took = processor() - start
-        best = took if best is None else min(best, took)
-    return best
+        took.append(processor() - start)
+    return min(took)
 
 
-def each(program, word, path, times):
+def each(program: pathlib.Path, word: str, path: pathlib.Path, times: int) -> float:
     return (seconds(program, word, path, times) - seconds(program, word, path, 0)) / times
 
 
-def speeds(programs, word, path, times):
+def speeds(programs: list[pathlib.Path], word: str, path: pathlib.Path, times: int) -> str:
     """Megabytes a second of each program, in turns."""
-    size, best = path.stat().st_size, {}
+    size = path.stat().st_size
+    best: dict[int, float] = {}
     for _ in range(3):
         for at, program in enumerate(programs):
             took = each(program, word, path, times)
@@ -122,7 +130,7 @@ def speeds(programs, word, path, times):
     return ", ".join(f"{size / best[at] / 1e6:.0f}" for at in range(len(programs))) + " MB/s"
 
 
-def records(programs, folder):
+def records(programs: list[pathlib.Path], folder: pathlib.Path) -> None:
     base, whole, crossed = folder / "base", folder / "whole", folder / "crossed"
     base.write_bytes(zigzag(2048))
     whole.write_bytes(tile_record(8, 60000, whole_piece))
@@ -136,7 +144,7 @@ def records(programs, folder):
         print(f"{name}, {path.stat().st_size} bytes: read {read}, written {written}", flush=True)
 
 
-def files(program, folder):
+def files(program: pathlib.Path, folder: pathlib.Path) -> None:
     base, small = zigzag(2048), zigzag(4)
     tile = {c: tile_record(c, 60000, whole_piece) for c in range(16)}
     oversize = {c: bytes([1, c]) for c in range(COLUMNS)}
@@ -163,7 +171,7 @@ def files(program, folder):
         )
 
 
-def changes(program, folder):
+def changes(program: pathlib.Path, folder: pathlib.Path) -> None:
     """What a commit writes that leads from one file to another."""
     base, other, small = zigzag(2048), zigzag(2047), zigzag(4)
     tile = {c: tile_record(c, 100, short_piece) for c in range(COLUMNS)}
@@ -185,7 +193,7 @@ def changes(program, folder):
         print(f"{name}: a commit makes {calls} device calls and writes {written} bytes")
 
 
-def beginnings(program, folder):
+def beginnings(program: pathlib.Path, folder: pathlib.Path) -> None:
     """How long the beginning of a commit takes, and how long it takes to find a place."""
     small, path = zigzag(4), folder / "tiled"
     tile = {c: tile_record(c, 100, short_piece) for c in range(COLUMNS)}
@@ -203,7 +211,7 @@ def beginnings(program, folder):
     )
 
 
-def test():
+def test() -> int:
     """Looks whether the reader of files takes one that is written here, with all its tiles."""
     tile = {c: tile_record(c, 3, short_piece) for c in range(COLUMNS)} | {9: tile_record(9, 3, crossed_piece)}
     lines = read_store.told(store([(b"A", zigzag(4), None), (b"I", b"A", tile)]))
@@ -213,7 +221,7 @@ def test():
     return 0 if is_right else 1
 
 
-def main():
+def main() -> int:
     if sys.argv[1:] == ["--test"]:
         return test()
     parser = argparse.ArgumentParser(description=__doc__, formatter_class=argparse.RawDescriptionHelpFormatter)

@@ -9,15 +9,18 @@ each, by `build` and by `build_by_pairs`, both whole; the same layers with a poi
 take a tenth of a second or more, in turns, or one run where it takes more than two seconds.
 """
 
+from __future__ import annotations
+
 import argparse
 import math
 import pathlib
 import subprocess
 import tempfile
+from collections.abc import Iterable
 
 from bench import unproved
 from bench.processor_time import processor
-from bench.tile_texts import Draws, closed, lines_of
+from bench.tile_texts import Draws, Layer, Point, closed, lines_of
 
 HERE = pathlib.Path(__file__).resolve().parent
 
@@ -25,64 +28,64 @@ HERE = pathlib.Path(__file__).resolve().parent
 # Families for times: two layers of so many edges each in column 16
 
 
-def round_about(x, y, step, radii):
+def round_about(x: int, y: int, step: int, radii: list[int]) -> Layer:
     """A ring round a centre that goes on by `step` parts of a turn from point to point."""
     turns = [(2 * math.pi * step * i / len(radii), radius) for i, radius in enumerate(radii)]
     points = [(x + round(radius * math.cos(turn)), y + round(radius * math.sin(turn))) for turn, radius in turns]
     return [closed(points)]
 
 
-def stars(edges):
+def stars(edges: int) -> list[Layer]:
     draws = Draws(edges)
     radii = [[5000 + draws.below(25000) for _ in range(edges)] for _ in range(2)]
     return [round_about(32000, 32000, 1, radii[0]), round_about(33500, 33000, 1, radii[1])]
 
 
-def parcels(edges):
+def parcels(edges: int) -> list[Layer]:
     count = edges // 4
     across = 2 ** (count.bit_length() // 2)
 
-    def grid(low):
+    def grid(low: int) -> Layer:
         corners = [(low + 500 * (i % across), low + 500 * (i // across)) for i in range(count)]
         return [closed([(x, y), (x + 500, y), (x + 500, y + 500), (x, y + 500)]) for x, y in corners]
 
     return [grid(0), grid(250)]
 
 
-def self_crossing(edges):
+def self_crossing(edges: int) -> list[Layer]:
     return [round_about(31000, 31000, 9, [30000] * edges), round_about(33000, 32000, 9, [30000] * edges)]
 
 
-def combs(edges):
+def combs(edges: int) -> list[Layer]:
     teeth = [closed([(1, low), (edges - 1, low), (edges - 1, low + 2), (1, low + 2)]) for low in range(0, edges, 4)]
     return [teeth, [[(y, x) for x, y in ring] for ring in teeth]]
 
 
-def slivers(edges):
+def slivers(edges: int) -> list[Layer]:
     draws = Draws(edges)
 
-    def sliver(low, far):
+    def sliver(low: int, far: int) -> list[Point]:
         return closed([(1, low), (64001, far), (64001, far + 2), (1, low + 2)])
 
     return [[sliver(y, y + draws.below(1601) - 800) for y in range(first, 25 * edges, 100)] for first in (0, 50)]
 
 
-def circles(edges):
+def circles(edges: int) -> list[Layer]:
     return [round_about(31000, 31000, 1, [30000] * edges), round_about(36000, 33500, 1, [25000] * edges)]
 
 
 FAMILIES = {"star": stars, "parcels": parcels, "self-crossing": self_crossing, "comb": combs, "sliver": slivers}
 
 
-def even(layers):
+def even(layers: list[Layer]) -> list[Layer]:
     """The same layers on even coordinates, so that each edge has a whole middle."""
     return [[[(x // 2 * 2, y // 2 * 2) for x, y in ring] for ring in layer] for layer in layers]
 
 
-def halved(layers):
+def halved(layers: list[Layer]) -> list[Layer]:
     """The same layers with a point in the middle of each edge."""
 
-    def cut(ring):
+    def cut(ring: list[Point]) -> list[Point]:
         return ring[:1] + [p for (a, b), (c, d) in zip(ring, ring[1:]) for p in [((a + c) // 2, (b + d) // 2), (c, d)]]
 
     return [[cut(ring) for ring in layer] for layer in layers]
@@ -91,7 +94,7 @@ def halved(layers):
 # Times
 
 
-def run(program, word, path, cap, times):
+def run(program: pathlib.Path, word: str, path: pathlib.Path, cap: int, times: int) -> tuple[float, int, float]:
     """Processor time, size of the tile, and the most memory in MB."""
     start = processor()
     words = [program, word, path, str(cap), str(times)]
@@ -99,7 +102,7 @@ def run(program, word, path, cap, times):
     return processor() - start, int(size), int(peak) / 1024
 
 
-def in_turns(runs):
+def in_turns(runs: list[tuple[pathlib.Path, str, pathlib.Path]]) -> list[tuple[float, int]]:
     """The time of one whole tile for each program, word and path, and its size: of five runs each, which take turns."""
     whole = 2**64 - 1
     first = [run(*one, whole, 1) for one in runs]
@@ -114,17 +117,17 @@ def in_turns(runs):
     return [(time, size) for time, (_, size, _) in zip(best, first)]
 
 
-def written(folder, name, layers):
+def written(folder: pathlib.Path, name: str, layers: list[Layer]) -> pathlib.Path:
     path = folder / name
     path.write_text(lines_of(16, "A ^ B", layers))
     return path
 
 
-def milliseconds(times):
+def milliseconds(times: Iterable[float]) -> str:
     return "; ".join(f"{1000 * time:.2f} ms" for time in times)
 
 
-def by_both(programs, folder):
+def by_both(programs: list[pathlib.Path], folder: pathlib.Path) -> None:
     for name, family in FAMILIES.items():
         for edges in [64, 128, 256, 512, 1024, 2048]:
             path = written(folder, "input", even(family(edges)))
@@ -137,7 +140,7 @@ def by_both(programs, folder):
             )
 
 
-def with_more_edges(programs, folder):
+def with_more_edges(programs: list[pathlib.Path], folder: pathlib.Path) -> None:
     for name, family in {**FAMILIES, "circle": circles}.items():
         for edges in [64, 256, 1024]:
             layers = even(family(edges))
@@ -150,7 +153,7 @@ def with_more_edges(programs, folder):
             )
 
 
-def to_the_cap(programs, folder):
+def to_the_cap(programs: list[pathlib.Path], folder: pathlib.Path) -> None:
     path = written(folder, "input", combs(512))
     cases = [(one, "pass") for one in programs] + [(programs[0], "pairs")]
     runs = [[run(one, word, path, 65536, 1) for one, word in cases] for _ in range(5)]
@@ -163,13 +166,13 @@ def to_the_cap(programs, folder):
         )
 
 
-def measure(programs, folder):
+def measure(programs: list[pathlib.Path], folder: pathlib.Path) -> None:
     to_the_cap(programs, folder)
     by_both(programs, folder)
     with_more_edges(programs, folder)
 
 
-def main():
+def main() -> None:
     parser = argparse.ArgumentParser(description=__doc__, formatter_class=argparse.RawDescriptionHelpFormatter)
     parser.add_argument("programs", type=pathlib.Path, nargs="*", default=[])
     words = parser.parse_args()

@@ -3,17 +3,27 @@
 It gives the least time of each; all have to answer the same.
 """
 
+from __future__ import annotations
+
+import pathlib
 import subprocess
+from collections.abc import Callable, Sequence
+from typing import TypeVar
 
 ROUNDS = 5
+Times = dict[tuple[int, str, str], float]  # by the place of the program, the case and what was timed
+Found = TypeVar("Found")
 
 
-def least_times(programs, file, told):
+def least_times(
+    programs: Sequence[pathlib.Path], file: pathlib.Path, told: Callable[[list[str]], tuple[str, Found, list[tuple[str, float]]]],
+) -> tuple[Times, dict[str, Found]]:
     """The least microseconds, by the program's place, the case and what was timed; and what was found of each case.
 
     `told` makes of the words of a line the case, what was found, and pairs of what was timed and its microseconds.
     """
-    least, seen = {}, {}
+    least: Times = {}
+    seen: dict[str, Found] = {}
     for _ in range(ROUNDS):
         for at, program in enumerate(programs):
             done = subprocess.run([program, file], stdout=subprocess.PIPE, check=True, text=True)

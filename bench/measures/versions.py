@@ -8,10 +8,13 @@ of pending tiles. By the program of bench/measures/versions, built unproved (min
 built before. Several run in turns, five times each, and the least time is taken.
 """
 
+from __future__ import annotations
+
 import argparse
 import math
 import pathlib
 import tempfile
+from collections.abc import Iterator
 
 from bench import unproved
 from bench.measures import turns
@@ -20,11 +23,11 @@ HERE = pathlib.Path(__file__).resolve().parent
 REACH = 1 << 20
 
 
-def polygon(points):
+def polygon(points: list[tuple[int, int]]) -> str:
     return "POLYGON ((" + ", ".join(f"{x} {y}" for x, y in [*points, points[0]]) + "))"
 
 
-def star(steps, shrunk):
+def star(steps: int, shrunk: bool) -> str:
     """A polygon of so many steps over all columns, one corner moved where it is shrunk."""
     points = []
     for i in range(steps):
@@ -36,7 +39,7 @@ def star(steps, shrunk):
     return polygon(points)
 
 
-def cases():
+def cases() -> Iterator[str]:
     """The text that the program reads."""
     wide = [polygon([(-REACH, 0), (REACH, 0), (x, 99)]) for x in (0, 1)]
     for name, times, texts in (
@@ -46,13 +49,13 @@ def cases():
         yield "\n".join([name, str(times), *texts]) + "\n"
 
 
-def told(words):
+def told(words: list[str]) -> tuple[str, str, list[tuple[str, float]]]:
     """A line's case and what was timed of it, how many tiles were pending, and the time."""
     case, what, times, pending, taken = words
     return f"{case} {what}", pending, [("each", int(taken) / int(times))]
 
 
-def main():
+def main() -> None:
     parser = argparse.ArgumentParser(description=__doc__, formatter_class=argparse.RawDescriptionHelpFormatter)
     parser.add_argument("--built", action="append", default=[])
     words = parser.parse_args()

@@ -6,11 +6,13 @@ circles: two polygons of so many edges round two centres, in one column.
 combs: so many edges in thin rectangles, those of one layer across those of the other.
 """
 
+from __future__ import annotations
+
 import argparse
 import math
 
 
-def circle(edges, x, y, radius):
+def circle(edges: int, x: int, y: int, radius: int) -> str:
     points = []
     for i in range(edges):
         turn = 2 * math.pi * i / edges
@@ -19,7 +21,7 @@ def circle(edges, x, y, radius):
     return "POLYGON ((" + ", ".join(f"{x} {y}" for x, y in points) + "))"
 
 
-def comb(edges, upright):
+def comb(edges: int, upright: bool) -> str:
     rings = []
     for i in range(edges // 4):
         low, high = 4 * i, 4 * i + 2
@@ -30,7 +32,7 @@ def comb(edges, upright):
     return "MULTIPOLYGON (" + ", ".join(rings) + ")"
 
 
-def main():
+def main() -> None:
     parser = argparse.ArgumentParser(description=__doc__, formatter_class=argparse.RawDescriptionHelpFormatter)
     parser.add_argument("kind", choices=["circles", "combs"])
     parser.add_argument("edges", type=int)

@@ -8,6 +8,8 @@ turns. By the clock, the least time of each, less that of the same script withou
 have 4 idle processors. Beside it stands how many times as much as one program four do at once, with one worker each.
 """
 
+from __future__ import annotations
+
 import argparse
 import pathlib
 import subprocess
@@ -20,11 +22,11 @@ from limits import COLUMNS
 LAYERS, ROUNDS, WORKERS = 30, 12, (1, 2, 4)
 
 
-def waited(names):
+def waited(names: list[str]) -> list[str]:
     return [f"WAIT {name}" for name in names]
 
 
-def small(times):
+def small(times: int) -> tuple[list[str], list[str]]:
     """Scripts over a triangle that is put so many times: with the waiting, and without."""
     names = [f"D{n}" for n in range(LAYERS)]
     head = ["PUT A POLYGON ((-1048576 0, 1048576 0, 0 99, -1048576 0))"] + [f"DEFINE {name} = A" for name in names]
@@ -32,7 +34,7 @@ def small(times):
     return head + [line for put in puts for line in put + waited(names)], head + [line for put in puts for line in put]
 
 
-def circles(steps):
+def circles(steps: int) -> tuple[list[str], list[str]]:
     """Scripts over two circles: with the waiting, and without."""
     head = [f"PUT A {serving.ring(steps, -1000, 0, 1000000)}", f"PUT B {serving.ring(steps, 1000, 500, 1000000)}"]
     names = [f"D{n}" for n in range(LAYERS)]
@@ -40,7 +42,7 @@ def circles(steps):
     return head + waited(names), head
 
 
-def at_once(program, folder, script, count):
+def at_once(program: pathlib.Path, folder: pathlib.Path, script: list[str], count: int) -> float:
     """Seconds by the clock of so many programs at once, one worker each, on one script."""
     path = folder / "together.txt"
     path.write_text("\n".join(script) + "\n")
@@ -52,10 +54,13 @@ def at_once(program, folder, script, count):
     return time.monotonic() - start
 
 
-def least(programs, folder, scripts):
+def least(
+    programs: list[pathlib.Path], folder: pathlib.Path, scripts: tuple[list[str], list[str]],
+) -> tuple[dict[tuple[int, int, int], tuple[float, float]], dict[tuple[int, int], float]]:
     """The least clock time by program, number of workers and script, in turns, with the processor time of that run; and
     those of one program and of four at once."""
-    best, together = {}, {}
+    best: dict[tuple[int, int, int], tuple[float, float]] = {}
+    together: dict[tuple[int, int], float] = {}
     for _ in range(ROUNDS):
         for at, program in enumerate(programs):
             for which, script in enumerate(scripts):
@@ -63,12 +68,12 @@ def least(programs, folder, scripts):
                     took = serving.Runs(program, folder).once([script], workers, False)[:2]
                     best[at, workers, which] = min(took, best.get((at, workers, which), took))
             for count in (1, 4):
-                took = at_once(program, folder, scripts[0], count)
-                together[at, count] = min(took, together.get((at, count), took))
+                clock = at_once(program, folder, scripts[0], count)
+                together[at, count] = min(clock, together.get((at, count), clock))
     return best, together
 
 
-def main():
+def main() -> None:
     parser = argparse.ArgumentParser(description=__doc__, formatter_class=argparse.RawDescriptionHelpFormatter)
     parser.add_argument("programs", type=pathlib.Path, nargs="+")
     programs = [program.resolve() for program in parser.parse_args().programs]
@@ -79,7 +84,7 @@ def main():
     with tempfile.TemporaryDirectory() as place:
         for name, times, scripts in cases:
             best, together = least(programs, pathlib.Path(place), scripts)
-            first = {}
+            first: dict[int, float] = {}
             for workers in WORKERS:
                 rows = []
                 for at in range(len(programs)):

@@ -9,6 +9,8 @@ lists, books, sessions and servers are judged stands in bench/trials/calls; the 
 server's counts differ from run to run. Status 1: a run is wrong.
 """
 
+from __future__ import annotations
+
 import argparse
 import pathlib
 import subprocess
@@ -24,13 +26,13 @@ WRONG_CALL = "wrong call 1 1 1"
 SPOILED = ["lists", "books", "sessions", "servers"]
 
 
-def are_told(line):
+def are_told(line: str) -> bool:
     """Whether there are wrong lists, books, sessions and servers, and each is told as wrong."""
     words = line.split()[1:]
     return words[::3] == SPOILED and all(cases == told != "0" for cases, told in zip(words[1::3], words[2::3]))
 
 
-def main():
+def main() -> int:
     parser = argparse.ArgumentParser(description=__doc__, formatter_class=argparse.RawDescriptionHelpFormatter)
     parser.add_argument("program", type=pathlib.Path, nargs="?")
     words = parser.parse_args()

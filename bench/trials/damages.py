@@ -10,6 +10,8 @@ and each byte and bit of them is changed: answers are those of bench/reference/r
 returns. At last sessions whose reader or writer fails. Status 1: anything is wrong.
 """
 
+from __future__ import annotations
+
 import argparse
 import collections
 import pathlib
@@ -17,7 +19,7 @@ import struct
 import subprocess
 import sys
 import tempfile
-from collections.abc import Iterator
+from collections.abc import Callable, Iterable, Iterator, Sequence
 
 from bench import unproved
 from bench.reference import model, read_store
@@ -33,15 +35,17 @@ LEFT = {"opened": (1, 0), "same": (2, 0), "more": (2, 1)}
 BLOCK = 4096
 SLOT = 64
 CODES = {"not a store": "32"}
+Changes = list[tuple[int, int]]  # where, and the byte there
+Alteration = tuple[str, bytes, Changes, str]  # what it is called, the file, the changes, and the answer
 
 
-def root_of(data):
+def root_of(data: bytes) -> tuple[int, read_store.Extent]:
     """The root's slot, and where its catalog lies."""
     root = read_store.find_root(data)
     return root.sequence % 2 * BLOCK, root.catalog
 
 
-def extents_of(data):
+def extents_of(data: bytes) -> list[tuple[int, int]]:
     """The places of the catalog and of all records: offset and length."""
     _, catalog = root_of(data)
     written = read_store.find_root(data).format
@@ -52,19 +56,19 @@ def extents_of(data):
     return [(one.block * BLOCK, one.size) for one in found]
 
 
-def put(at, data):
+def put(at: int, data: bytes) -> Changes:
     """An alteration: these bytes at an offset."""
     return [(at + i, byte) for i, byte in enumerate(data)]
 
 
-def apply(data, length, changes):
+def apply(data: bytes, length: int, changes: Changes) -> bytes:
     file = bytearray(data[:length])
     for at, byte in changes:
         file[at] = byte
     return bytes(file)
 
 
-def read_by_itself(data):
+def read_by_itself(data: bytes) -> tuple[str, str | None]:
     """The answer of the reader that stands by itself: `32`, `33 CODE` or `version N`, and what the version has."""
     answer, *lines = read_store.told(data)
     if not answer.startswith("version"):
@@ -78,7 +82,7 @@ def read_by_itself(data):
     return answer, "".join(line + ";" for line in content)
 
 
-def plain(answer):
+def plain(answer: str) -> tuple[tuple[str, str | None], list[int] | None]:
     """An answer of the program in the same words, with what the version has, and its counts of tiles."""
     words = answer.split(" ", 5)
     if words[0] == "version":
@@ -86,7 +90,7 @@ def plain(answer):
     return ("33 " + words[1] if words[0] == "damaged" else CODES.get(answer, answer), None), None
 
 
-def answers(program, folder, data, cases):
+def answers(program: pathlib.Path, folder: pathlib.Path, data: bytes, cases: list[tuple[int, Changes]]) -> list[str]:
     """The program's answer to each case of a file, a length and changes."""
     (folder / "store").write_bytes(data)
     with open(folder / "cases", "w") as lines:
@@ -98,10 +102,11 @@ def answers(program, folder, data, cases):
     return told
 
 
-def cuts(program, folder, name, one):
+def cuts(program: pathlib.Path, folder: pathlib.Path, name: str, one: bytes) -> int:
     """A store whose catalog is its last block, cut to every length."""
     cases = [(length, []) for length in range(len(one))]
-    counts, wrong = collections.Counter(), 0
+    counts: collections.Counter[str] = collections.Counter()
+    wrong = 0
     for (length, _), answer in zip(cases, answers(program, folder, one, cases)):
         told, _ = plain(answer)
         counts[told[0]] += 1
@@ -112,11 +117,11 @@ def cuts(program, folder, name, one):
     return wrong
 
 
-def shown(counts):
+def shown(counts: collections.Counter[str]) -> str:
     return ", ".join(f"{name} {count}" for name, count in sorted(counts.items()))
 
 
-def named(one, two, tiled):
+def named(one: bytes, two: bytes, tiled: bytes) -> Iterator[Alteration]:
     """The named alterations: what each is called, the file, the changes and the wanted answer."""
     slot, catalog = root_of(one)
     assert slot == BLOCK
@@ -139,7 +144,7 @@ def named(one, two, tiled):
     yield "a tile names another column", tiled, put(tile + 1, b"\20"), "33 8"
 
 
-def named_old(six: bytes) -> Iterator[tuple[str, bytes, list[tuple[int, int]], str]]:
+def named_old(six: bytes) -> Iterator[Alteration]:
     """The same of the file of six blocks of format 1, whose root is in slot 1 and whose slot 0 is closed."""
     slot, catalog = root_of(six)
     assert (slot, catalog) == (BLOCK, read_store.Extent(5, 61)) and old_files.tiles_of(six) == [(2 * BLOCK, 142)]
@@ -162,7 +167,7 @@ def named_old(six: bytes) -> Iterator[tuple[str, bytes, list[tuple[int, int]], s
     yield "I's place is A's", six, put(at + 2 + 15 + 3, struct.pack(">QI", 3, 44)), "33 6"
 
 
-def alterations(program, folder, cases):
+def alterations(program: pathlib.Path, folder: pathlib.Path, cases: Iterable[Alteration]) -> int:
     wrong, cases = 0, list(cases)
     for name, data, changes, wanted in cases:
         told, _ = plain(answers(program, folder, data, [(len(data), changes)])[0])
@@ -174,18 +179,21 @@ def alterations(program, folder, cases):
     return wrong
 
 
-def offsets_of(data):
+def offsets_of(data: bytes) -> list[int]:
     """The places of the bytes of both slots, the catalog and the records, tiles of format 1 among them."""
     places = [(0, SLOT), (BLOCK, SLOT), *extents_of(data), *old_files.tiles_of(data)]
     return sorted({at + i for at, size in places for i in range(size)})
 
 
-def each_byte(program, folder, name, data, changed):
+def each_byte(
+    program: pathlib.Path, folder: pathlib.Path, name: str, data: bytes, changed: Callable[[int], Sequence[int]],
+) -> int:
     """Each byte of both slots, the catalog and the records changed."""
     offsets = offsets_of(data)
     cases = [(len(data), [(at, byte)]) for at in offsets for byte in changed(data[at]) if byte != data[at]]
     same_bytes = sum(byte == data[at] for at in offsets for byte in changed(data[at]))
-    counts, tiles, wrong = collections.Counter(), [0, 0, 0], 0
+    counts: collections.Counter[str] = collections.Counter()
+    tiles, wrong = [0, 0, 0], 0
     for (_, changes), answer in zip(cases, answers(program, folder, data, cases)):
         told, verified = plain(answer)
         is_right = told == read_by_itself(apply(data, len(data), changes))
@@ -200,18 +208,18 @@ def each_byte(program, folder, name, data, changed):
     return wrong
 
 
-def both_ends(_byte):
+def both_ends(_byte: int) -> Sequence[int]:
     return (0x00, 0xFF)
 
 
-def turned(byte):
+def turned(byte: int) -> Sequence[int]:
     return [byte ^ 1 << bit for bit in range(8)]
 
 
 ALTERED = {"each byte set to 0x00 and 0xFF": both_ends, "each bit turned": turned}
 
 
-def programs(folder, given):
+def programs(folder: pathlib.Path, given: list[pathlib.Path]) -> list[pathlib.Path]:
     """The two programs, from the words or built."""
     if given:
         return [one.resolve() for one in given]
@@ -223,7 +231,7 @@ def programs(folder, given):
     return built
 
 
-def lists(words, files, of=""):
+def lists(words: list[pathlib.Path], files: dict[str, bytes], of: str = "") -> int:
     """Prints what a program tells of its lists, keeps the stores that it shows, and counts what is wrong."""
     done = subprocess.run(words, stdout=subprocess.PIPE, check=True, text=True)
     wrong = 0
@@ -255,7 +263,8 @@ def of_format_1(program: pathlib.Path, folder: pathlib.Path) -> int:
     """All of it for the files of format 1, and for those that opening and commits leave of them."""
     wrong = 0
     for name, path in old_files.written(folder).items():
-        old, left = path.read_bytes(), {}
+        old = path.read_bytes()
+        left: dict[str, bytes] = {}
         wrong += lists([program, path], left, f"{name}, ")
         wrong += are_left(name, old, left)
         if name == "six blocks":
@@ -290,7 +299,7 @@ def test() -> int:
     return 1 if wrong else 0
 
 
-def main():
+def main() -> int:
     parser = argparse.ArgumentParser(description=__doc__, formatter_class=argparse.RawDescriptionHelpFormatter)
     parser.add_argument("program", type=pathlib.Path, nargs="?")
     parser.add_argument("sessions", type=pathlib.Path, nargs="?")
@@ -302,7 +311,8 @@ def main():
     if len(given) == 1:
         parser.error("a program without sessions")
     with tempfile.TemporaryDirectory() as place:
-        folder, files = pathlib.Path(place), {}
+        folder = pathlib.Path(place)
+        files: dict[str, bytes] = {}
         program, sessions = programs(folder, given)
         wrong = lists([program], files)
         wrong += cuts(program, folder, STORES["one"], files["one"])

@@ -9,6 +9,8 @@ it stands for a version no older than what was synced or told durable by then (o
 --most opens only so many; --forget leaves a sync out, so that versions are lost. Status 1: one is.
 """
 
+from __future__ import annotations
+
 import argparse
 import array
 import concurrent.futures
@@ -25,6 +27,8 @@ import sys
 import tempfile
 import termios
 import time
+from collections.abc import Iterable, Iterator
+from typing import IO, Any, Optional, Union
 
 from bench.reference import judging, model, read_store
 from bench.trials import stress
@@ -32,6 +36,9 @@ from bench.trials import stress
 SECTOR = 512
 CALLS = "read,pwrite64,pwritev,write,fdatasync,fsync,open,openat,ftruncate,fallocate,close"
 LIMIT = 120
+Event = tuple[Any, ...]  # ("write", at, bytes), ("sync",) or ("read", bytes)
+Write = tuple[int, bytes]  # where, and what
+Answer = tuple[Union[list[str], str], Optional[int]]  # the layers and the version, or why the file was refused
 
 
 # What records stand for is looked up where the same bytes were read before.
@@ -39,7 +46,7 @@ for reader in ("read_tile", "read_base", "read_definition"):
     setattr(read_store, reader, functools.lru_cache(maxsize=10000)(getattr(read_store, reader)))
 
 
-def long_ring():
+def long_ring() -> str:
     """A ring of more steps than one block holds."""
     points = [(x, 40 + x % 3) for x in range(-300, 300)]
     return model.wkt_of((tuple(points + [(300, -40), (-300, -40), points[0]]),))
@@ -60,15 +67,16 @@ SECOND = [
 # ---- traced runs
 
 
-def unread(pipe):
+def unread(pipe: IO[bytes]) -> int:
     """How many bytes of a pipe were not read yet."""
     size = array.array("i", [0])
     fcntl.ioctl(pipe, termios.FIONREAD, size)
     return size[0]
 
 
-def feed(run, lines):
+def feed(run: subprocess.Popen[bytes], lines: list[str]) -> None:
     """Gives a script line by line, each when the one before was read."""
+    assert run.stdin
     for line in lines:
         run.stdin.write(line.encode() + b"\n")
         run.stdin.flush()
@@ -79,7 +87,9 @@ def feed(run, lines):
             time.sleep(0.001)
 
 
-def traced(program, store, lines, trace, *words):
+def traced(
+    program: str, store: pathlib.Path, lines: list[str], trace: pathlib.Path, *words: str,
+) -> list[judging.Reply]:
     """The replies of the program under strace."""
     command = ["strace", "-f", "-xx", "-s", "2000000", "-e", "trace=" + CALLS, "-o", str(trace)]
     command += [program, "--store", str(store), *words]
@@ -95,9 +105,9 @@ def traced(program, store, lines, trace, *words):
     return judging.sections(output.decode(), 1)[0]
 
 
-def whole_calls(text):
+def whole_calls(text: str) -> Iterator[str]:
     """The calls of a trace, each at its end: those that were cut in two are put together."""
-    begun = {}
+    begun: dict[str, str] = {}
     for line in text.splitlines():
         process, _, call = line.partition(" ")
         call = call.strip()
@@ -109,14 +119,15 @@ def whole_calls(text):
             yield call
 
 
-def bytes_of(text):
+def bytes_of(text: str) -> bytes:
     """The bytes of a string in a trace."""
     return bytes.fromhex(text.replace("\\x", ""))
 
 
-def events_of(text, store):
+def events_of(text: str, store: str) -> list[Event]:
     """What a trace tells of the store and of the script: ("write", at, bytes), ("sync",) and ("read", bytes)."""
-    numbers, events = set(), []
+    numbers: set[int] = set()
+    events: list[Event] = []
     for call in whole_calls(text):
         found = re.match(r"(\w+)\((.*)\)\s+= (-?\d+)", call)
         if not found or int(found.group(3)) < 0:
@@ -138,7 +149,7 @@ def events_of(text, store):
     return events
 
 
-def store_event(word, rest, result, strings):
+def store_event(word: str, rest: str, result: int, strings: list[tuple[str, str]]) -> Event:
     if word == "pwrite64":
         data = bytes_of(strings[0][0])
         if len(data) != result:
@@ -152,7 +163,7 @@ def store_event(word, rest, result, strings):
 # ---- files that a stop may leave
 
 
-def laid(data, writes):
+def laid(data: bytes, writes: Iterable[Write]) -> bytes:
     """A file with some writes in it."""
     data = bytearray(data)
     for at, new in writes:
@@ -162,7 +173,7 @@ def laid(data, writes):
     return bytes(data)
 
 
-def sets_of(count, draw):
+def sets_of(count: int, draw: random.Random) -> list[list[int]]:
     """Which of so many writes came to the disk."""
     if count <= 6:
         return [[n for n in range(count) if bits >> n & 1] for bits in range(2**count)]
@@ -172,7 +183,7 @@ def sets_of(count, draw):
     return sets + [[n for n in every if draw.random() < 0.5] for _ in range(40)]
 
 
-def parts_of(at, data):
+def parts_of(at: int, data: bytes) -> Iterator[list[Write]]:
     """A write in part: other bytes in its place, and cuts."""
     for fill in (0, 0x55, 0xA7):
         yield [(at, bytes([fill]) * len(data))]
@@ -184,7 +195,7 @@ def parts_of(at, data):
         yield [(at + cut, data[cut:])]
 
 
-def files_of(synced, writes, draw):
+def files_of(synced: bytes, writes: list[Write], draw: random.Random) -> Iterator[tuple[list[Write], int]]:
     """The files that a stop may leave of writes behind a sync: what is laid into the synced bytes, and the length."""
     length = len(laid(synced, writes))
     for chosen in sets_of(len(writes), draw):
@@ -200,7 +211,7 @@ def files_of(synced, writes, draw):
 class Epoch:
     """The writes between two syncs, and the least version that a stop among them may leave (None: no store yet)."""
 
-    def __init__(self, synced, writes, least):
+    def __init__(self, synced: bytes, writes: list[Write], least: int | None) -> None:
         self.synced = synced
         self.writes = writes
         self.least = least
@@ -209,15 +220,15 @@ class Epoch:
 class Replay:
     """Goes through the events of runs, one after another on one store."""
 
-    def __init__(self, forgotten=None):
+    def __init__(self, forgotten: int | None = None) -> None:
         self.forgotten = forgotten
         self.synced = b""
-        self.writes = []
-        self.told = None  # the greatest durable number that was answered
+        self.writes: list[Write] = []
+        self.told: int | None = None  # the greatest durable number that was answered
         self.counts = {"writes": 0, "syncs": 0}
-        self.epochs = []
+        self.epochs: list[Epoch] = []
 
-    def least(self):
+    def least(self) -> int | None:
         """The version of the bytes that are synced, or the durable number that was told, where that is greater."""
         lines = read_store.told(self.synced)
         kept = int(lines[0].split()[1]) if lines[0].startswith("version") else None
@@ -225,18 +236,18 @@ class Replay:
             return None
         return max(number for number in (kept, self.told) if number is not None)
 
-    def end_epoch(self):
+    def end_epoch(self) -> None:
         self.epochs.append(Epoch(self.synced, self.writes, self.least()))
         self.synced = laid(self.synced, self.writes)
         self.writes = []
 
-    def follow(self, events, replies):
+    def follow(self, events: Iterable[Event], replies: list[judging.Reply]) -> None:
         """Follows a run; a read tells that the lines were answered whose ends were read before."""
         answered, pending = 0, 0
         for event in events:
             if event[0] == "write":
                 self.counts["writes"] += 1
-                self.writes.append(event[1:])
+                self.writes.append((event[1], event[2]))
             elif event[0] == "sync":
                 self.counts["syncs"] += 1
                 if self.counts["syncs"] != self.forgotten:
@@ -256,20 +267,19 @@ class Replay:
 class Versions:
     """The history of the runs."""
 
-    def __init__(self, lines, replies):
+    def __init__(self, lines: list[str], replies: list[judging.Reply]) -> None:
         self.meanings = model.Meanings()
         self.history = judging.History(self.meanings)
-        self.right_tiles = {}
         for line, reply in zip(lines, replies):
             if reply[0].startswith("ok "):
                 self.history.add(model.read_line(line.encode()))
                 if judging.number_of(reply) != self.history.last():
                     raise judging.Wrong(f"{reply[0]} for command {self.history.last()}")
 
-    def lines(self, number):
+    def lines(self, number: int) -> list[str]:
         return self.history.versions[number].lines()
 
-    def are_right(self, data, number):
+    def are_right(self, data: bytes, number: int) -> bool:
         """Whether all tiles of a file are those of a version."""
         for (name, column), pieces in stress.tiles_in(data).items():
             key = self.history.key_at(name, number)
@@ -277,7 +287,7 @@ class Versions:
                 return False
         return True
 
-    def fault_of(self, data, least):
+    def fault_of(self, data: bytes, least: int | None) -> tuple[str | None, int | None]:
         """What is wrong with a file by the independent reader; None where nothing is. And the version, or None."""
         lines = read_store.told(data)
         if not lines[0].startswith("version"):
@@ -292,7 +302,7 @@ class Versions:
         return (None if self.are_right(data, number) else f"wrong tiles at version {number}"), number
 
 
-def opened(program, folder, place, data):
+def opened(program: str, folder: pathlib.Path, place: int, data: bytes) -> Answer:
     """What the program tells of a file: the lines of the layers and the version, or its refusal."""
     path = folder / f"file{place}.db"
     path.write_bytes(data)
@@ -306,7 +316,7 @@ def opened(program, folder, place, data):
     return replies[0][1:], judging.number_of(replies[1]) - 1
 
 
-def judge_opened(versions, number, answer):
+def judge_opened(versions: Versions, number: int | None, answer: Answer) -> str | None:
     """What is wrong with what the program told of a file that the reader gives a version."""
     lines, told = answer
     if number is None:
@@ -319,11 +329,12 @@ def judge_opened(versions, number, answer):
 class Tries:
     """The different files, each with the least version that it may have."""
 
-    def __init__(self, epochs, seed):
+    def __init__(self, epochs: list[Epoch], seed: int) -> None:
         draw = random.Random(seed)
         self.epochs = epochs
         self.made = 0
-        self.files = {}  # by digest: the least version, the epoch, what is laid into its synced bytes, and the length
+        # by digest: the least version, the epoch, what is laid into its synced bytes, and the length
+        self.files: dict[bytes, tuple[int | None, int, list[Write], int]] = {}
         for place, epoch in enumerate(epochs):
             for writes, length in files_of(epoch.synced, epoch.writes, draw):
                 self.made += 1
@@ -332,15 +343,19 @@ class Tries:
                 known = [number for number in (least, epoch.least) if number is not None]
                 self.files[digest] = (max(known) if known else None, place, writes, length)
 
-    def file(self, place):
+    def file(self, place: int) -> bytes:
         _, epoch, writes, length = list(self.files.values())[place]
         return laid(self.epochs[epoch].synced, writes).ljust(length, b"\0")
 
-    def judge(self, versions, program, folder, most):
+    def judge(
+        self, versions: Versions, program: str, folder: pathlib.Path, most: int | None,
+    ) -> tuple[list[tuple[int, str]], int, int]:
         """Judges all files; the wrong ones as lines, and how many the program opened."""
         files = list(self.files.values())
         chosen = set(range(len(files))) if most is None else set(range(0, len(files), max(1, -(-len(files) // most))))
-        wrong, lost, numbers = [], 0, {}
+        wrong: list[tuple[int, str]] = []
+        numbers: dict[int, int | None] = {}
+        lost = 0
         for place, (least, epoch, _, _) in enumerate(files):
             fault, numbers[place] = versions.fault_of(self.file(place), least)
             if fault:
@@ -356,11 +371,14 @@ class Tries:
         return wrong, lost, len(chosen)
 
 
-def replay(words, folder):
+def replay(words: argparse.Namespace, folder: pathlib.Path) -> int:
     """Runs, replays and judges; gives the exit status."""
     store = folder / "store.db"
-    following, lines, replies = Replay(words.forget), [], []
-    for place, (script, create) in enumerate([(FIRST, ["--create"]), (SECOND, [])]):
+    following = Replay(words.forget)
+    lines: list[str] = []
+    replies: list[judging.Reply] = []
+    runs: list[tuple[list[str], list[str]]] = [(FIRST, ["--create"]), (SECOND, [])]
+    for place, (script, create) in enumerate(runs):
         if place:
             following.synced = stress.half_opened(following.synced)
             store.write_bytes(following.synced)
@@ -386,7 +404,7 @@ def replay(words, folder):
     return 1 if wrong else 0
 
 
-def test():
+def test() -> int:
     """Small tables of what is worked out by hand."""
     trace = "\n".join([
         r'7 openat(AT_FDCWD, "\x61", O_RDWR|O_CREAT, 0666) = 4', r'7 pwrite64(4, "\x01\x02", 2, 3) = 2',
@@ -407,7 +425,7 @@ def test():
     return 1 if wrong else 0
 
 
-def main():
+def main() -> int:
     if sys.argv[1:] == ["--test"]:
         return test()
     parser = argparse.ArgumentParser(description=__doc__, formatter_class=argparse.RawDescriptionHelpFormatter)

@@ -9,6 +9,8 @@ layers, edges and points, waits for all tiles, verifies each, and reads the stor
 Status 1, and the scripts and the store are kept: anything is wrong.
 """
 
+from __future__ import annotations
+
 import argparse
 import functools
 import os
@@ -19,6 +21,8 @@ import subprocess
 import sys
 import tempfile
 import time
+from collections.abc import Callable, Sequence
+from typing import Optional
 
 from bench.reference import judging, model, read_store
 
@@ -26,37 +30,40 @@ BASES = [f"A{n}" for n in range(16)]
 DERIVED = [f"D{n}" for n in range(24)]
 FAR = [-1048576, -1000000, -400000, -131072, 131072, 262143, 700000, 1048576]
 LIMIT = 1800
+Point = tuple[int, int]
+Ends = Optional[list[tuple[read_store.Point, read_store.Point]]]  # of the pieces of a tile; None: it is oversize
+Asked = tuple[str, list[str]]  # a line, and the reply that it has to have
 
 
 # ---- scripts
 
 
-def rectangle(draw):
+def rectangle(draw: random.Random) -> list[Point]:
     x, y = draw.randrange(-60, 50, 5), draw.randrange(-60, 50, 5)
     right, top = x + draw.randrange(5, 40, 5), y + draw.randrange(5, 40, 5)
     return [(x, y), (right, y), (right, top), (x, top), (x, y)]
 
 
-def random_ring(draw):
+def random_ring(draw: random.Random) -> list[Point]:
     points = [(draw.randrange(-60, 61), draw.randrange(-60, 61)) for _ in range(draw.randrange(3, 7))]
     return points + points[:1]
 
 
-def wide_ring(draw):
+def wide_ring(draw: random.Random) -> list[Point]:
     left, right = sorted(draw.sample(FAR, 2))
     y, top = sorted(draw.sample(range(-60, 61), 2))
     return [(left, y), (right, y), (right, top), (left, top), (left, y)]
 
 
-def text(draw):
-    kinds = [rectangle] * 5 + [random_ring] * 4 + [wide_ring]
+def text(draw: random.Random) -> str:
+    kinds: Sequence[Callable[[random.Random], list[Point]]] = [rectangle] * 5 + [random_ring] * 4 + [wide_ring]
     rings = [draw.choice(kinds)(draw) for _ in range(draw.choice([0, 1, 1, 1, 1, 2, 2, 3]))]
     if len(rings) == 1 and draw.random() < 0.7:
         return "POLYGON ((" + ", ".join(f"{x} {y}" for x, y in rings[0]) + "))"
     return model.wkt_of(tuple(map(tuple, rings)))
 
 
-def expression(draw):
+def expression(draw: random.Random) -> str:
     count = draw.choice([1, 2, 2, 2, 3])
     names = [draw.choice(BASES[:10] if draw.random() < 0.88 else DERIVED[:12]) for _ in range(count)]
     words = names[:1]
@@ -82,58 +89,58 @@ BROKEN = [
 class Script:
     """Draws the lines of one session."""
 
-    def __init__(self, draw, texts, points):
+    def __init__(self, draw: random.Random, texts: list[str], points: list[tuple[int, int, int]]) -> None:
         self.draw = draw
         self.texts = texts
         self.points = points
 
-    def name(self):
+    def name(self) -> str:
         return self.draw.choice(BASES[:10] if self.draw.random() < 0.4 else DERIVED[:14])
 
-    def column(self):
+    def column(self) -> int:
         return self.draw.choice([15, 16, 15, 16, 15, 16, 15, 16, self.draw.randrange(model.COLUMNS)])
 
-    def put(self):
+    def put(self) -> str:
         return f"PUT {self.draw.choice(BASES)} {self.draw.choice(self.texts)}"
 
-    def define(self):
+    def define(self) -> str:
         return f"DEFINE {self.draw.choice(DERIVED)} = {expression(self.draw)}"
 
-    def drop(self):
+    def drop(self) -> str:
         return f"DROP {self.draw.choice(BASES + DERIVED)}"
 
-    def locate(self):
+    def locate(self) -> str:
         x, y, w = self.draw.choice(self.points)
         return f"LOCATE {self.name()} {x} {y}" + (f" {w}" if w > 1 or self.draw.random() < 0.1 else "")
 
-    def edges(self):
+    def edges(self) -> str:
         return f"EDGES {self.draw.choice(DERIVED[:14])} {self.column()}"
 
-    def verify(self):
+    def verify(self) -> str:
         return f"VERIFY {self.draw.choice(DERIVED[:14])} {self.column()}"
 
-    def grid(self):
+    def grid(self) -> str:
         across, up, step = self.draw.choice([(8, 8, 10), (4, 3, 15), (12, 1, 7)])
         x, y = self.draw.choice([-60, -30, 0]), self.draw.choice([-60, -30, 0])
         return f"GRID {self.name()} {x} {y} {step} {across} {up}"
 
-    def wait(self):
+    def wait(self) -> list[str]:
         """A wait; mostly of a layer whose edges are asked then."""
         if self.draw.random() < 0.2:
             return [f"WAIT {self.name()}"]
         name, column = self.draw.choice(DERIVED[:14]), self.column()
         return [f"WAIT {name}", f"EDGES {name} {column}", f"VERIFY {name} {column}"]
 
-    def broken(self):
+    def broken(self) -> str:
         if self.draw.random() < 0.01:
             return "#" * 65537
         return self.draw.choice(BROKEN)
 
-    def skipped(self):
+    def skipped(self) -> str:
         return self.draw.choice(["", "  \t", "# a comment", "#"])
 
-    def lines(self):
-        kinds = [
+    def lines(self) -> list[str]:
+        kinds: list[tuple[Callable[[], str | list[str]], int]] = [
             (self.put, 18), (self.define, 12), (self.drop, 4), (self.locate, 32), (self.edges, 6), (self.verify, 4),
             (self.grid, 3), (lambda: "LAYERS", 2), (self.wait, 5), (lambda: "SYNC", 1), (self.broken, 6),
             (self.skipped, 2),
@@ -142,7 +149,7 @@ class Script:
         return drawn if isinstance(drawn, list) else [drawn]
 
 
-def scripts_of(seed, sessions, commands, without=None):
+def scripts_of(seed: int, sessions: int, commands: int, without: str | None = None) -> list[bytes]:
     """The scripts; lines that are skipped don't count as commands. Lines with the word `without` are left out."""
     draw = random.Random(seed)
     texts = [text(draw) for _ in range(80)]
@@ -152,7 +159,8 @@ def scripts_of(seed, sessions, commands, without=None):
     scripts = []
     for session in range(sessions):
         script = Script(random.Random(f"{seed} {session}"), texts, points)
-        lines, count = [], 0
+        lines: list[bytes] = []
+        count = 0
         while count < commands // sessions:
             for line in script.lines():
                 if not without or without not in line.split():
@@ -165,7 +173,9 @@ def scripts_of(seed, sessions, commands, without=None):
 # ---- runs
 
 
-def run(program, store, scripts, folder, workers, *words):
+def run(
+    program: str, store: pathlib.Path, scripts: list[bytes], folder: pathlib.Path, workers: int, *words: str,
+) -> tuple[str, float]:
     """What the program writes for these scripts, and the seconds that it takes."""
     paths = []
     for place, script in enumerate(scripts):
@@ -186,7 +196,7 @@ HALF_OPEN = 0x55
 
 
 @functools.lru_cache(maxsize=10000)
-def tile_ends(record, column):
+def tile_ends(record: bytes, column: int) -> Ends:
     """The ends of the pieces of a tile's record, None where it is oversize."""
     if read_store.read_tile(record, column) == "oversize":
         return None
@@ -195,10 +205,10 @@ def tile_ends(record, column):
     return [read_store.read_piece(rest) for _ in range(rest.number(4))]
 
 
-def tiles_in(data):
+def tiles_in(data: bytes) -> dict[tuple[str, int], Ends]:
     """The finished tiles of a store, by layer and column."""
     root = read_store.find_root(data)
-    tiles = {}
+    tiles: dict[tuple[str, int], Ends] = {}
     for listed in read_store.read_catalog(read_store.record_at(data, root.catalog, 3), root.format):
         for column, extent in enumerate(listed.tiles or []):
             if extent is not None:
@@ -206,7 +216,7 @@ def tiles_in(data):
     return tiles
 
 
-def half_opened(data):
+def half_opened(data: bytes) -> bytes:
     """A store whose older root has a gate that is half open, so that opening the store writes and syncs."""
     older = read_store.BLOCK * ((read_store.find_root(data).sequence + 1) % 2)
     return data[:older] + bytes([HALF_OPEN]) + data[older + 1 :]
@@ -215,19 +225,19 @@ def half_opened(data):
 class Final:
     """What a store has to hold: the last version of a history."""
 
-    def __init__(self, history):
+    def __init__(self, history: judging.History) -> None:
         self.meanings = history.meanings
         self.number = history.last()
         self.layers = history.versions[-1]
         self.keys = {name: history.key_at(name, self.number) for name in self.layers.names}
         self.derived = [name for name in self.layers.names if self.layers.is_derived(name)]
-        self.wrong = []
+        self.wrong: list[str] = []
 
-    def check(self, is_right, what):
+    def check(self, is_right: bool, what: str) -> None:
         if not is_right:
             self.wrong.append(what)
 
-    def read_store(self, data, needs_all):
+    def read_store(self, data: bytes, needs_all: bool) -> int:
         """Looks at the bytes of a store; how many tiles it has."""
         lines = read_store.told(data)
         told = [line for line in lines if not line.startswith("tile ")]
@@ -242,24 +252,24 @@ class Final:
             self.check(len(tiles) == model.COLUMNS * len(self.derived), f"the store has {len(tiles)} tiles")
         return len(tiles)
 
-    def question(self, word, name, *numbers):
+    def question(self, word: str, name: str, *numbers: int) -> Asked:
         question = model.Question(word, name, numbers)
         reply = model.answer_or_refusal(self.meanings, question, self.keys[name])
         return " ".join([word, name, *map(str, numbers)]), reply
 
-    def tile_questions(self, word):
+    def tile_questions(self, word: str) -> list[Asked]:
         return [self.question(word, name, column) for name in self.derived for column in range(model.COLUMNS)]
 
-    def questions(self):
+    def questions(self) -> list[Asked]:
         """Lines for the store that is opened again, each with its reply."""
-        asked = [("LAYERS", [f"layers {len(self.layers.names)}", *self.layers.lines()])]
+        asked: list[Asked] = [("LAYERS", [f"layers {len(self.layers.names)}", *self.layers.lines()])]
         asked += self.tile_questions("EDGES")
         for name in self.layers.names:
             asked += [self.question("LOCATE", name, x, y, 1) for x in range(-62, 63, 9) for y in range(-62, 63, 9)]
         asked += [(f"WAIT {name}", [f"built {self.number}"]) for name in self.derived]
         return asked + self.tile_questions("VERIFY") + self.tile_questions("EDGES")
 
-    def reopen(self, program, store, folder, workers):
+    def reopen(self, program: str, store: pathlib.Path, folder: pathlib.Path, workers: int) -> tuple[int, int]:
         """Opens the store by the program and asks; how many replies were judged and how many of them were pending."""
         asked = self.questions()
         script = "\n".join(line for line, _ in asked).encode()
@@ -276,7 +286,7 @@ class Final:
         return len(replies), pending
 
 
-def stress(words, folder):
+def stress(words: argparse.Namespace, folder: pathlib.Path) -> int:
     """Runs the whole, and gives how many things are wrong."""
     scripts = scripts_of(words.seed, words.sessions, words.commands, words.without)
     store = folder / "store.db"
@@ -304,7 +314,7 @@ def stress(words, folder):
     return len(wrong)
 
 
-def main():
+def main() -> int:
     parser = argparse.ArgumentParser(description=__doc__, formatter_class=argparse.RawDescriptionHelpFormatter)
     parser.add_argument("program")
     parser.add_argument("--commands", type=int, default=100000)

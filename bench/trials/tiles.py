@@ -9,14 +9,17 @@ border of the column. Of each the tiles of `build` and `build_counted` are compa
 `build_by_pairs`, where the cap is 0, one below the size of the tile, and its size. Status 1: one differs.
 """
 
+from __future__ import annotations
+
 import argparse
 import pathlib
 import subprocess
 import sys
 import tempfile
+from collections.abc import Callable
 
 from bench import proved, unproved
-from bench.tile_texts import Draws, closed, lines_of
+from bench.tile_texts import Draws, Layer, Point, closed, lines_of
 from limits import COLUMN_WIDTH as WIDTH
 from limits import COLUMNS, COORDINATE_MAX
 
@@ -26,19 +29,19 @@ HERE = pathlib.Path(__file__).resolve().parent
 # Drawn inputs: each kind gives the rings of two layers near (0, 0)
 
 
-def points_of_a_grid(draws, width=None):
+def points_of_a_grid(draws: Draws, width: int | None = None) -> list[Layer]:
     width = width or draws.among([1, 2, 3, 4, 6])
 
-    def ring():
+    def ring() -> list[Point]:
         return closed([(draws.below(width + 1), draws.below(width + 1)) for _ in range(3 + draws.below(4))])
 
     return [[ring() for _ in range(1 + draws.below(2))] for _ in range(2)]
 
 
-def through_one_point(draws):
+def through_one_point(draws: Draws) -> list[Layer]:
     width = draws.among([2, 3, 4])
 
-    def ring():
+    def ring() -> list[Point]:
         a, b = [(draws.below(2 * width + 1), draws.below(2 * width + 1)) for _ in range(2)]
         points = [a, (2 * width - a[0], 2 * width - a[1]), b, (2 * width - b[0], 2 * width - b[1])]
         return closed(points[: 3 + draws.below(2)])
@@ -46,7 +49,7 @@ def through_one_point(draws):
     return [[ring() for _ in range(1 + draws.below(3))] for _ in range(2)]
 
 
-def on_few_lines(draws):
+def on_few_lines(draws: Draws) -> list[Layer]:
     width = draws.among([4, 6])
     places = range(width + 1)
     lines = [
@@ -55,46 +58,48 @@ def on_few_lines(draws):
     ]
     points = draws.among(lines) + draws.among(lines)
 
-    def ring():
+    def ring() -> list[Point]:
         return closed([draws.among(points) for _ in range(3 + draws.below(5))])
 
     return [[ring() for _ in range(1 + draws.below(2))] for _ in range(2)]
 
 
-def doubled(draws):
+def doubled(draws: Draws) -> list[Layer]:
     first, second = points_of_a_grid(draws)
     return [first + first[: draws.below(2)], second + first[: 1 + draws.below(2)]]
 
 
-def rectangles(draws):
+def rectangles(draws: Draws) -> list[Layer]:
     width, height = draws.among([2, 3, 4]), draws.among([3, 6, 9])
 
-    def ring():
+    def ring() -> list[Point]:
         a, b, c, d = draws.below(width + 1), draws.below(width + 1), draws.below(height + 1), draws.below(height + 1)
         return closed([(a, c), (b, c), (b, d), (a, d)])
 
-    def triangle():
+    def triangle() -> list[Point]:
         return closed([(draws.below(width + 1), draws.below(height + 1)) for _ in range(3)])
 
     return [[ring() for _ in range(1 + draws.below(2))] + [triangle()][: draws.below(2)] for _ in range(2)]
 
 
-def wide(draws):
+def wide(draws: Draws) -> list[Layer]:
     return points_of_a_grid(draws, draws.among([10, 20, 40]))
 
 
-KINDS = [points_of_a_grid, points_of_a_grid, through_one_point, on_few_lines, doubled, rectangles, wide]
+KINDS: list[Callable[[Draws], list[Layer]]] = [
+    points_of_a_grid, points_of_a_grid, through_one_point, on_few_lines, doubled, rectangles, wide,
+]
 
 
-def border(column):
+def border(column: int) -> int:
     return -COORDINATE_MAX + column * WIDTH
 
 
-def within(coordinate):
+def within(coordinate: int) -> int:
     return max(-COORDINATE_MAX, min(COORDINATE_MAX, coordinate))
 
 
-def near_a_border(draws):
+def near_a_border(draws: Draws) -> tuple[int, list[Layer]]:
     """Rings of one kind over the left border of a column, and that column or the one before."""
     layers = draws.among(KINDS)(draws)
     column = 1 + draws.below(COLUMNS - 1)
@@ -104,11 +109,11 @@ def near_a_border(draws):
     return column - draws.below(2 if before else 1), moved
 
 
-def at_full_coordinates(draws):
+def at_full_coordinates(draws: Draws) -> tuple[int, list[Layer]]:
     """Rings from border to border, many of whose points lie at the greatest coordinates or beside a border."""
     column = draws.below(COLUMNS)
 
-    def coordinate():
+    def coordinate() -> int:
         kind = draws.below(3)
         if kind == 0:
             return draws.among([-COORDINATE_MAX, COORDINATE_MAX, COORDINATE_MAX - 1, 1 - COORDINATE_MAX, 0, 1, -1])
@@ -116,13 +121,13 @@ def at_full_coordinates(draws):
             return within(border(column) + draws.among([0, 1, -1, WIDTH, WIDTH - 1, WIDTH + 1, WIDTH // 2]))
         return draws.below(2 * COORDINATE_MAX + 1) - COORDINATE_MAX
 
-    def ring():
+    def ring() -> list[Point]:
         return closed([(coordinate(), coordinate()) for _ in range(3 + draws.below(6))])
 
     return column, [[ring() for _ in range(1 + draws.below(2))] for _ in range(2)]
 
 
-def drawn(number):
+def drawn(number: int) -> tuple[int, str, list[Layer]]:
     draws = Draws(number)
     column, layers = at_full_coordinates(draws) if number % 4 == 0 else near_a_border(draws)
     return column, draws.among(["A ^ B", "A & B", "A | B", "A - B", "B - A", "(A - B) | (B - A)"]), layers
@@ -131,16 +136,16 @@ def drawn(number):
 # What is peculiar about an input
 
 
-def edges_in(column, layers):
+def edges_in(column: int, layers: list[Layer]) -> list[tuple[Point, Point]]:
     pairs = [tuple(sorted(pair)) for layer in layers for ring in layer for pair in zip(ring, ring[1:])]
     return [(l, r) for l, r in pairs if l != r and border(column) <= r[0] and l[0] < border(column + 1)]
 
 
-def turn(a, b, p):
+def turn(a: Point, b: Point, p: Point) -> int:
     return (b[0] - a[0]) * (p[1] - a[1]) - (b[1] - a[1]) * (p[0] - a[0])
 
 
-def features(column, layers):
+def features(column: int, layers: list[Layer]) -> set[str]:
     edges = edges_in(column, layers)
     found = set()
     for l, r in edges:
@@ -159,8 +164,9 @@ def features(column, layers):
     return found or {"none of these" if edges else "no edge"}
 
 
-def compare(program, folder):
-    counts, text = {}, []
+def compare(program: pathlib.Path, folder: pathlib.Path) -> int:
+    counts: dict[str, int] = {}
+    text = []
     for number in range(2000):
         column, definition, layers = drawn(number)
         text.append(lines_of(column, definition, layers))
@@ -179,7 +185,7 @@ def compare(program, folder):
     return 0 if differences == "0" else 1
 
 
-def program_of(given, is_proved, folder):
+def program_of(given: pathlib.Path | None, is_proved: bool, folder: pathlib.Path) -> pathlib.Path:
     """The program: the one that is given, or one that is built."""
     if given:
         return given.resolve()
@@ -188,7 +194,7 @@ def program_of(given, is_proved, folder):
     return unproved.built(HERE / "tiles", folder)
 
 
-def main():
+def main() -> int:
     parser = argparse.ArgumentParser(description=__doc__, formatter_class=argparse.RawDescriptionHelpFormatter)
     parser.add_argument("program", type=pathlib.Path, nargs="?")
     parser.add_argument("--proved", action="store_true", help="builds a proved program")

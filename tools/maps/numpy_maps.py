@@ -1,7 +1,10 @@
 """Brings a map of doubles into whole numbers by numpy: each the whole number nearest to the double times the factor,
 exactly, the greater one of two that are as near, as geojson_maps.py does it with what a text spells."""
 
-from collections.abc import Sequence
+from __future__ import annotations
+
+from array import array
+from collections.abc import Callable, Sequence
 from fractions import Fraction
 
 import numpy as np
@@ -151,14 +154,15 @@ def whole_of_doubles(name: str, ids: Sequence[str], xs: Numbers, ys: Numbers, ri
                     of_numpy(offsets(per_feature)))
 
 
-def of_numpy(given: Numbers):  # type: ignore[no-untyped-def]
+def of_numpy(given: Numbers) -> array[int]:
+    """The same numbers in an array of Python."""
     found = numbers()
     found.frombytes(np.ascontiguousarray(given, np.int64).tobytes())
     return found
 
 
 def check_range(xs: Numbers, ys: Numbers, ring_sizes: Numbers, rings_of_feature: Numbers, factor: Fraction,
-                called) -> None:  # type: ignore[no-untyped-def]
+                called: Callable[[int], str]) -> None:
     """Refuses numbers that are none, or that are too large in whole units."""
     most = np.maximum(np.abs(xs), np.abs(ys)) * float(factor)
     wrong = np.flatnonzero(~(most <= FARTHEST))
@@ -169,7 +173,7 @@ def check_range(xs: Numbers, ys: Numbers, ring_sizes: Numbers, rings_of_feature:
                        "or say a smaller --factor")
 
 
-def bend_long(rings: Rings, factor: Fraction, bend: bool, told: Told, called) -> None:  # type: ignore[no-untyped-def]
+def bend_long(rings: Rings, factor: Fraction, bend: bool, told: Told, called: Callable[[int], str]) -> None:
     """Bends the edges that are too long for a slot, or refuses them."""
     if not len(rings.xs):
         return

@@ -11,13 +11,14 @@ import resource
 import struct
 import sys
 import unittest
+from collections.abc import Iterator
 from fractions import Fraction
 from unittest import mock
 
 import overlay_maps
 from maps import gdal_maps, gdal_writing, numpy_planning, planning, running
 from maps.spooled import Names
-from maps.whole_maps import MapFault
+from maps.whole_maps import MapFault, ReadMap
 from sessions import Unusable
 from testing.common import InFolder, outcome
 
@@ -55,7 +56,7 @@ class WithFiles(InFolder):
 
 class Reading(WithFiles):
     def read(self, path: str, factor: Fraction = Fraction(1), id_field: str | None = "nr", layer: str | None = None,
-             bend: bool = False):  # type: ignore[no-untyped-def]
+             bend: bool = False) -> ReadMap:
         return gdal_maps.read(path, factor, id_field, layer, bend)
 
     def refused(self, pattern: str, path: str, *words: object, **more: object) -> None:
@@ -166,7 +167,7 @@ def area(ring: list[tuple[int, int]]) -> float:
 
 
 class Writing(InFolder):
-    def pieces(self, count: int):  # type: ignore[no-untyped-def]
+    def pieces(self, count: int) -> Iterator[tuple[dict[str, object], bytes]]:
         for k in range(count):
             ring = [number for x, y in RING for number in (float(x + 20 * k), float(y))]
             wkb = struct.pack("<BII", 1, 6, 1) + struct.pack("<BIII10d", 1, 3, 1, 5, *ring)
@@ -218,7 +219,7 @@ class Writing(InFolder):
     def test_what_fails_amid_pieces_leaves_what_was_there(self) -> None:
         before = self.file("pieces.gpkg", "as it was")
 
-        def broken():  # type: ignore[no-untyped-def]
+        def broken() -> Iterator[tuple[dict[str, object], bytes]]:
             yield from self.pieces(5)
             raise KeyboardInterrupt
 

@@ -6,6 +6,7 @@
 import random
 import sys
 import unittest
+from collections.abc import Callable
 from fractions import Fraction
 
 import numpy as np
@@ -154,7 +155,7 @@ class Rounding(InFolder):
             "map", ids, xy[:, 0].copy(), xy[:, 1].copy(), np.array([len(ring) for ring, _ in rings]),
             np.array([outer for _, outer in rings]), counts, Fraction(1000), bend, told), told, None))
 
-    def told(self, read) -> object:  # type: ignore[no-untyped-def]
+    def told(self, read: Callable[[], ReadMap]) -> object:
         """The points and what was told of them, or that the map is refused."""
         try:
             got = read()
