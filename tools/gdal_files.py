@@ -29,6 +29,7 @@ FORMS = {
     ".tab": "a MapInfo file", ".mif": "a MapInfo file", ".sqlite": "a SpatiaLite store", ".zip": "an archive",
 }
 SQLITE = b"SQLite format 3\0"
+GML = b"opengis.net/gml"  # within the begin of each
 MAGIC = {
     SQLITE: "a GeoPackage or SpatiaLite store", b"\0\0\x27\x0a": "a Shapefile", b"fgb": "a FlatGeobuf",
     b"PK\x03\x04": "an archive", b"<": "XML, as GML and KML are",
@@ -77,9 +78,15 @@ def opened_as(path: pathlib.Path) -> Opened:
     """How GDAL is to open a file, by its content and not by its name."""
     begin = begin_of(path)
     if form_of(path, begin) != TABLE:
-        return Opened(source_of(path), [], ["GPKG", "SQLite"] if begin.startswith(SQLITE) else [])
+        options = ["WRITE_GFS=NO"] if GML in begin else []  # else GDAL writes a file beside it
+        return Opened(source_of(path), options, ["GPKG", "SQLite"] if begin.startswith(SQLITE) else [])
     prefix = "" if path.suffix.lower() == ".csv" else "CSV:"
     return Opened(prefix + source_of(path), [f"GEOM_POSSIBLE_NAMES={COLUMNS}", "KEEP_GEOM_COLUMNS=NO"], ["CSV"])
+
+
+def words_of(opened: Opened) -> list[str]:
+    """The options as words of GDAL's programs."""
+    return [word for option in opened.options for word in ("-oo", option)]
 
 
 def begin_of(path: pathlib.Path) -> bytes:
@@ -97,8 +104,15 @@ def under_fitting_name(path: pathlib.Path) -> Iterator[pathlib.Path]:
     if path.suffix.lower() in (".gpkg", ".sqlite") or not begin_of(path).startswith(SQLITE):
         yield path
         return
+    with linked(path, f"{path.stem}.gpkg") as link:
+        yield link
+
+
+@contextlib.contextmanager
+def linked(path: pathlib.Path, name: str) -> Iterator[pathlib.Path]:
+    """A link of this name to a file, alone in a folder."""
     with tempfile.TemporaryDirectory() as folder:
-        link = pathlib.Path(folder, f"{path.stem}.gpkg")
+        link = pathlib.Path(folder, name)
         link.symlink_to(path.resolve())
         yield link
 
@@ -132,7 +146,8 @@ def layers_of(path: pathlib.Path) -> list[str]:
     ogrinfo = shutil.which("ogrinfo")
     if not ogrinfo:
         raise missing("this file", f"ogrinfo {path}")
-    lines = ran([ogrinfo, "-q", "-ro", opened_as(path).name]).decode("utf-8", "replace").splitlines()
+    opened = opened_as(path)
+    lines = ran([ogrinfo, "-q", "-ro", *words_of(opened), opened.name]).decode("utf-8", "replace").splitlines()
     found = [re.fullmatch(r"[0-9]+: (.*?)( \(([^()]*)\))?", line) for line in lines]
     return [match[1] for match in found if match and match[3] != "None"]
 
@@ -158,8 +173,7 @@ def as_geojson(path: pathlib.Path, layer: str | None = None) -> str:
     words += ["-preserve_fid"] if begin_of(path).startswith(SQLITE) else []
     with under_fitting_name(path) as named:
         opened = opened_as(named)
-        words += [word for option in opened.options for word in ("-oo", option)]
-        value = json.loads(ran([*words, "/vsistdout/", opened.name, layer_of(named, layer)]))
+        value = json.loads(ran([*words, *words_of(opened), "/vsistdout/", opened.name, layer_of(named, layer)]))
         name = None if "crs" in value else coordinates_of(named)
     if name:
         value["crs"] = {"type": "name", "properties": {"name": name}}
@@ -172,7 +186,8 @@ def coordinates_of(path: pathlib.Path) -> str | None:
     if not program or form_of(path, begin_of(path)) == TABLE:
         return None
     try:
-        found = re.search(r"EPSG:[1-9][0-9]*", ran([program, "-o", "epsg", source_of(path)]).decode())
+        with linked(path, path.name) if GML in begin_of(path) else contextlib.nullcontext(path) as named:  # see opened_as
+            found = re.search(r"EPSG:[1-9][0-9]*", ran([program, "-o", "epsg", source_of(named)]).decode())
     except GdalFault:
         return None
     return found[0].replace("EPSG:4326", scales.CRS84) if found else None

@@ -6,6 +6,7 @@
     lock             held by the run that has the folder in hand
 
 The last line of a task and of a result is the digest of what stands before it, so a file that was cut or altered is known.
+The line before that of a result is its task's digest, so one that came of another task is known too.
 
 So whoever can name a file can do a task, several at once and on several machines, and a run that was broken off goes on
 where it was: nothing is known but what stands in files.
@@ -26,7 +27,7 @@ import writing
 Work = Callable[[bytes], bytes]
 """What does a task: from what a task file holds to what its result file holds. It can be pickled."""
 
-FORM = 2  # of the folder, of tasks and of results; a folder of another one is another run's
+FORM = 3  # of the folder, of tasks and of results; a folder of another one is another run's
 
 
 class FolderFault(Exception):
@@ -55,11 +56,20 @@ class TaskFolder:
 
     def came_of(self, number: int) -> bytes:
         """What came of a task."""
-        return unsealed(self.result(number), "remove it and say the same again, which does the task once more")
+        advice = "remove it and say the same again, which does the task once more"
+        result, end = self.result(number), self._named(number)
+        data = unsealed(result, advice)
+        if not data.endswith(end):
+            raise FolderFault(f"{result}: it came of another task; {advice}")
+        return data.removesuffix(end)
 
     def keep(self, number: int, result: bytes) -> None:
         """Keeps what came of a task."""
-        put(self.result(number), sealed(result))
+        put(self.result(number), sealed(result + self._named(number)))
+
+    def _named(self, number: int) -> bytes:
+        """The line by which a result names its task: the digest at the end of this one."""
+        return b"\ntask " + last_line(self.task(number))
 
     def count(self) -> int:
         """How many tasks there are, all of them written."""
@@ -106,13 +116,26 @@ def sealed(data: bytes) -> bytes:
     return data + b"\nsha256 " + hashlib.sha256(data).hexdigest().encode() + b"\n"
 
 
+SEAL = sealed(b"")  # as long as each
+
+
+def last_line(path: pathlib.Path) -> bytes:
+    """The digest that stands at the end of a sealed file."""
+    try:
+        with path.open("rb") as file:
+            file.seek(-min(len(SEAL), path.stat().st_size), os.SEEK_END)
+            return file.read().strip()
+    except OSError as fault:
+        raise FolderFault(f"{path}: {fault.strerror or fault}; begin the run again in another folder") from None
+
+
 def unsealed(path: pathlib.Path, advice: str) -> bytes:
     """What was sealed in a file."""
     try:
         whole = path.read_bytes()
     except OSError as fault:
         raise FolderFault(f"{path}: {fault.strerror or fault}; {advice}") from None
-    data = whole[: -len(sealed(b""))]
+    data = whole[: -len(SEAL)]
     if sealed(data) != whole:
         raise FolderFault(f"{path}: damaged, as it has not the digest of what was written; {advice}")
     return data
@@ -182,7 +205,18 @@ def do_numbers(work: Work, path: pathlib.Path, numbers: Iterable[int]) -> None:
         do(work, folder, number)
 
 
+# Files that hold a part of a map, by the end of its name; SQLite keeps changes beside any of its stores.
+PARTS = {".shp": (".dbf", ".shx", ".prj", ".cpg"), ".tab": (".dat", ".map", ".id"), ".mif": (".mid",), ".gml": (".xsd", ".gfs")}
+
+
 def stamp(path: str | os.PathLike[str]) -> list[Any]:
-    """What tells one input file from another, or from itself after a change: its path, size and time."""
-    told = os.stat(path)
-    return [os.path.abspath(path), told.st_size, told.st_mtime_ns]
+    """What tells one input map from another, or from itself after a change: its path, size and time, and these of the
+    files that hold a part of it, as all in a folder do."""
+    map_file = pathlib.Path(os.path.abspath(path))
+    told = map_file.stat()
+    ends = [way(end) for end in PARTS.get(map_file.suffix.lower(), ()) for way in (str.lower, str.upper)]
+    parts = [map_file.with_suffix(end) for end in ends]
+    parts += [map_file.with_name(map_file.name + "-wal"), *sorted(map_file.glob("**/*"))]
+    found = [(part, part.stat()) for part in parts if part.is_file()]
+    return [str(map_file), told.st_size, told.st_mtime_ns,
+            *([part.name, one.st_size, one.st_mtime_ns] for part, one in found if one.st_size)]

@@ -61,7 +61,7 @@ class InFolder(unittest.TestCase):
 
     def model(self) -> pathlib.Path:
         """The plain model of bench/ in the place of the program, over layers in memory."""
-        text = f"#!/bin/sh\nexec python3 '{TOP / 'bench' / 'reference' / 'model.py'}' /dev/stdin\n"
+        text = f"#!/bin/sh\nPYTHONPATH='{TOP}' exec python3 -m bench.reference.model /dev/stdin\n"
         return self.file("model", text, 0o700)
 
 

@@ -127,6 +127,16 @@ class Reading(WithFiles):
         with self.assertRaisesRegex(MapFault, r"feature \(p1\): .* no number"):
             flat.arrays(sys.modules["numpy"])
 
+    def test_nothing_is_written_beside_a_map(self) -> None:
+        from osgeo import gdal
+
+        path = str(self.folder / "map.gml")
+        gdal.VectorTranslate(path, self.made(f"POLYGON {text_of(RING)}"), format="GML")
+        (self.folder / "map.xsd").unlink()
+        before = sorted(self.folder.iterdir())
+        self.assertEqual(self.read(path).whole.ids, ["p0"])
+        self.assertEqual(sorted(self.folder.iterdir()), before)
+
     def test_several_layers_have_to_be_named(self) -> None:
         path = self.made(f"POLYGON {text_of(RING)}", layers=("parcels", "zones"))
         self.refused("2 layers, parcels, zones; name one by --a-layer", path)

@@ -76,6 +76,16 @@ class FilesOfGdal(WithGdal):
             self.assertEqual(outcome(to_script, file, "--fit", "--output", output)[0], 0)
             self.assertEqual(json.loads(output.with_suffix(".scale.json").read_text())["crs"], "EPSG:25832")
 
+    def test_nothing_is_written_beside_a_map(self) -> None:
+        plan = str(self.file("plan.geojson", FIRST))
+        for crs in ("EPSG:25832", "EPSG:4326"):
+            file = self.made("a.gml", plan, "-a_srs", crs)
+            (self.folder / "a.xsd").unlink()
+            before = sorted(self.folder.iterdir())
+            self.assertEqual(outcome(to_script, file, "--factor", 2)[0], 0)
+            self.assertEqual(sorted(self.folder.iterdir()), before)
+            file.unlink()
+
     def test_several_layers(self) -> None:
         plan = str(self.file("plan.geojson", FIRST))
         file = self.made("two.gpkg", plan, "-nln", "one")

@@ -117,8 +117,9 @@ class Folders(InTasks):
                 self.begun()
 
     def test_what_stands_in_a_plan_is_looked_at(self) -> None:
-        for text in ('{"form": 2}', '{"form": 2, "run": {}, "tasks": "7"}', '{"form": 2, "run": [], "tasks": 7}',
-                     '{"form": 2, "run": {}, "tasks": -1}', '{"form": 2, "run": {}, "tasks": true}', "[" * 100_000, "\xff"):
+        plans = ('{"form": 3}', '{"form": 3, "run": {}, "tasks": "7"}', '{"form": 3, "run": [], "tasks": 7}',
+                 '{"form": 3, "run": {}, "tasks": -1}', '{"form": 3, "run": {}, "tasks": true}', "[" * 100_000, "\xff")
+        for text in plans:
             self.work.mkdir(exist_ok=True)
             (self.work / "run.json").write_text(text, "latin-1")
             with self.subTest(text[:40]), self.assertRaisesRegex(FolderFault, "run.json: .*; remove the folder, and begin"):
@@ -144,6 +145,18 @@ class Folders(InTasks):
             tasks.do(Reversing(self.marks), folder, 4)
         with self.assertRaisesRegex(engines.TaskFault, "^task 4: .*000004.task: damaged"):
             engines.run(engines.in_process, Reversing(self.marks), folder, quiet())
+
+    def test_a_result_that_came_of_another_task_is_named_with_what_to_do(self) -> None:
+        folder = self.begun()
+        for number in range(12):
+            tasks.do(Reversing(self.marks), folder, number)
+        self.assertEqual(list(folder.results()), ENDS)
+        folder.result(4).write_bytes(folder.result(5).read_bytes())
+        with self.assertRaisesRegex(FolderFault, "000004.result: it came of another task; remove it and say the same again"):
+            list(folder.results())
+        folder.result(4).unlink()
+        tasks.do(Reversing(self.marks), folder, 4)
+        self.assertEqual(list(folder.results()), ENDS)
 
     def test_one_run_at_a_time_has_a_folder(self) -> None:
         words = self.words("60")
@@ -186,6 +199,20 @@ class Folders(InTasks):
         self.assertEqual(before, tasks.stamp(one))
         one.write_text("{ }")
         self.assertNotEqual(before, tasks.stamp(one))
+
+    def test_a_part_of_an_input_that_changed_makes_it_another(self) -> None:
+        (self.folder / "a.gdb").mkdir()
+        for name, part in (("a.shp", "a.dbf"), ("A.SHP", "A.DBF"), ("a.gpkg", "a.gpkg-wal"), ("a.gdb", "a.gdb/a1.gdbtable"),
+                           ("a.gml", "a.gfs"), ("a.mif", "a.mid"), ("a.tab", "a.dat")):
+            with self.subTest(part):
+                one = self.folder / name if name == "a.gdb" else self.file(name, "map")
+                alone = tasks.stamp(one)
+                self.file(part, "x")
+                had = tasks.stamp(one)
+                self.file(part, "xx")
+                self.assertEqual(len({str(found) for found in (alone, had, tasks.stamp(one))}), 3)
+                self.file("a.csv", "of somebody else")
+                self.assertEqual(tasks.stamp(one), tasks.stamp(one))
 
 
 def wait_for(condition: object, seconds: float = WAIT) -> None:
@@ -269,8 +296,9 @@ class Dask(WithProcesses):
             wait_for(lambda: len(list(self.work.glob("*.result"))) >= 3)
             os.kill(run.pid, signal.SIGKILL)
         wait_for(lambda: not any(map(is_running, self.processes())))
-        self.assertEqual([ENDS[number] for number in range(12) if number not in TaskFolder(self.work).left()],
-                         [tasks.unsealed(one, "") for one in sorted(self.work.glob("*.result"))])
+        folder = TaskFolder(self.work)
+        done = [number for number in range(12) if number not in folder.left()]
+        self.assertEqual([folder.came_of(number) for number in done], [ENDS[number] for number in done])
 
 
 @functools.cache
