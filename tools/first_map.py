@@ -10,23 +10,25 @@ The features of one map are numbered over few layers and served with their names
 is a layer of its file's name then, and `both` is what all of them have in common.
 
 It writes CITY.txt, CITY.db and what goes with them in --folder (default: where it is called). A store that stands there
-is served as it is; --again makes it anew. One without its CITY.txt, which this did not make, and one that another
-program has, as a front that runs, are refused and stay. Where one store does not suffice each has a front of its own. A
-browser is opened where there is a screen, but for --no-browser. The front runs until it is interrupted.
+is served as it is; --again makes it anew. One without its CITY.txt, which this did not make, one of another map of the
+same name, and one that another program has, as a front that runs, are refused and stay. Where one store does not
+suffice each has a front of its own. A browser is opened where there is a screen, but for --no-browser. The front runs
+until it is interrupted.
 
 Status 0: ended by SIGTERM or an interrupt, or all of it made by --only-make; 1: a feature was refused, which is told, and
 the rest made by --only-make, a line was refused, a program is not there, another has the store, or a front ended by a
-fault; 2: wrong words, a file that cannot be read, or one that would be
-written over.
+fault; 2: wrong words, a file that cannot be read, or one that would be written over.
 """
 
 import argparse
 import contextlib
 import fcntl
 import io
+import json
 import os
 import pathlib
 import re
+import shutil
 import signal
 import subprocess
 import sys
@@ -44,6 +46,8 @@ from describing import Described
 
 FRONT = asking.TOP / "web" / "overlay_web.py"
 NAMED = "both"
+DEVICE = "error 30"  # that a file could not be read or written
+MADE_OF = "# overlay made this of "  # at the head of a script, before the paths of its maps
 ENDING = 60.0  # seconds that a front has to end
 
 
@@ -118,6 +122,9 @@ def made_scripts(words: argparse.Namespace, output: pathlib.Path, errors: TextIO
         raise Unmade(max(status, 1), f"{words.map}: no store is made")
     if words.others:
         define_common(words, scripts)
+    paths = json.dumps([str(path.resolve()) for path in (words.map, *words.others)])
+    for script in scripts:
+        script.write_text(f"{MADE_OF}{paths}\n{script.read_text()}")
     return scripts, status
 
 
@@ -149,7 +156,9 @@ def make_store(script: pathlib.Path, program: str) -> None:
     status, replies, told = asking.outcome(words[0], words[1:], script.read_bytes() + b"SYNC\n")
     faults = [line for line in sessions.lines_of(replies) if sessions.REFUSED.fullmatch(line)]
     if status or faults:
-        raise Unmade(1, f"{script.name}: {faults[0] if faults else told or f'status {status}'}")
+        fault = faults[0] if faults else told.strip() or f"status {status}"
+        free = f"; the disk of {script.parent.parent} has {shutil.disk_usage(script.parent).free:,} bytes free"
+        raise Unmade(1, f"{script.name}: {fault}{free if DEVICE in fault else ''}")
 
 
 def stores_for(words: argparse.Namespace, program: str, errors: TextIO) -> tuple[list[pathlib.Path], int]:
@@ -157,12 +166,15 @@ def stores_for(words: argparse.Namespace, program: str, errors: TextIO) -> tuple
     half made."""
     stem = "_and_".join(re.sub(r"[^A-Za-z0-9]+", "_", path.stem).strip("_") or "map" for path in (words.map, *words.others))
     there = stores_of(words.folder / f"{stem}.txt")
-    if there and not words.again:
+    if there:
         check_maps(words, there)
+    if there and not words.again:
         older = any(path.stat().st_mtime > there[0].stat().st_mtime for path in (words.map, *words.others))
         age = ", and is older than its map" if older else ""
         print(f"{', '.join(map(str, there))}: it stands{age}, and is served as it is; --again makes it anew", file=errors)
         return there, 0
+    if not os.access(words.folder, os.W_OK | os.X_OK):
+        raise Unmade(1, f"{words.folder}: nothing can be written in it; say another --folder")
     with contextlib.ExitStack() as held:
         hold(words, stem, held)
         folder = held.enter_context(tempfile.TemporaryDirectory(prefix=".overlay-", dir=words.folder))
@@ -183,10 +195,25 @@ def stores_for(words: argparse.Namespace, program: str, errors: TextIO) -> tuple
 
 
 def check_maps(words: argparse.Namespace, there: list[pathlib.Path]) -> None:
-    """Refuses a map that is not there, of which nobody knows whether the store that stands is of it."""
-    for given in (words.map, *words.others):
-        if not given.exists():
-            raise Unmade(2, f"{given}: no such file; the store that stands is shown by overlay_web.py --store {there[0]}")
+    """Refuses a map that is not there, of which nobody knows whether the store that stands is of it, and one that is
+    another than the store was made of."""
+    given = (words.map, *words.others)
+    for path in given:
+        if not path.exists():
+            raise Unmade(2, f"{path}: no such file; the store that stands is shown by overlay_web.py --store {there[0]}")
+    for path, other in zip(given, maps_of(there[0].with_suffix(".txt"))):
+        if other.exists() and not other.samefile(path):
+            raise Unmade(2, f"{there[0]}: it was made of {other}; say another --folder, or move it away")
+
+
+def maps_of(script: pathlib.Path) -> list[pathlib.Path]:
+    """The maps that a script was made of, where it says so."""
+    with script.open(encoding="utf-8", errors="replace") as file:
+        head = file.readline()
+    try:
+        return [pathlib.Path(path) for path in json.loads(head.removeprefix(MADE_OF))] if head.startswith(MADE_OF) else []
+    except (ValueError, TypeError):
+        return []
 
 
 def hold(words: argparse.Namespace, stem: str, held: contextlib.ExitStack) -> None:

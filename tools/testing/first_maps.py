@@ -112,6 +112,30 @@ class FirstMaps(WithProgram):
             self.assertEqual((status, self.names(), store.read_bytes()), (2, ["city.db"], b"another's"), errors)
             self.assertIn(f"{store}: it stands without the city.txt that it was made of", errors)
 
+    def test_a_store_of_another_map_of_the_same_name_stays(self) -> None:
+        (self.folder / "north").mkdir()
+        north, store = self.file("north/city.geojson", MAP), self.folder / "maps" / "city.db"
+        self.assertEqual(self.made(north)[0], 0)
+        before = store.read_bytes()
+        for name, words in (("city.geojson", []), ("city!.geojson", ["--again"])):
+            other = self.file(name, collection(feature([EAST], {"name": "East"})))
+            told = f"{store}: it was made of {north.resolve()}; say another --folder, or move it away\n"
+            self.assertEqual(self.made(other, *words), (2, "", told))
+            self.assertEqual(store.read_bytes(), before)
+        north.rename(self.folder / "city.geojson")  # what is moved is the same map
+        self.assertEqual(self.made(self.folder / "city.geojson")[0], 0)
+
+    def test_where_nothing_can_be_written_the_folder_is_named(self) -> None:
+        given, folder = self.file("city.geojson", MAP), self.folder / "maps"
+        with unittest.mock.patch("os.access", return_value=False):
+            self.assertEqual(self.made(given), (1, "", f"{folder}: nothing can be written in it; say another --folder\n"))
+
+    def test_a_device_that_fails_is_told_with_the_room_that_is_left(self) -> None:
+        given, failing = self.file("city.geojson", MAP), self.file("failing", "#!/bin/sh\necho error 30 device\nexit 1\n", 0o700)
+        status, _, errors = outcome(first_map, given, "--folder", self.folder / "maps", "--program", failing, "--only-make")
+        self.assertEqual(status, 1)
+        self.assertRegex(errors, rf"city.txt: error 30 device; the disk of {self.folder}/maps has [0-9,]+ bytes free\n$")
+
     def test_of_stores_one_of_which_went_the_others_stay(self) -> None:
         given, folder = self.file("city.geojson", MAP), self.folder / "maps"
         folder.mkdir()
@@ -167,7 +191,7 @@ class FirstMaps(WithProgram):
         far = self.file("far.geojson", collection(feature([[ISLE]], {"c": 1})))
         self.assertEqual(self.made(city, "--with", zone)[0], 0)
         script = (self.folder / "maps" / "city_and_zone.txt").read_text()
-        self.assertEqual([line.split()[:2] for line in script.splitlines()],
+        self.assertEqual([line.split()[:2] for line in script.splitlines()[1:]],
                          [["PUT", "city"], ["PUT", "zone"], ["DEFINE", "both"]])
         self.assertTrue(script.endswith("DEFINE both = city & zone\n"))
         self.assertEqual(self.made(city, "--with", zone, "--with", far)[0], 0)
