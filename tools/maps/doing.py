@@ -109,7 +109,8 @@ def found_of(stage: str, made: Iterable[Task], words: argparse.Namespace) -> Ite
             found = Found.of_bytes(result)
             by_window += found.drawn == ByWindows.told
             yield found
-        words.say(f"{words.question} {stage}: {drawn_told(by_window, folder.count())}")
+        if folder.count():
+            words.say(f"{words.question} {stage}: {drawn_told(by_window, folder.count())}")
 
 
 def drawn_told(by_window: int, count: int) -> str:

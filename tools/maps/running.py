@@ -1,6 +1,7 @@
 """Reads the maps that words name, has tasks done, and writes files whole."""
 
 import argparse
+import collections
 import contextlib
 import os
 import pathlib
@@ -37,7 +38,14 @@ def read_map(path: str, id_field: str | None, words: argparse.Namespace, say: Sa
         raise MapFault(f"{path}: no polygon in it" + (f"; left out, {len(skipped)}: {some(skipped)}" if skipped else ""))
     for line in told_lines(path, read.told):
         say(line)
+    if id_field is not None and isinstance(read.whole.ids, list) and (several := called_alike(read.whole.ids)):
+        say(f"{path}: the same {id_field} several times, {len(several)}: {some(several)}")
     return read
+
+
+def called_alike(ids: list[str]) -> list[str]:
+    """The names that several features have, each with how many."""
+    return [f"{name} ({count} times)" for name, count in collections.Counter(ids).items() if count > 1]
 
 
 def form_of(path: str) -> str | None:

@@ -237,6 +237,16 @@ class Refusals(WithMaps):
         file = self.map("b", {"Z": square(0, 0, 1)}, "urn:ogc:def:crs:EPSG::4326")
         self.assertEqual(self.asked("pairs", self.good, file, "--factor", 1000)[0], 0)
 
+    def test_features_that_are_called_alike_are_told(self) -> None:
+        rings = [[[x, 0], [x + 9, 0], [x, 9], [x, 0]] for x in (0, 10, 20, 30)]
+        features = [{"type": "Feature", "properties": {"nr": name}, "geometry": {"type": "Polygon", "coordinates": [ring]}}
+                    for name, ring in zip("ABAA", rings)]
+        whole = self.file("a.json", json.dumps({"type": "FeatureCollection", "features": features}))
+        for words, wanted in ((["--a-id", "nr"], True), ([], False)):
+            status, _, errors = self.asked("check", whole, "--factor", 1, *words)
+            self.assertEqual((status, f"{whole}: the same nr several times, 1: A (3 times)\n" in errors), (0, wanted), errors)
+            self.assertNotIn(" of 0 tasks", errors)
+
     def test_what_is_left_out_is_told(self) -> None:
         file = self.map("b", {"Z": square(0, 0, 1), "point": {"type": "Point", "coordinates": [0, 0]},
                               "thin": [[0, 0], [1e-5, 0], [0, 1e-5], [0, 0]]})
