@@ -31,18 +31,6 @@ SCALE = {
 DEFINITIONS = {"both": "iceland_110m & iceland_50m", "one": "iceland_110m ^ iceland_50m"}
 
 
-class Tries:
-    """What was tried and whether it held."""
-
-    def __init__(self) -> None:
-        self.passed = self.failed = 0
-
-    def that(self, holds: object, text: str) -> None:
-        self.passed += bool(holds)
-        self.failed += not holds
-        print(("ok      " if holds else "FAILED  ") + text, flush=True)
-
-
 def asked(address: str) -> Any:
     with urllib.request.urlopen(address, timeout=120) as answer:
         return json.load(answer)

@@ -13,7 +13,7 @@ from collections.abc import Iterator
 from typing import Any
 
 import schemas
-from test_features import MAP, MOVED, Case, feature
+from test_features import MOVED, Case, feature
 from testing import SHIFTED, SQUARE, FrontCase, Told
 
 METHODS = {"get", "put", "post", "delete", "options", "head", "patch", "trace"}

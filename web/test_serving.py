@@ -10,7 +10,7 @@ import socket
 import threading
 import unittest
 import unittest.mock
-from collections.abc import Callable, Iterable, Iterator
+from collections.abc import Iterable, Iterator
 from typing import Any
 from wsgiref import simple_server
 

@@ -13,7 +13,7 @@ import map_scale
 import scale as scales  # of tools/
 import shapes
 import testing
-from map_scale import MapScale, exact, rounded
+from map_scale import exact, rounded
 from shapes import Box, Feature, text_of
 
 Place = tuple[Fraction, Fraction]

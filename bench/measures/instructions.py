@@ -20,6 +20,7 @@ import sys
 import tempfile
 from collections.abc import Iterator, Sequence
 
+from bench.counting import checked
 from bench.measures import peers, tiles
 from bench.tile_texts import Layer, closed
 from limits import COLUMNS
@@ -99,11 +100,7 @@ def test() -> int:
         (row("x", [(1000000, 500000), (2000000, 250000)]), "| x | 1.000, 2.000 | 0.500, 0.250 | 1.50 times |"),
         (row("x", [(1000000, 500000)]), "| x | 1.000 | 0.500 |  |"),
     ]
-    failed = [check for check in checks if check[0] != check[1]]
-    for found, wanted in failed:
-        print(f"{found!r}, not {wanted!r}")
-    print(f"{len(checks) - len(failed)} passed, {len(failed)} failed")
-    return 1 if failed else 0
+    return checked(checks)
 
 
 def main() -> int:

@@ -27,6 +27,7 @@ import time
 from collections.abc import Iterator, Sequence
 from typing import NamedTuple
 
+from bench.counting import counted
 from bench.measures import serving
 
 HERE = pathlib.Path(__file__).resolve().parent
@@ -328,8 +329,7 @@ def test() -> int:
             taken = min(taken, client.together(pairs, ["LOCATE A 1 1"] * 9, 2))
         checks = [times.replies == ["out"] * 3, min(times.taken) > 0, taken > 0]
         checks.append(Times([4, 1, 3, 2], []).share(0.5) == 3 and Times([4, 1, 3, 2], []).share(0.99) == 4)
-    print(f"{sum(checks)} passed, {len(checks) - sum(checks)} failed")
-    return 0 if all(checks) else 1
+    return counted(sum(checks), len(checks) - sum(checks))
 
 
 def main() -> int:

@@ -21,6 +21,7 @@ import urllib.parse
 from collections.abc import Callable
 
 from bench import web_front
+from bench.counting import counted
 
 Found = list[float]
 Ask = Callable[[http.client.HTTPConnection, int], bool]
@@ -136,8 +137,7 @@ def main() -> int:
                 for name in ("both", "one"):
                     web_front.asked(f"{address}collections/{name}/items")
                 fell += measure(address, label, words.clients, words.seconds)
-    print(f"{8 - fell} passed, {fell} failed")
-    return 1 if fell else 0
+    return counted(8 - fell, fell)
 
 
 if __name__ == "__main__":

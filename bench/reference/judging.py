@@ -12,6 +12,7 @@ since. Refusals of UNJUDGED are counted apart.
 
 from __future__ import annotations
 
+import argparse
 import bisect
 import collections
 import itertools
@@ -20,6 +21,7 @@ import sys
 from collections.abc import Callable, Iterable, Iterator, Sequence
 from typing import Any
 
+from bench.counting import counted
 from bench.reference import model
 from limits import COLUMNS
 
@@ -569,20 +571,21 @@ def test() -> int:
         if found != count:
             print(f"{old!r} as {new!r}: {found} wrong replies, not {count}")
             wrong += 1
-    print(f"{len(CHANGED) + len(CUT_OFF) - wrong} passed, {wrong} failed")
-    return 1 if wrong else 0
+    return counted(len(CHANGED) + len(CUT_OFF) - wrong, wrong)
 
 
 def main() -> int:
     """Judges an output, or tests the judge."""
-    words = sys.argv[1:]
-    if words == ["--test"]:
+    parser = argparse.ArgumentParser(description=__doc__, formatter_class=argparse.RawDescriptionHelpFormatter)
+    parser.add_argument("output", type=pathlib.Path, nargs="?", metavar="OUTPUT")
+    parser.add_argument("scripts", type=pathlib.Path, nargs="*", metavar="SCRIPT")
+    parser.add_argument("--test", action="store_true", help="test the script itself")
+    words = parser.parse_args()
+    if words.test:
         return test()
-    if len(words) < 2 or words[0].startswith("--"):
-        print(__doc__)
-        return 0 if words == ["--help"] else 2
-    scripts = [pathlib.Path(word).read_bytes() for word in words[1:]]
-    judged = judge(scripts, pathlib.Path(words[0]).read_text())
+    if not words.scripts:
+        parser.error("an output and its scripts")
+    judged = judge([script.read_bytes() for script in words.scripts], words.output.read_text())
     print("\n".join(judged.wrong))
     print(f"{sum(judged.replies.values())} replies, {judged.history.last()} accepted, {len(judged.wrong)} wrong")
     return 1 if judged.wrong else 0

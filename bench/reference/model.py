@@ -13,6 +13,7 @@ kept under a key.
 
 from __future__ import annotations
 
+import argparse
 import fractions
 import functools
 import math
@@ -867,13 +868,15 @@ def test() -> int:
 
 def main() -> int:
     """Prints the replies of a script, or runs the examples."""
-    words = sys.argv[1:]
-    if words == ["--test"]:
+    parser = argparse.ArgumentParser(description=__doc__, formatter_class=argparse.RawDescriptionHelpFormatter)
+    parser.add_argument("script", type=pathlib.Path, nargs="?", metavar="SCRIPT")
+    parser.add_argument("--test", action="store_true", help="run the scripts of the examples")
+    words = parser.parse_args()
+    if words.test:
         return test()
-    if len(words) != 1 or words[0].startswith("--"):
-        print(__doc__)
-        return 0 if words == ["--help"] else 2
-    for reply in replies_of(pathlib.Path(words[0]).read_bytes()):
+    if not words.script:
+        parser.error("no script")
+    for reply in replies_of(words.script.read_bytes()):
         print("\n".join(reply))
     return 0
 

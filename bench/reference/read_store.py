@@ -21,6 +21,7 @@ from collections.abc import Callable
 from typing import Any, NamedTuple, Union
 
 from bench import TOP
+from bench.counting import checked
 from limits import (
     COLUMN_WIDTH, COLUMNS, COORDINATE_MAX, LAYERS_MAX, NAME_MAX, PIECES_MAX, STEPS_MAX, TOKENS_MAX,
 )
@@ -514,12 +515,7 @@ def page_checks(page: str) -> list[tuple[Any, ...]]:
 
 def test() -> int:
     """Looks whether the page's vectors give what it says, and gives the exit status."""
-    checks = page_checks(FORMAT_PAGE.read_text(encoding="utf-8"))
-    failed = [check for check in checks if check[-2] != check[-1]]
-    for check in failed:
-        print("differs:", *check)
-    print(f"{len(checks) - len(failed)} passed, {len(failed)} failed")
-    return 1 if failed else 0
+    return checked(page_checks(FORMAT_PAGE.read_text(encoding="utf-8")))
 
 
 def main() -> int:

@@ -28,7 +28,8 @@ from collections.abc import Callable
 from typing import Any
 
 from bench import web_front
-from bench.web_front import Tries, asked
+from bench.counting import Tries
+from bench.web_front import asked
 
 SIZE = (1280, 800)
 NARROW = (420, 900)
@@ -580,8 +581,7 @@ def main() -> int:
             visits(browser, words, pathlib.Path(place), tries)
         finally:
             browser.end()
-    print(f"{tries.passed} passed, {tries.failed} failed")
-    return 1 if tries.failed else 0
+    return tries.end()
 
 
 if __name__ == "__main__":

@@ -23,7 +23,8 @@ import sys
 import tempfile
 
 from bench import web_front
-from bench.web_front import TOP, Tries
+from bench.counting import Tries
+from bench.web_front import TOP
 
 SUITE, MIRROR = "bookworm", "http://deb.debian.org/debian"
 # What lintian says of a package for which nobody has chosen a licence.
@@ -154,24 +155,32 @@ def try_lintian(tries: Tries, package: pathlib.Path) -> None:
     tries.that(tags == EXPECTED, f"lintian says {', '.join(sorted(tags))}")
 
 
-def main() -> int:
-    parser = argparse.ArgumentParser(description=__doc__, formatter_class=argparse.RawDescriptionHelpFormatter)
+def words_of(page: str | None) -> argparse.Namespace:
+    """The words of a trial of the release in a root."""
+    parser = argparse.ArgumentParser(description=page, formatter_class=argparse.RawDescriptionHelpFormatter)
     parser.add_argument("--programs", metavar="FOLDER", type=pathlib.Path,
                         help="where the programs are (default: those of the gate)")
     parser.add_argument("--base", metavar="FOLDER", type=pathlib.Path, help="a root that debootstrap made")
-    words = parser.parse_args()
-    tries = Tries()
+    return parser.parse_args()
+
+
+def copied_root(base: pathlib.Path | None, folder: pathlib.Path) -> pathlib.Path:
+    """A root in a folder that all may enter: a copy of the one that is given, or of a new one."""
+    subprocess.run(["cp", "-a", base or base_root(folder), folder / "root"], check=True)
+    folder.chmod(0o755)
+    return folder / "root"
+
+
+def main() -> int:
+    words, tries = words_of(__doc__), Tries()
     with tempfile.TemporaryDirectory() as made:
         folder = pathlib.Path(made)
         archive, package = made_release(words.programs, folder / "release")
-        subprocess.run(["cp", "-a", words.base or base_root(folder), folder / "root"], check=True)
-        folder.chmod(0o755)
-        root = Root(folder / "root")
+        root = Root(copied_root(words.base, folder))
         try_package(tries, root, package)
         try_archive(tries, root, archive)
         try_lintian(tries, package)
-    print(f"{tries.passed} passed, {tries.failed} failed")
-    return 1 if tries.failed else 0
+    return tries.end()
 
 
 if __name__ == "__main__":

@@ -22,6 +22,7 @@ import tempfile
 from collections.abc import Callable, Iterable, Iterator, Sequence
 
 from bench import unproved
+from bench.counting import checked
 from bench.reference import model, read_store
 from bench.trials import old_files, stress
 
@@ -292,11 +293,7 @@ def test() -> int:
         (name, read_by_itself(apply(data, len(data), changes))[0], wanted)
         for name, data, changes, wanted in named_old(six)
     ]
-    wrong = [check for check in checks if check[1] != check[2]]
-    for name, found, wanted in wrong:
-        print(f"{name}: {found}, not {wanted}")
-    print(f"{len(checks) - len(wrong)} passed, {len(wrong)} failed")
-    return 1 if wrong else 0
+    return checked(checks)
 
 
 def main() -> int:

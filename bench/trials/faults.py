@@ -19,6 +19,7 @@ import sys
 import tempfile
 from typing import Any
 
+from bench.counting import counted
 from bench.trials import refusal_cases, refusal_tables, refused_runs, refusing
 
 # What the shim leaves out of a right program, by the number that it is told.
@@ -122,7 +123,7 @@ def test() -> int:
             failed += found != wanted
             if found != wanted:
                 print(f"call {first} fails, kind {kind}: {found}, not {wanted}")
-    return refusal_tables.told(passed, failed)
+    return counted(passed, failed)
 
 
 def main() -> int:
@@ -136,7 +137,7 @@ def main() -> int:
     words = parser.parse_args()
     words.program = os.path.abspath(words.program)
     with tempfile.TemporaryDirectory(prefix="faults") as place:
-        return refusal_tables.told(*fail(words, pathlib.Path(place)))
+        return counted(*fail(words, pathlib.Path(place)))
 
 
 if __name__ == "__main__":

@@ -17,6 +17,7 @@ import sys
 import tempfile
 from collections.abc import Iterator
 
+from bench.counting import counted
 from bench.trials import refusal_cases, refusal_tables, refused_runs, refusing
 from bench.trials.refusing import many_growths, one_growth
 
@@ -88,7 +89,7 @@ def test() -> int:
     is_right = done.stdout == "0110\n" and numbers == [4, 2]
     print(f"four growths: {done.stdout.strip()}, counted {numbers}: {'right' if is_right else 'wrong'}")
     passed, failed = refusal_cases.test(one_growth, many_growths)
-    return refusal_tables.told(passed + is_right, failed + (not is_right))
+    return counted(passed + is_right, failed + (not is_right))
 
 
 def main() -> int:
@@ -104,7 +105,7 @@ def main() -> int:
     words = parser.parse_args()
     words.program = os.path.abspath(words.program)
     with tempfile.TemporaryDirectory(prefix="growths") as place:
-        return refusal_tables.told(*refuse(words, pathlib.Path(place)))
+        return counted(*refuse(words, pathlib.Path(place)))
 
 
 if __name__ == "__main__":

@@ -20,14 +20,13 @@ import os
 import pathlib
 import random
 import select
-import shutil
 import subprocess
 import sys
-import tempfile
 import time
 from collections.abc import Iterator, Sequence
 from typing import Any, NamedTuple
 
+from bench.counting import Kept, counted
 from bench.reference import judging, model, read_store
 from bench.trials import stress
 
@@ -628,8 +627,7 @@ def test() -> int:
         if is_right(events, left) != wanted:
             print(f"{events}, left {left}: not {wanted}")
             failed += 1
-    print(f"{len(CASES) - failed} passed, {failed} failed")
-    return 1 if failed else 0
+    return counted(len(CASES) - failed, failed)
 
 
 def main() -> int:
@@ -641,14 +639,10 @@ def main() -> int:
     parser.add_argument("--seed", type=int, default=1)
     parser.add_argument("--keep", metavar="FOLDER", help="keeps the store here")
     words = parser.parse_args()
-    folder = pathlib.Path(words.keep or tempfile.mkdtemp(prefix="live_stress"))
-    folder.mkdir(parents=True, exist_ok=True)
-    (folder / "store.db").unlink(missing_ok=True)
-    passed, failed = stressed(words, folder)
-    if not failed and not words.keep:
-        shutil.rmtree(folder)
-    print(f"{passed} passed, {failed} failed")
-    return 1 if failed else 0
+    kept = Kept(words.keep, "live_stress")
+    passed, kept.wrong = stressed(words, kept.folder)
+    kept.end()
+    return counted(passed, kept.wrong)
 
 
 if __name__ == "__main__":

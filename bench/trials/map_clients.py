@@ -38,9 +38,10 @@ from owslib.ogcapi.features import Features  # noqa: E402
 from shapely import geometry, wkb  # noqa: E402
 
 from bench import web_front  # noqa: E402
+from bench.counting import Tries  # noqa: E402
 from bench.reference import read_store  # noqa: E402
 from bench.trials.maps import loaded  # noqa: E402
-from bench.web_front import TOP, Tries, asked  # noqa: E402
+from bench.web_front import TOP, asked  # noqa: E402
 from limits import COLUMN_WIDTH, COORDINATE_MAX  # noqa: E402
 
 try:
@@ -457,8 +458,7 @@ def main() -> int:
         if qgis:
             try_edits(tries, folder, words.program)
         try_owslib(tries, folder, words.program)
-    print(f"{tries.passed} passed, {tries.failed} failed")
-    return 1 if tries.failed else 0
+    return tries.end()
 
 
 if __name__ == "__main__":

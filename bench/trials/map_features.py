@@ -31,7 +31,8 @@ from owslib.ogcapi.features import Features
 from shapely import geometry, wkb
 
 from bench import web_front
-from bench.web_front import TOP, Tries, asked
+from bench.counting import Tries
+from bench.web_front import TOP, asked
 
 SOURCE = TOP / "tools/data/north_carolina.geojson"
 METRES = "EPSG:32119"
@@ -214,8 +215,7 @@ def main() -> int:
         try_degrees(tries, folder, words.program)
         try_metres(tries, folder, words.program, chance)
         try_changes(tries, folder, words.program, chance, words.changes)
-    print(f"{tries.passed} passed, {tries.failed} failed")
-    return 1 if tries.failed else 0
+    return tries.end()
 
 
 if __name__ == "__main__":

@@ -21,7 +21,8 @@ from fractions import Fraction
 from typing import Any
 
 from bench import web_front
-from bench.web_front import Tries, overlay_client
+from bench.counting import Tries
+from bench.web_front import overlay_client
 
 BOX = (-22, 63, -16, 66)
 
@@ -119,8 +120,7 @@ def main() -> int:
             lists(address, exact, tries)
             filters(address, tries)
             copies(address, folder, exact, tries)
-    print(f"{tries.passed} passed, {tries.failed} failed")
-    return 1 if tries.failed else 0
+    return tries.end()
 
 
 if __name__ == "__main__":

@@ -76,9 +76,3 @@ def print_table(runner: Runner, which: str, calls: int, table: Table) -> None:
     print("| " + " | ".join(map(str, cells)) + " |", flush=True)
     for line in table.wrong[:10]:
         print("    " + line)
-
-
-def told(passed: int, failed: int) -> int:
-    """Prints the last line, and gives the exit status."""
-    print(f"{passed} passed, {failed} failed")
-    return 1 if failed else 0

@@ -21,15 +21,14 @@ import os
 import pathlib
 import random
 import re
-import shutil
 import subprocess
 import sys
-import tempfile
 import termios
 import time
 from collections.abc import Iterable, Iterator
 from typing import IO, Any, Optional, Union
 
+from bench.counting import Kept, checked
 from bench.reference import judging, model, read_store
 from bench.trials import stress
 
@@ -420,9 +419,7 @@ def test() -> int:
         ("files", kept <= files, True), ("sets", len(sets_of(6, random.Random(1))), 64),
         ("parts", [len(list(parts_of(0, bytes(n)))) for n in (1, 48, 4096)], [5, 5, 17]),
     ]
-    wrong = [name for name, found, right in checks if found != right]
-    print(f"{len(checks) - len(wrong)} passed, {len(wrong)} failed: {wrong}")
-    return 1 if wrong else 0
+    return checked(checks)
 
 
 def main() -> int:
@@ -435,19 +432,10 @@ def main() -> int:
     parser.add_argument("--keep", metavar="FOLDER", help="keeps the traces, the store and the wrong files here")
     words = parser.parse_args()
     words.program = os.path.abspath(words.program)
-    folder = pathlib.Path(words.keep or tempfile.mkdtemp(prefix="stops"))
-    folder.mkdir(parents=True, exist_ok=True)
-    (folder / "store.db").unlink(missing_ok=True)
-    try:
-        status = replay(words, folder)
-    except (judging.Wrong, subprocess.TimeoutExpired) as fault:
-        print(f"wrong: {fault}")
-        status = 1
-    if status:
-        print(f"kept in {folder}")
-    elif not words.keep:
-        shutil.rmtree(folder)
-    return status
+    kept = Kept(words.keep, "stops")
+    with kept.telling(judging.Wrong, subprocess.TimeoutExpired) as folder:
+        kept.wrong = replay(words, folder)
+    return kept.end()
 
 
 if __name__ == "__main__":

@@ -16,14 +16,13 @@ import functools
 import os
 import pathlib
 import random
-import shutil
 import subprocess
 import sys
-import tempfile
 import time
 from collections.abc import Callable, Sequence
 from typing import Optional
 
+from bench.counting import Kept
 from bench.reference import judging, model, read_store
 
 BASES = [f"A{n}" for n in range(16)]
@@ -325,19 +324,10 @@ def main() -> int:
     parser.add_argument("--keep", metavar="FOLDER", help="keeps the scripts, replies and store here")
     words = parser.parse_args()
     words.program = os.path.abspath(words.program)
-    folder = pathlib.Path(words.keep or tempfile.mkdtemp(prefix="stress"))
-    folder.mkdir(parents=True, exist_ok=True)
-    (folder / "store.db").unlink(missing_ok=True)
-    try:
-        wrong = stress(words, folder)
-    except (judging.Wrong, subprocess.TimeoutExpired) as fault:
-        print(f"wrong: {fault}")
-        wrong = 1
-    if wrong:
-        print(f"kept in {folder}")
-    elif not words.keep:
-        shutil.rmtree(folder)
-    return 1 if wrong else 0
+    kept = Kept(words.keep, "stress")
+    with kept.telling(judging.Wrong, subprocess.TimeoutExpired) as folder:
+        kept.wrong = stress(words, folder)
+    return kept.end()
 
 
 if __name__ == "__main__":

@@ -12,7 +12,6 @@ or what fell.
 
 from __future__ import annotations
 
-import argparse
 import contextlib
 import json
 import os
@@ -26,8 +25,9 @@ import tempfile
 import time
 from collections.abc import Iterator
 
-from bench.trials.clean_root import Done, base_root, made_release
-from bench.web_front import TOP, Tries
+from bench.counting import Tries
+from bench.trials.clean_root import Done, copied_root, made_release, words_of
+from bench.web_front import TOP
 
 WANTED = ["systemd", "systemd-sysv", "dbus"]
 SECONDS = 60
@@ -118,10 +118,8 @@ def machine(folder: pathlib.Path, root: pathlib.Path) -> Iterator[Machine]:
                 os.kill(first or outer.pid, signal.SIGKILL)
 
 
-def made_root(base: pathlib.Path, folder: pathlib.Path) -> pathlib.Path:
-    """A copy of a root with systemd."""
-    root = folder / "root"
-    subprocess.run(["cp", "-a", base, root], check=True)
+def with_systemd(root: pathlib.Path) -> pathlib.Path:
+    """A root, with systemd installed."""
     shutil.copy("/etc/resolv.conf", root / "etc/resolv.conf")
     for words in (["update"], ["install", "-y", "--no-install-recommends", *WANTED]):
         environment = {**os.environ, "DEBIAN_FRONTEND": "noninteractive"}
@@ -186,16 +184,11 @@ def try_writing(tries: Tries, one: Machine) -> None:
 
 
 def main() -> int:
-    parser = argparse.ArgumentParser(description=__doc__, formatter_class=argparse.RawDescriptionHelpFormatter)
-    parser.add_argument("--programs", metavar="FOLDER", type=pathlib.Path,
-                        help="where the programs are (default: those of the gate)")
-    parser.add_argument("--base", metavar="FOLDER", type=pathlib.Path, help="a root that debootstrap made")
-    words = parser.parse_args()
-    tries = Tries()
+    words, tries = words_of(__doc__), Tries()
     with tempfile.TemporaryDirectory() as made:
         folder = pathlib.Path(made)
         _, package = made_release(words.programs, folder / "release")
-        root = made_root(words.base or base_root(folder), folder)
+        root = with_systemd(copied_root(words.base, folder))
         shutil.copy(package, root / "root/overlayd.deb")
         for name in ("city", "parcels"):
             put(made_map(folder, words.programs), root, name)
@@ -207,8 +200,7 @@ def main() -> int:
             tries.that(one.ran("dpkg", "--purge", "overlayd").returncode == 0, "it is purged while a front runs")
             told = one.ran("systemctl", "is-active", "overlay-web@city").stdout.strip()
             tries.that(told == "inactive", f"and that has ended: {told}")
-    print(f"{tries.passed} passed, {tries.failed} failed")
-    return 1 if tries.failed else 0
+    return tries.end()
 
 
 if __name__ == "__main__":

@@ -20,6 +20,7 @@ import urllib.parse
 from typing import Any
 
 from bench import web_front
+from bench.counting import counted
 from stressing import Ask, Stress
 
 
@@ -54,8 +55,7 @@ def main() -> int:
     print(", ".join(f"{kind} {count}" for kind, count in sorted(stress.counted.items())))
     for fault in stress.faults[:20]:
         print(f"FAILED  {fault}")
-    print(f"{len(stress.seen)} passed, {len(stress.faults)} failed")
-    return 1 if stress.faults else 0
+    return counted(len(stress.seen), len(stress.faults))
 
 
 if __name__ == "__main__":

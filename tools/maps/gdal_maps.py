@@ -6,7 +6,7 @@ into one array, so no feature costs more than its way through GDAL.
 
 import pathlib
 import struct
-from collections.abc import Iterable, Iterator
+from collections.abc import Iterator
 from dataclasses import dataclass, field
 from fractions import Fraction
 from typing import Any
