@@ -34,7 +34,6 @@ from typing import Any
 
 sys.dont_write_bytecode = True
 HERE = pathlib.Path(__file__).resolve().parent
-sys.path.insert(0, str(HERE))
 
 import contents  # noqa: E402
 import packing  # noqa: E402
