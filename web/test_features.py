@@ -321,8 +321,10 @@ class Editing(Case):
             self.assertEqual((told.status, told.headers["Allow"]), (204, wanted))
 
     def test_another_sites_page_changes_nothing(self) -> None:
+        before = self.items(), self.layer_texts()
         for headers in ({"HTTP_ORIGIN": "http://elsewhere"}, {"HTTP_SEC_FETCH_SITE": "cross-site"}):
             self.assertEqual(self.put(1, MAP[1], **headers).status, 403)
+        self.assertEqual((self.items(), self.layer_texts()), before)
 
 
 class Reading(Case):

@@ -211,6 +211,12 @@ class FirstMaps(WithProgram):
                 self.assertEqual(run.wait(60), 0)
 
     def test_wrong_words_are_told(self) -> None:
-        for words in ([path("none.geojson")], [path("data", "README.md")]):
+        for words, told in (([path("none.geojson")], "none.geojson: not read: No such file or directory"),
+                            ([path("data", "README.md")], "README.md: not read: no token of a text")):
             status, _, errors = self.made(*words)
-            self.assertEqual(status, 2, errors)
+            self.assertEqual((status, self.names(), told in errors), (2, [], True), errors)
+        for words, told in ((["--port", "x", "a"], "--port"), (["a", "--with", "b", "--name-by", "n"], "--with makes each map")):
+            with self.assertRaises(SystemExit) as ended, unittest.mock.patch("sys.stderr") as errors:
+                self.made(*words)
+            self.assertEqual(ended.exception.code, 2)
+            self.assertIn(told, "".join(str(call) for call in errors.write.call_args_list))

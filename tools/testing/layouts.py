@@ -363,8 +363,10 @@ class Coding(InFolder):
         file = self.file("plan.wkt", SQUARE)
         for words in (["--coded"], ["--coded", "--union", "--output", "x.txt"], ["--scale", "x", "--fit"], ["--check"],
                       ["--factor", "0"]):
-            with self.assertRaises(SystemExit), unittest.mock.patch("sys.stderr"):
+            with self.assertRaises(SystemExit) as ended, unittest.mock.patch("sys.stderr") as errors:
                 to_script.main([str(file), *words])
+            told = "".join(str(call) for call in errors.write.call_args_list)
+            self.assertEqual((ended.exception.code, words[0].strip("-") in told.split("error: ")[1]), (2, True), told)
 
 
 class Areas(unittest.TestCase):

@@ -63,8 +63,15 @@ class Folders(InTasks):
             self.assertEqual(sorted(self.work.glob("*.result")), [])
             return task[::-1]
 
-        tasks.do(work, folder, 3)
-        tasks.do(work, folder, 3)
+        def renamed(new: pathlib.Path, target: pathlib.Path) -> None:
+            self.assertFalse(target.exists())
+            self.assertEqual(tasks.unsealed(new, "").split(b"\n")[0], b"3 ksat")
+            os.replace(new, target)
+
+        with mock.patch.object(pathlib.Path, "replace", autospec=True, side_effect=renamed) as renames:
+            tasks.do(work, folder, 3)
+            tasks.do(work, folder, 3)
+        self.assertEqual([call.args[1].name for call in renames.call_args_list], ["000003.result"])
         self.assertEqual((calls, folder.came_of(3)), ([b"task 3"], b"3 ksat"))
         self.assertEqual(folder.left(), [number for number in range(12) if number != 3])
         self.assertEqual(sorted(self.work.glob("*.new")), [])

@@ -54,8 +54,10 @@ class StoresThatStand(WithProgram):
 
     def test_other_names_under_the_same_scale_are_not_written_either(self) -> None:
         scale = self.file("given.json", (self.folder / "nc.scale.json").read_bytes())
+        before = self.files()
         told = outcome(to_script, self.part, "--scale", scale, *self.words[1:])
         self.assertEqual((told[0], "nc.names.csv says what" in told[2]), (2, True), told)
+        self.assertEqual(self.files(), before)
 
     def test_the_same_map_again_is_written(self) -> None:
         before = self.files()
