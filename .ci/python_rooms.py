@@ -7,7 +7,7 @@ import pathlib
 import re
 
 PAGE = pathlib.Path("docs/ROOMS-PYTHON.md")
-FOLDERS = ("tools", "web", "bench", ".ci")
+FOLDERS = ("tools", "web", "release", "bench", ".ci")
 HEAD = """# Rooms of Python
 
 Each file of Python by the sentence at its head, and its functions by the first sentence of each: look here, as in

@@ -22,6 +22,7 @@ def lines_of(column: int, definition: str, layers: Sequence[Layer]) -> str:
 
 
 def closed(points: list[Point]) -> list[Point]:
+    """The points with the first one once more."""
     return points + points[:1]
 
 
@@ -32,8 +33,10 @@ class Draws:
         self.state = seed
 
     def below(self, count: int) -> int:
+        """A number below a count."""
         self.state = (self.state * 6364136223846793005 + 1442695040888963407) % 2**64
         return (self.state >> 33) % count
 
     def among(self, things: Sequence[Thing]) -> Thing:
+        """One of some things."""
         return things[self.below(len(things))]

@@ -32,6 +32,7 @@ DEFINITIONS = {"both": "iceland_110m & iceland_50m", "one": "iceland_110m ^ icel
 
 
 def asked(address: str) -> Any:
+    """The object that a page of the front has."""
     with urllib.request.urlopen(address, timeout=120) as answer:
         return json.load(answer)
 

@@ -88,6 +88,7 @@ def least(
 def overlays(
     programs: list[pathlib.Path], built: dict[str, pathlib.Path], folder: pathlib.Path, sizes: list[int], names: list[str] | None,
 ) -> None:
+    """Prints the times of overlays, by family and size."""
     for name, family in tiles.FAMILIES.items():
         for edges in sizes if not names or name in names else []:
             layers = over_all_columns(tiles.even(family(edges)))
@@ -114,6 +115,7 @@ def overlays(
 
 
 def locates(programs: list[pathlib.Path], built: dict[str, pathlib.Path], folder: pathlib.Path) -> None:
+    """Prints the time of a line of LOCATE."""
     for steps in (4, 256, 2000):
         ring = serving.ring(steps, 0, 0, 1000000)
         path = folder / "map"

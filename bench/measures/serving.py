@@ -76,6 +76,7 @@ class Runs:
 
 
 def milliseconds(seconds: float) -> str:
+    """A time as text."""
     return f"{1000 * seconds:.2f} ms"
 
 
@@ -173,6 +174,7 @@ def locates(runs: Runs, count: int) -> list[Row]:
 
 
 def grids(runs: Runs, count: int) -> list[Row]:
+    """What a GRID costs."""
     head = [f"PUT A {ring(2048, 0, 0, 1000000)}"]
     lines = ["GRID A -1000000 -1000000 7800 256 256"] * count
     whole, empty = runs.best([head + lines], 1, False), runs.best([head], 1, False)
@@ -182,6 +184,7 @@ def grids(runs: Runs, count: int) -> list[Row]:
 
 
 def measure(words: argparse.Namespace, folder: pathlib.Path) -> int:
+    """Prints the table."""
     runs = Runs(words.program, folder)
     subprocess.run(["gcc", "-O2", "-o", str(folder / "sync"), str(HERE / "sync.c")], check=True)
     part = 10 if words.quick else 1

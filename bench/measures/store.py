@@ -36,20 +36,24 @@ Layer = tuple[bytes, bytes, Optional[dict[int, bytes]]]
 
 
 def base_record(points: list[tuple[int, int]]) -> bytes:
+    """The record of one ring."""
     return struct.pack(">HH", 1, len(points)) + b"".join(struct.pack(">ii", x, y) for x, y in points)
 
 
 def zigzag(steps: int) -> bytes:
+    """The record of a ring of so many steps."""
     points = [(i, i * 7 % 1000) for i in range(steps)]
     return base_record(points + points[:1])
 
 
 def whole_piece(column: int, i: int) -> bytes:
+    """A piece between whole points."""
     left, right = struct.pack(">ii", column_begin(column), i), struct.pack(">ii", column_begin(column) + 1, i)
     return left + right + b"\0" + left + b"\0" + right
 
 
 def short_piece(column: int, i: int) -> bytes:
+    """A piece of the least length."""
     # the last column is a line, so its pieces are vertical
     if column < COLUMNS - 1:
         return whole_piece(column, i)
@@ -58,6 +62,7 @@ def short_piece(column: int, i: int) -> bytes:
 
 
 def crossed_piece(column: int, i: int) -> bytes:
+    """A piece that ends at a crossing."""
     x = column_begin(column)
     support = struct.pack(">iiii", x, 4 * i, x + 4, 4 * i)
     across = struct.pack(">iiii", x + 1, 4 * i - 1, x + 2, 4 * i + 1)
@@ -65,14 +70,17 @@ def crossed_piece(column: int, i: int) -> bytes:
 
 
 def tile_record(column: int, count: int, piece: Callable[[int, int], bytes]) -> bytes:
+    """The record of a tile of so many pieces."""
     return struct.pack(">BBI", 0, column, count) + b"".join(piece(column, i) for i in range(count))
 
 
 def blocks(record: bytes) -> int:
+    """How many blocks a record takes."""
     return max(1, -(-len(record) // BLOCK))
 
 
 def body(sequence: int, version: int, block: int, size: int) -> bytes:
+    """The body of a root slot."""
     return b"OVLSTORE" + struct.pack(">IQQQI", read_store.FORMAT, sequence, version, block, size) + bytes(8)
 
 
@@ -102,6 +110,7 @@ def store(layers: list[Layer]) -> bytes:
 
 
 def built(folder: str) -> pathlib.Path:
+    """The program, built without checks."""
     return unproved.built(HERE / "store", folder, checked=False)
 
 
@@ -116,6 +125,7 @@ def seconds(program: pathlib.Path, word: str, path: pathlib.Path, times: int) ->
 
 
 def each(program: pathlib.Path, word: str, path: pathlib.Path, times: int) -> float:
+    """The time of one turn of what a word names."""
     return (seconds(program, word, path, times) - seconds(program, word, path, 0)) / times
 
 
@@ -131,6 +141,7 @@ def speeds(programs: list[pathlib.Path], word: str, path: pathlib.Path, times: i
 
 
 def records(programs: list[pathlib.Path], folder: pathlib.Path) -> None:
+    """Prints how fast records are read and written."""
     base, whole, crossed = folder / "base", folder / "whole", folder / "crossed"
     base.write_bytes(zigzag(2048))
     whole.write_bytes(tile_record(8, 60000, whole_piece))
@@ -145,6 +156,7 @@ def records(programs: list[pathlib.Path], folder: pathlib.Path) -> None:
 
 
 def files(program: pathlib.Path, folder: pathlib.Path) -> None:
+    """Prints how long files take to open, and what a first commit writes."""
     base, small = zigzag(2048), zigzag(4)
     tile = {c: tile_record(c, 60000, whole_piece) for c in range(16)}
     oversize = {c: bytes([1, c]) for c in range(COLUMNS)}

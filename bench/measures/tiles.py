@@ -36,12 +36,14 @@ def round_about(x: int, y: int, step: int, radii: list[int]) -> Layer:
 
 
 def stars(edges: int) -> list[Layer]:
+    """Two stars of random radii."""
     draws = Draws(edges)
     radii = [[5000 + draws.below(25000) for _ in range(edges)] for _ in range(2)]
     return [round_about(32000, 32000, 1, radii[0]), round_about(33500, 33000, 1, radii[1])]
 
 
 def parcels(edges: int) -> list[Layer]:
+    """Two grids of squares, one moved by half a square."""
     count = edges // 4
     across = 2 ** (count.bit_length() // 2)
 
@@ -53,15 +55,18 @@ def parcels(edges: int) -> list[Layer]:
 
 
 def self_crossing(edges: int) -> list[Layer]:
+    """Two rings that cross themselves all the time."""
     return [round_about(31000, 31000, 9, [30000] * edges), round_about(33000, 32000, 9, [30000] * edges)]
 
 
 def combs(edges: int) -> list[Layer]:
+    """Thin rectangles, those of one layer across those of the other."""
     teeth = [closed([(1, low), (edges - 1, low), (edges - 1, low + 2), (1, low + 2)]) for low in range(0, edges, 4)]
     return [teeth, [[(y, x) for x, y in ring] for ring in teeth]]
 
 
 def slivers(edges: int) -> list[Layer]:
+    """Long thin parallelograms that meet at small angles."""
     draws = Draws(edges)
 
     def sliver(low: int, far: int) -> list[Point]:
@@ -71,6 +76,7 @@ def slivers(edges: int) -> list[Layer]:
 
 
 def circles(edges: int) -> list[Layer]:
+    """Two circles."""
     return [round_about(31000, 31000, 1, [30000] * edges), round_about(36000, 33500, 1, [25000] * edges)]
 
 
@@ -118,16 +124,19 @@ def in_turns(runs: list[tuple[pathlib.Path, str, pathlib.Path]]) -> list[tuple[f
 
 
 def written(folder: pathlib.Path, name: str, layers: list[Layer]) -> pathlib.Path:
+    """The file of an input."""
     path = folder / name
     path.write_text(lines_of(16, "A ^ B", layers))
     return path
 
 
 def milliseconds(times: Iterable[float]) -> str:
+    """Times in a row."""
     return "; ".join(f"{1000 * time:.2f} ms" for time in times)
 
 
 def by_both(programs: list[pathlib.Path], folder: pathlib.Path) -> None:
+    """Prints the times of the pass and of all pairs, by family and size."""
     for name, family in FAMILIES.items():
         for edges in [64, 128, 256, 512, 1024, 2048]:
             path = written(folder, "input", even(family(edges)))
@@ -141,6 +150,7 @@ def by_both(programs: list[pathlib.Path], folder: pathlib.Path) -> None:
 
 
 def with_more_edges(programs: list[pathlib.Path], folder: pathlib.Path) -> None:
+    """Prints how much longer twice the edges take."""
     for name, family in {**FAMILIES, "circle": circles}.items():
         for edges in [64, 256, 1024]:
             layers = even(family(edges))
@@ -154,6 +164,7 @@ def with_more_edges(programs: list[pathlib.Path], folder: pathlib.Path) -> None:
 
 
 def to_the_cap(programs: list[pathlib.Path], folder: pathlib.Path) -> None:
+    """Prints the time and memory of a tile that stops at the cap."""
     path = written(folder, "input", combs(512))
     cases = [(one, "pass") for one in programs] + [(programs[0], "pairs")]
     runs = [[run(one, word, path, 65536, 1) for one, word in cases] for _ in range(5)]
@@ -167,6 +178,7 @@ def to_the_cap(programs: list[pathlib.Path], folder: pathlib.Path) -> None:
 
 
 def measure(programs: list[pathlib.Path], folder: pathlib.Path) -> None:
+    """Prints all tables."""
     to_the_cap(programs, folder)
     by_both(programs, folder)
     with_more_edges(programs, folder)

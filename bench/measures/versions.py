@@ -24,6 +24,7 @@ REACH = 1 << 20
 
 
 def polygon(points: list[tuple[int, int]]) -> str:
+    """A polygon of one ring as Well-Known Text."""
     return "POLYGON ((" + ", ".join(f"{x} {y}" for x, y in [*points, points[0]]) + "))"
 
 

@@ -23,6 +23,7 @@ LAYERS, ROUNDS, WORKERS = 30, 12, (1, 2, 4)
 
 
 def waited(names: list[str]) -> list[str]:
+    """The lines that wait for layers."""
     return [f"WAIT {name}" for name in names]
 
 

@@ -89,39 +89,47 @@ class Bytes:
         self.at = 0
 
     def take(self, size: int) -> bytes:
+        """The next bytes."""
         if len(self.data) - self.at < size:
             raise NotOfTheForm
         self.at += size
         return self.data[self.at - size : self.at]
 
     def number(self, size: int) -> int:
+        """The next bytes as a whole number without a sign."""
         return int.from_bytes(self.take(size), "big")
 
     def one_of(self, *values: int) -> int:
+        """The next byte, which has to be one of these."""
         value = self.number(1)
         if value not in values:
             raise NotOfTheForm
         return value
 
     def coordinate(self) -> int:
+        """The next four bytes as a coordinate in the plane."""
         value = int.from_bytes(self.take(4), "big", signed=True)
         if abs(value) > COORDINATE_MAX:
             raise NotOfTheForm
         return value
 
     def point(self) -> Point:
+        """Two coordinates."""
         return (self.coordinate(), self.coordinate())
 
     def extent(self) -> Extent:
+        """The place of a record."""
         return Extent(self.number(8), self.number(4))
 
     def segment(self) -> Segment:
+        """Two points, the left one first."""
         segment = Segment(self.point(), self.point())
         if not segment.left < segment.right:
             raise NotOfTheForm
         return segment
 
     def end(self) -> None:
+        """Nothing may follow."""
         if self.at != len(self.data):
             raise NotOfTheForm
 
@@ -130,10 +138,12 @@ class Bytes:
 
 
 def border(column: int) -> int:
+    """Where a column begins."""
     return COLUMN_WIDTH * column - COORDINATE_MAX
 
 
 def direction(segment: Segment) -> Point:
+    """From the left end to the right one."""
     return (segment.right[0] - segment.left[0], segment.right[1] - segment.left[1])
 
 
@@ -143,6 +153,7 @@ def turn(first: Point, second: Point) -> Number:
 
 
 def is_on(segment: Segment, point: Point) -> bool:
+    """Whether a point is on a segment, its ends among them."""
     way = (point[0] - segment.left[0], point[1] - segment.left[1])
     return turn(direction(segment), way) == 0 and segment.left <= point <= segment.right
 
@@ -154,6 +165,7 @@ def part_way(segment: Segment, part: fractions.Fraction) -> Point:
 
 
 def crossing(first: Segment, second: Segment) -> Point:
+    """The point that two segments have in common, which do not run the same way."""
     across = turn(direction(first), direction(second))
     if across == 0:
         raise NotOfTheForm
@@ -165,6 +177,7 @@ def crossing(first: Segment, second: Segment) -> Point:
 
 
 def cut(segment: Segment, column: int) -> Point:
+    """Where a segment passes the border of a column."""
     if column >= COLUMNS or not segment.left[0] < border(column) < segment.right[0]:
         raise NotOfTheForm
     return part_way(segment, fractions.Fraction(border(column) - segment.left[0], direction(segment)[0]))
@@ -184,6 +197,7 @@ def named_point(data: Bytes) -> Point:
 
 
 def is_name(name: bytes) -> bool:
+    """Whether bytes are the name of a layer."""
     letters = string.ascii_letters.encode()
     others = letters + string.digits.encode() + b"_"
     return 1 <= len(name) <= NAME_MAX and name[0] in letters and all(byte in others for byte in name)
@@ -222,6 +236,7 @@ def parse(tokens: list[bytes]) -> Tree:
 
 
 def bracketed(tree: Tree, needs: bool) -> bytes:
+    """The spelling of a tree, in brackets where it needs them."""
     return b"(" + spelled(tree) + b")" if needs else spelled(tree)
 
 
@@ -240,6 +255,7 @@ def spelled(tree: Tree) -> bytes:
 
 
 def leaves(tree: Tree) -> list[bytes]:
+    """The names of a tree, from left to right."""
     return [tree] if isinstance(tree, bytes) else leaves(tree[1]) + leaves(tree[2])
 
 
@@ -275,6 +291,7 @@ def read_base(record: bytes) -> Rings:
 
 
 def read_definition(data: bytes) -> Tree:
+    """The tree of a definition that is spelled as it would be written."""
     tokens = re.findall(rb"[A-Za-z0-9_]+|[^ ]", data, re.DOTALL)
     if len(tokens) > TOKENS_MAX:
         raise NotOfTheForm
@@ -285,6 +302,7 @@ def read_definition(data: bytes) -> Tree:
 
 
 def read_piece(data: Bytes) -> tuple[Point, Point]:
+    """The ends of a piece, which lie on its support."""
     support = data.segment()
     ends = (named_point(data), named_point(data))
     if not (is_on(support, ends[0]) and is_on(support, ends[1]) and ends[0] < ends[1]):
@@ -318,6 +336,7 @@ def read_tile(record: bytes, column: int) -> Pieces:
 
 
 def is_open(data: bytes, slot: int) -> bool:
+    """Whether the gate of a root slot is open."""
     return data[BLOCK * slot] == GATE_OPEN
 
 
@@ -335,6 +354,7 @@ def slot_root(data: bytes, slot: int) -> Root:
 
 
 def find_root(data: bytes) -> Root:
+    """The root that stands: of the open slots the one with the greater sequence."""
     if len(data) < 2 * BLOCK:
         raise Damage("32")
     open_slots = [slot for slot in (0, 1) if is_open(data, slot)]
@@ -352,6 +372,7 @@ def blocks_of(extent: Extent) -> tuple[int, int]:
 
 
 def record_at(data: bytes, extent: Extent, code: int) -> bytes:
+    """The bytes of a record, or the damage with this code."""
     first, end = blocks_of(extent)
     if first < 2 or end > len(data) // BLOCK:
         raise Damage(f"33 {code}")
@@ -375,6 +396,7 @@ def check_place_in_list(known: dict[bytes, Any], listed: Listed, content: Any) -
 
 
 def check_apart(extents: list[Extent]) -> None:
+    """No two records may share a block."""
     runs = sorted(blocks_of(extent) for extent in extents)
     if any(after[0] < before[1] for before, after in zip(runs, runs[1:])):
         raise Damage("33 9")
@@ -396,6 +418,7 @@ def read_layers(data: bytes, listing: list[Listed]) -> tuple[dict[bytes, Any], l
 
 
 def base_text(rings: Rings) -> str:
+    """The rings of a base layer as LAYERS writes them."""
     if not rings:
         return "MULTIPOLYGON EMPTY"
     members = ("((" + ", ".join(f"{x} {y}" for x, y in ring) + "))" for ring in rings)
@@ -403,6 +426,7 @@ def base_text(rings: Rings) -> str:
 
 
 def layer_line(name: bytes, content: Any) -> str:
+    """A layer as LAYERS writes it."""
     text = base_text(content) if isinstance(content, list) else "= " + spelled(content).decode()
     return f"layer {name.decode()} {text}"
 
@@ -478,6 +502,7 @@ def six_blocks(vectors: list[bytes]) -> bytes:
 
 
 def point_text(data: bytes) -> str:
+    """A named point as the page writes it."""
     try:
         return " ".join(str(value) for value in named_point(Bytes(data)))
     except NotOfTheForm:

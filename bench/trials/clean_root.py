@@ -52,6 +52,7 @@ class Root:
         self.folder = folder
 
     def ran(self, *words: str, user: str = "", path: str = "/usr/sbin:/usr/bin:/sbin:/bin") -> Done:
+        """Runs a command in the root."""
         proc = f"--mount-proc={self.folder}/proc"
         own = ["unshare", "--mount", "--pid", "--fork", proc, "sh", "-c", SHARED, str(self.folder)]
         who = [f"--userspec={user}:nogroup"] if user else []
@@ -121,6 +122,7 @@ def try_uses(tries: Tries, root: Root, how: str, path: str) -> None:
 
 
 def try_package(tries: Tries, root: Root, package: pathlib.Path) -> None:
+    """The package: installed, used, and purged."""
     before = root.files()
     shutil.copy(package, root.folder / "tmp/overlayd.deb")
     for turn in ("installed", "installed over itself"):
@@ -141,6 +143,7 @@ def try_package(tries: Tries, root: Root, package: pathlib.Path) -> None:
 
 
 def try_archive(tries: Tries, root: Root, archive: pathlib.Path) -> None:
+    """The archive: unpacked and used."""
     subprocess.run(["tar", "-xf", archive, "-C", root.folder / "opt"], check=True)
     name = archive.name.removesuffix(".tar.gz")
     done = root.ran("sh", "-c", f"cd /opt/{name} && md5sum --quiet -c md5sums")
@@ -149,6 +152,7 @@ def try_archive(tries: Tries, root: Root, archive: pathlib.Path) -> None:
 
 
 def try_lintian(tries: Tries, package: pathlib.Path) -> None:
+    """What lintian says of the package."""
     web_front.need("lintian", "lintian")
     done = subprocess.run(["lintian", "--allow-root", package], capture_output=True, text=True, check=False)
     tags = {line.split(": ", 2)[2].split()[0] for line in done.stdout.splitlines() if line[:3] in ("E: ", "W: ")}

@@ -63,6 +63,7 @@ def put(at: int, data: bytes) -> Changes:
 
 
 def apply(data: bytes, length: int, changes: Changes) -> bytes:
+    """A file, cut to a length and changed."""
     file = bytearray(data[:length])
     for at, byte in changes:
         file[at] = byte
@@ -119,6 +120,7 @@ def cuts(program: pathlib.Path, folder: pathlib.Path, name: str, one: bytes) -> 
 
 
 def shown(counts: collections.Counter[str]) -> str:
+    """Counts by their names."""
     return ", ".join(f"{name} {count}" for name, count in sorted(counts.items()))
 
 
@@ -169,6 +171,7 @@ def named_old(six: bytes) -> Iterator[Alteration]:
 
 
 def alterations(program: pathlib.Path, folder: pathlib.Path, cases: Iterable[Alteration]) -> int:
+    """Makes named alterations, and compares the answers with the wanted ones; how many are wrong."""
     wrong, cases = 0, list(cases)
     for name, data, changes, wanted in cases:
         told, _ = plain(answers(program, folder, data, [(len(data), changes)])[0])
@@ -210,10 +213,12 @@ def each_byte(
 
 
 def both_ends(_byte: int) -> Sequence[int]:
+    """The least byte and the greatest."""
     return (0x00, 0xFF)
 
 
 def turned(byte: int) -> Sequence[int]:
+    """A byte with each of its bits turned."""
     return [byte ^ 1 << bit for bit in range(8)]
 
 

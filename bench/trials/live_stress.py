@@ -45,6 +45,7 @@ class LiveScript(stress.Script):
     """Draws the lines of one session, those of a batch together."""
 
     def batch(self) -> list[str]:
+        """The lines of a batch, good or bad."""
         if self.draw.random() < 0.05:
             return [self.draw.choice(BAD_SIZES)]
         count = self.draw.choice([1, 2, 2, 3, 5])
@@ -54,6 +55,7 @@ class LiveScript(stress.Script):
         return [f"BATCH {count}", *lines]
 
     def lines(self) -> list[str]:
+        """The lines that are drawn next."""
         return self.batch() if self.draw.random() < 0.08 else super().lines()
 
 
@@ -622,6 +624,7 @@ def is_right(events: list[tuple[Any, ...]], left: tuple[int, list[str]] | None) 
 
 
 def test() -> int:
+    """Judges the cases above."""
     failed = 0
     for events, left, wanted in CASES:
         if is_right(events, left) != wanted:

@@ -36,6 +36,7 @@ def ogr(*words: str | pathlib.Path) -> str:
 
 
 def exact_area(rings: list[overlay_client.Ring]) -> Fraction:
+    """The area of rings by fractions."""
     return (
         sum((a[0] * b[1] - b[0] * a[1] for ring in rings for a, b in zip(ring, ring[1:] + ring[:1])), Fraction(0)) / 2
     )
@@ -61,6 +62,7 @@ def exact_layers(store: pathlib.Path, program: str) -> dict[str, list[list[overl
 
 
 def lists(address: str, exact: dict[str, list[list[overlay_client.Ring]]], tries: Tries) -> None:
+    """Looks at what ogrinfo tells of each layer."""
     text = ogr("ogrinfo", f"OAPIF:{address}")
     names = re.findall(r"^\d+: (\w+)", text, re.M)
     tries.that(names == ["iceland_110m", "iceland_50m", "both", "one"], f"ogrinfo lists {names}")
@@ -76,6 +78,7 @@ def lists(address: str, exact: dict[str, list[list[overlay_client.Ring]]], tries
 
 
 def filters(address: str, tries: Tries) -> None:
+    """Compares a box by GDAL with the same by the front."""
     west, south, east, north = BOX
     text = ogr("ogrinfo", "-al", "-so", "-spat", *map(str, BOX), f"OAPIF:{address}", "one")
     front = json.loads(
@@ -86,6 +89,7 @@ def filters(address: str, tries: Tries) -> None:
 
 
 def copies(address: str, folder: pathlib.Path, exact: dict[str, list[list[overlay_client.Ring]]], tries: Tries) -> None:
+    """Compares what ogr2ogr copies with the exact rings."""
     for name, polygons in exact.items():
         package = folder / f"{name}.gpkg"
         ogr("ogr2ogr", "-f", "GPKG", package, f"OAPIF:{address}", name)

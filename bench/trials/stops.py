@@ -149,6 +149,7 @@ def events_of(text: str, store: str) -> list[Event]:
 
 
 def store_event(word: str, rest: str, result: int, strings: list[tuple[str, str]]) -> Event:
+    """What a call on the store is: a write or a sync."""
     if word == "pwrite64":
         data = bytes_of(strings[0][0])
         if len(data) != result:
@@ -236,6 +237,7 @@ class Replay:
         return max(number for number in (kept, self.told) if number is not None)
 
     def end_epoch(self) -> None:
+        """Takes the writes since the last sync for synced."""
         self.epochs.append(Epoch(self.synced, self.writes, self.least()))
         self.synced = laid(self.synced, self.writes)
         self.writes = []
@@ -276,6 +278,7 @@ class Versions:
                     raise judging.Wrong(f"{reply[0]} for command {self.history.last()}")
 
     def lines(self, number: int) -> list[str]:
+        """The lines of the layers of a version."""
         return self.history.versions[number].lines()
 
     def are_right(self, data: bytes, number: int) -> bool:
@@ -343,6 +346,7 @@ class Tries:
                 self.files[digest] = (max(known) if known else None, place, writes, length)
 
     def file(self, place: int) -> bytes:
+        """The bytes of a file, by its place."""
         _, epoch, writes, length = list(self.files.values())[place]
         return laid(self.epochs[epoch].synced, writes).ljust(length, b"\0")
 

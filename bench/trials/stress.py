@@ -38,23 +38,27 @@ Asked = tuple[str, list[str]]  # a line, and the reply that it has to have
 
 
 def rectangle(draw: random.Random) -> list[Point]:
+    """A rectangle on a grid of 5."""
     x, y = draw.randrange(-60, 50, 5), draw.randrange(-60, 50, 5)
     right, top = x + draw.randrange(5, 40, 5), y + draw.randrange(5, 40, 5)
     return [(x, y), (right, y), (right, top), (x, top), (x, y)]
 
 
 def random_ring(draw: random.Random) -> list[Point]:
+    """A ring of random points, which may cross itself."""
     points = [(draw.randrange(-60, 61), draw.randrange(-60, 61)) for _ in range(draw.randrange(3, 7))]
     return points + points[:1]
 
 
 def wide_ring(draw: random.Random) -> list[Point]:
+    """A rectangle over several columns."""
     left, right = sorted(draw.sample(FAR, 2))
     y, top = sorted(draw.sample(range(-60, 61), 2))
     return [(left, y), (right, y), (right, top), (left, top), (left, y)]
 
 
 def text(draw: random.Random) -> str:
+    """A base layer as Well-Known Text."""
     kinds: Sequence[Callable[[random.Random], list[Point]]] = [rectangle] * 5 + [random_ring] * 4 + [wide_ring]
     rings = [draw.choice(kinds)(draw) for _ in range(draw.choice([0, 1, 1, 1, 1, 2, 2, 3]))]
     if len(rings) == 1 and draw.random() < 0.7:
@@ -63,6 +67,7 @@ def text(draw: random.Random) -> str:
 
 
 def expression(draw: random.Random) -> str:
+    """A definition over one to three names."""
     count = draw.choice([1, 2, 2, 2, 3])
     names = [draw.choice(BASES[:10] if draw.random() < 0.88 else DERIVED[:12]) for _ in range(count)]
     words = names[:1]
@@ -94,31 +99,40 @@ class Script:
         self.points = points
 
     def name(self) -> str:
+        """A name, of a layer or of none."""
         return self.draw.choice(BASES[:10] if self.draw.random() < 0.4 else DERIVED[:14])
 
     def column(self) -> int:
+        """A column, mostly one that the rings lie in."""
         return self.draw.choice([15, 16, 15, 16, 15, 16, 15, 16, self.draw.randrange(model.COLUMNS)])
 
     def put(self) -> str:
+        """A PUT."""
         return f"PUT {self.draw.choice(BASES)} {self.draw.choice(self.texts)}"
 
     def define(self) -> str:
+        """A DEFINE."""
         return f"DEFINE {self.draw.choice(DERIVED)} = {expression(self.draw)}"
 
     def drop(self) -> str:
+        """A DROP."""
         return f"DROP {self.draw.choice(BASES + DERIVED)}"
 
     def locate(self) -> str:
+        """A LOCATE."""
         x, y, w = self.draw.choice(self.points)
         return f"LOCATE {self.name()} {x} {y}" + (f" {w}" if w > 1 or self.draw.random() < 0.1 else "")
 
     def edges(self) -> str:
+        """An EDGES."""
         return f"EDGES {self.draw.choice(DERIVED[:14])} {self.column()}"
 
     def verify(self) -> str:
+        """A VERIFY."""
         return f"VERIFY {self.draw.choice(DERIVED[:14])} {self.column()}"
 
     def grid(self) -> str:
+        """A GRID."""
         across, up, step = self.draw.choice([(8, 8, 10), (4, 3, 15), (12, 1, 7)])
         x, y = self.draw.choice([-60, -30, 0]), self.draw.choice([-60, -30, 0])
         return f"GRID {self.name()} {x} {y} {step} {across} {up}"
@@ -131,14 +145,17 @@ class Script:
         return [f"WAIT {name}", f"EDGES {name} {column}", f"VERIFY {name} {column}"]
 
     def broken(self) -> str:
+        """A line that is refused, or that is hard to read."""
         if self.draw.random() < 0.01:
             return "#" * 65537
         return self.draw.choice(BROKEN)
 
     def skipped(self) -> str:
+        """A line that has no reply."""
         return self.draw.choice(["", "  \t", "# a comment", "#"])
 
     def lines(self) -> list[str]:
+        """The lines that are drawn next."""
         kinds: list[tuple[Callable[[], str | list[str]], int]] = [
             (self.put, 18), (self.define, 12), (self.drop, 4), (self.locate, 32), (self.edges, 6), (self.verify, 4),
             (self.grid, 3), (lambda: "LAYERS", 2), (self.wait, 5), (lambda: "SYNC", 1), (self.broken, 6),
@@ -233,6 +250,7 @@ class Final:
         self.wrong: list[str] = []
 
     def check(self, is_right: bool, what: str) -> None:
+        """Takes down what is not right."""
         if not is_right:
             self.wrong.append(what)
 
@@ -252,11 +270,13 @@ class Final:
         return len(tiles)
 
     def question(self, word: str, name: str, *numbers: int) -> Asked:
+        """A question by its line, with its reply."""
         question = model.Question(word, name, numbers)
         reply = model.answer_or_refusal(self.meanings, question, self.keys[name])
         return " ".join([word, name, *map(str, numbers)]), reply
 
     def tile_questions(self, word: str) -> list[Asked]:
+        """A question for each column of each derived layer."""
         return [self.question(word, name, column) for name in self.derived for column in range(model.COLUMNS)]
 
     def questions(self) -> list[Asked]:

@@ -30,6 +30,7 @@ HERE = pathlib.Path(__file__).resolve().parent
 
 
 def points_of_a_grid(draws: Draws, width: int | None = None) -> list[Layer]:
+    """Rings between the points of a small grid."""
     width = width or draws.among([1, 2, 3, 4, 6])
 
     def ring() -> list[Point]:
@@ -39,6 +40,7 @@ def points_of_a_grid(draws: Draws, width: int | None = None) -> list[Layer]:
 
 
 def through_one_point(draws: Draws) -> list[Layer]:
+    """Rings whose edges pass one point."""
     width = draws.among([2, 3, 4])
 
     def ring() -> list[Point]:
@@ -50,6 +52,7 @@ def through_one_point(draws: Draws) -> list[Layer]:
 
 
 def on_few_lines(draws: Draws) -> list[Layer]:
+    """Rings between points of two lines."""
     width = draws.among([4, 6])
     places = range(width + 1)
     lines = [
@@ -65,11 +68,13 @@ def on_few_lines(draws: Draws) -> list[Layer]:
 
 
 def doubled(draws: Draws) -> list[Layer]:
+    """Rings that occur twice."""
     first, second = points_of_a_grid(draws)
     return [first + first[: draws.below(2)], second + first[: 1 + draws.below(2)]]
 
 
 def rectangles(draws: Draws) -> list[Layer]:
+    """Rectangles and triangles that share borders."""
     width, height = draws.among([2, 3, 4]), draws.among([3, 6, 9])
 
     def ring() -> list[Point]:
@@ -83,6 +88,7 @@ def rectangles(draws: Draws) -> list[Layer]:
 
 
 def wide(draws: Draws) -> list[Layer]:
+    """Rings between the points of a larger grid."""
     return points_of_a_grid(draws, draws.among([10, 20, 40]))
 
 
@@ -92,10 +98,12 @@ KINDS: list[Callable[[Draws], list[Layer]]] = [
 
 
 def border(column: int) -> int:
+    """Where a column begins."""
     return -COORDINATE_MAX + column * WIDTH
 
 
 def within(coordinate: int) -> int:
+    """The nearest coordinate of the plane."""
     return max(-COORDINATE_MAX, min(COORDINATE_MAX, coordinate))
 
 
@@ -128,6 +136,7 @@ def at_full_coordinates(draws: Draws) -> tuple[int, list[Layer]]:
 
 
 def drawn(number: int) -> tuple[int, str, list[Layer]]:
+    """The input of a number: its column, definition and layers."""
     draws = Draws(number)
     column, layers = at_full_coordinates(draws) if number % 4 == 0 else near_a_border(draws)
     return column, draws.among(["A ^ B", "A & B", "A | B", "A - B", "B - A", "(A - B) | (B - A)"]), layers
@@ -137,15 +146,18 @@ def drawn(number: int) -> tuple[int, str, list[Layer]]:
 
 
 def edges_in(column: int, layers: list[Layer]) -> list[tuple[Point, Point]]:
+    """The edges that reach into a column, each from left to right."""
     pairs = [tuple(sorted(pair)) for layer in layers for ring in layer for pair in zip(ring, ring[1:])]
     return [(l, r) for l, r in pairs if l != r and border(column) <= r[0] and l[0] < border(column + 1)]
 
 
 def turn(a: Point, b: Point, p: Point) -> int:
+    """The cross product of the ways from a to b and from a to p."""
     return (b[0] - a[0]) * (p[1] - a[1]) - (b[1] - a[1]) * (p[0] - a[0])
 
 
 def features(column: int, layers: list[Layer]) -> set[str]:
+    """What is peculiar about an input, by names."""
     edges = edges_in(column, layers)
     found = set()
     for l, r in edges:
@@ -165,6 +177,7 @@ def features(column: int, layers: list[Layer]) -> set[str]:
 
 
 def compare(program: pathlib.Path, folder: pathlib.Path) -> int:
+    """Has the program compare the tiles of all inputs; the status."""
     counts: dict[str, int] = {}
     text = []
     for number in range(2000):

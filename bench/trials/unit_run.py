@@ -69,10 +69,12 @@ class Machine:
         self.first = first
 
     def ran(self, *words: str) -> Done:
+        """Runs a command in the machine."""
         within = ["nsenter", "-t", str(self.first), "-m", "-u", "-i", "-n", "-p", "-C", "-r", "-w", *words]
         return subprocess.run(within, capture_output=True, text=True, check=False, timeout=2 * SECONDS)
 
     def shown(self, unit: str, name: str) -> str:
+        """A property of a unit."""
         return self.ran("systemctl", "show", "--property", name, "--value", unit).stdout.strip()
 
     def asked(self, method: str, address: str, *body: str) -> tuple[int, str]:
