@@ -1,13 +1,31 @@
-"""A module for what tries or tests itself: its last line, `N passed, M failed`, and the status that goes with it."""
+"""A module for programs of bench/: their words, a folder for a run, what was tried, and the last line, `N passed, M failed`."""
 
 from __future__ import annotations
 
+import argparse
 import contextlib
 import pathlib
 import shutil
+import sys
 import tempfile
-from collections.abc import Iterable, Iterator
+from collections.abc import Callable, Iterable, Iterator
 from typing import Any
+
+
+class Words(argparse.ArgumentParser):
+    """The words of a program, told with its page as it stands; --test alone tests the program itself."""
+
+    def __init__(self, page: str | None, test: Callable[[], int | None] | None = None) -> None:
+        super().__init__(description=page, formatter_class=argparse.RawDescriptionHelpFormatter)
+        self.test = test
+        if test:
+            self.add_argument("--test", action="store_true", help="test the script itself, and nothing else")
+
+    def words(self) -> argparse.Namespace:
+        """The words of the call; a test ends it with its status."""
+        if self.test and sys.argv[1:] == ["--test"]:
+            sys.exit(self.test())
+        return self.parse_args()
 
 
 def counted(passed: int, failed: int) -> int:

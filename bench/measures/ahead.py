@@ -6,7 +6,6 @@ PROGRAM is the built overlay_live. Each pair is a polygon of 8 corners and one o
 Each way prints microseconds of processors for a pair, of Python and of the program; the pieces are compared.
 """
 
-import argparse
 import math
 import random
 import resource
@@ -14,6 +13,7 @@ import sys
 import time
 from collections.abc import Callable, Iterator
 
+from bench.counting import Words
 import limits
 from overlay_client import COLUMNS, Piece, Server, Session, edges_lines
 
@@ -87,10 +87,10 @@ def seconds_of(program: str, way: Way, asked: Pairs) -> tuple[float, float, list
 
 
 def main() -> int:
-    parser = argparse.ArgumentParser(description=__doc__, formatter_class=argparse.RawDescriptionHelpFormatter)
+    parser = Words(__doc__)
     parser.add_argument("program", metavar="PROGRAM")
     parser.add_argument("--pairs", type=int, default=1000)
-    words = parser.parse_args()
+    words = parser.words()
     asked, results = pairs(words.pairs), []
     print("| how | Python, us a pair | program, us a pair |\n|---|---|---|")
     for way in (one_line_at_a_time, boundary_of_a_batch, many_lines_ahead):

@@ -11,13 +11,13 @@ is taken, and all have to write the same text.
 
 from __future__ import annotations
 
-import argparse
 import pathlib
 import subprocess
 import tempfile
 from collections.abc import Iterator
 
 from bench import tile_texts, unproved
+from bench.counting import Words
 from bench.measures import tiles, turns
 
 HERE = pathlib.Path(__file__).resolve().parent
@@ -52,10 +52,10 @@ def built_of(commit: str, folder: pathlib.Path) -> pathlib.Path:
 
 
 def main() -> None:
-    parser = argparse.ArgumentParser(description=__doc__, formatter_class=argparse.RawDescriptionHelpFormatter)
+    parser = Words(__doc__)
     parser.add_argument("--built", type=pathlib.Path, action="append", default=[])
     parser.add_argument("--beside", metavar="COMMIT")
-    words = parser.parse_args()
+    words = parser.words()
     with tempfile.TemporaryDirectory() as place:
         folder = pathlib.Path(place)
         programs = [program.resolve() for program in words.built]

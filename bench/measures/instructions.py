@@ -12,7 +12,6 @@ is asked for the columns that it has. The layers are those of peers.py, and two 
 
 from __future__ import annotations
 
-import argparse
 import pathlib
 import re
 import subprocess
@@ -20,7 +19,7 @@ import sys
 import tempfile
 from collections.abc import Iterator, Sequence
 
-from bench.counting import checked
+from bench.counting import Words, checked
 from bench.measures import peers, tiles
 from bench.tile_texts import Layer, closed
 from limits import COLUMNS
@@ -104,12 +103,10 @@ def test() -> int:
 
 
 def main() -> int:
-    if sys.argv[1:] == ["--test"]:
-        return test()
-    parser = argparse.ArgumentParser(description=__doc__, formatter_class=argparse.RawDescriptionHelpFormatter)
+    parser = Words(__doc__, test)
     parser.add_argument("programs", type=pathlib.Path, nargs="+")
     parser.add_argument("--only", action="append", default=[], help="as `star of 64`, `two squares in one column`")
-    words = parser.parse_args()
+    words = parser.words()
     with tempfile.TemporaryDirectory() as place:
         measure([program.resolve() for program in words.programs], pathlib.Path(place), words.only)
     return 0

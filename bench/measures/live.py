@@ -27,7 +27,7 @@ import time
 from collections.abc import Iterator, Sequence
 from typing import NamedTuple
 
-from bench.counting import counted
+from bench.counting import Words, counted
 from bench.measures import serving
 
 HERE = pathlib.Path(__file__).resolve().parent
@@ -333,14 +333,12 @@ def test() -> int:
 
 
 def main() -> int:
-    if sys.argv[1:] == ["--test"]:
-        return test()
-    parser = argparse.ArgumentParser(description=__doc__, formatter_class=argparse.RawDescriptionHelpFormatter)
+    parser = Words(__doc__, test)
     parser.add_argument("program")
     parser.add_argument("--quick", action="store_true")
     parser.add_argument("--install", action="store_true", help="gets SpatiaLite and PostGIS by apt-get first")
     parser.add_argument("--folder", help="where the store is made")
-    words = parser.parse_args()
+    words = parser.words()
     words.program = os.path.abspath(words.program)
     if words.install:
         options = ["-y", "-q", "--no-upgrade", "--no-install-recommends"]

@@ -13,12 +13,12 @@ Several programs run in turns, five times each, and the least time is taken.
 
 from __future__ import annotations
 
-import argparse
 import pathlib
 import tempfile
 from collections.abc import Iterator
 
 from bench import tile_texts, unproved
+from bench.counting import Words
 from bench.measures import serving, tiles, turns
 
 HERE = pathlib.Path(__file__).resolve().parent
@@ -75,10 +75,10 @@ def lines(programs: list[pathlib.Path], folder: pathlib.Path) -> None:
 
 
 def main() -> None:
-    parser = argparse.ArgumentParser(description=__doc__, formatter_class=argparse.RawDescriptionHelpFormatter)
+    parser = Words(__doc__)
     parser.add_argument("--program", type=pathlib.Path, action="append", default=[])
     parser.add_argument("--built", type=pathlib.Path, action="append", default=[])
-    words = parser.parse_args()
+    words = parser.words()
     with tempfile.TemporaryDirectory() as place:
         folder = pathlib.Path(place)
         if words.program:

@@ -23,6 +23,7 @@ from collections.abc import Iterator
 from typing import Any, NamedTuple
 
 from bench import TOP
+from bench.counting import Words
 
 PYTHON = "/usr/bin/python3"
 Table = dict[tuple[str, str], float]
@@ -156,7 +157,7 @@ def boxes_that_meet(folder: pathlib.Path) -> int:
 
 
 def main() -> int:
-    parser = argparse.ArgumentParser(description=__doc__, formatter_class=argparse.RawDescriptionHelpFormatter)
+    parser = Words(__doc__)
     parser.add_argument("live", metavar="LIVE")
     parser.add_argument("--parcels", type=int, default=15_000)
     parser.add_argument("--zones", type=int, default=700)
@@ -164,7 +165,7 @@ def main() -> int:
     parser.add_argument("--folder", type=pathlib.Path, help="keeps maps and tables there")
     parser.add_argument("--only", action="append", choices=[*READERS, "PostGIS"])
     parser.add_argument("--peer", nargs=2, help=argparse.SUPPRESS)
-    words = parser.parse_args()
+    words = parser.words()
     if words.peer:
         peer(words.peer[0], words.folder, pathlib.Path(words.peer[1]))
         return 0

@@ -9,7 +9,6 @@ sum of PSS of /proc/PROCESS/smaps_rollup, in which a page that several have coun
 Status 1: the run fails, or takes more than --seconds or --megabytes.
 """
 
-import argparse
 import contextlib
 import hashlib
 import pathlib
@@ -20,6 +19,7 @@ import tempfile
 import time
 
 from bench import TOP
+from bench.counting import Words
 
 PYTHON, TOOL, MAKING = "/usr/bin/python3", TOP / "tools" / "overlay_maps.py", TOP / "bench" / "map_making.py"
 EACH = 0.25  # seconds between two looks
@@ -57,7 +57,7 @@ def watched(words: list[str]) -> tuple[int, float, float, float]:
 
 
 def main() -> int:
-    parser = argparse.ArgumentParser(description=__doc__, formatter_class=argparse.RawDescriptionHelpFormatter)
+    parser = Words(__doc__)
     parser.add_argument("live", metavar="LIVE")
     parser.add_argument("--parcels", type=int, default=300_000)
     parser.add_argument("--zones", type=int, default=20_000)

@@ -7,7 +7,6 @@ in one hole, are joined of their pieces; features of four sides, each with a com
 which overlap, are looked at by to_script.py --check. Prints processor seconds, of Python and of the program.
 """
 
-import argparse
 import json
 import pathlib
 import random
@@ -20,6 +19,7 @@ from collections.abc import Callable, Iterator
 
 import to_rings
 from bench import TOP
+from bench.counting import Words
 from sessions import Piece
 
 Ring = list[tuple[int, int]]
@@ -94,7 +94,7 @@ def check_figure(program: str, count: int) -> tuple[str, float]:
 
 
 def main(arguments: list[str]) -> int:
-    parser = argparse.ArgumentParser(description=__doc__, formatter_class=argparse.RawDescriptionHelpFormatter)
+    parser = Words(__doc__)
     parser.add_argument("program", metavar="PROGRAM")
     parser.add_argument("--rings", metavar="N", type=int, default=100_000)
     parser.add_argument("--features", metavar="N", type=int, default=20_000)

@@ -15,13 +15,13 @@ Processor seconds, the least of several runs; ours is the difference of two scri
 
 from __future__ import annotations
 
-import argparse
 import pathlib
 import subprocess
 import sys
 import tempfile
 
 from bench import tile_texts
+from bench.counting import Words
 from bench.measures import serving, tiles
 from bench.tile_texts import Layer
 from limits import COLUMNS, COORDINATE_MAX
@@ -129,11 +129,11 @@ def locates(programs: list[pathlib.Path], built: dict[str, pathlib.Path], folder
 
 
 def main() -> None:
-    parser = argparse.ArgumentParser(description=__doc__, formatter_class=argparse.RawDescriptionHelpFormatter)
+    parser = Words(__doc__)
     parser.add_argument("programs", type=pathlib.Path, nargs="+")
     parser.add_argument("--edges", type=int, action="append")
     parser.add_argument("--only", action="append", help="star, parcels, self-crossing, comb, sliver, points")
-    words = parser.parse_args()
+    words = parser.words()
     programs = [program.resolve() for program in words.programs]
     with tempfile.TemporaryDirectory() as place:
         folder = pathlib.Path(place)

@@ -23,6 +23,7 @@ import sys
 import tempfile
 import time
 
+from bench.counting import Words
 from bench.processor_time import processor
 from limits import COLUMNS
 
@@ -213,13 +214,11 @@ def test() -> int:
 
 
 def main() -> int:
-    if sys.argv[1:] == ["--test"]:
-        return test()
-    parser = argparse.ArgumentParser(description=__doc__, formatter_class=argparse.RawDescriptionHelpFormatter)
+    parser = Words(__doc__, test)
     parser.add_argument("program")
     parser.add_argument("--quick", action="store_true")
     parser.add_argument("--folder", help="where the store is made")
-    words = parser.parse_args()
+    words = parser.words()
     words.program = os.path.abspath(words.program)
     with tempfile.TemporaryDirectory(prefix="serving", dir=words.folder) as place:
         return measure(words, pathlib.Path(place))

@@ -10,13 +10,13 @@ a count raised, the mutex given back and the count lowered again.
 
 from __future__ import annotations
 
-import argparse
 import pathlib
 import subprocess
 import sys
 import tempfile
 
 from bench import unproved
+from bench.counting import Words
 
 HERE = pathlib.Path(__file__).resolve().parent
 
@@ -28,9 +28,9 @@ def best(words: list[pathlib.Path]) -> list[int]:
 
 
 def main() -> int:
-    parser = argparse.ArgumentParser(description=__doc__, formatter_class=argparse.RawDescriptionHelpFormatter)
+    parser = Words(__doc__)
     parser.add_argument("program", type=pathlib.Path, nargs="?")
-    words = parser.parse_args()
+    words = parser.words()
     with tempfile.TemporaryDirectory() as folder:
         if words.program:
             program = words.program.resolve()

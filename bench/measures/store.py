@@ -11,7 +11,6 @@ those without the work, each on a disk in memory.
 
 from __future__ import annotations
 
-import argparse
 import pathlib
 import struct
 import subprocess
@@ -21,6 +20,7 @@ from collections.abc import Callable
 from typing import Optional
 
 from bench import unproved
+from bench.counting import Words
 from bench.processor_time import processor
 from bench.reference import read_store
 from limits import COLUMNS, COORDINATE_MAX, LAYERS_MAX, column_begin
@@ -234,11 +234,9 @@ def test() -> int:
 
 
 def main() -> int:
-    if sys.argv[1:] == ["--test"]:
-        return test()
-    parser = argparse.ArgumentParser(description=__doc__, formatter_class=argparse.RawDescriptionHelpFormatter)
+    parser = Words(__doc__, test)
     parser.add_argument("programs", type=pathlib.Path, nargs="*")
-    words = parser.parse_args()
+    words = parser.words()
     with tempfile.TemporaryDirectory() as folder:
         programs = [program.resolve() for program in words.programs] or [built(folder)]
         program = programs[0]

@@ -11,7 +11,6 @@ take a tenth of a second or more, in turns, or one run where it takes more than 
 
 from __future__ import annotations
 
-import argparse
 import math
 import pathlib
 import subprocess
@@ -19,6 +18,7 @@ import tempfile
 from collections.abc import Iterable
 
 from bench import unproved
+from bench.counting import Words
 from bench.processor_time import processor
 from bench.tile_texts import Draws, Layer, Point, closed, lines_of
 
@@ -185,9 +185,9 @@ def measure(programs: list[pathlib.Path], folder: pathlib.Path) -> None:
 
 
 def main() -> None:
-    parser = argparse.ArgumentParser(description=__doc__, formatter_class=argparse.RawDescriptionHelpFormatter)
+    parser = Words(__doc__)
     parser.add_argument("programs", type=pathlib.Path, nargs="*", default=[])
-    words = parser.parse_args()
+    words = parser.words()
     with tempfile.TemporaryDirectory() as name:
         folder = pathlib.Path(name)
         programs = [program.resolve() for program in words.programs]

@@ -10,13 +10,13 @@ built before. Several run in turns, five times each, and the least time is taken
 
 from __future__ import annotations
 
-import argparse
 import math
 import pathlib
 import tempfile
 from collections.abc import Iterator
 
 from bench import unproved
+from bench.counting import Words
 from bench.measures import turns
 
 HERE = pathlib.Path(__file__).resolve().parent
@@ -57,9 +57,9 @@ def told(words: list[str]) -> tuple[str, str, list[tuple[str, float]]]:
 
 
 def main() -> None:
-    parser = argparse.ArgumentParser(description=__doc__, formatter_class=argparse.RawDescriptionHelpFormatter)
+    parser = Words(__doc__)
     parser.add_argument("--built", action="append", default=[])
-    words = parser.parse_args()
+    words = parser.words()
     with tempfile.TemporaryDirectory() as folder:
         programs = [pathlib.Path(one).resolve() for one in words.built]
         if not programs:

@@ -9,7 +9,6 @@ Afterwards the whole once more by the standard library's server in the place of 
 
 from __future__ import annotations
 
-import argparse
 import http.client
 import json
 import multiprocessing
@@ -21,7 +20,7 @@ import urllib.parse
 from collections.abc import Callable
 
 from bench import web_front
-from bench.counting import counted
+from bench.counting import Words, counted
 
 Found = list[float]
 Ask = Callable[[http.client.HTTPConnection, int], bool]
@@ -120,12 +119,12 @@ def measure(address: str, label: str, clients: int, seconds: float) -> int:
 
 
 def main() -> int:
-    parser = argparse.ArgumentParser(description=__doc__, formatter_class=argparse.RawDescriptionHelpFormatter)
+    parser = Words(__doc__)
     parser.add_argument("--program", default=str(web_front.PROGRAM), help="the built overlay_live")
     parser.add_argument("--python", default=web_front.DEBIAN_PYTHON, help="the Python that runs the front")
     parser.add_argument("--clients", type=int, default=6, help="how many ask at once (default 6)")
     parser.add_argument("--seconds", type=float, default=8, help="how long each load lasts (default 8)")
-    words = parser.parse_args()
+    words = parser.words()
     web_front.need("/usr/lib/python3/dist-packages/waitress", "python3-waitress")
     fell = 0
     with tempfile.TemporaryDirectory() as place:

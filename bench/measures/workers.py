@@ -10,12 +10,12 @@ have 4 idle processors. Beside it stands how many times as much as one program f
 
 from __future__ import annotations
 
-import argparse
 import pathlib
 import subprocess
 import tempfile
 import time
 
+from bench.counting import Words
 from bench.measures import serving
 from limits import COLUMNS
 
@@ -75,9 +75,9 @@ def least(
 
 
 def main() -> None:
-    parser = argparse.ArgumentParser(description=__doc__, formatter_class=argparse.RawDescriptionHelpFormatter)
+    parser = Words(__doc__)
     parser.add_argument("programs", type=pathlib.Path, nargs="+")
-    programs = [program.resolve() for program in parser.parse_args().programs]
+    programs = [program.resolve() for program in parser.words().programs]
     cases = [
         ("a triangle put 20 times", 20, small(20)), ("two circles of 64 steps", 1, circles(64)),
         ("two circles of 1,024 steps", 1, circles(1024)),

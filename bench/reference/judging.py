@@ -12,7 +12,6 @@ since. Refusals of UNJUDGED are counted apart.
 
 from __future__ import annotations
 
-import argparse
 import bisect
 import collections
 import itertools
@@ -21,7 +20,7 @@ import sys
 from collections.abc import Callable, Iterable, Iterator, Sequence
 from typing import Any
 
-from bench.counting import counted
+from bench.counting import Words, counted
 from bench.reference import model
 from limits import COLUMNS
 
@@ -576,15 +575,10 @@ def test() -> int:
 
 def main() -> int:
     """Judges an output, or tests the judge."""
-    parser = argparse.ArgumentParser(description=__doc__, formatter_class=argparse.RawDescriptionHelpFormatter)
-    parser.add_argument("output", type=pathlib.Path, nargs="?", metavar="OUTPUT")
-    parser.add_argument("scripts", type=pathlib.Path, nargs="*", metavar="SCRIPT")
-    parser.add_argument("--test", action="store_true", help="test the script itself")
-    words = parser.parse_args()
-    if words.test:
-        return test()
-    if not words.scripts:
-        parser.error("an output and its scripts")
+    parser = Words(__doc__, test)
+    parser.add_argument("output", type=pathlib.Path, metavar="OUTPUT")
+    parser.add_argument("scripts", type=pathlib.Path, nargs="+", metavar="SCRIPT")
+    words = parser.words()
     judged = judge([script.read_bytes() for script in words.scripts], words.output.read_text())
     print("\n".join(judged.wrong))
     print(f"{sum(judged.replies.values())} replies, {judged.history.last()} accepted, {len(judged.wrong)} wrong")

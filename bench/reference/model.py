@@ -13,7 +13,6 @@ kept under a key.
 
 from __future__ import annotations
 
-import argparse
 import fractions
 import functools
 import math
@@ -24,6 +23,7 @@ from collections.abc import Callable, Iterable, Sequence, Set
 from typing import Any, NamedTuple
 
 from bench import TOP
+from bench.counting import Words
 from limits import (
     BATCH_MAX, COLUMN_WIDTH, COLUMNS, COORDINATE_MAX, GRID_MAX, LAYERS_MAX, LINE_MAX, NAME_MAX, PIECES_MAX, STEP_MAX,
     STEPS_MAX, TOKENS_MAX, WEIGHT_MAX,
@@ -868,14 +868,9 @@ def test() -> int:
 
 def main() -> int:
     """Prints the replies of a script, or runs the examples."""
-    parser = argparse.ArgumentParser(description=__doc__, formatter_class=argparse.RawDescriptionHelpFormatter)
-    parser.add_argument("script", type=pathlib.Path, nargs="?", metavar="SCRIPT")
-    parser.add_argument("--test", action="store_true", help="run the scripts of the examples")
-    words = parser.parse_args()
-    if words.test:
-        return test()
-    if not words.script:
-        parser.error("no script")
+    parser = Words(__doc__, test)
+    parser.add_argument("script", type=pathlib.Path, metavar="SCRIPT")
+    words = parser.words()
     for reply in replies_of(words.script.read_bytes()):
         print("\n".join(reply))
     return 0

@@ -11,7 +11,6 @@ vectors of docs/FORMAT.md and the damaged files that stand there, and looks whet
 
 from __future__ import annotations
 
-import argparse
 import fractions
 import pathlib
 import re
@@ -21,7 +20,7 @@ from collections.abc import Callable
 from typing import Any, NamedTuple, Union
 
 from bench import TOP
-from bench.counting import checked
+from bench.counting import Words, checked
 from limits import (
     COLUMN_WIDTH, COLUMNS, COORDINATE_MAX, LAYERS_MAX, NAME_MAX, PIECES_MAX, STEPS_MAX, TOKENS_MAX,
 )
@@ -545,14 +544,9 @@ def test() -> int:
 
 def main() -> int:
     """Reads a file, or the page."""
-    parser = argparse.ArgumentParser(description=__doc__, formatter_class=argparse.RawDescriptionHelpFormatter)
-    parser.add_argument("file", type=pathlib.Path, nargs="?")
-    parser.add_argument("--test", action="store_true", help="reads what stands in docs/FORMAT.md")
-    words = parser.parse_args()
-    if words.test:
-        return test()
-    if words.file is None:
-        parser.error("no file")
+    parser = Words(__doc__, test)
+    parser.add_argument("file", type=pathlib.Path)
+    words = parser.words()
     lines = told(words.file.read_bytes())
     print("\n".join(lines))
     return 0 if lines[0].startswith("version") else 1

@@ -28,7 +28,7 @@ from collections.abc import Callable
 from typing import Any
 
 from bench import web_front
-from bench.counting import Tries
+from bench.counting import Tries, Words
 from bench.web_front import asked
 
 SIZE = (1280, 800)
@@ -567,11 +567,11 @@ def visits(browser: Browser, words: argparse.Namespace, folder: pathlib.Path, tr
 
 
 def main() -> int:
-    parser = argparse.ArgumentParser(description=__doc__, formatter_class=argparse.RawDescriptionHelpFormatter)
+    parser = Words(__doc__)
     parser.add_argument("--program", default=str(web_front.PROGRAM), help="the built overlay_live")
     parser.add_argument("--python", default=web_front.DEBIAN_PYTHON, help="the Python that runs the front")
     parser.add_argument("--pictures", type=pathlib.Path, help="a folder for pictures of the page")
-    words = parser.parse_args()
+    words = parser.words()
     web_front.need("chromium", "chromium", "fonts-dejavu-core")
     web_front.need("/usr/share/javascript/leaflet", "libjs-leaflet")
     tries = Tries()

@@ -11,13 +11,13 @@ server's counts differ from run to run. Status 1: a run is wrong.
 
 from __future__ import annotations
 
-import argparse
 import pathlib
 import subprocess
 import sys
 import tempfile
 
 from bench import unproved
+from bench.counting import Words
 
 HERE = pathlib.Path(__file__).resolve().parent
 # A call that is wrong on purpose: its first growth refused is right, its second has changed what it was called on.
@@ -33,9 +33,9 @@ def are_told(line: str) -> bool:
 
 
 def main() -> int:
-    parser = argparse.ArgumentParser(description=__doc__, formatter_class=argparse.RawDescriptionHelpFormatter)
+    parser = Words(__doc__)
     parser.add_argument("program", type=pathlib.Path, nargs="?")
-    words = parser.parse_args()
+    words = parser.words()
     with tempfile.TemporaryDirectory() as folder:
         program = words.program.resolve() if words.program else unproved.built(HERE / "calls", folder)
         done = subprocess.run([program], stdout=subprocess.PIPE, text=True)

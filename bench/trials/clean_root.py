@@ -23,7 +23,7 @@ import sys
 import tempfile
 
 from bench import web_front
-from bench.counting import Tries
+from bench.counting import Tries, Words
 from bench.web_front import TOP
 
 SUITE, MIRROR = "bookworm", "http://deb.debian.org/debian"
@@ -161,11 +161,11 @@ def try_lintian(tries: Tries, package: pathlib.Path) -> None:
 
 def words_of(page: str | None) -> argparse.Namespace:
     """The words of a trial of the release in a root."""
-    parser = argparse.ArgumentParser(description=page, formatter_class=argparse.RawDescriptionHelpFormatter)
+    parser = Words(page)
     parser.add_argument("--programs", metavar="FOLDER", type=pathlib.Path,
                         help="where the programs are (default: those of the gate)")
     parser.add_argument("--base", metavar="FOLDER", type=pathlib.Path, help="a root that debootstrap made")
-    return parser.parse_args()
+    return parser.words()
 
 
 def copied_root(base: pathlib.Path | None, folder: pathlib.Path) -> pathlib.Path:

@@ -10,11 +10,11 @@ denied it once.
 
 from __future__ import annotations
 
-import argparse
 import random
 import subprocess
 import sys
 
+from bench.counting import Words
 from limits import COLUMNS
 
 Triangle = tuple[tuple[int, int], tuple[int, int], tuple[int, int]]
@@ -85,16 +85,12 @@ def test() -> None:
 
 def main() -> int:
     """Draws the pairs, asks, and prints what was said."""
-    parser = argparse.ArgumentParser(description=__doc__, formatter_class=argparse.RawDescriptionHelpFormatter)
+    parser = Words(__doc__, test)
     parser.add_argument("program", nargs="?", metavar="PROGRAM")
     parser.add_argument("--pairs", type=int, default=2000)
     parser.add_argument("--seed", type=int, default=1)
     parser.add_argument("--limit", type=int, default=1_000_000, help="the greatest coordinate")
-    parser.add_argument("--test", action="store_true", help="test the script itself")
-    words = parser.parse_args()
-    if words.test:
-        test()
-        return 0
+    words = parser.words()
     drawn = pairs(words.pairs, words.seed, words.limit)
     said = denied_by_geos(drawn)
     if said:

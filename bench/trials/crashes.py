@@ -8,26 +8,26 @@ an engine over a disk in memory. It is recovered from a crash behind each call, 
 files of format 1 (old_files.py). What recovers is one of two contents of a plain fold. Status 1: one is wrong or lost.
 """
 
-import argparse
 import pathlib
 import subprocess
 import sys
 import tempfile
 
 from bench import unproved
+from bench.counting import Words
 from bench.trials import old_files
 
 HERE = pathlib.Path(__file__).resolve().parent
 
 
 def main() -> int:
-    parser = argparse.ArgumentParser(description=__doc__, formatter_class=argparse.RawDescriptionHelpFormatter)
+    parser = Words(__doc__)
     parser.add_argument("program", type=pathlib.Path, nargs="?")
     parser.add_argument("--first", type=int, default=0, metavar="SEED", help="the seed of the first list (0)")
     parser.add_argument("--lists", type=int, default=200, metavar="N", help="how many lists (200)")
     parser.add_argument("--steps", type=int, default=60, metavar="N", help="steps of a list (60)")
     parser.add_argument("--lives", type=int, default=2, metavar="N", help="how often an engine goes on (2)")
-    words = parser.parse_args()
+    words = parser.words()
     with tempfile.TemporaryDirectory() as place:
         folder = pathlib.Path(place)
         program = words.program.resolve() if words.program else unproved.built(HERE / "crashes", folder)

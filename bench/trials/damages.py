@@ -12,7 +12,6 @@ returns. At last sessions whose reader or writer fails. Status 1: anything is wr
 
 from __future__ import annotations
 
-import argparse
 import collections
 import pathlib
 import struct
@@ -22,7 +21,7 @@ import tempfile
 from collections.abc import Callable, Iterable, Iterator, Sequence
 
 from bench import unproved
-from bench.counting import checked
+from bench.counting import Words, checked
 from bench.reference import model, read_store
 from bench.trials import old_files, stress
 
@@ -302,13 +301,10 @@ def test() -> int:
 
 
 def main() -> int:
-    parser = argparse.ArgumentParser(description=__doc__, formatter_class=argparse.RawDescriptionHelpFormatter)
+    parser = Words(__doc__, test)
     parser.add_argument("program", type=pathlib.Path, nargs="?")
     parser.add_argument("sessions", type=pathlib.Path, nargs="?")
-    parser.add_argument("--test", action="store_true", help="test the script itself")
-    words = parser.parse_args()
-    if words.test:
-        return test()
+    words = parser.words()
     given = [one for one in (words.program, words.sessions) if one]
     if len(given) == 1:
         parser.error("a program without sessions")

@@ -26,7 +26,7 @@ import time
 from collections.abc import Iterator, Sequence
 from typing import Any, NamedTuple
 
-from bench.counting import Kept, counted
+from bench.counting import Kept, Words, counted
 from bench.reference import judging, model, read_store
 from bench.trials import stress
 
@@ -634,14 +634,12 @@ def test() -> int:
 
 
 def main() -> int:
-    if sys.argv[1:] == ["--test"]:
-        return test()
-    parser = argparse.ArgumentParser(description=__doc__, formatter_class=argparse.RawDescriptionHelpFormatter)
+    parser = Words(__doc__, test)
     parser.add_argument("program", help="overlay_live")
     parser.add_argument("--seconds", type=float, default=60, help="how long runs begin (60)")
     parser.add_argument("--seed", type=int, default=1)
     parser.add_argument("--keep", metavar="FOLDER", help="keeps the store here")
-    words = parser.parse_args()
+    words = parser.words()
     kept = Kept(words.keep, "live_stress")
     passed, kept.wrong = stressed(words, kept.folder)
     kept.end()

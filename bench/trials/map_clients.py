@@ -16,7 +16,6 @@ that is told. Status 0 and a last line `N passed, 0 failed`, or what fell.
 
 from __future__ import annotations
 
-import argparse
 import contextlib
 import json
 import os
@@ -38,7 +37,7 @@ from owslib.ogcapi.features import Features  # noqa: E402
 from shapely import geometry, wkb  # noqa: E402
 
 from bench import web_front  # noqa: E402
-from bench.counting import Tries  # noqa: E402
+from bench.counting import Tries, Words  # noqa: E402
 from bench.reference import read_store  # noqa: E402
 from bench.trials.maps import loaded  # noqa: E402
 from bench.web_front import TOP, asked  # noqa: E402
@@ -433,11 +432,11 @@ def try_owslib(tries: Tries, folder: pathlib.Path, program: str) -> None:
 
 
 def main() -> int:
-    parser = argparse.ArgumentParser(description=__doc__, formatter_class=argparse.RawDescriptionHelpFormatter)
+    parser = Words(__doc__)
     parser.add_argument("--program", default=str(web_front.PROGRAM))
     parser.add_argument("--folder", type=pathlib.Path, help="where packages with maps are loaded, and kept")
     parser.add_argument("--map", action="append", choices=[one.name for one in SOURCES], help="of these maps alone")
-    words = parser.parse_args()
+    words = parser.words()
     gdal.UseExceptions()
     tries = Tries()
     with tempfile.TemporaryDirectory() as made, contextlib.ExitStack() as ends:

@@ -13,7 +13,6 @@ differs, a run fails, a second run does not go on, or a process is left.
 
 from __future__ import annotations
 
-import argparse
 import contextlib
 import hashlib
 import os
@@ -29,6 +28,7 @@ from collections.abc import Callable, Iterator
 from dataclasses import dataclass, field
 
 from bench import TOP
+from bench.counting import Words
 
 PYTHON, TOOL = "/usr/bin/python3", TOP / "tools" / "overlay_maps.py"
 DONE_BEFORE = 3  # tasks, when something is killed
@@ -253,13 +253,13 @@ CASES: dict[str, Callable[[Trial, str], None]] = {
 
 
 def main() -> int:
-    parser = argparse.ArgumentParser(description=__doc__, formatter_class=argparse.RawDescriptionHelpFormatter)
+    parser = Words(__doc__)
     parser.add_argument("live", metavar="LIVE")
     parser.add_argument("--parcels", type=int, default=30_000)
     parser.add_argument("--zones", type=int, default=2_000)
     parser.add_argument("--times", type=int, default=1)
     parser.add_argument("--only", action="append", choices=[*CASES])
-    words = parser.parse_args()
+    words = parser.words()
     with tempfile.TemporaryDirectory() as made:
         folder = pathlib.Path(made)
         folder.chmod(0o711)

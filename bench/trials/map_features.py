@@ -13,7 +13,6 @@ It needs gdal-bin, python3-gdal, python3-shapely, python3-pyproj and python3-ows
 
 from __future__ import annotations
 
-import argparse
 import contextlib
 import json
 import pathlib
@@ -31,7 +30,7 @@ from owslib.ogcapi.features import Features
 from shapely import geometry, wkb
 
 from bench import web_front
-from bench.counting import Tries
+from bench.counting import Tries, Words
 from bench.web_front import TOP, asked
 
 SOURCE = TOP / "tools/data/north_carolina.geojson"
@@ -203,11 +202,11 @@ def try_changes(tries: Tries, folder: pathlib.Path, program: str, chance: random
 
 
 def main() -> int:
-    parser = argparse.ArgumentParser(description=__doc__, formatter_class=argparse.RawDescriptionHelpFormatter)
+    parser = Words(__doc__)
     parser.add_argument("--program", default=str(web_front.PROGRAM))
     parser.add_argument("--changes", type=int, default=200)
     parser.add_argument("--seed", type=int, default=1)
-    words = parser.parse_args()
+    words = parser.words()
     gdal.UseExceptions()
     tries, chance = Tries(), random.Random(words.seed)
     with tempfile.TemporaryDirectory() as made:

@@ -19,6 +19,7 @@ from dataclasses import dataclass
 from fractions import Fraction
 
 from bench import TOP
+from bench.counting import Words
 
 try:
     import numpy as np
@@ -151,7 +152,7 @@ def told_area(row: dict[str, str]) -> Fraction:
 
 
 def main(arguments: list[str]) -> int:
-    parser = argparse.ArgumentParser(description=__doc__, formatter_class=argparse.RawDescriptionHelpFormatter)
+    parser = Words(__doc__)
     parser.add_argument("program", metavar="LIVE")
     parser.add_argument("first", metavar="A")
     parser.add_argument("second", metavar="B")

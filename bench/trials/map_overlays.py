@@ -9,7 +9,6 @@ six faults are planted in the steps, each of which has to be found in the same w
 numbers of Python. Status 1: an answer is wrong, or a fault is not found.
 """
 
-import argparse
 import collections
 import random
 import sys
@@ -17,6 +16,7 @@ import unittest
 from collections.abc import Callable
 from fractions import Fraction
 
+from bench.counting import Words
 from maps import jobs, map_checks, quickest, rounds
 from maps.drawing_in import Plain
 from maps.task_form import ALONE, COMMON
@@ -72,7 +72,7 @@ def tried(program: rounds.Program, answers: int, seed: int, drawing: Plain) -> C
 
 
 def main(arguments: list[str]) -> int:
-    parser = argparse.ArgumentParser(description=__doc__, formatter_class=argparse.RawDescriptionHelpFormatter)
+    parser = Words(__doc__)
     parser.add_argument("program", metavar="LIVE", help="the built overlay_live")
     parser.add_argument("--answers", type=int, default=10_000, help="so many at least (default: %(default)s)")
     parser.add_argument("--seed", type=int, default=1)

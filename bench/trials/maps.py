@@ -10,7 +10,6 @@ floating point; random points, asked of tools/which.py and of GEOS. Status 1: a 
 more than 1e-11 of it, or a point is in another feature.
 """
 
-import argparse
 import csv
 import json
 import math
@@ -32,6 +31,7 @@ import scale as scales
 import sessions
 import wkt
 from bench import TOP
+from bench.counting import Words
 
 PYTHON = "/usr/bin/python3"  # the one that has Debian's packages
 NEEDED = {"gdal-bin": ["ogr2ogr", "--version"], "python3-shapely": [PYTHON, "-c", "import shapely"]}
@@ -389,18 +389,14 @@ def test() -> None:
 
 
 def main() -> int:
-    parser = argparse.ArgumentParser(description=__doc__, formatter_class=argparse.RawDescriptionHelpFormatter)
+    parser = Words(__doc__, test)
     parser.add_argument("program", metavar="PROGRAM", nargs="?")
     parser.add_argument("--folder", type=pathlib.Path, help="keeps packages, scripts and stores there")
     parser.add_argument("--only", choices=[chart.name for chart in CHARTS], action="append")
     parser.add_argument("--geos", action="store_true", help="for this script itself: answers a task as GEOS")
-    parser.add_argument("--test", action="store_true", help="test the script itself")
-    words = parser.parse_args()
+    words = parser.words()
     if words.geos:
         json.dump(answers(json.load(sys.stdin)), sys.stdout)
-        return 0
-    if words.test:
-        test()
         return 0
     if not words.program or not shutil.which(words.program):
         parser.error("a built program")

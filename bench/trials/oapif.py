@@ -10,7 +10,6 @@ Status 0 and a last line `N passed, 0 failed`, or what fell.
 
 from __future__ import annotations
 
-import argparse
 import json
 import pathlib
 import re
@@ -21,7 +20,7 @@ from fractions import Fraction
 from typing import Any
 
 from bench import web_front
-from bench.counting import Tries
+from bench.counting import Tries, Words
 from bench.web_front import overlay_client
 
 BOX = (-22, 63, -16, 66)
@@ -108,10 +107,10 @@ def copies(address: str, folder: pathlib.Path, exact: dict[str, list[list[overla
 
 
 def main() -> int:
-    parser = argparse.ArgumentParser(description=__doc__, formatter_class=argparse.RawDescriptionHelpFormatter)
+    parser = Words(__doc__)
     parser.add_argument("--program", default=str(web_front.PROGRAM), help="the built overlay_live")
     parser.add_argument("--python", default=web_front.DEBIAN_PYTHON, help="the Python that runs the front")
-    words = parser.parse_args()
+    words = parser.words()
     web_front.need("ogrinfo", "gdal-bin")
     web_front.need("curl", "curl")
     tries = Tries()

@@ -28,7 +28,7 @@ import time
 from collections.abc import Iterable, Iterator
 from typing import IO, Any, Optional, Union
 
-from bench.counting import Kept, checked
+from bench.counting import Kept, Words, checked
 from bench.reference import judging, model, read_store
 from bench.trials import stress
 
@@ -427,14 +427,12 @@ def test() -> int:
 
 
 def main() -> int:
-    if sys.argv[1:] == ["--test"]:
-        return test()
-    parser = argparse.ArgumentParser(description=__doc__, formatter_class=argparse.RawDescriptionHelpFormatter)
+    parser = Words(__doc__, test)
     parser.add_argument("program")
     parser.add_argument("--most", type=int, help="how many files the program opens (all)")
     parser.add_argument("--forget", type=int, metavar="N", help="leaves the Nth sync out")
     parser.add_argument("--keep", metavar="FOLDER", help="keeps the traces, the store and the wrong files here")
-    words = parser.parse_args()
+    words = parser.words()
     words.program = os.path.abspath(words.program)
     kept = Kept(words.keep, "stops")
     with kept.telling(judging.Wrong, subprocess.TimeoutExpired) as folder:

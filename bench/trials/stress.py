@@ -22,7 +22,7 @@ import time
 from collections.abc import Callable, Sequence
 from typing import Optional
 
-from bench.counting import Kept
+from bench.counting import Kept, Words
 from bench.reference import judging, model, read_store
 
 BASES = [f"A{n}" for n in range(16)]
@@ -334,7 +334,7 @@ def stress(words: argparse.Namespace, folder: pathlib.Path) -> int:
 
 
 def main() -> int:
-    parser = argparse.ArgumentParser(description=__doc__, formatter_class=argparse.RawDescriptionHelpFormatter)
+    parser = Words(__doc__)
     parser.add_argument("program")
     parser.add_argument("--commands", type=int, default=100000)
     parser.add_argument("--sessions", type=int, default=4)
@@ -342,7 +342,7 @@ def main() -> int:
     parser.add_argument("--seed", type=int, default=1)
     parser.add_argument("--without", metavar="WORD", help="draws no lines with this word")
     parser.add_argument("--keep", metavar="FOLDER", help="keeps the scripts, replies and store here")
-    words = parser.parse_args()
+    words = parser.words()
     words.program = os.path.abspath(words.program)
     kept = Kept(words.keep, "stress")
     with kept.telling(judging.Wrong, subprocess.TimeoutExpired) as folder:

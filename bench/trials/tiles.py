@@ -11,7 +11,6 @@ border of the column. Of each the tiles of `build` and `build_counted` are compa
 
 from __future__ import annotations
 
-import argparse
 import pathlib
 import subprocess
 import sys
@@ -19,6 +18,7 @@ import tempfile
 from collections.abc import Callable
 
 from bench import proved, unproved
+from bench.counting import Words
 from bench.tile_texts import Draws, Layer, Point, closed, lines_of
 from limits import COLUMN_WIDTH as WIDTH
 from limits import COLUMNS, COORDINATE_MAX
@@ -208,10 +208,10 @@ def program_of(given: pathlib.Path | None, is_proved: bool, folder: pathlib.Path
 
 
 def main() -> int:
-    parser = argparse.ArgumentParser(description=__doc__, formatter_class=argparse.RawDescriptionHelpFormatter)
+    parser = Words(__doc__)
     parser.add_argument("program", type=pathlib.Path, nargs="?")
     parser.add_argument("--proved", action="store_true", help="builds a proved program")
-    words = parser.parse_args()
+    words = parser.words()
     with tempfile.TemporaryDirectory() as name:
         folder = pathlib.Path(name)
         return compare(program_of(words.program, words.proved, folder), folder)

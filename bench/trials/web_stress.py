@@ -10,7 +10,6 @@ Status 0 and a last line `N passed, 0 failed`, N answers that were judged, or wh
 
 from __future__ import annotations
 
-import argparse
 import http.client
 import json
 import pathlib
@@ -20,7 +19,7 @@ import urllib.parse
 from typing import Any
 
 from bench import web_front
-from bench.counting import counted
+from bench.counting import Words, counted
 from stressing import Ask, Stress
 
 
@@ -42,11 +41,11 @@ def new_ask(address: str) -> Ask:
 
 
 def main() -> int:
-    parser = argparse.ArgumentParser(description=__doc__, formatter_class=argparse.RawDescriptionHelpFormatter)
+    parser = Words(__doc__)
     parser.add_argument("--program", default=str(web_front.PROGRAM), metavar="PATH")
     parser.add_argument("--python", default=sys.executable, metavar="PATH", help="the Python that runs the front")
     parser.add_argument("--seconds", type=float, default=60, metavar="N", help="how long they ask (default 60)")
-    words = parser.parse_args()
+    words = parser.words()
     with tempfile.TemporaryDirectory() as folder:
         given = ("--store", pathlib.Path(folder) / "map.db", "--create", "--writable")
         with web_front.front(*given, program=words.program, python=words.python) as address:
