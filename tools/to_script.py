@@ -140,7 +140,7 @@ def content(name: str, layer: str | None) -> str:
 
 def read_shapes(words: argparse.Namespace) -> tuple[list[Shape], set[str | None], Described]:
     """The shapes of all files, the names of their coordinates, and what files say of their features."""
-    shapes, names, properties, described = [], set(), dict[str, None](), Described()
+    shapes, systems, properties, described = [], dict[int, str | None](), dict[str, None](), Described()
     for number, name in enumerate(words.files):
         stem = words.name or ("L" if name == "-" else pathlib.Path(name).stem)
         source = map_reading.Source(number, name, stem, words.name_by)
@@ -149,12 +149,22 @@ def read_shapes(words: argparse.Namespace) -> tuple[list[Shape], set[str | None]
         except (OSError, ValueError, ArithmeticError, RecursionError, wkt.WktFault) as fault:
             raise Stopped(ending.told(f"{name}: not read", fault)) from fault
         shapes += own
-        names.add(crs)
+        systems[number] = crs
         properties |= source.properties
         described |= {(number, called): one for called, one in source.described.items()}
     if shapes and words.name_by is not None and words.name_by not in properties:
         raise Stopped(f"--name-by {words.name_by}: no feature has this property; {listed(list(properties))}")
-    return shapes, names, described
+    return shapes, {*systems.values(), *degrees_beside(shapes, systems)}, described
+
+
+def degrees_beside(shapes: list[Shape], systems: dict[int, str | None]) -> set[str | None]:
+    """The name of degrees, where a file that names no coordinates may have them, and those of others that do cannot."""
+    named = {number for number, crs in systems.items() if crs}
+    if not named or named == systems.keys():
+        return set()
+    boxes = [fitting.box_of(shape for shape in shapes if (shape.file in named) == which) for which in (True, False)]
+    are_degrees = [box is not None and box.is_within_degrees() for box in boxes]
+    return {scales.CRS84} if boxes[0] and are_degrees == [False, True] else set()
 
 
 def listed(properties: list[str]) -> str:
@@ -169,7 +179,8 @@ def crs_for(words: argparse.Namespace, names: set[str | None], box: fitting.Box 
     if words.crs:
         return str(words.crs)
     if len(given) > 1:
-        raise Stopped(f"files of different coordinates: {', '.join(sorted(given))}")
+        raise Stopped(f"files of different coordinates: {', '.join(sorted(given))}; bring them to one, as by ogr2ogr -t_srs, "
+                      "or say by --crs which one all of them have")
     if given:
         return given.pop()
     return scales.CRS84 if box and box.is_within_degrees() else None

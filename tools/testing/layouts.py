@@ -132,6 +132,16 @@ class Fitting(InFolder):
         self.assertEqual(outcome(to_script, other, second)[0], 2)
         self.assertEqual(outcome(to_script, second, "--scale", self.folder / "absent")[0], 2)
 
+    def test_degrees_beside_coordinates_of_another_name_are_refused(self) -> None:
+        lonlat = geojson(("a", [[square(5, 7, 9)]])).replace("[5, 7]", "[5.25, 7]")
+        metres = self.file("metres.geojson", geojson(("b", [[square(500000, 5800000, 9)]]), crs="EPSG:25832"))
+        for text, words, status in ((lonlat, [], 2), (lonlat, ["--crs", "EPSG:25832"], 0), (geojson(("a", [[square(5, 7, 9)]])), [], 0),
+                                    (geojson(("a", [[square(500001, 5800000, 9)]])), [], 0)):
+            found = outcome(to_script, metres, self.file("a.geojson", text), "--fit", *words)
+            self.assertEqual((found[0], "different coordinates: EPSG:25832, OGC:CRS84; bring" in found[2]), (status, status == 2), found)
+        near = self.file("near.geojson", geojson(("b", [[square(1, 2, 9)]]), crs="EPSG:4326").replace("[1, 2]", "[1.5, 2]"))
+        self.assertEqual(outcome(to_script, near, self.file("a.geojson", lonlat), "--fit")[0], 0)
+
     def test_a_store_is_not_written_over(self) -> None:
         file = self.file("plan.wkt", self.degrees)
         for slot in (0, 4096):  # of either slot the magic stands 16 bytes behind its begin
