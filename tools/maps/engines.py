@@ -6,6 +6,7 @@ as its result stands in the folder. It trusts no worker to live: what a worker t
 
 import collections
 import concurrent.futures as futures
+import contextlib
 import multiprocessing
 import os
 import signal
@@ -114,16 +115,28 @@ def _filled(pool: futures.ProcessPoolExecutor, hand: dict[futures.Future[TaskFau
     """Hands out numbers until so many are in hand; whether there are any."""
     while len(hand) < most and (number := next(numbers, None)) is not None:
         try:
-            hand[pool.submit(done, work, folder, number)] = number
+            with interrupts_waiting():  # a worker that this begins does not hear of one before begin_worker
+                hand[pool.submit(done, work, folder, number)] = number
         except BrokenProcessPool:
             hand[futures.Future()] = number
             raise
     return bool(hand)
 
 
+@contextlib.contextmanager
+def interrupts_waiting() -> Iterator[None]:
+    """An interrupt of the terminal comes to this thread, and to processes that it begins, when they let it in."""
+    before = signal.pthread_sigmask(signal.SIG_BLOCK, {signal.SIGINT})
+    try:
+        yield
+    finally:
+        signal.pthread_sigmask(signal.SIG_SETMASK, before)
+
+
 def begin_worker(parent: int) -> None:
     """A worker ends with who began it. An interrupt of the terminal is for that one alone."""
     signal.signal(signal.SIGINT, signal.SIG_IGN)
+    signal.pthread_sigmask(signal.SIG_UNBLOCK, {signal.SIGINT})
     deaths.end_with(parent)
 
 

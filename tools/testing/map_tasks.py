@@ -270,6 +270,17 @@ class Engines(WithProcesses):
             with self.subTest(engine), self.assertRaisesRegex(engines.TaskFault, "task 1: Odd: no good"):
                 self.ran(engine, Refusing(), [b"good", b"bad", b"good"])
 
+    def test_an_interrupt_while_workers_begin_is_not_told_by_these(self) -> None:
+        for seconds in (0.05, 0.15, 0.3):
+            with subprocess.Popen(self.words("0.5"), cwd=TOOLS, stderr=subprocess.PIPE, text=True, start_new_session=True) as run:
+                self.addCleanup(run.kill)
+                wait_for(lambda: (self.work / "run.json").exists())
+                time.sleep(seconds)
+                os.killpg(run.pid, signal.SIGINT)  # as a terminal does
+                told = run.communicate(timeout=WAIT)[1]
+            self.assertEqual(told.count("Traceback"), 1, told)  # the own one of map_works.py
+            (self.work / "run.json").unlink()
+
     def test_a_run_that_was_killed_leaves_no_process_and_goes_on(self) -> None:
         with subprocess.Popen(self.words("0.3"), cwd=TOOLS, stderr=subprocess.DEVNULL) as run:
             self.addCleanup(run.kill)
