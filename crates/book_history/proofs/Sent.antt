@@ -1,6 +1,8 @@
 -- What may go from thread to thread.
 use denote.Param.Send.{IsSend, IsSync, recorded_send, recorded_sync, struct_send, struct_sync, view_send, view_sync, sendable}
+use denote.RattleType.{RattleType}
 use denote.Struct.Declared.{shape}
+use denote.Builtin.{u64}
 use Rattle.std.proofs.Crossing.{crosses, frees, send, sync, Arc-send, Arc-sync}
 use Rattle.std.specs.contracts.alloc.Global as global
 use Rattle.std.specs.contracts.impls.GlobalAllocator.TheImpl as heap
@@ -30,6 +32,12 @@ use Rattle.book_history.specs.contracts.published.OnlyGrows as only_grows
 use Rattle.book_history.specs.contracts.published.OnlyGrowsProtocolPublishedSeenLog.TheImpl as rule
 use Rattle.book_history.specs.contracts.seen_log.SeenLog as seen_log
 use Rattle.book_history.proofs.seen_log.SeenLog.TheSendSync as seen_logs
+use Rattle.book_history.specs.contracts.seen_log.LogWord as word
+use Rattle.book_history.specs.contracts.seen_log.LogWord.TheInside as word_inside
+use Rattle.book_history.specs.contracts.seen_log.LogRule as log_rule
+use Rattle.book_history.specs.contracts.seen_log.LogRuleRuleEntryU64.TheImpl as kept
+use Rattle.book_history.specs.contracts.entry.Entry as written
+use Rattle.logbook.proofs.word.Word.TheSendSync as words
 use Rattle.left_right.specs.contracts.reader.Reader as reader
 use Rattle.left_right.specs.contracts.writer.Writer as writer
 use Rattle.left_right.proofs.reader.Reader.TheSendSync as readers
@@ -104,3 +112,11 @@ place_send = readers.the_send published.the_row seen_log.the_row only_grows.the_
 
 pub publisher_send : IsSend (writer.the_row published.the_row published.the_row seen_log.the_row only_grows.the_row global.the_row seen_log.the_row absorb.ghosts rule.ghosts heap.ghosts)
 publisher_send = writers.the_send published.the_row published.the_row seen_log.the_row only_grows.the_row global.the_row seen_log.the_row absorb.ghosts rule.ghosts heap.ghosts published_send published_send send published_sync sync frees
+
+word_inside_send : (J : RattleType) → IsSend (word_inside.the_row J)
+word_inside_send J =
+    let O = word_inside.the_type J in
+    recorded_send _ _ _ O.to_one (struct_send (shape O) (words.the_send written.the_row u64 log_rule.the_row kept.ghosts, (search sendable, tt)))
+
+pub word_send : (J : RattleType) → IsSend (word.the_row J)
+word_send J = view_send (word_inside.the_row J) _ _ _ _ (word_inside_send J)

@@ -1,16 +1,17 @@
 //! A beginning of the history that was seen.
-ghost use Rattle.std.specs.Prelude.{◌≡◌, ◌+◌, ◌<◌, ◌≤◌, ◌++◌, ◌∷◌, [], length, MatchBool};
+ghost use Rattle.std.specs.Prelude.{◌≡◌, ◌⊎◌, ◌+◌, ◌<◌, ◌≤◌, ◌++◌, ◌∷◌, [], length, MatchBool};
 ghost use mathlib.Core.List.{IsPrefix};
 ghost use Rattle.overlay_terms.specs.Commands.{version_max};
 ghost use Rattle.overlay_terms.specs.Histories.{Follows};
 ghost use Rattle.book_history.specs.Logs.{IsLog, entry, no_event, newest_in};
 ghost use Rattle.book_history.specs.Causes.{event_of};
 ghost use Rattle.book_history.specs.Rules.{head_of};
+ghost use Rattle.book_history.specs.Telling.{MayTell};
 
 use crate::entry::{Ask, Cause, Entry};
 use logbook::{Gain, Offer, Opening, Plain, Play, Rule, Seen, Start, Word};
 use std::fmt;
-use std::marker::{Brand, Model};
+use std::marker::{Brand, Model, PhantomData};
 use versions::Version;
 
 /// The rule of the history.
@@ -92,16 +93,41 @@ impl BookName for Brand {
     ghost stored = { λ log number. ⊥ };
 }
 
-/// The word of a history: how many entries follow the first.
-pub type LogWord = Word<Entry, u64, LogRule>;
+/// The word of a history: how many entries follow the first. The type names the book, so who adds an entry by it proves
+/// what the name of that book asks. `open` alone makes one, and a history has one: no other crate can add to it without.
+pub struct LogWord<J> {
+    word: Word<Entry, u64, LogRule>,
+    of: PhantomData<J>,
+}
 
-/// Begins a history with a version.
-pub fn open(version: &Version) -> (LogWord, SeenLog)
+impl<J> Model for LogWord<J> {
+    ghost use Rattle.logbook.specs.Pages.{Named, named_coded};
+
+    ghost Value = { Named };
+
+    ghost coded = { named_coded };
+
+    ghost view = { λ head. head.word };
+}
+
+impl<J> Drop for LogWord<J> {
+    fn drop(self) {
+        let Self { word, of: _ } = self;
+        drop(word);
+    }
+}
+
+/// Begins a history with a version. Which book it is, whoever takes its word says.
+pub fn open<J>(version: &Version) -> (LogWord<J>, SeenLog)
     ensures { (result.0 ≡ head_of result.1.book) × (result.1.log ≡ entry no_event version.now ∷ []) }
 {
     let (seen, mut pens) = Seen::open_row::<Version, OpensLog>(version, Start::alone(), 1);
     let mut pen = pens.take();
-    let head = Word::tracked(0, &mut pen);
+    let word = Word::tracked(0, &mut pen);
+    let head = LogWord {
+        word,
+        of: PhantomData,
+    };
     (head, SeenLog { at: 0, seen })
 }
 
@@ -167,11 +193,18 @@ impl SeenLog {
         let _ = &other.at;
     }
 
-    /// Adds an entry to all that was seen, and says whether it did.
-    pub fn add(&mut self, head: &LogWord, cause: Cause<'_>, version: &Version) -> bool
+    /// Adds an entry to all that was seen, and says whether it did. An entry by which another number is durable may be
+    /// added where that was stored, and a call that never returns owes this too.
+    pub fn add<J: BookName>(
+        &mut self,
+        head: &LogWord<J>,
+        cause: Cause<'_>,
+        version: &Version,
+    ) -> bool
         requires head { head.now ≡ head_of self.old.book }
         requires room { length self.old.log < version_max }
         requires follows { Follows (newest_in self.old.log) (event_of cause) version.now }
+        requires told { (version.now.durable ≡ (newest_in self.old.log).durable) ⊎ MayTell J.stored self.old.log version.now.durable }
         ensures { MatchBool result (self.new ≡ record { book = self.old.book; log = self.old.log ++ entry (event_of cause.entry) version.now ∷ [] }) (self.new ≡ self.old) }
     {
         let mut seen = self.seen.again();
@@ -181,13 +214,9 @@ impl SeenLog {
         );
         let mut pen = seen.no_pen();
         let at = self.at;
-        let found = head.compare_exchange::<Add, NoGain>(
-            at,
-            at + 1,
-            &mut seen,
-            &mut offer,
-            &mut pen,
-        );
+        let found = head
+            .word
+            .compare_exchange::<Add, NoGain>(at, at + 1, &mut seen, &mut offer, &mut pen);
         if found != at {
             return false;
         }

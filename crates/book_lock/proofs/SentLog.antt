@@ -3,15 +3,9 @@ use denote.RattleType.{RattleType}
 use denote.Param.Send.{IsSend, SendAt, recorded_send_of, recorded_send_at, struct_send, struct_send_at, view_send, sendable}
 use denote.Array.{Array}
 use denote.Plain.{UInt}
-use denote.Builtin.{u64}
 use denote.Struct.Struct.{Struct}
 use denote.Struct.Declared.{shape}
-use Rattle.book_history.specs.contracts.entry.Entry as written
-use Rattle.book_history.specs.contracts.seen_log.LogRule as log_rule
-use Rattle.book_history.specs.contracts.seen_log.LogRuleRuleEntryU64.TheImpl as kept
 use mir.Syntax.{w64}
-use Rattle.std.specs.contracts.marker.PhantomData as phantom
-use Rattle.logbook.proofs.word.Word.TheSendSync as words
 use Rattle.book_lock.specs.contracts.locked_log.LockedLog as log
 use Rattle.book_lock.specs.contracts.locked_log.LockedLog.TheInside as inside
 use Rattle.book_history.specs.declared.seen_log.BookName as book_name
@@ -29,7 +23,7 @@ use Rattle.book_history.specs.contracts.published.OnlyGrows as only_grows
 use Rattle.book_history.specs.contracts.published.OnlyGrowsProtocolPublishedSeenLog.TheImpl as rule
 use Rattle.book_history.specs.contracts.seen_log.SeenLog as seen_log
 use Rattle.left_right.specs.contracts.writer.Writer as writer
-use Rattle.book_history.proofs.Sent.{place_send, publisher_send, version_send, version_sync}
+use Rattle.book_history.proofs.Sent.{place_send, publisher_send, version_send, version_sync, word_send}
 
 pub room_send : IsSend (room.the_field).row
 room_send = struct_send (shape room.the_type) (search (sendable, crosses, version_send, version_sync) depth 20, tt)
@@ -48,7 +42,7 @@ module _ (J R : RattleType) (g : book_name.Ghosts J.Denot) where
   inner_send j s =
       let O = inside.the_type J R g in
       let W = writer.the_type published.the_row published.the_row seen_log.the_row only_grows.the_row global.the_row seen_log.the_row absorb.ghosts rule.ghosts heap.ghosts in
-      recorded_send_of (Struct (shape O)) _ _ O.to_one (λ d. struct_send_at (shape O) (O.to d) (at _ (words.the_send written.the_row u64 log_rule.the_row kept.ghosts) _, (recorded_send_at (Struct (shape W)) _ W.to W.to_one publisher_send d.publisher, (at (Array (UInt w64) 4) (search sendable) _, (at R s _, (at (phantom.the_field J).row (search sendable) _, tt))))))
+      recorded_send_of (Struct (shape O)) _ _ O.to_one (λ d. struct_send_at (shape O) (O.to d) (at _ (word_send J) _, (recorded_send_at (Struct (shape W)) _ W.to W.to_one publisher_send d.publisher, (at (Array (UInt w64) 4) (search sendable) _, (at R s _, tt)))))
 
   pub log_send : IsSend J → IsSend R → IsSend (log.the_row J R g)
   log_send j s = view_send _ _ _ _ _ (inner_send j s)

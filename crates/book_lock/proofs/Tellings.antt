@@ -5,7 +5,7 @@ use Rattle.overlay_terms.specs.Histories.{Version, Entry}
 use Rattle.book_history.specs.Logs.{history_of, newest_in}
 use Rattle.book_history.proofs.Chains.{newest_more}
 use Rattle.book_history.proofs.Fronts.{prefix_trans}
-use Rattle.book_lock.specs.Telling.{IsToldIn, MayTell}
+use Rattle.book_history.specs.Telling.{IsToldIn, MayTell}
 
 module _ (stored : List Entry → ℕ → Type 0) where
   may_more : (log more : List Entry) (n : ℕ) → IsPrefix log more → MayTell stored log n → MayTell stored more n

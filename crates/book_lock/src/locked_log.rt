@@ -10,9 +10,9 @@ ghost use Rattle.book_history.specs.Causes.{event_of, HasSeat};
 ghost use Rattle.book_history.specs.Fault.{no_memory};
 ghost use Rattle.book_history.specs.Logs.{entry, no_event, newest_in, IsLog};
 ghost use Rattle.book_history.specs.Rules.{head_of};
+ghost use Rattle.book_history.specs.Telling.{IsToldIn, MayTell};
 ghost use Rattle.book_lock.specs.Heard.{HasHeard};
 ghost use Rattle.book_lock.specs.Steps.{HasLooked, IsLevel, beginners};
-ghost use Rattle.book_lock.specs.Telling.{IsToldIn, MayTell};
 
 use crate::closed::ClosedBook;
 use crate::reporter::Reporter;
@@ -24,7 +24,7 @@ use book_history::published::{Published, Publisher};
 use book_history::publisher::{first_publisher, new_place, put_out};
 use book_history::seen_log::{BookName, LogWord, SeenLog};
 use std::alloc::Global;
-use std::marker::{Model, PhantomData};
+use std::marker::Model;
 use std::sync::{Arc, Wait};
 use versions::Version;
 
@@ -32,11 +32,10 @@ const MOST: u64 = 1 << 60;
 
 /// What lies under the lock: the log that is published, and how many batches of each session it has.
 pub struct LockedLog<J: BookName, R: Wait + Drop> {
-    head: LogWord,
+    head: LogWord<J>,
     publisher: Publisher,
     counts: [u64; 4],
     rt: R,
-    of: PhantomData<J>,
 }
 
 impl<J: BookName, R: Wait + Drop> Model for LockedLog<J, R> {
@@ -46,7 +45,7 @@ impl<J: BookName, R: Wait + Drop> Model for LockedLog<J, R> {
     ghost use Rattle.overlay_terms.specs.Histories.{commands_of};
     ghost use Rattle.book_history.specs.Codes.{entry_code};
     ghost use Rattle.book_history.specs.Rules.{head_of};
-    ghost use Rattle.book_lock.specs.Telling.{IsToldIn};
+    ghost use Rattle.book_history.specs.Telling.{IsToldIn};
 
     ghost Value = { List terms.Entry };
 
@@ -65,7 +64,7 @@ impl<J: BookName, R: Wait + Drop> LockedLog<J, R> {
     pub fn open(
         rt: R,
         alloc: Global,
-        head: LogWord,
+        head: LogWord<J>,
         seen_log: SeenLog,
         version: Version,
         sessions: usize,
@@ -93,7 +92,6 @@ impl<J: BookName, R: Wait + Drop> LockedLog<J, R> {
             publisher,
             counts: [0; 4],
             rt,
-            of: PhantomData,
         };
         Ok((log, reporter, list?))
     }
@@ -210,7 +208,6 @@ impl<J: BookName, R: Wait + Drop> LockedLog<J, R> {
             publisher,
             counts: _,
             rt,
-            of: _,
         } = self;
         let last = Box::into_inner(publisher.take(&rt));
         let (version, seen_log) = last.into_parts();
@@ -228,7 +225,6 @@ impl<J: BookName, R: Wait + Drop> Drop for LockedLog<J, R> {
             publisher,
             counts: _,
             rt,
-            of: _,
         } = self;
         drop(publisher.take(&rt));
     }

@@ -2,9 +2,9 @@
 ghost use Rattle.std.specs.Prelude.{◌≡◌, ◌⊎◌, ◌<◌, length, Err, IfOk, IfErr};
 ghost use Rattle.book_history.specs.Fault.{no_memory};
 ghost use Rattle.book_history.specs.Logs.{newest_in, IsLog};
+ghost use Rattle.book_history.specs.Telling.{MayTell};
 ghost use Rattle.book_lock.specs.Heard.{HasHeard};
 ghost use Rattle.book_lock.specs.Steps.{IsFinishedIn, IsReportedIn};
-ghost use Rattle.book_lock.specs.Telling.{MayTell};
 
 use crate::locked_log::LockedLog;
 use crate::reporter::Reporter;

@@ -40,8 +40,8 @@ use versions::Version;
 
 /// A book that is to be opened: the history of an engine's version, or of no command where there is none. The engine is in
 /// it whole, so the book begins with the durable number that this engine has.
-pub struct Opened<D: Disk> {
-    pub head: LogWord,
+pub struct Opened<J, D: Disk> {
+    pub head: LogWord<J>,
     pub seen_log: SeenLog,
     pub engine: Option<Engine<D>>,
     pub ghost head_is: { head ≡ head_of seen_log.book },
@@ -69,7 +69,7 @@ struct Asked<J: BookName, S: Wait + Drop, D: Disk> {
 fn ask_book<J: BookName, S: Wait + Drop, D: Disk>(
     rt: S,
     alloc: Global,
-    opened: Opened<D>,
+    opened: Opened<J, D>,
     sessions: usize,
 ) -> Asked<J, S, D>
     requires book { opened.seen_log.book ≡ J.book }
@@ -124,7 +124,7 @@ pub fn listen_in<J, D, R, G, Q>(
     alloc: Global,
     workers: usize,
     gate: &G,
-    opened: Opened<D>,
+    opened: Opened<J, D>,
     readers: Vec<R>,
 ) -> Result<Served<D>, ServerFault<D>>
 where
@@ -159,7 +159,7 @@ pub fn serve_in<J, D, R, W, G, Q>(
     alloc: Global,
     workers: usize,
     gate: &G,
-    opened: Opened<D>,
+    opened: Opened<J, D>,
     ports: Vec<Port<R, W>>,
 ) -> Result<Left<W, D>, ServerFault<D>>
 where

@@ -42,7 +42,7 @@ pub(crate) type Begun<J, S> = (Shared<J, S>, Reporter, Vec<Session>);
 pub(crate) fn open_book<J: BookName, S: Wait + Drop>(
     rt: S,
     alloc: Global,
-    head: LogWord,
+    head: LogWord<J>,
     seen_log: SeenLog,
     version: Version,
     store: bool,

@@ -78,7 +78,7 @@ where
 }
 
 /// The book of an engine, or of no command where there is none, before it is opened.
-fn history_of_engine<D: Disk>(alloc: Global, engine: Option<Engine<D>>) -> Opened<D>
+fn history_of_engine<J, D: Disk>(alloc: Global, engine: Option<Engine<D>>) -> Opened<J, D>
     ensures { result.engine ≡ engine }
 {
     let (head, seen_log) = match &engine {

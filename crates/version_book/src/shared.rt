@@ -8,8 +8,8 @@ ghost use Rattle.book_history.specs.Fault.{IsBatchRefused, IsCommandRefused, no_
 ghost use Rattle.book_history.specs.Known.{seen, IsOwn, LeavesSession};
 ghost use Rattle.book_history.specs.Logs.{entry, history_of, newest_in, no_event, IsAccepted, IsLog};
 ghost use Rattle.book_history.specs.Rules.{head_of};
+ghost use Rattle.book_history.specs.Telling.{IsToldIn};
 ghost use Rattle.book_lock.specs.Steps.{beginners, HasAllOf, IsAcceptedIn, IsRefusedIn};
-ghost use Rattle.book_lock.specs.Telling.{IsToldIn};
 ghost use Rattle.book_lock.specs.Heard.{HasHeard, IsReportedBy};
 ghost use Rattle.version_book.specs.Jobs.{IsFinishedBy, IsJob};
 ghost use Rattle.version_book.specs.Store.{has_store};
@@ -49,7 +49,7 @@ impl<J: BookName, R: Wait + Drop> Shared<J, R> {
     pub fn start(
         rt: R,
         alloc: Global,
-        head: LogWord,
+        head: LogWord<J>,
         seen_log: SeenLog,
         version: Version,
         store: bool,

@@ -92,8 +92,8 @@ pub enum Row {
 }
 
 /// A history of the empty version alone, which is no book's yet.
-struct Opened {
-    head: LogWord,
+struct Opened<J> {
+    head: LogWord<J>,
     seen_log: SeenLog,
     version: Version,
     ghost head_is: { head ≡ head_of seen_log.book },
@@ -101,7 +101,7 @@ struct Opened {
 }
 
 /// Opens a history.
-fn open_history(alloc: Global) -> Opened {
+fn open_history<J>(alloc: Global) -> Opened<J> {
     let version = Version::empty(alloc);
     let (head, seen_log) = open(&version);
     Opened {
@@ -126,7 +126,7 @@ pub fn play<R: Threads + Wait + Clock + Abort + Sync>(
 fn play_in<J: BookName + Send + Sync, R: Threads + Wait + Clock + Abort + Sync>(
     rt: &R,
     alloc: Global,
-    opened: Opened,
+    opened: Opened<J>,
     store: bool,
     lists: &[&[Row]],
     last: u64,

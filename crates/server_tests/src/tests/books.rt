@@ -17,15 +17,15 @@ use version_book::shared::Shared;
 use versions::Version;
 
 /// A history of one version, which is no book's yet.
-struct History {
-    head: LogWord,
+struct History<J> {
+    head: LogWord<J>,
     seen_log: SeenLog,
     version: Version,
     ghost head_is: { head ≡ head_of seen_log.book },
     ghost begun: { seen_log.log ≡ entry no_event version ∷ [] },
 }
 
-fn empty_history(alloc: Global) -> History {
+fn empty_history<J>(alloc: Global) -> History<J> {
     let version = Version::empty(alloc);
     let (head, seen_log) = open(&version);
     History {
@@ -49,7 +49,7 @@ where
 fn run_in<J, Q, R, W>(
     rt: &Q,
     alloc: Global,
-    history: History,
+    history: History<J>,
     reader: &mut R,
     writer: &mut W,
 ) -> SessionEnd

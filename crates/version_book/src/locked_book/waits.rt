@@ -3,9 +3,9 @@ ghost use Rattle.std.specs.Prelude.{◌≡◌, ◌⊎◌, ◌<◌, ◌≤◌, �
 ghost use Rattle.std.specs.Arc.{arc_value};
 ghost use Rattle.book_history.specs.Fault.{no_memory};
 ghost use Rattle.book_history.specs.Logs.{newest_in, IsLog};
+ghost use Rattle.book_history.specs.Telling.{IsToldIn};
 ghost use Rattle.book_lock.specs.Steps.{IsLevel};
 ghost use Rattle.book_lock.specs.Heard.{HasHeard};
-ghost use Rattle.book_lock.specs.Telling.{IsToldIn};
 ghost use Rattle.version_book.specs.Waits.{IsAfterTold, IsBuilding, IsBuiltAt, IsIdle, IsQuiet, IsSyncRefusedAt};
 ghost use Rattle.version_book.specs.Waits.{IsWaitRefused, IsWriting, Looks, Waits};
 

@@ -6,8 +6,8 @@ use Rattle.book_history.proofs.Chains.{log_more}
 use Rattle.book_history.proofs.seen_log.SeenLog.add.Goals as goal
 
 pub compare_exchange-found-requires : goal.compare_exchange-found-requires
-compare_exchange-found-requires c =
-    let h = c.requires.head in
+compare_exchange-found-requires g c =
+    let h = c.head.view_is ∙ c.requires.head in
     let offer = c.plain-offer.ensures in
     let pen = c.no_pen-pen.ensures in
     let copy = c.again-seen.ensures in
@@ -23,23 +23,23 @@ compare_exchange-found-requires c =
     )
 
 pub overflow_add-at : goal.overflow_add-at
-overflow_add-at c = record { fits = fits_next _ _ _ c.self.invariant.0 (ap (λ t. t.log) c.self.view_is) c.requires.room }
+overflow_add-at g c = record { fits = fits_next _ _ _ c.self.invariant.0 (ap (λ t. t.log) c.self.view_is) c.requires.room }
 
 pub overflow_add-self : goal.overflow_add-self
-overflow_add-self c = record { fits = fits_next _ _ _ c.self.invariant.0 (ap (λ t. t.log) c.self.view_is) c.requires.room }
+overflow_add-self g c = record { fits = fits_next _ _ _ c.self.invariant.0 (ap (λ t. t.log) c.self.view_is) c.requires.room }
 
 pub returns-then-found-at : goal.returns-then-found-at
-returns-then-found-at c = refl
+returns-then-found-at g c = refl
 
 pub invariant_of-self : goal.invariant_of-self
-invariant_of-self c =
+invariant_of-self g c =
     let e = entry (event_of c.args.cause) c.args.version.now in
     let x = c.compare_exchange-found in
     let added = was_added c.again-seen.result.log x.new.seen.log c.plain-offer.result.ask e x.result c.self.inside.at c.if-found-at.false c.plain-offer.ensures.1 x.ensures.7 in
     (longer_by_one c.again-seen.result.log x.new.seen.log e c.self.inside.at (c.self.invariant.0 ∙ ap (λ s. length s.log) (sym c.again-seen.ensures)) added.0, added.1)
 
 pub returns : goal.returns
-returns c =
+returns g c =
     let e = entry (event_of c.args.cause) c.args.version.now in
     let x = c.compare_exchange-found in
     let was = c.again-seen.ensures in

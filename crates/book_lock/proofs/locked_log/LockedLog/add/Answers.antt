@@ -2,10 +2,10 @@ use Rattle.std.proofs.Common.{◌≡◌, ◌⊎◌, ◌++◌, ◌∷◌, [], len
 use Rattle.overlay_terms.specs.Histories.{Follows}
 use Rattle.book_history.specs.Causes.{event_of}
 use Rattle.book_history.specs.Logs.{entry, newest_in}
+use Rattle.book_history.specs.Telling.{MayTell}
 use Rattle.book_history.specs.BookLogs.{BookLog}
 use Rattle.book_history.proofs.Chains.{newest_more}
 use Rattle.book_history.proofs.Owned.{own_le, counts_more}
-use Rattle.book_lock.specs.Telling.{MayTell}
 use Rattle.book_lock.proofs.Tellings.{told_more}
 use Rattle.book_lock.proofs.locked_log.LockedLog.add.Goals as goal
 
@@ -14,10 +14,13 @@ pub add-requires : goal.add-requires
 add-requires g c =
     let event = event_of c.args.cause in
     let follows = subst (λ v. Follows (newest_in c.args.self.now) event v) (sym c.deref.ensures) c.requires.follows in
+    let stored = g.J.BookName.stored in
+    let told = subst (λ v. (v.durable ≡ (newest_in c.args.self.now).durable) ⊎ MayTell stored c.args.self.now v.durable) (sym c.deref.ensures) c.requires.told in
     record {
       head = search rules;
       room = search (rules, arith);
       follows = subst (λ l. Follows l event c.deref.result.now) (search rules) follows;
+      told = subst (λ l. (c.deref.result.now.durable ≡ (newest_in l).durable) ⊎ MayTell stored l c.deref.result.now.durable) (search rules) told;
     }
 
 pub returns-then-at-ge-MOST : goal.returns-then-at-ge-MOST

@@ -1,7 +1,7 @@
 use Rattle.std.proofs.Common.{◌⊎◌, ◌<◌, ◌≤◌, ap, sym, ◌∙◌, subst, refl, arith, inl, inr}
 use Rattle.overlay_terms.specs.Histories.{FollowsReport}
 use Rattle.book_history.specs.Logs.{newest_in}
-use Rattle.book_lock.specs.Telling.{MayTell}
+use Rattle.book_history.specs.Telling.{MayTell}
 use Rattle.std.proofs.lemmas.Result.{IfOk-from_err}
 use Rattle.book_history.proofs.Gone.{passed}
 use Rattle.book_lock.proofs.Growing.{newest_of, told_by, reports}

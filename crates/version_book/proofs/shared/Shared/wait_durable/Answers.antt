@@ -3,7 +3,7 @@ use mathlib.Core.Bool.{true≢false}
 use Rattle.overlay_terms.specs.Histories.{newest}
 use Rattle.book_history.specs.Known.{seen}
 use Rattle.book_history.specs.Logs.{newest_in}
-use Rattle.book_lock.specs.Telling.{IsToldIn}
+use Rattle.book_history.specs.Telling.{IsToldIn}
 use Rattle.version_book.specs.Waits.{IsSyncRefused}
 use Rattle.version_book.proofs.Results.{looks_err, looks_goes, looks_history, looks_ok, looks_own, looks_refused, looks_same, looks_told, never_ok, sync_refused, with_store, without_store}
 use Rattle.version_book.proofs.shared.Shared.wait_durable.Goals as goal
