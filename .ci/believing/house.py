@@ -316,19 +316,19 @@ class House:
         return reach
 
     def of_parts(self, calls: list[Call], parts: Cut) -> tuple[Reach, Cut]:
-        """What some promises reach, each a field of a claim, a claim whole or a clause, and what that leaves out: the
-        other fields of these claims.
+        """What some promises reach, each a field of a claim, a claim whole or a clause of a call (of a trait all of its
+        clauses), and what that leaves out: the other fields of these claims.
         """
         heads = {key for key, _ in parts.fields}
         others = {(key, field) for key in heads for field in fields_of(self.module(key[:2]).definitions[key[2]].shown)}
         cut = Cut(frozenset(others - parts.fields))
         start, fields = set[Key](), set[str]()
-        for call in calls:
-            for title, clause in parts.clauses:
-                if title == call.title:
-                    said = self.clause(call, clause)
-                    start |= self.named(said, None, *imports(self.head(call)[0]))
-                    fields |= set(re.findall(r"\.(\w+)", said))
+        for title, clause in parts.clauses:
+            start |= {("", *place) for place in self.types if place[1] == title}
+            for call in [call for call in calls if call.title == title]:
+                said = self.clause(call, clause)
+                start |= self.named(said, None, *imports(self.head(call)[0]))
+                fields |= set(re.findall(r"\.(\w+)", said))
         hidden = {link for link in self.links if not link.field and link.key in start}
         reach = self.reached(heads | parts.words | start - {link.key for link in hidden}, fields, cut)
         reach.links |= hidden

@@ -9,7 +9,7 @@ from believing import rust
 from believing.house import Call, House, Key, Link
 from believing.page import Law, Row, Tables, Told, Word, compare, page, with_numbers
 from believing.sources import fields_of, read_module, without
-from believing.texts import path_of, text
+from believing.texts import path_of, text, twice
 
 LOW = """-- numbers
 use Rattle.std.specs.Prelude.{ℕ, ◌≡◌, twofold}
@@ -211,7 +211,8 @@ def hides(top: pathlib.Path) -> int:
         raise AssertionError(wrong)
     parts: list[tuple[tuple[str, ...], set[str]]] = [
         (("Handed.few",), {"Handed", "Rests", "Pair"}), (("Handed.rest",), {"Handed", "Part", "Pair"}), (("Opens",), {"Opens", "Box", "Thing", "Pair"}),
-        (("go: first", "Handed.few"), {"Goes", "twice", "twofold", "Thing", "Handed", "Rests", "Pair"})]
+        (("go: first", "Handed.few"), {"Goes", "twice", "twofold", "Thing", "Handed", "Rests", "Pair"}),
+        (("Store: two",), {"Store", "Part", "Pair"})]
     for only, wanted in parts:
         reach, _ = house.of_parts(calls_of("go"), house.cut(only))
         assert {key[2] for key in reach.keys} == wanted, (only, reach)
@@ -219,7 +220,7 @@ def hides(top: pathlib.Path) -> int:
         House(top, None, (Link("high", "Calls", "Handed", (), (), field="none"),))
     except SystemExit as fault:
         assert "has no Handed.none" in str(fault)
-    return 17
+    return 18
 
 
 def writes(top: pathlib.Path) -> int:
@@ -277,12 +278,13 @@ def reads() -> int:
     assert module.definitions["Part"].within == "" and module.definitions["Part"].lines == 3
     assert module.definitions["inner"].lines == 3 and module.constructors["down"] == "Way"
     assert rust.leaves("a::{b::C as D, e::{F, G}}") == [("D", ("a", "b", "C")), ("F", ("a", "e", "F")), ("G", ("a", "e", "G"))]
+    assert twice({("low", "A", "same"), ("high", "B", "same"), ("low", "A", "code_of"), ("high", "B", "code_of")}) == ["same: high B, low A"]
     assert path_of("a crash of a run, and its opening").name == "a-crash-of-a-run-and-its-opening.txt"
     shown = ["-- a claim", "pub record P : Type 0 where", "  pub a : A", "  -- of b", "  pub b : B", "    → C", "  -- of c", "  pub c : C"]
     assert fields_of(shown) == {"a", "b", "c"} and without(shown, set()) == shown
     assert without(shown, {"b"}) == [*shown[:3], *shown[6:], "  -- left out: b"], without(shown, {"b"})
     assert without(shown, {"c", "a"}) == [*shown[:2], *shown[3:6], "  -- left out: a, c"]
-    return 4
+    return 5
 
 
 def test() -> int:

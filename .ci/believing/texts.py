@@ -31,6 +31,8 @@ def text(told: Told, title: str) -> str:
                         ("Of the contracts this row has these promises alone; the words of others are not defined here:", row.only)]:
         if parts:
             lines += [head, "", *(f"    {one}" for one in parts), ""]
+    if twice(mine):
+        lines += ["These names have two meanings here, each in its file:", "", *(f"    {one}" for one in twice(mine)), ""]
     for call in calls:
         lines += [f"==== {call.title}: {call.says}", f"     crates/{call.file}", "", *quoted(house, call), ""]
     for file, names in house.in_order(mine):
@@ -38,6 +40,15 @@ def text(told: Told, title: str) -> str:
     lines += proved(told, reach.keys)
     lines += rest(house, reach.keys, sorted(link.title for link in reach.links))
     return "\n".join(lines)
+
+
+def twice(keys: set[Key]) -> list[str]:
+    """The names that more than one of some definitions has, and their files; every table of faults has the same two."""
+    files: dict[str, list[str]] = {}
+    for crate, module, name in sorted(keys):
+        if name not in ("code_of", "text_of"):
+            files.setdefault(name, []).append(f"{crate} {module}")
+    return [f"{name}: {', '.join(places)}" for name, places in sorted(files.items()) if len(places) > 1]
 
 
 def proved(told: Told, keys: set[Key]) -> list[str]:
