@@ -10,7 +10,7 @@ import pathlib
 import re
 
 from believing import rust
-from believing.sources import Import, Module, bound, imports, read_module, spoken
+from believing.sources import Import, Module, bound, fields_of, imports, read_module, spoken, without
 
 File = tuple[str, str]
 Key = tuple[str, str, str]
@@ -57,7 +57,9 @@ class Link:
 
 @dataclasses.dataclass(frozen=True)
 class Cut:
-    """What is not followed: fields of some definitions, some definitions whole, and clauses of calls by their names."""
+    """What is not followed: fields of some definitions, some definitions whole, and clauses of calls and of traits by
+    their names.
+    """
 
     fields: frozenset[tuple[Key, str]] = frozenset()
     words: frozenset[Key] = frozenset()
@@ -94,6 +96,7 @@ class House:
         self.sources = {crate: {path: path.read_text() for path in sorted((top / "crates" / crate / "src").glob("**/*.rt"))}
                         for crate in self.crates}
         self.types = self.find_types()
+        self.used: dict[tuple[Key, Cut], set[Key]] = {}
         for link in links:
             definition = self.modules[link.crate, link.module].definitions.get(link.name)
             if not definition or (link.field and not re.search(rf"^\s+pub {link.field} :", definition.text, re.M)):
@@ -186,8 +189,12 @@ class House:
 
     def uses(self, key: Key, cut: Cut = NOTHING) -> set[Key]:
         """What a definition names, or the model of a type of the sources."""
-        if key[0] == "":
-            return self.of_type(key[1], key[2])
+        if (key, cut) not in self.used:
+            self.used[key, cut] = self.of_type(key[1], key[2], cut) if key[0] == "" else self.of_text(key, cut)
+        return self.used[key, cut]
+
+    def of_text(self, key: Key, cut: Cut) -> set[Key]:
+        """What the text of a definition names."""
         module = self.module(key[:2])
         text = self.said(key, cut)
         own = bound(key[2], text) - {key[2]}
@@ -195,13 +202,18 @@ class House:
         kept = WORD.sub(lambda word: "" if word[0].partition(".")[0] in own else word[0], text)
         return self.named(kept, key[:2], {}, {}) - {key}
 
-    def of_type(self, crate: str, name: str) -> set[Key]:
-        """What the model of a type names, or the clauses of a trait."""
+    def of_type(self, crate: str, name: str, cut: Cut = NOTHING) -> set[Key]:
+        """What the model of a type names, or the clauses of a trait, but for those that are cut."""
         text = self.types[crate, name].read_text()
         names, aliases = imports(text)
         trait = re.search(rf"^pub trait {name}\b.*?^}}", text, re.M | re.S)
         if trait:
-            return self.named(re.sub(r"//.*", "", trait[0]), None, names, aliases)
+            said = re.sub(r"//.*", "", trait[0])
+            for clause in [clause for title, clause in cut.clauses if title == name]:
+                said, count = re.subn(rf"\n *ensures {clause} \{{[^\n]*", "", said)
+                if not count:
+                    raise SystemExit(f"believe: {name} has no clause {clause}")
+            return self.named(said, None, names, aliases)
         value = self.model(crate, name)
         return self.named(value, None, names, aliases) if value else set()
 
@@ -303,12 +315,40 @@ class House:
         reach.links |= hidden
         return reach
 
-    def cut(self, without: tuple[str, ...]) -> Cut:
-        """What a row leaves out: `Record.field`, `Word`, each after its module where it takes that, or `call: clause`."""
+    def of_parts(self, calls: list[Call], parts: Cut) -> tuple[Reach, Cut]:
+        """What some promises reach, each a field of a claim, a claim whole or a clause of a call (of a trait all of its
+        clauses), and what that leaves out: the other fields of these claims.
+        """
+        heads = {key for key, _ in parts.fields}
+        others = {(key, field) for key in heads for field in fields_of(self.module(key[:2]).definitions[key[2]].shown)}
+        cut = Cut(frozenset(others - parts.fields))
+        start, fields = set[Key](), set[str]()
+        for title, clause in parts.clauses:
+            start |= {("", *place) for place in self.types if place[1] == title}
+            for call in [call for call in calls if call.title == title]:
+                said = self.clause(call, clause)
+                start |= self.named(said, None, *imports(self.head(call)[0]))
+                fields |= set(re.findall(r"\.(\w+)", said))
+        hidden = {link for link in self.links if not link.field and link.key in start}
+        reach = self.reached(heads | parts.words | start - {link.key for link in hidden}, fields, cut)
+        reach.links |= hidden
+        return reach, cut
+
+    def clause(self, call: Call, name: str) -> str:
+        """A clause of a call by its name."""
+        found = re.search(rf"\n *ensures {name} (\{{.*?)(?=\n *(?:ensures|requires) |\Z)", self.head(call)[1], re.S)
+        if not found:
+            raise SystemExit(f"believe: {call.title} has no clause {name}")
+        return found[1]
+
+    def cut(self, parts: tuple[str, ...]) -> Cut:
+        """What a row leaves out, or what it has: `Record.field`, `Word`, each after its module where it takes that, or
+        `call: clause` and `Trait: clause`.
+        """
         fields: set[tuple[Key, str]] = set()
         words: set[Key] = set()
         clauses: set[tuple[str, str]] = set()
-        for one in without:
+        for one in parts:
             title, colon, clause = one.partition(": ")
             if colon:
                 clauses.add((title, clause))
@@ -318,7 +358,7 @@ class House:
             keys = [(*file, name) for file, module in self.modules.items()
                     if file[0] in self.crates and name in module.definitions and file[1].endswith(place)]
             if len(keys) != 1 or field and not re.search(rf"^\s+pub {field} :", self.said(keys[0]), re.M):
-                raise SystemExit(f"believe: a row leaves out {one}, and {len(keys)} definitions have that name")
+                raise SystemExit(f"believe: a row names {one}, and {len(keys)} definitions have that name")
             if field:
                 fields.add((keys[0], field))
             else:
@@ -354,6 +394,10 @@ class House:
         return [(file, sorted((k[2] for k in keys if k[:2] == file), key=lambda n: self.module(file).definitions[n].at))
                 for file in order]
 
-    def lines(self, keys: set[Key]) -> int:
+    def shown(self, key: Key, cut: Cut = NOTHING) -> list[str]:
+        """The lines of a definition, in which one line names the fields that are left out."""
+        return without(self.module(key[:2]).definitions[key[2]].shown, {field for of, field in cut.fields if of == key})
+
+    def lines(self, keys: set[Key], cut: Cut = NOTHING) -> int:
         """The lines of some definitions."""
-        return sum(self.module(key[:2]).definitions[key[2]].lines for key in keys)
+        return sum(len(self.shown(key, cut)) for key in keys)

@@ -8,10 +8,10 @@ import functools
 import pathlib
 import re
 
-from believing.house import Call, House, Key, Link, Reach
+from believing.house import NOTHING, Call, Cut, House, Key, Link, Reach
 
 # The rows of which README.md has the numbers.
-OF_README = r"(?:`locate`|the sentence in bold|a crash of a run, and its opening|all together)"
+OF_README = r"(?:`locate`|the sentence in bold|a crash of a run, and its opening|all without what stands beside|all together)"
 ROW = re.compile(rf"^\| {OF_README} \| (\d+) \| ([\d,]+) \|", re.M)
 TOLD = re.compile(r"\d+(\s+definitions\s+\()[\d,]+(\s+lines\))")
 
@@ -37,12 +37,15 @@ class Law:
 
 @dataclasses.dataclass(frozen=True)
 class Row:
-    """What several calls say together: its title, the calls, what it is, and the promises of these that it leaves out."""
+    """What several calls say together: its title, the calls, what it is, and the promises of these that it leaves out,
+    or those that alone it has.
+    """
 
     title: str
     calls: tuple[str, ...]
     says: str
     without: tuple[str, ...] = ()
+    only: tuple[str, ...] = ()
 
 
 @dataclasses.dataclass(frozen=True)
@@ -65,11 +68,13 @@ class Told:
         self.reach = {call.title: house.of_call(call) for call in tables.calls}
 
     def row(self, title: str) -> tuple[list[Call], Reach]:
-        """The calls of a row, and what they reach together."""
+        """The calls of a row, and what they reach together, or what the promises reach that alone it has."""
         row = self.row_of(title)
         calls = [call for call in self.tables.calls if call.title in row.calls]
         if len(calls) < len(row.calls):
             raise SystemExit(f"believe: no row {title}, or it names a call that the page has not")
+        if row.only:
+            return calls, self.house.of_parts(calls, self.house.cut(row.only))[0]
         cut = self.house.cut(row.without)
         parts = [self.house.of_call(call, cut) if row.without else self.reach[call.title] for call in calls]
         keys = set().union(*(part.keys for part in parts))
@@ -80,12 +85,17 @@ class Told:
         """The row of a title: of several calls, or of one."""
         return next((row for row in self.tables.together if row.title == title), Row(title, (title,), ""))
 
-    def counted(self, keys: set[Key]) -> str:
+    def cut(self, title: str) -> Cut:
+        """What a row leaves out."""
+        row = self.row_of(title)
+        return self.house.of_parts([], self.house.cut(row.only))[1] if row.only else self.house.cut(row.without)
+
+    def counted(self, keys: set[Key], cut: Cut = NOTHING) -> str:
         """The cells that count some definitions, and the kit's with them."""
         mine, kit = self.house.mine(keys), self.house.of_kit(keys)
         files = len({key[:2] for key in mine})
         of_kit = f"{len(kit)} ({self.house.lines(kit):,})" if kit else ""
-        return f"{len(mine)} | {self.house.lines(mine):,} | {files} | {of_kit}"
+        return f"{len(mine)} | {self.house.lines(mine, cut):,} | {files} | {of_kit}"
 
 
 def page(house: House, tables: Tables) -> str:
@@ -104,7 +114,7 @@ def page(house: House, tables: Tables) -> str:
         met |= reach.keys
     for row in tables.together:
         _, reach = told.row(row.title)
-        rows.append(f"| {row.title} | {told.counted(reach.keys)} | {row.says} |")
+        rows.append(f"| {row.title} | {told.counted(reach.keys, told.cut(row.title))} | {row.says} |")
     rows.append(f"| all together | {told.counted(met)} | |")
     every = sum(len(module.definitions) for (crate, _), module in house.modules.items() if crate in house.crates)
     table = ["| Call | Definitions | Lines | Files | Of the kit (lines) | What it is |", f"|{'---|' * 6}", *rows]
@@ -138,9 +148,10 @@ def links(told: Told) -> str:
 
 
 def left_out(told: Told) -> str:
-    """What rows leave out, row by row."""
-    rows = [row for row in told.tables.together if row.without]
-    return "\n".join(f"- `{row.title}`: {', '.join(f'`{one}`' for one in row.without)}." for row in rows)
+    """What rows leave out, and what those have that stand beside, row by row."""
+    rows = [(row.title, verb, parts) for row in told.tables.together
+            for verb, parts in [("leaves out", row.without), ("has", row.only)] if parts]
+    return "\n".join(f"- `{title}` {verb} {', '.join(f'`{one}`' for one in parts)}." for title, verb, parts in rows)
 
 
 def promised(told: Told, listed: dict[Key, str]) -> list[str]:
@@ -236,14 +247,16 @@ def seen_as(house: House, crate: str, name: str) -> str:
 
 
 def with_numbers(readme: str, page_text: str) -> str:
-    """README.md with the numbers of the page: of a point, of the sentence in bold, of a run's crash, and of all."""
+    """README.md with the numbers of the page: of a point, of the sentence in bold, of a run's crash, and of all, without what
+    stands beside and with it.
+    """
     numbers = iter(ROW.findall(page_text))
 
     def counted(found: re.Match[str]) -> str:
         definitions, lines = next(numbers)
         return f"{definitions}{found[1]}{lines}{found[2]}"
 
-    return TOLD.sub(counted, readme, count=4)
+    return TOLD.sub(counted, readme, count=5)
 
 
 def compare(files: dict[pathlib.Path, str]) -> list[pathlib.Path]:

@@ -160,3 +160,34 @@ def spoken(text: str) -> str:
     """A definition's text without its comments and without the names of fields that it fills."""
     text = re.sub(r"--.*", "", text)
     return re.sub(r"((?:record \{|;)\s*|^\s{3,})\w+ =(?= )", r"\1", text, flags=re.M)
+
+
+FIELD = re.compile(r"^(?P<indent> +)pub (?P<name>\w+) :")
+
+
+def fields_of(shown: list[str]) -> set[str]:
+    """The names of the fields of a definition."""
+    return {found["name"] for line in shown if (found := FIELD.match(line))}
+
+
+def without(shown: list[str], fields: set[str]) -> list[str]:
+    """The lines of a definition without some of its fields and the comments above these; a line at the end names them."""
+    kept: list[str] = []
+    gone: list[str] = []
+    margin = ""
+    is_gone = False
+    for line in shown:
+        found = FIELD.match(line)
+        indent = len(line) - len(line.lstrip())
+        if found:
+            margin = found["indent"]
+            is_gone = found["name"] in fields
+            if is_gone:
+                gone.append(found["name"])
+                while kept and kept[-1].startswith(f"{margin}--"):
+                    kept.pop()
+        elif margin and indent <= len(margin):
+            is_gone = False
+        if not is_gone:
+            kept.append(line)
+    return [*kept, f"{margin}-- left out: {', '.join(gone)}"] if gone else kept

@@ -8,8 +8,8 @@ import tempfile
 from believing import rust
 from believing.house import Call, House, Key, Link
 from believing.page import Law, Row, Tables, Told, Word, compare, page, with_numbers
-from believing.sources import read_module
-from believing.texts import path_of, text
+from believing.sources import fields_of, read_module, without
+from believing.texts import path_of, text, twice
 
 LOW = """-- numbers
 use Rattle.std.specs.Prelude.{ℕ, ◌≡◌, twofold}
@@ -112,6 +112,12 @@ pub struct Box<D: Disk> {
     pub(crate) thing: Vec<Thing>,
     other: Other,
 }
+pub trait Store {
+    fn keep(&self) -> usize
+        ensures one { Pair }
+        // The last one.
+        ensures two { Part };
+}
 pub enum Kind {
     /// One.
     One { thing: Thing },
@@ -122,13 +128,14 @@ CALLING = """//! Calls.
 ghost use Rattle.std.specs.Prelude.{◌≡◌};
 ghost use Rattle.high.specs.Calls.{Goes, Turns, Rests, Opens, Hides, Gives, Takes, GoesLaw};
 ghost use Rattle.above.specs.From.{Passed};
-use low::thing::{Kind as Sort, Thing};
+use low::thing::{Kind as Sort, Store, Thing};
 use high::Passing;
 """
 LIB = "//! All.\npub use low::thing::Thing as Passing;\n"
 BODIES = [("go", "thing: &Thing", "Goes thing.now result"), ("turn", "n: usize", "Turns result"), ("rest", "n: usize", "Rests result"),
           ("sort", "kind: Sort", "result ≡ result"), ("opens", "n: usize", "Opens result"), ("hide", "n: usize", "Hides result"),
-          ("give", "n: usize", "Gives result"), ("take", "n: usize", "Takes result"), ("pass", "n: &Passing", "Passed result")]
+          ("give", "n: usize", "Gives result"), ("take", "n: usize", "Takes result"), ("pass", "n: &Passing", "Passed result"),
+          ("store", "store: &Store", "result ≡ result")]
 LINKS = (Link("high", "Calls", "Handed", ("give",), ("take",)),)
 FIELD = (Link("high", "Calls", "Handed", ("give",), ("take",), field="rest"),)
 
@@ -167,6 +174,7 @@ def reaches(top: pathlib.Path) -> int:
         "opens": {("high", "Calls", "Opens"), ("", "low", "Box"), *thing},
         "give": {("high", "Calls", "Gives"), ("high", "Calls", "Handed"), ("high", "Calls", "Rests"), *low("Part", "Pair")},
         "pass": {("above", "From", "Passed"), *low("Part", "Pair"), ("", "low", "Thing")},
+        "store": {("", "low", "Store"), *low("Part", "Pair")},
     }
     for call in calls_of(*wanted):
         got = house.of_call(call).keys
@@ -194,24 +202,33 @@ def hides(top: pathlib.Path) -> int:
         reach = house.of_call(calls_of("give")[0], house.cut(without))
         assert not {key[2] for key in reach.keys} & gone and not reach.links, (without, reach)
     assert not house.mine(house.of_call(calls_of("go")[0], house.cut(("go: first",))).keys) & low("twice")
-    for wrong in ("Handed.none", "None", "go: none"):
+    assert house.of_call(calls_of("store")[0], house.cut(("Store: two",))).keys == {("", "low", "Store"), *low("Pair")}
+    for call, wrong in (("go", "Handed.none"), ("go", "None"), ("go", "go: none"), ("store", "Store: three")):
         try:
-            house.of_call(calls_of("go")[0], house.cut((wrong,)))
+            house.of_call(calls_of(call)[0], house.cut((wrong,)))
         except SystemExit:
             continue
         raise AssertionError(wrong)
+    parts: list[tuple[tuple[str, ...], set[str]]] = [
+        (("Handed.few",), {"Handed", "Rests", "Pair"}), (("Handed.rest",), {"Handed", "Part", "Pair"}), (("Opens",), {"Opens", "Box", "Thing", "Pair"}),
+        (("go: first", "Handed.few"), {"Goes", "twice", "twofold", "Thing", "Handed", "Rests", "Pair"}),
+        (("Store: two",), {"Store", "Part", "Pair"})]
+    for only, wanted in parts:
+        reach, _ = house.of_parts(calls_of("go"), house.cut(only))
+        assert {key[2] for key in reach.keys} == wanted, (only, reach)
     try:
         House(top, None, (Link("high", "Calls", "Handed", (), (), field="none"),))
     except SystemExit as fault:
         assert "has no Handed.none" in str(fault)
-    return 11
+    return 18
 
 
 def writes(top: pathlib.Path) -> int:
     """The page and a row's text."""
     house = House(top, top / "kit", LINKS)
     tables = Tables("# Head\n@CONTRACT@\n@LINKS@\n@WITHOUT@", calls_of("go", "give", "take"),
-                    [Row("both", ("go", "take"), "Two."), Row("few", ("go", "take"), "Less.", ("Goes", "go: first"))],
+                    [Row("both", ("go", "take"), "Two."), Row("few", ("go", "take"), "Less.", ("Goes", "go: first")),
+                     Row("part", ("give",), "One field.", only=("Handed.rest",))],
                     [Word("high", "Calls", "Goes", "A word.")], [Law("go", "high/src/calling.rt", "goes_law")])
     said = page(house, tables)
     for line in ["| `go` | 3 | 10 | 2 | 1 (3) | A call. |", "| `give` | 1 | 2 | 1 |  | A call. |", "| both | 4 | 12 | 2 | 1 (3) | Two. |",
@@ -225,8 +242,10 @@ def writes(top: pathlib.Path) -> int:
     assert row.index("abbrev pub twice") < row.index("-- goes up\nabbrev pub Goes") < row.index("Takes n = Handed n → Goes n n")
     assert "What to believe of: both (4 definitions, 12 lines)" in row and "low `Thing` as `Pair`" in row and "idle" not in row
     assert "goes_law (high/src/calling.rt): What goes, goes on." in row
-    assert "| few | 2 | 6 | 2 |  | Less. |" in said and "- `few`: `Goes`, `go: first`." in said, said
+    assert "| few | 2 | 6 | 2 |  | Less. |" in said and "- `few` leaves out `Goes`, `go: first`." in said, said
     assert "    go: first" in text(Told(house, tables), "few")
+    assert "- `part` has `Handed.rest`." in said and "    Handed.rest" in text(Told(house, tables), "part")
+    assert "  -- left out: few" in text(Told(house, tables), "part") and "pub few" not in text(Told(house, tables), "part")
     for wrong, fault in [(Law("give", "high/src/calling.rt", "goes_law"), "speaks of nothing"), (Law("go", "high/src/calling.rt", "go"), "no law")]:
         try:
             page(house, Tables("", tables.calls, [], [], [wrong]))
@@ -234,15 +253,17 @@ def writes(top: pathlib.Path) -> int:
             assert fault in str(stop), stop
         else:
             raise AssertionError(fault)
-    return 4
+    return 6
 
 
 def compares(top: pathlib.Path) -> int:
     """The numbers of README.md, and what is not as it would be written."""
     rows = ("| `locate` | 4 | 1,009 | 2 |\n| the sentence in bold | 5 | 8 | 2 |\n| a crash of a run, and its opening | 5 | 9 | 2 |\n"
-            "| all together | 6 | 7 | 2 |\n")
-    told = with_numbers("believe 1 definitions (2 lines), 3\ndefinitions (4 lines), 3 definitions (4 lines), 5 definitions (6\nlines)", rows)
-    assert told == "believe 4 definitions (1,009 lines), 5\ndefinitions (8 lines), 5 definitions (9 lines), 6 definitions (7\nlines)", told
+            "| all without what stands beside | 5 | 3 | 2 |\n| all together | 6 | 7 | 2 |\n")
+    told = with_numbers("believe 1 definitions (2 lines), 3\ndefinitions (4 lines), 3 definitions (4 lines), 3 definitions (4 lines),"
+                        " 5 definitions (6\nlines)", rows)
+    assert told == ("believe 4 definitions (1,009 lines), 5\ndefinitions (8 lines), 5 definitions (9 lines), 5 definitions (3 lines),"
+                    " 6 definitions (7\nlines)"), told
     kept, other = top / "kept.md", top / "other.md"
     kept.write_text("kept")
     assert compare({kept: "kept"}) == [] and compare({kept: "more", other: "none"}) == [kept, other]
@@ -257,8 +278,13 @@ def reads() -> int:
     assert module.definitions["Part"].within == "" and module.definitions["Part"].lines == 3
     assert module.definitions["inner"].lines == 3 and module.constructors["down"] == "Way"
     assert rust.leaves("a::{b::C as D, e::{F, G}}") == [("D", ("a", "b", "C")), ("F", ("a", "e", "F")), ("G", ("a", "e", "G"))]
+    assert twice({("low", "A", "same"), ("high", "B", "same"), ("low", "A", "code_of"), ("high", "B", "code_of")}) == ["same: high B, low A"]
     assert path_of("a crash of a run, and its opening").name == "a-crash-of-a-run-and-its-opening.txt"
-    return 3
+    shown = ["-- a claim", "pub record P : Type 0 where", "  pub a : A", "  -- of b", "  pub b : B", "    → C", "  -- of c", "  pub c : C"]
+    assert fields_of(shown) == {"a", "b", "c"} and without(shown, set()) == shown
+    assert without(shown, {"b"}) == [*shown[:3], *shown[6:], "  -- left out: b"], without(shown, {"b"})
+    assert without(shown, {"c", "a"}) == [*shown[:2], *shown[3:6], "  -- left out: a, c"]
+    return 5
 
 
 def test() -> int:

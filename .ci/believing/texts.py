@@ -20,24 +20,35 @@ def text(told: Told, title: str) -> str:
     """The text of a row, to print: contracts, definitions lowest first, link words, words of the kit, and types."""
     house = told.house
     calls, reach = told.row(title)
-    without = told.row_of(title).without
+    row, cut = told.row_of(title), told.cut(title)
     mine = house.mine(reach.keys)
-    count = f"{len(mine)} definitions, {house.lines(mine):,} lines"
+    count = f"{len(mine)} definitions, {house.lines(mine, cut):,} lines"
     lines = [f"What to believe of: {title} ({count})", "",
              "`.ci/believe --text` wrote this from the sources. docs/BELIEVE.md says how to read it. First the contracts,",
              "then the definitions on which they rest: each stands after those that it rests on, or beside them in one",
              "file.", ""]
-    if without:
-        lines += ["Left out are these promises, which stand beside (docs/BELIEVE.md); their words are not defined here:",
-                  "", *(f"    {one}" for one in without), ""]
+    for head, parts in [("Left out are these promises, which stand beside (docs/BELIEVE.md); their words are not defined here:", row.without),
+                        ("Of the contracts this row has these promises alone; the words of others are not defined here:", row.only)]:
+        if parts:
+            lines += [head, "", *(f"    {one}" for one in parts), ""]
+    if twice(mine):
+        lines += ["These names have two meanings here, each in its file:", "", *(f"    {one}" for one in twice(mine)), ""]
     for call in calls:
         lines += [f"==== {call.title}: {call.says}", f"     crates/{call.file}", "", *quoted(house, call), ""]
-    cut = house.cut(without)
     for file, names in house.in_order(mine):
         lines += definitions(house, file, names, cut)
     lines += proved(told, reach.keys)
     lines += rest(house, reach.keys, sorted(link.title for link in reach.links))
     return "\n".join(lines)
+
+
+def twice(keys: set[Key]) -> list[str]:
+    """The names that more than one of some definitions has, and their files; every table of faults has the same two."""
+    files: dict[str, list[str]] = {}
+    for crate, module, name in sorted(keys):
+        if name not in ("code_of", "text_of"):
+            files.setdefault(name, []).append(f"{crate} {module}")
+    return [f"{name}: {', '.join(places)}" for name, places in sorted(files.items()) if len(places) > 1]
 
 
 def proved(told: Told, keys: set[Key]) -> list[str]:
@@ -49,10 +60,10 @@ def proved(told: Told, keys: set[Key]) -> list[str]:
 
 
 def definitions(house: House, file: File, names: list[str], cut: Cut) -> list[str]:
-    """Some definitions of a file, each with the sentence above it, in the `module` that has it; fields that are not
-    followed say so.
+    """Some definitions of a file, each with the sentence above it, in the `module` that has it; a field that is a link
+    word says so, and a line names those that are left out.
     """
-    hidden = {*((link.key, link.field) for link in house.links if link.field), *cut.fields}
+    hidden = {(link.key, link.field) for link in house.links if link.field}
     lines = [f"==== crates/{file[0]}/specs/{file[1].replace('.', '/')}.antt", ""]
     within = ""
     for name in names:
@@ -62,7 +73,7 @@ def definitions(house: House, file: File, names: list[str], cut: Cut) -> list[st
             lines += [*within.splitlines(), ""] if within else []
         fields = {field for key, field in hidden if key == (*file, name)}
         lines += [line + ("  -- not followed" if found and found[1] in fields else "")
-                  for line in definition.shown for found in [re.match(r"\s+pub (\w+) :", line)]]
+                  for line in house.shown((*file, name), cut) for found in [re.match(r"\s+pub (\w+) :", line)]]
         lines.append("")
     return lines
 
