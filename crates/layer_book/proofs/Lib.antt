@@ -22,3 +22,4 @@ pub mod BatchRefusals
 pub mod HavingLemmas
 pub mod ReplacedLemmas
 pub mod ReachingLemmas
+pub mod TileRefusals

@@ -1,5 +1,5 @@
 -- What stands under a name, and the first reason against some names.
-use Rattle.std.proofs.Common.{◌≡◌, Bool, true, false, not, cond, ◌||◌, ◌&&◌, List, [], ◌∷◌, ◌++◌, length, Option, Some, None, refl, ap, sym, ◌∙◌, subst, arith, bytes_eq}
+use Rattle.std.proofs.Common.{◌≡◌, Bool, true, false, not, cond, is_some, ◌||◌, ◌&&◌, List, [], ◌∷◌, ◌++◌, length, Option, Some, None, refl, ap, sym, ◌∙◌, subst, arith, bytes_eq}
 use Rattle.std.specs.List.{list_any}
 use Rattle.std.specs.Option.{option_map, option_or}
 use Rattle.std.proofs.lemmas.Bool.{or_parts}
@@ -47,6 +47,16 @@ as_base layers name found h e = named_passes (λ c. not (is_derived c)) [] layer
 
 pub as_derived : (layers : List Layer) (name : Name) (found : Option Content) → is_orderly_after [] layers ≡ true → found ≡ content_named layers name → stands_as_derived layers name ≡ passes is_derived found
 as_derived layers name found h e = named_passes is_derived [] layers name h ∙ ap (passes is_derived) (sym e)
+
+-- whether a layer has the name
+pub as_standing : (layers : List Layer) (name : Name) (found : Option Content) → found ≡ content_named layers name → stands layers name ≡ is_some found
+as_standing layers name found e = named_stands layers ∙ ap is_some (sym e) where
+  named_stands : (layers : List Layer) → stands layers name ≡ is_some (content_named layers name)
+  named_stands [] = refl
+  named_stands (layer ∷ layers) = split (bytes_eq layer.name name) (named_stands layers) where
+    split : (b : Bool) → stands layers name ≡ is_some (content_named layers name) → (b || stands layers name) ≡ is_some (cond b (Some layer.content) (content_named layers name))
+    split true h = refl
+    split false h = h
 
 or_assoc : (a b c : Option Refusal) → option_or (option_or a b) c ≡ option_or a (option_or b c)
 or_assoc None b c = refl

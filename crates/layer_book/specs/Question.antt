@@ -5,7 +5,7 @@ use Rattle.std.specs.Option.{option_map_or}
 use Rattle.overlay_terms.specs.Plane.{Point, segments_of}
 use Rattle.overlay_terms.specs.Trees.{leaves}
 use Rattle.overlay_terms.specs.Layers.{Name, Content, base, derived, Layer, content_value, named}
-use Rattle.overlay_terms.specs.Commands.{index_of}
+use Rattle.overlay_terms.specs.Commands.{index_of, stands}
 use Rattle.overlay_terms.specs.Orderly.{used_names}
 use Rattle.overlay_terms.specs.Laws.{is_on_any}
 
@@ -52,6 +52,10 @@ at_index wanted i = unwrap_or (slice_get wanted i) false
 
 abbrev pub is_wanted : List Layer → List Bool → Name → Bool
 is_wanted layers wanted name = at_index wanted (index_of layers name)
+
+-- the layer with a name stands at an index
+abbrev pub StandsAt : List Layer → ℕ → Name → Type 0
+StandsAt layers index name = (stands layers name ≡ true) × (index ≡ index_of layers name)
 
 -- what a wanted layer names is wanted
 abbrev pub NamesAreWanted : List Layer → List Bool → Type 0

@@ -29,17 +29,17 @@ impl Layers {
         Ok(self.input_in_reach(alloc, name, column)?)
     }
 
-    /// The column of a tile that there is: the layer has tiles, and the column is one.
+    /// The column of a tile that there is: the layer has tiles, and the column is one. The name is looked up once.
     pub fn tile_column(&self, name: &Name, column: Option<Column>) -> Result<Column, LayerFault>
         ensures ok { IfOk result (λ found. column ≡ Some found) }
         ensures accepted { IfOk result (λ _. tile_refusal self.now name.now column ≡ None) }
         ensures derived { IfOk result (λ _. stands_as_derived self.now name.now ≡ true) }
         ensures refused { IfErr result (λ fault. tile_refusal self.now name.now column ≡ Some fault) }
     {
-        if !self.stands(name) {
+        let Some(layer) = self.get(name) else {
             return Err(LayerFault::UnknownLayer);
-        }
-        if self.stands_as_base(name) {
+        };
+        if !layer.is_derived() {
             return Err(LayerFault::NotDerived);
         }
         match column {

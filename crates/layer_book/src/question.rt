@@ -7,7 +7,7 @@ ghost use Rattle.exact_point.specs.Place.{place};
 ghost use Rattle.point_looks.specs.Spot.{point_of};
 ghost use Rattle.layer_expr.specs.Expr.{tree};
 ghost use Rattle.layer_book.specs.Layer.{content, IsBook};
-ghost use Rattle.layer_book.specs.Question.{IsInside, IsEdge, answers, content_answer, content_at, if_wanted, labelled, wanted_layers};
+ghost use Rattle.layer_book.specs.Question.{IsInside, IsEdge, answers, at_index, content_answer, content_at, if_wanted, labelled, wanted_layers};
 
 use crate::layer::Layer;
 use crate::layers::Layers;
@@ -106,6 +106,13 @@ impl Layers {
     pub(crate) fn known_of(&self, name: &Name, known: &[bool]) -> bool
         ensures { result ≡ unwrap_or (slice_get known.now (index_of self.now name.now)) false }
     {
-        known.get(self.index_of(name)).copied().unwrap_or(false)
+        known_at(known, self.index_of(name))
     }
+}
+
+/// What is known of the layer at an index.
+pub(crate) fn known_at(known: &[bool], index: usize) -> bool
+    ensures { result ≡ at_index known.now index }
+{
+    known.get(index).copied().unwrap_or(false)
 }

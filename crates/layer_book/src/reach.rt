@@ -2,11 +2,11 @@
 ghost use Rattle.std.specs.Prelude.{◌≡◌, ◌<◌, length, slice_set, true, if◌then◌else◌};
 ghost use Rattle.overlay_terms.specs.Trees.{leaves};
 ghost use Rattle.overlay_terms.specs.Commands.{index_of, stands};
-ghost use Rattle.overlay_terms.specs.Layers.{layers_in_reach};
+ghost use Rattle.overlay_terms.specs.Layers.{Name, layers_in_reach};
 ghost use Rattle.overlay_terms.specs.Orderly.{used_names};
 ghost use Rattle.layer_expr.specs.Expr.{tree};
 ghost use Rattle.layer_book.specs.Layer.{IsBook};
-ghost use Rattle.layer_book.specs.Question.{at_index, content_at, is_wanted, marked, marked_layers, NamesAreWanted};
+ghost use Rattle.layer_book.specs.Question.{at_index, content_at, is_wanted, marked, marked_layers, NamesAreWanted, StandsAt};
 
 use crate::layer::Layer;
 use crate::layers::Layers;
@@ -25,8 +25,20 @@ impl Layers {
         ensures exactly { marked_layers result self.now ≡ layers_in_reach self.now name.now }
         ensures valid { IsBook self.now }
     {
+        self.reach_of(self.index_of(name))
+    }
+
+    /// The layers that the layer at an index reaches, by their indices.
+    pub(crate) fn reach_of(&self, index: usize) -> [bool; MAX_LAYERS]
+        ensures asked { (name : Name) → StandsAt self.now index name → is_wanted self.now result name ≡ true }
+        ensures closed { NamesAreWanted self.now result }
+        ensures room { length result ≡ MAX_LAYERS }
+        // Nothing else is marked.
+        ensures exactly { (name : Name) → StandsAt self.now index name → marked_layers result self.now ≡ layers_in_reach self.now name }
+        ensures valid { IsBook self.now }
+    {
         let mut wanted = [false; MAX_LAYERS];
-        mark(&mut wanted, self.index_of(name));
+        mark(&mut wanted, index);
         for i in (0..self.len()).rev() {
             self.mark_used(i, &mut wanted);
         }

@@ -18,16 +18,19 @@ impl Version {
         }
     }
 
-    /// Why the tiles of a layer cannot be asked for. It takes no memory.
+    /// Why the tiles of a layer cannot be asked for. It takes no memory, and looks the name up once.
     pub fn wait_refusal(&self, name: &Name) -> Option<VersionFault>
         ensures { result ≡ wait_refusal self.now name.now }
     {
-        if !self.layers().stands(name) {
-            return Some(VersionFault::Layer(LayerFault::UnknownLayer));
+        match self.layers().get(name) {
+            None => Some(VersionFault::Layer(LayerFault::UnknownLayer)),
+            Some(layer) => {
+                if layer.is_derived() {
+                    None
+                } else {
+                    Some(VersionFault::Layer(LayerFault::NotDerived))
+                }
+            }
         }
-        if self.layers().stands_as_base(name) {
-            return Some(VersionFault::Layer(LayerFault::NotDerived));
-        }
-        None
     }
 }

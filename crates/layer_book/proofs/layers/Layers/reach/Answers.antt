@@ -1,45 +1,7 @@
-use Rattle.std.proofs.Common.{◌-◌, false, replicate, sym, ap, ◌∙◌, subst, arith}
-use Rattle.overlay_terms.specs.Commands.{index_of}
-use Rattle.layer_book.specs.Question.{at_index}
-use Rattle.layer_book.proofs.Closing.{IsClosedFrom, closed_at_end, closed_more, kept_marks, first_mark, near_index}
-use Rattle.layer_book.proofs.MarkedReach.{AreReached, reached_first, reached_more, marked_in_reach}
 use Rattle.layer_book.proofs.layers.Layers.reach.Goals as goal
 
-pub loop-i-init : goal.loop-i-init
-loop-i-init c =
-    let layers = c.args.self.now in
-    let near = near_index layers c.args.name.now c.requires in
-    record {
-      room = c.type_inv.wanted;
-      asked = first_mark (replicate 32 false) c.mark.new.wanted c.index_of.result (index_of layers c.args.name.now) c.mark.ensures c.index_of.ensures (omega (arith, near, c.len-i.ensures.valid.sound.few, c.type_inv.wanted));
-      closed = λ i layer from e m. closed_at_end layers c.mark.new.wanted i layer (omega (arith, c.len-i.ensures.value, from)) e m;
-      reached = reached_first layers c.args.name.now c.mark.new.wanted 32 c.index_of.result c.len-i.ensures.valid.sound.orderly c.requires c.index_of.ensures c.mark.ensures;
-    }
-
-pub loop-i-preserved : goal.loop-i-preserved
-loop-i-preserved c =
-    let layers = c.args.self.now in
-    let book = c.len-i.ensures.valid in
-    let inv = c.loop-i.invariant in
-    let k = c.loop-i.i - 1 in
-    record {
-      room = c.type_inv.wanted;
-      asked = ap (λ ws. at_index ws (index_of layers c.args.name.now)) c.mark_used.ensures ∙ kept_marks layers c.loop-i.wanted k (index_of layers c.args.name.now) inv.asked;
-      closed = subst (λ ws. IsClosedFrom layers ws k) (sym c.mark_used.ensures) (closed_more layers c.loop-i.wanted k book.sound.orderly (omega (arith, c.len-i.ensures.value)) (omega (arith, inv.room, book.sound.few)) (λ i layer from e m. inv.closed i layer (omega (arith, from)) e m));
-      reached = subst (AreReached layers c.args.name.now) (sym c.mark_used.ensures) (reached_more layers c.args.name.now c.loop-i.wanted k book.sound.orderly c.requires (omega (arith, c.len-i.ensures.value)) inv.reached);
-    }
-
 pub returns-clause-asked : goal.returns-clause-asked
-returns-clause-asked c = c.loop-i.invariant.asked
-
-pub returns-clause-room : goal.returns-clause-room
-returns-clause-room c = c.loop-i.invariant.room
-
-pub returns-clause-closed : goal.returns-clause-closed
-returns-clause-closed c = λ i layer e m. c.loop-i.invariant.closed i layer (omega arith) e m
+returns-clause-asked c = c.reach_of.ensures.asked c.args.name.now (c.requires, c.index_of.ensures)
 
 pub returns-clause-exactly : goal.returns-clause-exactly
-returns-clause-exactly c =
-    let book = c.len-i.ensures.valid in
-    let inv = c.loop-i.invariant in
-    marked_in_reach c.args.self.now c.args.name.now c.loop-i.wanted book.sound.orderly c.requires (omega (arith, inv.room, book.sound.few)) inv.asked (λ i layer e m. inv.closed i layer (omega arith) e m) inv.reached
+returns-clause-exactly c = c.reach_of.ensures.exactly c.args.name.now (c.requires, c.index_of.ensures)

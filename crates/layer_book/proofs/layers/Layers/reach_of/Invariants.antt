@@ -1,14 +1,15 @@
 use Rattle.std.proofs.Common.{◌≡◌, true, length}
-use Rattle.layer_book.specs.Question.{is_wanted}
+use Rattle.overlay_terms.specs.Layers.{Name}
+use Rattle.layer_book.specs.Question.{is_wanted, StandsAt}
 use Rattle.layer_book.proofs.Closing.{IsClosedFrom}
 use Rattle.layer_book.proofs.MarkedReach.{AreReached}
-use Rattle.layer_book.proofs.layers.Layers.reach.Given as goal
+use Rattle.layer_book.proofs.layers.Layers.reach_of.Given as goal
 
 -- the asked layer is marked, what marked layers behind name is, and nothing that is not reached
 abbrev pub invariant-loop-i : goal.invariant-loop-i
 invariant-loop-i l = record {
   room : length l.wanted ≡ 32;
-  asked : is_wanted l.self l.wanted l.name ≡ true;
+  asked : (name : Name) → StandsAt l.self l.index name → is_wanted l.self l.wanted name ≡ true;
   closed : IsClosedFrom l.self l.wanted l.i;
-  reached : AreReached l.self l.name l.wanted;
+  reached : (name : Name) → StandsAt l.self l.index name → AreReached l.self name l.wanted;
 }
