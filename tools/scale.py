@@ -13,11 +13,13 @@ numbers are those of a plane that is nowhere on the earth.
 A module for the tools; it is no tool of its own.
 """
 
+import contextlib
 import json
 import math
 import pathlib
 import re
 import sys
+from collections.abc import Iterator
 from dataclasses import dataclass, replace
 from decimal import Decimal
 from fractions import Fraction
@@ -68,14 +70,21 @@ def decimals(number: Fraction | int, digits: int) -> str:
     return ("-" if scaled < 0 else "") + whole + ("." + rest if rest else "")
 
 
-def spelled_exactly(number: Fraction | int) -> str:
-    """A fraction with all its digits; Python spells a number of over 4,300 digits only where it is told to."""
+@contextlib.contextmanager
+def all_digits() -> Iterator[None]:
+    """Python reads and spells numbers of any length here; else of at most 4,300 digits."""
     most = sys.get_int_max_str_digits()
     sys.set_int_max_str_digits(0)
     try:
-        return str(number)
+        yield
     finally:
         sys.set_int_max_str_digits(most)
+
+
+def spelled_exactly(number: Fraction | int) -> str:
+    """A fraction with all its digits."""
+    with all_digits():
+        return str(number)
 
 
 def spelled(number: Fraction) -> str:

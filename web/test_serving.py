@@ -101,14 +101,14 @@ class ServerCase(FrontCase):
                 read_all(link)
             self.assertEqual(self.status(), 200)
 
-    def check_slow_heads(self) -> None:
+    def test_slow_heads(self) -> None:
         self.slow(HEAD + b"X: ")
 
-    def check_slow_bodies(self) -> None:
+    def test_slow_bodies(self) -> None:
         head = HEAD.replace(b"GET /status", b"PUT /collections/N")
         self.slow(head + b"Content-Type: application/json\r\nContent-Length: 100000\r\n\r\n{")
 
-    def check_slow_readers(self) -> None:
+    def test_slow_readers(self) -> None:
         """Clients that take no answer, which is longer than what is on its way: others are answered, and each ends."""
         large = front.json_answer({"a": "b" * 20_000_000})
         self.enterContext(unittest.mock.patch.object(self.front, "answer", return_value=large))
@@ -123,7 +123,7 @@ class ServerCase(FrontCase):
         for link in links:
             self.assertLess(len(read_all(link)), len(large.body))
 
-    def check_own_refusals(self) -> None:
+    def test_own_refusals(self) -> None:
         self.begin(60, 60)
         put = HEAD.replace(b"GET /status", b"PUT /collections/N") + b"Content-Type: application/json\r\n"
         for sent, statuses in (
@@ -143,6 +143,11 @@ class ServerCase(FrontCase):
         self.assertEqual(self.status(), 200)
 
 
+def load_tests(_: unittest.TestLoader, found: unittest.TestSuite, __: str | None) -> unittest.TestSuite:
+    """All tests but those of ServerCase itself, which each server's class has."""
+    return unittest.TestSuite(suite for suite in found if not any(type(case) is ServerCase for case in suite))
+
+
 class ByThreads(ServerCase):
     """The standard library's server, in this process."""
 
@@ -157,18 +162,6 @@ class ByThreads(ServerCase):
 
     def open_ones(self) -> int:
         return serving.CONNECTIONS_MOST - self.server_free._value
-
-    def test_slow_heads(self) -> None:
-        self.check_slow_heads()
-
-    def test_slow_bodies(self) -> None:
-        self.check_slow_bodies()
-
-    def test_slow_readers(self) -> None:
-        self.check_slow_readers()
-
-    def test_own_refusals(self) -> None:
-        self.check_own_refusals()
 
     def test_a_request_that_does_not_come_is_told(self) -> None:
         self.begin(0.2, 60)
@@ -206,15 +199,3 @@ class ByWaitress(ServerCase):
 
     def open_ones(self) -> int:
         return len(self.channels)
-
-    def test_slow_heads(self) -> None:
-        self.check_slow_heads()
-
-    def test_slow_bodies(self) -> None:
-        self.check_slow_bodies()
-
-    def test_slow_readers(self) -> None:
-        self.check_slow_readers()
-
-    def test_own_refusals(self) -> None:
-        self.check_own_refusals()

@@ -164,7 +164,8 @@ def locates(runs: Runs, count: int) -> list[Row]:
     rows = []
     for steps in (4, 256, 2048):
         head = [f"PUT A {ring(steps, 0, 0, 1000000)}", f"PUT B {ring(steps, 500, 0, 1000000)}", "DEFINE D = A & B"]
-        for name, first in (("A", []), ("D", ["WAIT D"])):
+        firsts: dict[str, list[str]] = {"A": [], "D": ["WAIT D"]}
+        for name, first in firsts.items():
             lines = [f"LOCATE {name} {spread(7919 * n)} {spread(104729 * n)}" for n in range(count)]
             whole = runs.best([head + first + lines], 1, False)[1]
             empty = runs.best([head + first], 1, False)[1]

@@ -29,6 +29,7 @@ from typing import Any, NamedTuple
 from bench.counting import Kept, Words, counted
 from bench.reference import judging, model, read_store
 from bench.trials import stress
+from limits import COLUMNS
 
 SESSIONS = 4
 PATIENCE = 60
@@ -534,7 +535,7 @@ class Stress:
         points = [(self.draw.randrange(-62, 63), self.draw.randrange(-62, 63)) for _ in range(10)]
         lines = [f"LOCATE {name} {x} {y}" for x, y in points]
         if is_derived:
-            columns = [15, 16, self.draw.randrange(model.COLUMNS)]
+            columns = [15, 16, self.draw.randrange(COLUMNS)]
             lines.append(f"WAIT {name}")
             lines += [f"{word} {name} {column}" for column in columns for word in ("EDGES", "VERIFY")]
         return lines

@@ -135,7 +135,7 @@ def events_of(text: str, store: str) -> list[Event]:
         strings = re.findall(r'"((?:\\x[0-9a-f]{2})*)"(\.\.\.)?', rest)
         if any(cut for _, cut in strings):
             raise judging.Wrong("a call is cut off in the trace")
-        first = int(rest.split(",")[0]) if rest.split(",")[0].isdigit() else None
+        first = int(rest.split(",")[0]) if rest.split(",")[0].isdigit() else -1
         if word in ("open", "openat"):
             if os.fsencode(store) == bytes_of(strings[0][0]):
                 numbers.add(result)

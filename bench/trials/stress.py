@@ -24,6 +24,7 @@ from typing import Optional
 
 from bench.counting import Kept, Words
 from bench.reference import judging, model, read_store
+from limits import COLUMNS
 
 BASES = [f"A{n}" for n in range(16)]
 DERIVED = [f"D{n}" for n in range(24)]
@@ -63,7 +64,7 @@ def text(draw: random.Random) -> str:
     rings = [draw.choice(kinds)(draw) for _ in range(draw.choice([0, 1, 1, 1, 1, 2, 2, 3]))]
     if len(rings) == 1 and draw.random() < 0.7:
         return "POLYGON ((" + ", ".join(f"{x} {y}" for x, y in rings[0]) + "))"
-    return model.wkt_of(tuple(map(tuple, rings)))
+    return model.wkt_of(tuple(tuple(ring) for ring in rings))
 
 
 def expression(draw: random.Random) -> str:
@@ -104,7 +105,7 @@ class Script:
 
     def column(self) -> int:
         """A column, mostly one that the rings lie in."""
-        return self.draw.choice([15, 16, 15, 16, 15, 16, 15, 16, self.draw.randrange(model.COLUMNS)])
+        return self.draw.choice([15, 16, 15, 16, 15, 16, 15, 16, self.draw.randrange(COLUMNS)])
 
     def put(self) -> str:
         """A PUT."""
@@ -266,7 +267,7 @@ class Final:
         for (name, column), pieces in tiles.items():
             self.check(pieces == self.meanings.tile(self.keys[name], column), f"the store's tile {name} {column}")
         if needs_all:
-            self.check(len(tiles) == model.COLUMNS * len(self.derived), f"the store has {len(tiles)} tiles")
+            self.check(len(tiles) == COLUMNS * len(self.derived), f"the store has {len(tiles)} tiles")
         return len(tiles)
 
     def question(self, word: str, name: str, *numbers: int) -> Asked:
@@ -277,7 +278,7 @@ class Final:
 
     def tile_questions(self, word: str) -> list[Asked]:
         """A question for each column of each derived layer."""
-        return [self.question(word, name, column) for name in self.derived for column in range(model.COLUMNS)]
+        return [self.question(word, name, column) for name in self.derived for column in range(COLUMNS)]
 
     def questions(self) -> list[Asked]:
         """Lines for the store that is opened again, each with its reply."""

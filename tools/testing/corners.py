@@ -29,12 +29,8 @@ def soup(source: random.Random) -> str:
 
 def read_fraction(text: str) -> Fraction:
     """The number of a text with more digits than Python reads unasked."""
-    most = sys.get_int_max_str_digits()
-    sys.set_int_max_str_digits(0)
-    try:
+    with scales.all_digits():
         return Fraction(text)
-    finally:
-        sys.set_int_max_str_digits(most)
 
 
 class ManyCorners(WithProgram):
