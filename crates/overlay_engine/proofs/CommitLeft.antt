@@ -15,7 +15,7 @@ use Rattle.overlay_engine.specs.declared.step.Reply.TheVariants.{Going, Done}
 use Rattle.overlay_engine.specs.Acts.{Acts}
 use Rattle.overlay_engine.specs.Committing.{IsFileOf, RestsWith, Commits, Committed, CommitsJust}
 use Rattle.overlay_engine.specs.Counting.{CommitLeaves}
-use Rattle.overlay_engine.specs.Runs.{Made, Leads, EachCommits}
+use Rattle.overlay_engine.specs.Runs.{Made, EachFollows, EachCommits}
 use Rattle.overlay_engine.proofs.Counted.{leads_between, leads_to}
 use Rattle.overlay_engine.proofs.Following.{makes}
 
@@ -36,7 +36,7 @@ module _ {D : Type 0} (g : Ghosts D) where
   goes x version Report old reply new goes_on acts just commits = stays x version old new ((makes g Report old reply new acts).1 refl) commits
 
   -- so do the steps between its first and its last one; and what the last one commits is told too
-  goes_between : (x : Kept) (version : Version) (run : List (Made D g)) (last : Made D g) (old : Engine D g) → Leads g old run last.old
+  goes_between : (x : Kept) (version : Version) (run : List (Made D g)) (last : Made D g) (old : Engine D g) → EachFollows g old run last.old
       → EachCommits g (run ++ last ∷ []) → AllByRecursion (λ (made : Made D g). made.step ≡ Device → made.reply ≡ Going) run
       → Commits g old.flusher x version → Commits g last.old.flusher x version × CommitsJust g last.old last.reply last.new
   goes_between x version [] last old same each all commits = (subst (λ (e : Engine D g). Commits g e.flusher x version) (sym same) commits, each.0)

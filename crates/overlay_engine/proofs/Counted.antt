@@ -31,7 +31,7 @@ use Rattle.overlay_engine.specs.declared.step.Reply.TheVariants.{Refused, Going,
 use Rattle.overlay_engine.specs.Steps.{RefusedAs}
 use Rattle.overlay_engine.specs.Devices.{CallsOnce, DeviceFailed, Devices}
 use Rattle.overlay_engine.specs.Acts.{Acts}
-use Rattle.overlay_engine.specs.Runs.{Made, Leads}
+use Rattle.overlay_engine.specs.Runs.{Made, EachFollows}
 use Rattle.overlay_engine.specs.Counting.{calls_asked, calls_asked_in, DeviceRefusals, CommitCalls, CommitCounts, CommitTells}
 use Rattle.overlay_engine.proofs.Following.{makes}
 
@@ -149,7 +149,7 @@ module _ {D : Type 0} (g : Ghosts D) where
   one_more (Finish number) old reply new goes_on left acts = other (Finish number) old new refl left ((makes g (Finish number) old reply new acts).1 refl)
   one_more Report old reply new goes_on left acts = other Report old new refl left ((makes g Report old reply new acts).1 refl)
 
-  going_on : (run : List (Made D g)) (old new : Engine D g) → Leads g old run new → AllByRecursion (λ (made : Made D g). made.step ≡ Device → made.reply ≡ Going) run
+  going_on : (run : List (Made D g)) (old new : Engine D g) → EachFollows g old run new → AllByRecursion (λ (made : Made D g). made.step ≡ Device → made.reply ≡ Going) run
       → 0 < left_by old → (left_by old ≡ left_by new + calls_asked_in run) × (0 < left_by new)
   going_on [] old new same all left =
       let level = ap left_by same in
@@ -161,7 +161,7 @@ module _ {D : Type 0} (g : Ghosts D) where
       (omega (arith, level, one.0, more.0), more.1)
 
   -- a run in two parts
-  pub leads_between : (run : List (Made D g)) (last : Made D g) (old new : Engine D g) → Leads g old (run ++ last ∷ []) new → Leads g old run last.old × Acts g last.step last.old last.reply last.new
+  pub leads_between : (run : List (Made D g)) (last : Made D g) (old new : Engine D g) → EachFollows g old (run ++ last ∷ []) new → EachFollows g old run last.old × Acts g last.step last.old last.reply last.new
   leads_between [] last old new (joins, acts, ends) = (joins, acts)
   leads_between (made ∷ run) last old new (joins, acts, leads) =
       let rest = leads_between run last made.new new leads in
@@ -220,7 +220,7 @@ module _ {D : Type 0} (g : Ghosts D) where
   made_more (Finish number) old reply new goes_on left acts = none_other (Finish number) old new refl ((makes g (Finish number) old reply new acts).1 refl)
   made_more Report old reply new goes_on left acts = none_other Report old new refl ((makes g Report old reply new acts).1 refl)
 
-  made_on : (run : List (Made D g)) (old new : Engine D g) → Leads g old run new → AllByRecursion (λ (made : Made D g). made.step ≡ Device → made.reply ≡ Going) run
+  made_on : (run : List (Made D g)) (old new : Engine D g) → EachFollows g old run new → AllByRecursion (λ (made : Made D g). made.step ≡ Device → made.reply ≡ Going) run
       → 0 < left_by old → g.is_honest old.flusher.commit.disk → g.is_honest new.flusher.commit.disk × (made_by new ≡ made_by old + calls_asked_in run)
   made_on [] old new same all left honest = (subst (λ (e : Engine D g). g.is_honest e.flusher.commit.disk) (sym same) honest, omega (arith, ap made_by same))
   made_on (made ∷ run) old new (joins, acts, leads) (goes_on, all) left honest =
@@ -231,7 +231,7 @@ module _ {D : Type 0} (g : Ghosts D) where
       let more = made_on run made.new new leads all one.1 first.0 in
       (more.0, omega (arith, ap made_by joins, first.1, more.1))
 
-  pub leads_to : (run : List (Made D g)) (last : Made D g) (old new : Engine D g) → Leads g old (run ++ last ∷ []) new → new ≡ last.new
+  pub leads_to : (run : List (Made D g)) (last : Made D g) (old new : Engine D g) → EachFollows g old (run ++ last ∷ []) new → new ≡ last.new
   leads_to [] last old new (joins, acts, ends) = ends
   leads_to (made ∷ run) last old new (joins, acts, leads) = leads_to run last made.new new leads
 
@@ -296,7 +296,7 @@ module _ {D : Type 0} (g : Ghosts D) where
   next_stays (Finish number) old reply new goes_on left acts = next_other old new ((makes g (Finish number) old reply new acts).1 refl)
   next_stays Report old reply new goes_on left acts = next_other old new ((makes g Report old reply new acts).1 refl)
 
-  next_kept : (run : List (Made D g)) (old new : Engine D g) → Leads g old run new → AllByRecursion (λ (made : Made D g). made.step ≡ Device → made.reply ≡ Going) run
+  next_kept : (run : List (Made D g)) (old new : Engine D g) → EachFollows g old run new → AllByRecursion (λ (made : Made D g). made.step ≡ Device → made.reply ≡ Going) run
       → 0 < left_by old → next_of new ≡ next_of old
   next_kept [] old new same all left = ap next_of same
   next_kept (made ∷ run) old new (joins, acts, leads) (goes_on, all) left =

@@ -18,7 +18,7 @@ use Rattle.overlay_engine.specs.Start.{Start}
 use Rattle.overlay_engine.specs.Covers.{version_of, Covered}
 use Rattle.overlay_engine.specs.OldFile.{start_at}
 use Rattle.overlay_engine.specs.Recovery.{Recovered, Refused}
-use Rattle.overlay_engine.specs.Runs.{accepted_in}
+use Rattle.overlay_engine.specs.Runs.{accepted_in_run}
 use Rattle.overlay_engine.specs.HonestEngine.{MakesHonestly, RecoversHonestly}
 use Rattle.overlay_engine.proofs.Running.{crash_covered}
 use Rattle.overlay_engine.proofs.Opened.{new_covers, recovered_with, rests_as, refused_as, writes_of}
@@ -57,7 +57,7 @@ module _ {D : Type 0} (g : Ghosts D) (disk : D) (stays : g.may_leave disk (g.see
     ok = recovered;
     err = tt;
     crashed = λ start batches run each crash.
-        recovered start crash.made.old.version.durable (batches ++ accepted_in crash.before)
+        recovered start crash.made.old.version.durable (batches ++ accepted_in_run crash.before)
         (crash_covered g start batches run disk crash each);
     old = λ number layers all.
         old_recovered g number layers disk e (image_held image) all stays opens.gives version
@@ -87,7 +87,7 @@ module _ {D : Type 0} (g : Ghosts D) (disk : D) (stays : g.may_leave disk (g.see
     ok = tt;
     err = failed;
     crashed = λ start batches run each crash.
-        failed start crash.made.old.version.durable (batches ++ accepted_in crash.before)
+        failed start crash.made.old.version.durable (batches ++ accepted_in_run crash.before)
         (crash_covered g start batches run disk crash each);
     old = λ number layers all.
         failed (start_at number layers) number [] (λ file left. old_file_is_covered number layers file (all file left));

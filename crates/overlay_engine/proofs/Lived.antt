@@ -8,7 +8,7 @@ use Rattle.overlay_terms.specs.Batches.{Batch}
 use Rattle.overlay_engine.specs.Start.{Start, up_to}
 use Rattle.overlay_engine.specs.Covers.{Covered, Covers}
 use Rattle.overlay_engine.specs.Acts.{accepted_by}
-use Rattle.overlay_engine.specs.Lives.{Stage, IsCovered, StepsTo, TriesTo, CrashesTo, Lives, Keeps, NothingIsLost}
+use Rattle.overlay_engine.specs.Lives.{Stage, IsCovered, StepsTo, TriesTo, CrashesTo, Lives, StillStands, NothingIsLost}
 use Rattle.overlay_engine.proofs.Following.{durable_rises}
 
 module _ {D : Type 0} (g : Ghosts D) (start : Start) where
@@ -16,7 +16,7 @@ module _ {D : Type 0} (g : Ghosts D) (start : Start) where
   durable_there : (stage : Stage D g) → IsCovered g start stage → stage.engine.version.durable - start.number ≤ length stage.batches
   durable_there stage covered = omega (arith, covered.reported, covered.stored, covered.number)
 
-  over_a_step : (old new : Stage D g) → StepsTo g start old new → IsCovered g start old → Keeps g start old new
+  over_a_step : (old new : Stage D g) → StepsTo g start old new → IsCovered g start old → StillStands g start old new
   over_a_step old new steps covered =
       let d = old.engine.version.durable - start.number in
       record {
@@ -32,7 +32,7 @@ module _ {D : Type 0} (g : Ghosts D) (start : Start) where
   tried least batches disk (next ∷ more) last (tries, later) all =
       tried least batches next more last later (λ c left. (tries.moments least batches all).each c (tries.leaves c left))
 
-  over_a_crash : (old new : Stage D g) → CrashesTo g start old new → IsCovered g start old → Keeps g start old new
+  over_a_crash : (old new : Stage D g) → CrashesTo g start old new → IsCovered g start old → StillStands g start old new
   over_a_crash old new crash covered =
       let least = old.engine.version.durable in
       let left : Leaves g crash.disk (Covered start least old.batches) = (λ c left. (crash.survives covered).moments.each c (crash.leaves c left)) in
@@ -44,7 +44,7 @@ module _ {D : Type 0} (g : Ghosts D) (start : Start) where
         same = ap (up_to start least) crash.batches ∙ take-take (least - start.number) (number - start.number) old.batches (omega (arith, is.no_less));
       }
 
-  onward : (a b c : Stage D g) → Keeps g start a b → Keeps g start b c → Keeps g start a c
+  onward : (a b c : Stage D g) → StillStands g start a b → StillStands g start b c → StillStands g start a c
   onward a b c first next =
       let d = a.engine.version.durable - start.number in
       let e = b.engine.version.durable - start.number in
@@ -55,12 +55,12 @@ module _ {D : Type 0} (g : Ghosts D) (start : Start) where
         same = sym (take-take d e c.batches within) ∙ ap (λ (l : List Batch). take d l) next.same ∙ take-take d e b.batches within ∙ first.same;
       }
 
-  over_one : (old new : Stage D g) → StepsTo g start old new ⊎ CrashesTo g start old new → IsCovered g start old → Keeps g start old new
+  over_one : (old new : Stage D g) → StepsTo g start old new ⊎ CrashesTo g start old new → IsCovered g start old → StillStands g start old new
   over_one old new (inl steps) covered = over_a_step old new steps covered
   over_one old new (inr crash) covered = over_a_crash old new crash covered
 
   -- what a stage keeps is kept on
-  kept_on : (first stage : Stage D g) (later : List (Stage D g)) → Keeps g start first stage → Lives g start stage later → AllByRecursion (Keeps g start first) later
+  kept_on : (first stage : Stage D g) (later : List (Stage D g)) → StillStands g start first stage → Lives g start stage later → AllByRecursion (StillStands g start first) later
   kept_on first stage [] keeps lives = tt
   kept_on first stage (next ∷ more) keeps (one, lives) =
       let on = onward first stage next keeps (over_one stage next one keeps.covered) in

@@ -11,29 +11,29 @@ use Rattle.overlay_engine.specs.Start.{Start}
 use Rattle.overlay_engine.specs.Covers.{Covered, Covers}
 use Rattle.overlay_engine.specs.Committing.{CommitsJust}
 use Rattle.overlay_engine.specs.Acts.{Acts, Survives, accepted_by}
-use Rattle.overlay_engine.specs.Runs.{Made, Leads, EachSurvives, EachCommits, Drives, CrashesIn, accepted_in}
+use Rattle.overlay_engine.specs.Runs.{Made, EachFollows, EachSurvives, EachCommits, Drives, CrashesIn, accepted_in_run}
 
-accepted_push : {D : Type 0} {g : Ghosts D} (run : List (Made D g)) (made : Made D g) → accepted_in (run ++ made ∷ []) ≡ accepted_in run ++ accepted_by made.step made.reply
+accepted_push : {D : Type 0} {g : Ghosts D} (run : List (Made D g)) (made : Made D g) → accepted_in_run (run ++ made ∷ []) ≡ accepted_in_run run ++ accepted_by made.step made.reply
 accepted_push [] made = append-nil (accepted_by made.step made.reply)
 accepted_push (first ∷ run) made =
     let own = accepted_by first.step first.reply in
-    ap (λ (more : List Batch). own ++ more) (accepted_push run made) ∙ sym (append_assoc own (accepted_in run) (accepted_by made.step made.reply))
+    ap (λ (more : List Batch). own ++ more) (accepted_push run made) ∙ sym (append_assoc own (accepted_in_run run) (accepted_by made.step made.reply))
 
 module _ {D : Type 0} (g : Ghosts D) where
-  leads_on : (old mid : Engine D g) (run : List (Made D g)) (made : Made D g) → Leads g old run mid → made.old ≡ mid → Acts g made.step made.old made.reply made.new
-      → Leads g old (run ++ made ∷ []) made.new
+  leads_on : (old mid : Engine D g) (run : List (Made D g)) (made : Made D g) → EachFollows g old run mid → made.old ≡ mid → Acts g made.step made.old made.reply made.new
+      → EachFollows g old (run ++ made ∷ []) made.new
   leads_on old mid [] made same joins acts = (joins ∙ same, acts, refl)
   leads_on old mid (first ∷ run) made (first_joins, acted, leads) joins acts = (first_joins, acted, leads_on first.new mid run made leads joins acts)
 
   survive_on : (start : Start) (batches : List Batch) (run : List (Made D g)) (made : Made D g) → EachSurvives g start batches run
-      → Survives g start (batches ++ accepted_in run) made.step made.old made.reply made.new → EachSurvives g start batches (run ++ made ∷ [])
+      → Survives g start (batches ++ accepted_in_run run) made.step made.old made.reply made.new → EachSurvives g start batches (run ++ made ∷ [])
   survive_on start batches [] made each last =
       (subst (λ (cs : List Batch). Survives g start cs made.step made.old made.reply made.new) (append-nil batches) last, tt)
   survive_on start batches (first ∷ run) made (survives, each) last = (
     survives,
     survive_on start (batches ++ accepted_by first.step first.reply) run made each
         (subst (λ (cs : List Batch). Survives g start cs made.step made.old made.reply made.new)
-        (sym (append_assoc batches (accepted_by first.step first.reply) (accepted_in run))) last),
+        (sym (append_assoc batches (accepted_by first.step first.reply) (accepted_in_run run))) last),
   )
 
   commit_on : (run : List (Made D g)) (made : Made D g) → EachCommits g run → CommitsJust g made.old made.reply made.new → EachCommits g (run ++ made ∷ [])
@@ -65,24 +65,24 @@ module _ {D : Type 0} (g : Ghosts D) where
         commits = commit_on run made drives.commits commits;
         survives = λ start batches covers.
             let so_far = drives.survives start batches covers in
-            let last = survives start (batches ++ accepted_in run) so_far.1 in
-            let all : (batches ++ accepted_in run) ++ accepted_by step reply ≡ batches ++ accepted_in (run ++ made ∷ []) =
-            append_assoc batches (accepted_in run) (accepted_by step reply) ∙ ap (λ (more : List Batch). batches ++ more) (sym (accepted_push run made)) in
+            let last = survives start (batches ++ accepted_in_run run) so_far.1 in
+            let all : (batches ++ accepted_in_run run) ++ accepted_by step reply ≡ batches ++ accepted_in_run (run ++ made ∷ []) =
+            append_assoc batches (accepted_in_run run) (accepted_by step reply) ∙ ap (λ (more : List Batch). batches ++ more) (sym (accepted_push run made)) in
             (survive_on start batches run made so_far.0 last, subst (Covers g start new.flusher new.version) all last.covers);
       }
 
   pub survives_at : (start : Start) (batches : List Batch) (before after : List (Made D g)) (made : Made D g) → EachSurvives g start batches (before ++ made ∷ after)
-      → Survives g start (batches ++ accepted_in before) made.step made.old made.reply made.new
+      → Survives g start (batches ++ accepted_in_run before) made.step made.old made.reply made.new
   survives_at start batches [] after made each =
       subst (λ (cs : List Batch). Survives g start cs made.step made.old made.reply made.new) (sym (append-nil batches)) each.0
   survives_at start batches (first ∷ before) after made each =
       subst (λ (cs : List Batch). Survives g start cs made.step made.old made.reply made.new)
-      (append_assoc batches (accepted_by first.step first.reply) (accepted_in before))
+      (append_assoc batches (accepted_by first.step first.reply) (accepted_in_run before))
       (survives_at start (batches ++ accepted_by first.step first.reply) before after made each.1)
 
   -- what a crash within a step of a run leaves is covered, no older than what was durable as the step began
   pub crash_covered : (start : Start) (batches : List Batch) (run : List (Made D g)) (disk : D) (crash : CrashesIn g run disk) → EachSurvives g start batches run
-      → Leaves g disk (Covered start crash.made.old.version.durable (batches ++ accepted_in crash.before))
+      → Leaves g disk (Covered start crash.made.old.version.durable (batches ++ accepted_in_run crash.before))
   crash_covered start batches run disk crash each c left =
       let survives = survives_at start batches crash.before crash.after crash.made (subst (EachSurvives g start batches) crash.among each) in
       survives.moments.each c (crash.leaves c left)

@@ -9,7 +9,7 @@ use Rattle.overlay_engine.specs.declared.step.Reply.{Reply}
 use Rattle.overlay_engine.specs.declared.step.Reply.TheVariants.{Accepted, Refused, RefusedAt, Taken, NoJob, Kept, Stale, Going, Done, Durable}
 use Rattle.overlay_engine.specs.Acts.{Acts}
 use Rattle.overlay_engine.specs.Devices.{Calls, Devices}
-use Rattle.overlay_engine.specs.Runs.{Made, Leads}
+use Rattle.overlay_engine.specs.Runs.{Made, EachFollows}
 use Rattle.overlay_engine.specs.Telling.{HasNumber, next_after, Numbered, told_after, told_in, JobsAreNumbered, DurableIsTold, CrashKeepsTold}
 
 -- what a reply tells of the numbers before and after its step
@@ -121,11 +121,11 @@ module _ {D : Type 0} (g : Ghosts D) where
       durable_is_told made.new run new leads ∙ ap (λ (n : ℕ). told_in n run) t.2
 
   -- the first steps of a run
-  first_steps : (before after : List (Made D g)) (made : Made D g) (old new : Engine D g) → Leads g old (before ++ made ∷ after) new → Leads g old before made.old
+  first_steps : (before after : List (Made D g)) (made : Made D g) (old new : Engine D g) → EachFollows g old (before ++ made ∷ after) new → EachFollows g old before made.old
   first_steps [] after made old new (joins, acts, leads) = joins
   first_steps (one ∷ before) after made old new (joins, acts, leads) = (joins, acts, first_steps before after made one.new new leads)
 
   pub crash_keeps_told : CrashKeepsTold g
   crash_keeps_told old run new disk leads crash =
       durable_is_told old crash.before crash.made.old
-      (first_steps crash.before crash.after crash.made old new (subst (λ (r : List (Made D g)). Leads g old r new) crash.among leads))
+      (first_steps crash.before crash.after crash.made old new (subst (λ (r : List (Made D g)). EachFollows g old r new) crash.among leads))

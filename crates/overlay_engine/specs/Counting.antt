@@ -13,7 +13,7 @@ use Rattle.overlay_engine.specs.declared.step.Reply.TheVariants.{Refused, Going,
 use Rattle.overlay_engine.specs.Acts.{Acts}
 use Rattle.overlay_engine.specs.Committing.{IsFileOf, RestsWith}
 use Rattle.overlay_engine.specs.Devices.{DeviceFailed}
-use Rattle.overlay_engine.specs.Runs.{Made, Leads, EachCommits}
+use Rattle.overlay_engine.specs.Runs.{Made, EachFollows, EachCommits}
 
 -- how many device calls are asked for by a step
 abbrev pub calls_asked : Step → ℕ
@@ -41,7 +41,7 @@ module _ {D : Type 0} (g : Ghosts D) where
     pub last : Made D g
     pub number : ℕ
     pub parts : run ≡ first ∷ between ++ last ∷ []
-    pub leads : Leads g old (first ∷ between ++ last ∷ []) new
+    pub leads : EachFollows g old (first ∷ between ++ last ∷ []) new
     pub idle : is_busy old.flusher.commit.phase ≡ false
     pub begins : (first.step ≡ Device) × (first.reply ≡ Going)
     pub goes_on : AllByRecursion (λ (made : Made D g). made.step ≡ Device → made.reply ≡ Going) between

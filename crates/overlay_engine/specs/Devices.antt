@@ -29,7 +29,7 @@ module _ {D : Type 0} {g : Ghosts D} where
     pub rest : mid ≡ record old { flusher = mid.flusher }
 
   -- a commit can't begin, for the first reason: the device failed before, there is no number for it, no room, or no memory; and nothing changes
-  pub record IsNotBegun (old : Engine D g) (reply : Reply) (new : Engine D g) : Type 0 where
+  pub record BeginsNothing (old : Engine D g) (reply : Reply) (new : Engine D g) : Type 0 where
     pub why : StoreFault
     pub reason : IsReason old.flusher.commit.phase old.flusher.commit.root (HasNoRoomFor old.flusher.commit old.version) why
     pub failed : old.flusher.commit.phase ≡ Failed → why ≡ fault.Failed
@@ -68,4 +68,4 @@ module _ {D : Type 0} (g : Ghosts D) where
   Devices old reply new =
       ((is_busy old.flusher.commit.phase ≡ true) × Calls old reply new)
       ⊎ ((is_busy old.flusher.commit.phase ≡ false) × (mid : Engine D g) × Begins old mid × Calls mid reply new)
-      ⊎ ((is_busy old.flusher.commit.phase ≡ false) × IsNotBegun old reply new)
+      ⊎ ((is_busy old.flusher.commit.phase ≡ false) × BeginsNothing old reply new)

@@ -19,7 +19,7 @@ use Rattle.overlay_engine.specs.Covers.{version_of, Covered, Covers}
 use Rattle.overlay_engine.specs.NewEngine.{IsNewEngine}
 use Rattle.overlay_engine.specs.OldFile.{IsOldFile, start_at, OldRecovered}
 use Rattle.overlay_engine.specs.Recovery.{Recovered, Refused}
-use Rattle.overlay_engine.specs.Runs.{Made, EachSurvives, CrashesIn, accepted_in}
+use Rattle.overlay_engine.specs.Runs.{Made, EachSurvives, CrashesIn, accepted_in_run}
 
 module _ {D : Type 0} (g : Ghosts D) where
   -- an engine is made over a new store
@@ -52,8 +52,8 @@ module _ {D : Type 0} (g : Ghosts D) where
     pub crashed : (start : Start) (batches : List Batch) (run : List (Made D g)) → EachSurvives g start batches run
         → (crash : CrashesIn g run disk)
         → MatchResult result
-        (λ e. Recovered g start disk e crash.made.old.version.durable (batches ++ accepted_in crash.before))
-        (λ refused. Refused g start disk refused crash.made.old.version.durable (batches ++ accepted_in crash.before))
+        (λ e. Recovered g start disk e crash.made.old.version.durable (batches ++ accepted_in_run crash.before))
+        (λ refused. Refused g start disk refused crash.made.old.version.durable (batches ++ accepted_in_run crash.before))
     -- of a file of the old format the version is what it stands for, with no finished tile, and the engine covers it
     -- from there on; it is refused only for the device or for memory, and what is left recovers as well
     pub old : (number : ℕ) (layers : List Layer) → Leaves g disk (IsOldFile number layers)

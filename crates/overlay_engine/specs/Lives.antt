@@ -18,6 +18,7 @@ pub record Stage (D : Type 0) (g : Ghosts D) : Type 0 where
   pub batches : List Batch
 
 module _ {D : Type 0} (g : Ghosts D) (start : Start) where
+  -- the store of a stage covers its version, which is the one after its batches
   abbrev pub IsCovered : Stage D g → Type 0
   IsCovered stage = Covers g start stage.engine.flusher stage.engine.version stage.batches
 
@@ -60,11 +61,11 @@ module _ {D : Type 0} (g : Ghosts D) (start : Start) where
   Lives stage (next ∷ more) = (StepsTo stage next ⊎ CrashesTo stage next) × Lives next more
 
   -- what was durable at one stage stands at a later one: its version is that of batches which begin with the same ones
-  pub record Keeps (old new : Stage D g) : Type 0 where
+  pub record StillStands (old new : Stage D g) : Type 0 where
     pub covered : IsCovered new
     pub durable : old.engine.version.durable ≤ new.engine.version.durable
     pub same : up_to start old.engine.version.durable new.batches ≡ up_to start old.engine.version.durable old.batches
 
   -- through any steps, crashes and recoveries nothing is lost that was durable at some moment
   abbrev pub NothingIsLost : Type 0
-  NothingIsLost = (stage : Stage D g) (later : List (Stage D g)) → IsCovered stage → Lives stage later → AllByRecursion (Keeps stage) later
+  NothingIsLost = (stage : Stage D g) (later : List (Stage D g)) → IsCovered stage → Lives stage later → AllByRecursion (StillStands stage) later

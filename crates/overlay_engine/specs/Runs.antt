@@ -19,20 +19,20 @@ pub record Made (D : Type 0) (g : Ghosts D) : Type 0 where
   pub new : Engine D g
 
 -- the batches that were accepted in a run
-abbrev pub accepted_in : {D : Type 0} {g : Ghosts D} → List (Made D g) → List Batch
-accepted_in {D = D} {g = g} run = flat_map (λ (made : Made D g). accepted_by made.step made.reply) run
+abbrev pub accepted_in_run : {D : Type 0} {g : Ghosts D} → List (Made D g) → List Batch
+accepted_in_run {D = D} {g = g} run = flat_map (λ (made : Made D g). accepted_by made.step made.reply) run
 
 module _ {D : Type 0} (g : Ghosts D) where
   -- each step is made of the engine that the one before it left
-  abbrev pub Leads : Engine D g → List (Made D g) → Engine D g → Type 0
-  Leads old [] new = new ≡ old
-  Leads old (made ∷ run) new = (made.old ≡ old) × Acts g made.step made.old made.reply made.new × Leads made.new run new
+  abbrev pub EachFollows : Engine D g → List (Made D g) → Engine D g → Type 0
+  EachFollows old [] new = new ≡ old
+  EachFollows old (made ∷ run) new = (made.old ≡ old) × Acts g made.step made.old made.reply made.new × EachFollows made.new run new
 
   -- a run of these steps, with these answers
   pub record IsRun (steps : List Step) (old : Engine D g) (replies : List Reply) (new : Engine D g) (run : List (Made D g)) : Type 0 where
     pub asked : map (λ (made : Made D g). made.step) run ≡ steps
     pub answered : map (λ (made : Made D g). made.reply) run ≡ replies
-    pub leads : Leads old run new
+    pub leads : EachFollows old run new
 
   -- a crash within any step of a run leaves a version of the batches that were accepted before the step, no older than what was durable as the step began
   abbrev pub EachSurvives : Start → List Batch → List (Made D g) → Type 0
@@ -50,7 +50,7 @@ module _ {D : Type 0} (g : Ghosts D) where
     pub is : IsRun steps old replies new run
     pub commits : EachCommits run
     pub survives : (start : Start) (batches : List Batch) → Covers g start old.flusher old.version batches
-        → EachSurvives start batches run × Covers g start new.flusher new.version (batches ++ accepted_in run)
+        → EachSurvives start batches run × Covers g start new.flusher new.version (batches ++ accepted_in_run run)
 
   -- a machine crashes within a step of a run: a disk may leave only what a crash at some moment of that step may have left
   pub record CrashesIn (run : List (Made D g)) (disk : D) : Type 0 where

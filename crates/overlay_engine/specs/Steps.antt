@@ -48,7 +48,7 @@ IsResult version job finish.Stale = ¬ (IsAwaited version job.name job.input)
 
 module _ {D : Type 0} {g : Ghosts D} where
   -- nothing changes but where the jobs lie in memory
-  pub record Stays (old new : Engine D g) : Type 0 where
+  pub record StaysEqual (old new : Engine D g) : Type 0 where
     pub version : new.version ≡ old.version
     pub flusher : new.flusher ≡ old.flusher
     pub jobs : new.jobs.items ≡ old.jobs.items
@@ -74,7 +74,7 @@ module _ {D : Type 0} {g : Ghosts D} where
   SubmitsAll batch old reply new = ⊥
 
   -- a job more is held, under the next number: of the present input of a tile
-  pub record Holds (name : Name) (column : ℕ) (old : Engine D g) (number : ℕ) (new : Engine D g) : Type 0 where
+  pub record HoldsJob (name : Name) (column : ℕ) (old : Engine D g) (number : ℕ) (new : Engine D g) : Type 0 where
     pub next : number ≡ old.next_job
     pub risen : new.next_job ≡ number + 1
     pub jobs : new.jobs.items ≡ old.jobs.items ++ record { number = number; name = name; input = input_of old.version.layers name column } ∷ []
@@ -88,11 +88,11 @@ module _ {D : Type 0} {g : Ghosts D} where
   -- an engine hands out the input of a tile: there is no such tile, or no job can be had of it, or it is pending and its job is held
   abbrev pub Takes : Name → ℕ → Engine D g → Reply → Engine D g → Type 0
   Takes name column old (Taken number) new =
-      (tile_refusal old.version.layers name (column_numbered column) ≡ None) × ¬ (HasNoJob name column old) × Holds name column old number new
+      (tile_refusal old.version.layers name (column_numbered column) ≡ None) × ¬ (HasNoJob name column old) × HoldsJob name column old number new
   Takes name column old NoJob new =
       (tile_refusal old.version.layers name (column_numbered column) ≡ None) × HasNoJob name column old × (new ≡ old)
   Takes name column old (Refused code) new =
-      RefusedAs (tile_refusal old.version.layers name (column_numbered column)) code × (code ≡ 40 → ¬ (HasNoJob name column old)) × Stays old new
+      RefusedAs (tile_refusal old.version.layers name (column_numbered column)) code × (code ≡ 40 → ¬ (HasNoJob name column old)) × StaysEqual old new
   Takes name column old reply new = ⊥
 
   -- a job that is held is given up, and nothing else changes but the version

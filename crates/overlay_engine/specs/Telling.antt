@@ -4,7 +4,7 @@ use Rattle.disk_model.specs.declared.disk.Disk.{Ghosts}
 use Rattle.overlay_engine.specs.declared.engine.Engine.{Engine}
 use Rattle.overlay_engine.specs.declared.step.Reply.{Reply}
 use Rattle.overlay_engine.specs.declared.step.Reply.TheVariants.{Taken, Durable}
-use Rattle.overlay_engine.specs.Runs.{Made, Leads, CrashesIn}
+use Rattle.overlay_engine.specs.Runs.{Made, EachFollows, CrashesIn}
 
 -- a job that is handed out has this number
 abbrev pub HasNumber : ℕ → Reply → Type 0
@@ -33,12 +33,12 @@ told_in number (made ∷ run) = told_in (told_after number made.reply) run
 module _ {D : Type 0} (g : Ghosts D) where
   -- no job number is used twice
   abbrev pub JobsAreNumbered : Type 0
-  JobsAreNumbered = (old : Engine D g) (run : List (Made D g)) (new : Engine D g) → Leads g old run new → Numbered old.next_job run
+  JobsAreNumbered = (old : Engine D g) (run : List (Made D g)) (new : Engine D g) → EachFollows g old run new → Numbered old.next_job run
 
   -- the durable number that was told last is the version's, in the end and as a crash comes
   abbrev pub DurableIsTold : Type 0
-  DurableIsTold = (old : Engine D g) (run : List (Made D g)) (new : Engine D g) → Leads g old run new → new.version.durable ≡ told_in old.version.durable run
+  DurableIsTold = (old : Engine D g) (run : List (Made D g)) (new : Engine D g) → EachFollows g old run new → new.version.durable ≡ told_in old.version.durable run
 
   abbrev pub CrashKeepsTold : Type 0
-  CrashKeepsTold = (old : Engine D g) (run : List (Made D g)) (new : Engine D g) (disk : D) → Leads g old run new
+  CrashKeepsTold = (old : Engine D g) (run : List (Made D g)) (new : Engine D g) (disk : D) → EachFollows g old run new
       → (crash : CrashesIn g run disk) → crash.made.old.version.durable ≡ told_in old.version.durable crash.before

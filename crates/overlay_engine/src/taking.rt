@@ -1,7 +1,7 @@
 //! Handing out the inputs of tiles.
 ghost use Rattle.std.specs.Prelude.{◌≡◌, ◌<◌, true, OnErr, IfOk};
 ghost use Rattle.overlay_terms.specs.Commands.{stands_as_derived};
-ghost use Rattle.overlay_engine.specs.Steps.{Takes, Holds, Stays, jobs_max};
+ghost use Rattle.overlay_engine.specs.Steps.{Takes, HoldsJob, StaysEqual, jobs_max};
 
 use crate::engine::{Engine, HeldJob, OUT_OF_MEMORY};
 use crate::step::Reply;
@@ -36,8 +36,8 @@ impl<D: Disk> Engine<D> {
     fn hold(&mut self, alloc: Global, name: &Name, column: Column) -> Result<u32, AllocError>
         requires derived { stands_as_derived self.old.version.layers name.now ≡ true }
         requires room { self.old.next_job < jobs_max }
-        ensures ok { IfOk result (λ number. Holds name.now column self.old number self.new) }
-        ensures err { OnErr result (Stays self.old self.new) }
+        ensures ok { IfOk result (λ number. HoldsJob name.now column self.old number self.new) }
+        ensures err { OnErr result (StaysEqual self.old self.new) }
     {
         let input = self.version.layers().input_in_reach(alloc, name, column)?;
         let number = self.next_job;

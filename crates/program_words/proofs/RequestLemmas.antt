@@ -7,7 +7,7 @@ use Rattle.clap.specs.declared.error.Error.{Error}
 use Rattle.clap.specs.declared.error.kind.ErrorKind.{ErrorKind}
 use Rattle.clap.specs.declared.error.kind.ErrorKind.TheVariants as kinds
 use Rattle.clap.proofs.OnLiterals.{clap_on_literals}
-use Rattle.program_words.specs.CommandLine.{Request, command_line, is_known, request_in, request_of}
+use Rattle.program_words.specs.CommandLine.{RunRequest, command_line, is_known, request_in, run_request_of}
 
 is_simple_line : is_simple command_line ≡ true
 unfolding clap_on_literals command_line
@@ -26,14 +26,14 @@ pub faults_of_line : {T : Type 0} (a : App) (words : List Text) (result : Result
     → (is_simple_and_free a ≡ true → FailsBy (fault_of a words) result) → FailsBy (fault_of command_line words) result
 faults_of_line a words result is h = subst (λ (b : App). FailsBy (fault_of b words) result) is (h (ap is_simple_and_free is ∙ is_free_line))
 
-pub unknown : (words : List Text) → list_all is_known words ≡ false → request_of words ≡ None
+pub unknown : (words : List Text) → list_all is_known words ≡ false → run_request_of words ≡ None
 unknown words fails = rw fails refl
 
-asked_if : (known : Bool) (kinds : Kinds) (request : Option Request) → known ≡ true → kinds ≡ [] → (if known && (length kinds == 0) then request else None) ≡ request
+asked_if : (known : Bool) (kinds : Kinds) (request : Option RunRequest) → known ≡ true → kinds ≡ [] → (if known && (length kinds == 0) then request else None) ≡ request
 asked_if known kinds request is none = rw (is, none) refl
 
 pub taken : (words all : List Text) (rows : List Row) → list_all is_known words ≡ true → all ≡ codes "overlayd" ∷ words → fault_of command_line all ≡ []
-    → rows ≡ matches_of command_line all → request_of words ≡ request_in rows
+    → rows ≡ matches_of command_line all → run_request_of words ≡ request_in rows
 taken words all rows known is none found =
     asked_if (list_all is_known words) (fault_of command_line (codes "overlayd" ∷ words))
     (request_in (matches_of command_line (codes "overlayd" ∷ words))) known (ap (fault_of command_line) (sym is) ∙ none)
@@ -49,7 +49,7 @@ none_if true (k ∷ kinds) request kind among = rw (is_no (length kinds)) refl
 none_if false (k ∷ kinds) request kind among = refl
 
 pub refused : (words all : List Text) (error : Error) → all ≡ codes "overlayd" ∷ words → HasKind (fault_of command_line all) error → kind_of error ≢ kinds.OutOfMemory
-    → request_of words ≡ None
+    → run_request_of words ≡ None
 refused words all error is (inl memory) other = absurd (other memory)
 refused words all error is (inr among) other =
     none_if (list_all is_known words) (fault_of command_line (codes "overlayd" ∷ words))

@@ -1,6 +1,6 @@
 -- What the words behind the program's name ask for: `clap` finds what belongs to each option and which words are
 -- scripts, and the limits are tested on that.
-use Rattle.std.specs.Prelude.{ℕ, ◌==◌, nat_le, Bool, false, ◌&&◌, ◌||◌, not, if◌then◌else◌, List, [], ◌∷◌, length, map}
+use Rattle.std.specs.Prelude.{ℕ, ◌==◌, nat_le, Bool, true, false, ◌&&◌, ◌||◌, not, if◌then◌else◌, List, [], ◌∷◌, length, map}
 use Rattle.std.specs.Prelude.{Option, Some, None, is_some, unwrap_or, option_and_then, option_map, codes, bytes_eq, string_bytes}
 use Rattle.std.specs.List.{list_all}
 use Rattle.clap.specs.Words.{App, Row, Rule, Text, all_of, fault_of, first_of, matches_of, new_app, new_rule, with_rule}
@@ -8,16 +8,11 @@ use Rattle.clap.specs.declared.builder.action.ArgAction.TheVariants.{Append, Set
 use Rattle.program_words.specs.Number.{number_of}
 use Rattle.program_words.specs.declared.plan.Plan.{Plan}
 
--- whether a text begins with a hyphen
-abbrev pub is_hyphened : Text → Bool
-is_hyphened [] = false
-is_hyphened (b ∷ text) = b == 45
-
 -- whether a word may stand: one that begins with a hyphen is one of the four options, or the hyphen alone
 abbrev pub is_known : Text → Bool
-is_known text =
-    not (is_hyphened text) || bytes_eq text (codes "-") || bytes_eq text (codes "--store") || bytes_eq text (codes "--create")
-    || bytes_eq text (codes "--workers") || bytes_eq text (codes "--max-blocks")
+is_known [] = true
+is_known (b ∷ rest) = not (b == 45) || (let text = b ∷ rest in bytes_eq text (codes "-") || bytes_eq text (codes "--store")
+    || bytes_eq text (codes "--create") || bytes_eq text (codes "--workers") || bytes_eq text (codes "--max-blocks"))
 
 -- an option of this name, which takes the word behind it as its value
 abbrev pub option : Text → Rule
@@ -43,7 +38,7 @@ is_set None = false
 is_set (Some text) = bytes_eq text (codes "true")
 
 -- what words ask for
-pub record Request : Type 0 where
+pub record RunRequest : Type 0 where
   pub store : Option Text
   pub create : Bool
   pub workers : ℕ
@@ -59,11 +54,11 @@ number_or (Some text) usual most = option_and_then (λ n. if nat_le 1 n && nat_l
 abbrev pub are_within : Bool → Bool → ℕ → Bool
 are_within create has_store scripts = nat_le scripts 4 && (not create || has_store)
 
-abbrev pub within_limits : Request → Option Request
+abbrev pub within_limits : RunRequest → Option RunRequest
 within_limits r = if are_within r.create (is_some r.store) (length r.scripts) then Some r else None
 
 -- what the values that belong to the options ask for
-abbrev pub request_in : List Row → Option Request
+abbrev pub request_in : List Row → Option RunRequest
 request_in rows =
     option_and_then (λ workers. option_and_then (λ max_blocks. within_limits (record {
       store = first_of (codes "store") rows;
@@ -73,17 +68,14 @@ request_in rows =
       scripts = unwrap_or (all_of (codes "script") rows) [];
     })) (number_or (first_of (codes "max-blocks") rows) 65536 1048576)) (number_or (first_of (codes "workers") rows) 2 8)
 
--- whether `clap` has nothing against the words
-abbrev pub are_taken : List Text → Bool
-are_taken words = length (fault_of command_line (codes "overlayd" ∷ words)) == 0
-
--- what the words behind the program's name ask for, if they are those of the synopsis
-abbrev pub request_of : List Text → Option Request
-request_of words =
-    if list_all is_known words && are_taken words then request_in (matches_of command_line (codes "overlayd" ∷ words)) else None
+-- what the words behind the program's name ask for, if each may stand and `clap` has nothing against them
+abbrev pub run_request_of : List Text → Option RunRequest
+run_request_of words =
+    let all = codes "overlayd" ∷ words in
+    if list_all is_known words && (length (fault_of command_line all) == 0) then request_in (matches_of command_line all) else None
 
 -- what a plan has
-abbrev pub request_kept : Plan → Request
+abbrev pub request_kept : Plan → RunRequest
 request_kept plan = record {
   store = option_map string_bytes plan.store;
   create = plan.create;

@@ -57,13 +57,11 @@ live_request_in rows =
     })) (number_or (first_of (codes "max-blocks") rows) 65536 1048576)) (number_or (first_of (codes "workers") rows) 2 8))
     (opening_of (is_set (first_of (codes "create") rows)) (is_set (first_of (codes "read-only") rows)) (is_some (first_of (codes "store") rows)))
 
--- whether `clap` has nothing against the words
-abbrev pub are_taken_live : List Text → Bool
-are_taken_live words = length (fault_of live_line (codes "overlay_live" ∷ words)) == 0
-
+-- what words ask of a run, if each may stand and `clap` has nothing against them
 abbrev pub live_request_of : List Text → Option LiveRequest
 live_request_of words =
-    if list_all is_known_live words && are_taken_live words then live_request_in (matches_of live_line (codes "overlay_live" ∷ words)) else None
+    let all = codes "overlay_live" ∷ words in
+    if list_all is_known_live words && (length (fault_of live_line all) == 0) then live_request_in (matches_of live_line all) else None
 
 -- what words ask for: how the program is called, which it is, or a run
 pub data Question : Type 0 where

@@ -27,9 +27,8 @@ finished_refusal version name column =
 
 -- why a finished tile cannot be written: it has too many pieces
 abbrev pub size_refusal : Option Tile → Option VersionFault
-size_refusal None = None
-size_refusal (Some (pieces ends)) = None
 size_refusal (Some oversize) = Some Oversize
+size_refusal tile = None
 
 -- why the edges of a tile are refused: there is no such tile; it is pending; it has too many pieces
 abbrev pub edges_refusal : Version → Name → Option ℕ → Option VersionFault
@@ -42,10 +41,6 @@ point_text p = signed_decimal p.x ++ (codes " " ++ (signed_decimal p.y ++ (codes
 -- a piece as a line: its left end, then its right end
 abbrev pub edge_line : Point × Point → List ℕ
 edge_line ends = point_text ends.0 ++ (codes " " ++ (point_text ends.1 ++ 10 ∷ []))
-
--- how many pieces there are, then a line for each
-abbrev pub edges_text : List (Point × Point) → List ℕ
-edges_text list = codes "edges " ++ (decimal (length list) ++ (10 ∷ flat_map edge_line list))
 
 -- the same place in lowest terms, with a positive denominator
 pub record IsLowestOf (p lowest : Point) : Type 0 where
@@ -70,15 +65,14 @@ pub record IsLineOf (ends : Point × Point) (text : List ℕ) : Type 0 where
 -- the same ends in lowest terms, in order
 abbrev pub AreLowest : List (Point × Point) → List (Point × Point) → Type 0
 AreLowest [] [] = Unit {0}
-AreLowest [] (low ∷ lows) = ⊥
-AreLowest (a ∷ ends) [] = ⊥
 AreLowest (a ∷ ends) (low ∷ lows) = IsLowestOf a.0 low.0 × IsLowestOf a.1 low.1 × AreLowest ends lows
+AreLowest ends lows = ⊥
 
--- the text is that of some pieces, each end in lowest terms
+-- the text is that of some pieces, each end in lowest terms: how many there are, then a line for each
 pub record IsTextOf (ends : List (Point × Point)) (text : List ℕ) : Type 0 where
   pub lows : List (Point × Point)
   pub lowest : AreLowest ends lows
-  pub is : text ≡ edges_text lows
+  pub is : text ≡ codes "edges " ++ (decimal (length lows) ++ (10 ∷ flat_map edge_line lows))
 
 -- the text is that of the pieces of a finished tile
 pub record AreEdges (version : Version) (name : Name) (column : Option ℕ) (text : List ℕ) : Type 0 where
