@@ -49,5 +49,6 @@ pub mod TakenLemmas
 pub mod SeamLemmas
 pub mod NodeCount
 pub mod Settled
+pub mod NameLemmas
 pub mod UnderWay
 pub mod Leaving

@@ -6,14 +6,14 @@ use Rattle.std.specs.Ordering.{int_eq}
 use Rattle.std.specs.declared.cmp.Ordering.TheVariants.{Less}
 use Rattle.std.proofs.lemmas.Int.{ints}
 use Rattle.std.proofs.lemmas.Bool.{and_parts, both_ways, or_cases, or_left, or_right}
-use Rattle.std.proofs.lemmas.List.{get_or-map, length-map, map-append}
+use Rattle.std.proofs.lemmas.List.{length-map, map-append}
 use Rattle.std.proofs.lemmas.List.Elements.{All-nil, All-head, All-tail, All-map, All-append, All-push, All-weaker, All-contains, Contains-append_left}
 use Rattle.std.proofs.lemmas.List.Folds.{Any-from_list_any, list_any-from_Any}
 use Rattle.std.proofs.lemmas.List.Sorted.{All-permutation, length_permutation}
 use Rattle.std.proofs.Math.ListN.{length-append}
 use Rattle.overlay_terms.specs.Plane.{Point, Segment, whole, point_cmp, same_place, is_on}
 use Rattle.overlay_terms.specs.Column.{columns, border, is_in_column}
-use Rattle.overlay_terms.specs.Tiles.{Input, is_end, is_on_border, is_vertical}
+use Rattle.overlay_terms.specs.Tiles.{Input, is_end, is_on_border, is_vertical, IsTileOf}
 use Rattle.overlay_terms.specs.TileLaws.{IsInput, IsProper}
 use Rattle.overlay_terms.proofs.InputNumbers.{less_back, less_times, last_turned}
 use Rattle.overlay_terms.proofs.Lists.{any_from, any_contains, from_map}
@@ -40,8 +40,11 @@ use Rattle.crossing_sweep.specs.Testing.{IsFoundIn, seams_at}
 use Rattle.crossing_sweep.specs.Stepping.{segs_to_come, StandsBefore, IsStepped}
 use Rattle.crossing_sweep.specs.PassState.{nodes_max}
 use Rattle.crossing_sweep.specs.RowLaws.{AreAll}
-use Rattle.crossing_sweep.specs.Rows.{place_at, IsRow, count_settled, AreSorted, BeginAt, Carries}
-use Rattle.crossing_sweep.specs.Crossed.{IsInner, IsUnitPair, IsCrossingAmong, name_at, IsSpan, AreNodes, HasFound, IsCaused, IsKey, IsUnderWay}
+use Rattle.crossing_sweep.specs.Rows.{place_at, IsRow, row_ends, count_settled, AreSorted, BeginAt, Carries}
+use Rattle.crossing_sweep.proofs.NameLemmas.{map_alike, place_named, name_same, name_known}
+use Rattle.crossing_sweep.specs.Crossed.{IsInner, IsUnitPair, IsCrossingAmong, IsSpan, AreNodes, HasFound, IsCaused, IsKey, IsUnderWay}
+use Rattle.crossing_sweep.specs.NodeNames.{no_name, name_at, IsNamed, named_ends, AreKept}
+use Rattle.crossing_sweep.specs.declared.node_name.NodeName.{NodeName}
 use Rattle.crossing_sweep.specs.declared.member.Member.{Member}
 use Rattle.crossing_sweep.specs.declared.start.Start.{Start}
 use Rattle.crossing_sweep.specs.declared.row.Row.{Row}
@@ -329,41 +332,45 @@ not_on_border segments k p z hp hz e low high on =
         by h l (inr g) = not_less (border (k + 1)) (let P : ℕ → Type 0 = λ i. border i <ℤ border (k + 1) in subst P g l)
 
 module _ (input : Input) (valid : IsInput input) (listed : Bool) (status : List Member) (coming : List Start) (ahead : List (HPoint × PointName)) (tests : List (Segment × Segment)) (rows sorted : List Row) (names : List PointName) (cap : ℕ)
-    (way : IsUnderWay input listed status coming ahead tests rows names) (ended : (ahead ≡ []) ⊎ (cap < length rows)) (settled : count_settled (length names) rows ≤ cap) (are : AreSorted rows sorted) where
+    (way : IsUnderWay input listed status coming ahead tests rows names) (ended : (ahead ≡ []) ⊎ (cap < length rows)) (members : List Member) (kept : List NodeName) (are_kept : AreKept names members rows kept) (nodes : ℕ) (counted : nodes ≡ length names)
+    (settled : count_settled nodes rows ≤ cap) (are : AreSorted rows sorted) where
   as_many : length sorted ≡ length rows
   as_many = length_permutation rows sorted are.moved
 
-  -- a number of a node is that of its name
-  place_named : (i : ℕ) → i < length (map place_of names) → place_at (map place_of names) i ≡ place_of (name_at names i)
-  place_named i l = get_or-map place_of names i _ _ (omega (arith, l, length-map names place_of))
+  -- a row with names for its ends
+  abbrev IsNamedRow : Row → Type 0
+  IsNamedRow row = IsRow input (map place_of names) row × (IsNamed kept row.first × IsNamed kept row.last)
 
-  is_span : (row : Row) → IsRow input (map place_of names) row → IsSpan names row
-  is_span row is = record {
-    from_known = from_known;
-    to_known = to_known;
-    from_named = named_at row.first from_known;
-    to_named = named_at row.last to_known;
+  all_named : All IsNamedRow sorted
+  all_named = All-permutation IsNamedRow rows sorted are.moved (λ i d l. (way.carries.are_rows.sound i d l, are_kept.row_ends i d l))
+
+  ends_named : (row : Row) → IsNamedRow row → row_ends (map place_of names) row ≡ named_ends kept row
+  ends_named row both = λ i. (place_named names kept row.first are_kept.among both.1.0 i, place_named names kept row.last are_kept.among both.1.1 i)
+
+  all_ends : map (row_ends (map place_of names)) sorted ≡ map (named_ends kept) sorted
+  all_ends = map_alike (row_ends (map place_of names)) (named_ends kept) sorted (All-weaker IsNamedRow (λ row. row_ends (map place_of names) row ≡ named_ends kept row) ends_named sorted all_named)
+
+  is_span : (row : Row) → IsNamedRow row → IsSpan kept row
+  is_span row both = let is = both.0 in record {
+    from_known = both.1.0;
+    to_known = both.1.1;
+    from_named = named_at row.first both.1.0;
+    to_named = named_at row.last both.1.1;
     from_positive = subst Positive from is.boundary.piece.from_positive;
     to_positive = subst Positive to is.boundary.piece.to_positive;
     from_on = subst On from is.from_on;
     to_on = subst On to is.to_on;
-    in_order = ap (λ z. point_cmp z (place_of (name_at names row.last))) (sym from) ∙ ap (λ z. point_cmp (place_at (map place_of names) row.first) z) (sym to) ∙ is.boundary.piece.in_order;
+    in_order = ap (λ z. point_cmp z (place_of (name_at kept row.last))) (sym from) ∙ ap (λ z. point_cmp (place_at (map place_of names) row.first) z) (sym to) ∙ is.boundary.piece.in_order;
   }
     where
-      from_known : row.first < length names
-      from_known = omega (arith, is.from_known, length-map names place_of)
+      from : place_at (map place_of names) row.first ≡ place_of (name_at kept row.first)
+      from = place_named names kept row.first are_kept.among both.1.0
 
-      to_known : row.last < length names
-      to_known = omega (arith, is.to_known, length-map names place_of)
+      to : place_at (map place_of names) row.last ≡ place_of (name_at kept row.last)
+      to = place_named names kept row.last are_kept.among both.1.1
 
-      from : place_at (map place_of names) row.first ≡ place_of (name_at names row.first)
-      from = place_named row.first is.from_known
-
-      to : place_at (map place_of names) row.last ≡ place_of (name_at names row.last)
-      to = place_named row.last is.to_known
-
-      named_at : (i : ℕ) → i < length names → HasPlace (name_at names i)
-      named_at i l = way.named i _ l
+      named_at : (i : ℕ) → IsNamed kept i → HasPlace (name_at kept i)
+      named_at i n = subst HasPlace (sym (name_same names kept i are_kept.among n)) (way.named i no_name (name_known names kept i are_kept.among n))
 
       Positive : Point → Type 0
       Positive z = pos 0 <ℤ z.w
@@ -371,8 +378,8 @@ module _ (input : Input) (valid : IsInput input) (listed : Bool) (status : List 
       On : Point → Type 0
       On z = IsTrue (is_on row.support z)
 
-  spans : All (IsSpan names) sorted
-  spans = All-weaker (IsRow input (map place_of names)) (IsSpan names) is_span sorted (All-permutation (IsRow input (map place_of names)) rows sorted are.moved way.carries.are_rows.sound)
+  spans : All (IsSpan kept) sorted
+  spans = All-weaker IsNamedRow (IsSpan kept) is_span sorted all_named
 
   none_ahead : length sorted ≤ cap → ahead ≡ []
   none_ahead few = by ended
@@ -419,15 +426,19 @@ module _ (input : Input) (valid : IsInput input) (listed : Bool) (status : List 
           because (inl h) = absurd (fixed (or_cases (is_end (segments_in input) any.1) (is_on_border (segments_in input) any.1) h))
           because (inr h) = let c = h l in any_from (λ (t : Segment × Segment). IsCrossingOf t.0 t.1 p) tests c.1 (any_contains (λ (t : Segment × Segment). IsCrossingOf t.0 t.1 any.1) tests c) (moved c.1 c.4)
 
-  pub ends_way : HasFound input cap listed sorted names tests
+  pub ends_way : HasFound input cap listed sorted kept nodes tests
   ends_way = record {
     spans = spans;
-    tile = λ few. (at_end few).tile;
+    numbered = are_kept.numbered;
+    tile = λ few. subst (λ (l : List (Point × Point)). IsTileOf input.marked input.steps input.column l) all_ends (at_end few).tile;
     too_many = λ more. rows_tell_oversize way.n input way.q (map place_of names) status rows sorted cap valid way.carries are (omega (arith, more, as_many));
-    stops = omega (arith, settled, settled_sorted (length names) rows sorted are);
+    stops = omega (arith, settled, settled_sorted nodes rows sorted are);
+    all = names;
+    among = are_kept.among;
+    counted = counted;
     named = way.named;
     are_nodes = are_nodes;
-    few = way.few;
+    few = omega (arith, way.few, counted);
     pairs = way.pairs;
     unlisted = way.unlisted;
     crossings = crossings;

@@ -11,6 +11,7 @@ use Rattle.crossing_sweep.specs.Status.{SidesFallAlong}
 use Rattle.crossing_sweep.specs.Step.{IsSplitAt}
 use Rattle.crossing_sweep.specs.Member.{segs_of}
 use Rattle.crossing_sweep.specs.Rows.{place_at, rows_of}
+use Rattle.crossing_sweep.specs.NodeNames.{AreKept}
 use Rattle.crossing_sweep.specs.Crossed.{IsUnderWay}
 use Rattle.crossing_sweep.specs.declared.member.Member.{Member}
 use Rattle.crossing_sweep.specs.declared.start.Start.{Start}
@@ -53,7 +54,10 @@ pub record IsAmid (input : Input) (search : Search) (status : List Member) (comi
   pub same_status : (z : HPoint × PointName) → Contains search.ahead z → is_in_column input.column (place z.0) ≡ true → status ≡ filter (begins_within input names) full
   pub to_come : (z : HPoint × PointName) → Contains search.ahead z → is_in_column input.column (place z.0) ≡ true → all_coming ≡ coming
 
--- so is the code's, which counts the units that have entered
+-- so is the code's, which counts the units that have entered and the nodes, and keeps the names of some nodes alone
 pub record IsPassing (input : Input) (progress : Progress) : Type 0 where
-  pub amid : IsAmid input progress.search progress.status.items (drop progress.entered progress.starts.items) progress.rows.items progress.names.items
+  pub names : List PointName
+  pub amid : IsAmid input progress.search progress.status.items (drop progress.entered progress.starts.items) progress.rows.items names
   pub known : progress.entered ≤ length progress.starts.items
+  pub counted : progress.nodes ≡ length names
+  pub kept : AreKept names progress.status.items progress.rows.items progress.names.items

@@ -1,5 +1,5 @@
 -- What one pass over a column finds: the tile or that it has too many pieces, the nodes, and the pairs of neighbours that it has tested.
-use Rattle.std.specs.Prelude.{◌≡◌, ℕ, ℤ, pos, ◌+◌, ◌*◌, ◌<◌, ◌≤◌, ◌<ℤ◌, ◌*ℤ◌, ◌≤ℤ◌, [], true, false, Bool, ◌⊎◌, ◌||◌, IsTrue, List, map, length, get_or, All, AllPairs, Any, Contains}
+use Rattle.std.specs.Prelude.{◌≡◌, ℕ, ℤ, pos, ◌+◌, ◌*◌, ◌<◌, ◌≤◌, ◌<ℤ◌, ◌*ℤ◌, ◌≤ℤ◌, [], true, false, Bool, ◌⊎◌, ◌||◌, IsTrue, List, map, length, All, AllPairs, Any, Contains}
 use Rattle.std.specs.declared.cmp.Ordering.TheVariants.{Less}
 use Rattle.overlay_terms.specs.Plane.{Point, Segment, point_cmp, is_on}
 use Rattle.overlay_terms.specs.Column.{border}
@@ -13,7 +13,6 @@ use Rattle.exact_point.specs.PlaceOf.{place_of}
 use Rattle.exact_point.specs.PointName.{HasPlace}
 use Rattle.exact_point.specs.declared.point.HPoint.{HPoint}
 use Rattle.exact_point.specs.declared.point_name.PointName.{PointName}
-use Rattle.exact_point.specs.declared.point_name.PointName.TheVariants.{Vertex}
 use Rattle.arrange.specs.Arrangement.{segments_in}
 use Rattle.arrange.specs.Units.{IsUnit, AreUnits}
 use Rattle.arrange.specs.declared.unit.Unit.{Unit}
@@ -23,7 +22,9 @@ use Rattle.crossing_sweep.specs.Passing.{HasCome, IsEntry}
 use Rattle.crossing_sweep.specs.Ahead.{points_of}
 use Rattle.crossing_sweep.specs.Member.{segs_of}
 use Rattle.crossing_sweep.specs.Stepping.{segs_to_come}
-use Rattle.crossing_sweep.specs.Rows.{row_ends, count_settled, Carries}
+use Rattle.crossing_sweep.specs.Rows.{count_settled, Carries}
+use Rattle.crossing_sweep.specs.NodeNames.{name_at, IsNamed, named_ends, IsNameAmong, AreNumbered}
+use Rattle.crossing_sweep.specs.declared.node_name.NodeName.{NodeName}
 use Rattle.crossing_sweep.specs.declared.member.Member.{Member}
 use Rattle.crossing_sweep.specs.declared.start.Start.{Start}
 use Rattle.crossing_sweep.specs.declared.row.Row.{Row}
@@ -52,14 +53,10 @@ IsCrossingAmong tests p = Any (λ t. IsCrossingOf t.0 t.1 p) tests
 abbrev pub IsUnitPair : List Marked → Segment × Segment → Type 0
 IsUnitPair marked t = IsUnit marked t.0 × IsUnit marked t.1
 
--- the name with a number among those of some nodes
-abbrev pub name_at : List PointName → ℕ → PointName
-name_at names number = get_or names number (Vertex (record { x = pos 0; y = pos 0 }))
-
--- the numbers of a row are of names that have places on its support, the first before the second
-pub record IsSpan (names : List PointName) (row : Row) : Type 0 where
-  pub from_known : row.first < length names
-  pub to_known : row.last < length names
+-- the nodes of a row have names there, and these places on its support, the first before the second
+pub record IsSpan (names : List NodeName) (row : Row) : Type 0 where
+  pub from_known : IsNamed names row.first
+  pub to_known : IsNamed names row.last
   pub from_named : HasPlace (name_at names row.first)
   pub to_named : HasPlace (name_at names row.last)
   pub from_positive : pos 0 <ℤ (place_of (name_at names row.first)).w
@@ -80,22 +77,28 @@ pub record AreCounted (input : Input) (to_the_end : Type 0) (count : ℕ) : Type
   pub counted : count ≡ length places
   pub are_nodes : AreNodes input to_the_end places
 
--- the rows, names of nodes and tests of a pass that stops after more rows than a cap, so that no more of them than the cap end before the last node; it lists its tests or not
-pub record HasFound (input : Input) (cap : ℕ) (listed : Bool) (rows : List Row) (names : List PointName) (tests : List (Segment × Segment)) : Type 0 where
+-- the rows, the names that they need, the count of nodes and the tests of a pass that stops after more rows than a cap, so that no more of them than the
+-- cap end before the last node; it lists its tests or not
+pub record HasFound (input : Input) (cap : ℕ) (listed : Bool) (rows : List Row) (names : List NodeName) (nodes : ℕ) (tests : List (Segment × Segment)) : Type 0 where
   pub spans : All (IsSpan names) rows
-  pub tile : length rows ≤ cap → IsTileOf input.marked input.steps input.column (map (row_ends (map place_of names)) rows)
+  pub numbered : AreNumbered names
+  pub tile : length rows ≤ cap → IsTileOf input.marked input.steps input.column (map (named_ends names) rows)
   pub too_many : cap < length rows → IsTileAt cap input oversize
-  pub stops : count_settled (length names) rows ≤ cap
-  pub named : All HasPlace names
-  pub are_nodes : AreNodes input (length rows ≤ cap) (map place_of names)
-  pub few : length tests ≤ 2 * length names
+  pub stops : count_settled nodes rows ≤ cap
+  -- the names of all nodes
+  pub all : List PointName
+  pub among : All (IsNameAmong all) names
+  pub counted : nodes ≡ length all
+  pub named : All HasPlace all
+  pub are_nodes : AreNodes input (length rows ≤ cap) (map place_of all)
+  pub few : length tests ≤ 2 * nodes
   pub pairs : All (IsUnitPair input.marked) tests
   pub unlisted : listed ≡ false → tests ≡ []
   pub crossings : listed ≡ true → length rows ≤ cap → (p : Point) → IsInner input p → IsCrossingAmong tests p
 
 -- so has the code's
 abbrev pub IsCrossed : Input → ℕ → Bool → Crossed → Type 0
-IsCrossed input cap listed found = HasFound input cap listed found.rows.items found.names.items found.tests.items
+IsCrossed input cap listed found = HasFound input cap listed found.rows.items found.names.items found.nodes found.tests.items
 
 -- ---- on the way
 -- why a pass knows a place: it is an end or on a border, or two neighbours cross there, which are listed where tests are

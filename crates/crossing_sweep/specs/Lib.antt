@@ -18,6 +18,7 @@ pub mod RankedPlace
 pub mod Start
 pub mod Member
 pub mod Rows
+pub mod NodeNames
 pub mod Values
 pub mod RowLaws
 pub mod Testing

@@ -7,6 +7,7 @@ mod known_places;
 pub mod laws;
 mod member;
 mod members_after;
+mod node_name;
 mod pass;
 mod progress;
 mod rank;
@@ -17,5 +18,6 @@ mod start;
 mod starts;
 mod values;
 
+pub use node_name::{NodeName, name_of};
 pub use pass::{Crossed, cross};
 pub use row::Row;

@@ -1,5 +1,5 @@
 //! One pass over a column from node to node.
-ghost use Rattle.std.specs.Prelude.{◌≡◌, ◌<◌, ◌≤◌, ◌+◌, ℕ, ◌⊎◌, true, false, length, IfOk, OnOk};
+ghost use Rattle.std.specs.Prelude.{◌≡◌, ◌<◌, ◌≤◌, ◌+◌, ℕ, ◌⊎◌, ◌++◌, [], ◌∷◌, true, false, length, All, IfOk, OnOk};
 ghost use Rattle.crossing_sweep.specs.Amid.{IsPassing};
 ghost use Rattle.crossing_sweep.specs.Crossed.{IsCrossed};
 ghost use Rattle.crossing_sweep.specs.Rows.{count_settled};
@@ -8,6 +8,7 @@ ghost use Rattle.crossing_sweep.specs.Values.{AreValues};
 
 use crate::known_places::known_places;
 use crate::member::Member;
+use crate::node_name::NodeName;
 use crate::progress::Progress;
 use crate::row::{Row, sort};
 use crate::search::Search;
@@ -25,8 +26,10 @@ pub struct Crossed {
     /// The pieces of the boundary, by their left ends, then by their right ends; where they are more
     /// than the cap, some of them, more than the cap too.
     pub rows: Vec<Row>,
-    /// The names of the nodes that were passed, in their order.
-    pub names: Vec<PointName>,
+    /// How many nodes were passed.
+    pub nodes: usize,
+    /// The names of the nodes that the rows end at, and of few others, in the order of the nodes.
+    pub names: Vec<NodeName>,
     /// The pairs of neighbours that were tested, if they are listed.
     pub tests: Vec<(Seg, Seg)>,
 }
@@ -49,7 +52,7 @@ impl<'a> Model for Pass<'a> {
 
     ghost use Rattle.crossing_sweep.specs.Amid.{IsPassing};
 
-    ghost view = { λ p. record { input = p.input.now; listed = p.progress.search.listed; ahead = length p.progress.search.ahead; rows = length p.progress.rows.items; settled = count_settled (length p.progress.names.items) p.progress.rows.items } };
+    ghost view = { λ p. record { input = p.input.now; listed = p.progress.search.listed; ahead = length p.progress.search.ahead; rows = length p.progress.rows.items; settled = count_settled p.progress.nodes p.progress.rows.items } };
 
     ghost invariant = { λ p. IsPassing p.input.now p.progress };
 }
@@ -93,6 +96,7 @@ impl<'a> Pass<'a> {
                 tests: Vec::new(alloc),
             },
             rows,
+            nodes: 0,
             names,
         };
         Ok(Pass { input, progress })
@@ -124,12 +128,14 @@ impl<'a> Pass<'a> {
         let Progress {
             search,
             mut rows,
+            nodes,
             names,
             ..
         } = self.progress;
         sort(&mut rows);
         Crossed {
             rows,
+            nodes,
             names,
             tests: search.tests,
         }
@@ -144,8 +150,9 @@ fn is_under_way(progress: &Progress, cap: usize) -> bool
     !progress.search.ahead.is_empty() && progress.rows.len() <= cap
 }
 
-/// Passes the next node, if there is one ahead. What a pass has stays where it is, since it is large; and a list serves
-/// all nodes for the members that go on.
+/// Passes the next node, if there is one ahead, and keeps its name if a row ends there, or a member begins there that
+/// may make one. What a pass has stays where it is, since it is large; and a list serves all nodes for the members that
+/// go on.
 fn go_on(
     alloc: Global,
     input: &TileInput,
@@ -157,15 +164,47 @@ fn go_on(
     requires known { AreValues input.now.steps values.now }
     ensures passing { OnOk result (IsPassing input.now progress.new) }
     ensures listed { OnOk result (progress.new.search.listed ≡ progress.old.search.listed) }
-    ensures more { OnOk result (¬ (length progress.old.search.ahead ≡ 0) → length progress.new.names.items ≡ length progress.old.names.items + 1) }
-    ensures settled { OnOk result (¬ (length progress.old.search.ahead ≡ 0) → count_settled (length progress.new.names.items) progress.new.rows.items ≡ length progress.old.rows.items) }
-    ensures few { OnOk result (length progress.new.names.items ≤ nodes_max input.now) }
+    ensures more { OnOk result (¬ (length progress.old.search.ahead ≡ 0) → progress.new.nodes ≡ progress.old.nodes + 1) }
+    ensures settled { OnOk result (¬ (length progress.old.search.ahead ≡ 0) → count_settled progress.new.nodes progress.new.rows.items ≡ length progress.old.rows.items) }
+    ensures few { OnOk result (progress.new.nodes ≤ nodes_max input.now) }
 {
     let Some((at, name)) = progress.search.ahead.take_first() else {
         return Ok(());
     };
-    let number = progress.names.len();
-    progress.names.push(name)?;
+    // An input has few segments: the count of nodes rests on that.
+    let _ = input.marked();
+    let number = progress.nodes;
+    let rows = progress.rows.len();
     progress.step(alloc, input, values, stay, &at, number)?;
+    progress.nodes += 1;
+    let needed = is_needed(rows, progress.rows.len(), stay);
+    keep(&mut progress.names, number, name, needed)?;
+    Ok(())
+}
+
+/// Whether rows need the name of a node: there are more than before, or one of the members that begin there may make one.
+fn is_needed(rows: usize, more: usize, begun: &[Member]) -> bool
+    ensures few { result ≡ false → more ≤ rows }
+    ensures none { result ≡ false → All (λ m. m.differs ≡ false) begun.now }
+{
+    if rows < more {
+        return true;
+    }
+    begun.iter().any(|member| member.differs)
+}
+
+/// Keeps the name of the node with a number if it is needed.
+fn keep(
+    names: &mut Vec<NodeName>,
+    number: usize,
+    name: PointName,
+    needed: bool,
+) -> Result<(), AllocError>
+    ensures kept { OnOk result (needed ≡ true → names.new.items ≡ names.old.items ++ record { number = number; name = name } ∷ []) }
+    ensures same { OnOk result (needed ≡ false → names.new.items ≡ names.old.items) }
+{
+    if needed {
+        names.push(NodeName { number, name })?;
+    }
     Ok(())
 }

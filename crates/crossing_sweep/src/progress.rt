@@ -1,6 +1,6 @@
 //! What a pass over a column has, and one step of it: crossings are found from neighbours alone, and
 //! the boundary is carried along.
-ghost use Rattle.std.specs.Prelude.{◌≡◌, ◌≤◌, ◌++◌, true, false, length, take, drop, IfOk, OnOk};
+ghost use Rattle.std.specs.Prelude.{◌≡◌, ◌≤◌, ◌++◌, ◌⊎◌, true, false, length, take, drop, All, Contains, IfOk, OnOk};
 ghost use Rattle.overlay_terms.specs.Column.{is_in_column};
 ghost use Rattle.exact_point.specs.Place.{place};
 ghost use Rattle.crossing_sweep.specs.Stepping.{IsStepped};
@@ -10,11 +10,12 @@ ghost use Rattle.crossing_sweep.specs.Values.{AreValues};
 use crate::bundle::bundle_at;
 use crate::member::Member;
 use crate::members_after::{count_entering, turned};
+use crate::node_name::NodeName;
 use crate::row::{Row, close, label, mask_over};
 use crate::search::Search;
 use crate::start::Start;
 use arrange::TileInput;
-use exact_point::{HPoint, PointName, is_in};
+use exact_point::{HPoint, is_in};
 use std::alloc::{AllocError, Global};
 
 /// What a pass over a column has when it has come to some place.
@@ -27,14 +28,16 @@ pub(crate) struct Progress {
     pub hint: usize,
     pub search: Search,
     pub rows: Vec<Row>,
-    /// The names of the nodes that were passed, in their order.
-    pub names: Vec<PointName>,
+    /// How many nodes were passed.
+    pub nodes: usize,
+    /// The names of those that rows end at, and of those where a member begins that may make one, in their order.
+    pub names: Vec<NodeName>,
 }
 
 impl Progress {
     /// Passes a node: the pieces of the members that hold it are closed. In the column these give way to
     /// those that go on or enter there, which a list is lent for, and the new neighbours are tested; on its
-    /// right border, where no piece of it begins, nothing else is done.
+    /// right border, where no piece of it begins, nothing else is done. The list has the members that begin.
     pub(crate) fn step(
         &mut self,
         alloc: Global,
@@ -55,11 +58,15 @@ impl Progress {
             IsClosedAt at.now begin self.old.status.items self.new.status.items self.old.rows.items self.new.rows.items) }
         ensures searched { OnOk result (is_in_column input.now.column (place at.now) ≡ false → self.new.search ≡ self.old.search) }
         ensures names { self.new.names ≡ self.old.names }
+        ensures nodes { self.new.nodes ≡ self.old.nodes }
+        ensures begun { OnOk result (All (λ m. m.begin ≡ begin) stay.new.items) }
+        ensures members { OnOk result ((m : Member) → Contains self.new.status.items m → Contains self.old.status.items m ⊎ Contains stay.new.items m) }
     {
         let (low, high) = bundle_at(&self.status, at, self.hint);
         close(&mut self.rows, &self.status[low..high], begin)?;
         let within = is_in(input.column(), at);
         if !within {
+            stay.clear();
             self.hint = high;
             return Ok(());
         }

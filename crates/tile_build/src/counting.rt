@@ -19,13 +19,13 @@ pub fn build_counted(alloc: Global, input: &TileInput, cap: usize) -> Result<Cou
         return Ok(Counted {
             tile: Tile::Oversize,
             tests: found.tests,
-            nodes: found.names.len() as u64,
+            nodes: found.nodes as u64,
         });
     }
     let pieces = pieces_of(alloc, &found.names, &found.rows)?;
     Ok(Counted {
         tile: Tile::Pieces(pieces),
         tests: found.tests,
-        nodes: found.names.len() as u64,
+        nodes: found.nodes as u64,
     })
 }

@@ -1,15 +1,14 @@
 //! Pieces of the boundary.
-ghost use Rattle.std.specs.Prelude.{◌≡◌, map};
+ghost use Rattle.std.specs.Prelude.{◌≡◌};
 ghost use Rattle.overlay_terms.specs.TileLaws.{is_pair_below};
 ghost use Rattle.exact_point.specs.Place.{place};
 ghost use Rattle.exact_point.specs.NamedPiece.{ends_of};
-ghost use Rattle.exact_point.specs.PlaceOf.{place_of};
 ghost use Rattle.exact_point.specs.PointName.{HasPlace};
-ghost use Rattle.crossing_sweep.specs.Crossed.{name_at, IsSpan};
-ghost use Rattle.crossing_sweep.specs.Rows.{row_ends};
+ghost use Rattle.crossing_sweep.specs.Crossed.{IsSpan};
+ghost use Rattle.crossing_sweep.specs.NodeNames.{name_at, named_ends, AreNumbered};
 
 use crate::ends::{is_name_in, name_cmp};
-use crossing_sweep::Row;
+use crossing_sweep::{NodeName, Row, name_of};
 use exact_point::side::side;
 use exact_point::{HPoint, PointName, x_cmp};
 use plane_base::{Column, Seg};
@@ -93,16 +92,17 @@ impl Piece {
         (self.from.known_point(), self.to.known_point())
     }
 
-    /// The row of a pass over nodes with these names as a piece of the boundary.
-    pub(crate) fn of_row(names: &[PointName], row: &Row) -> Piece
-        requires { IsSpan names.now row.now }
+    /// The row of a pass, of which these names are those of its ends, as a piece of the boundary.
+    pub(crate) fn of_row(names: &[NodeName], row: &Row) -> Piece
+        requires span { IsSpan names.now row.now }
+        requires numbered { AreNumbered names.now }
         ensures value { result ≡ record { support = row.now.support; from = name_at names.now row.now.first; to = name_at names.now row.now.last } }
-        ensures ends { ends_of result ≡ row_ends (map place_of names.now) row.now }
+        ensures ends { ends_of result ≡ named_ends names.now row.now }
     {
         Piece {
             support: row.support,
-            from: names[row.first],
-            to: names[row.last],
+            from: name_of(names, row.first),
+            to: name_of(names, row.last),
         }
     }
 

@@ -8,7 +8,7 @@ loop-alloc-preserved c =
     let before : Progress = c.loop-alloc.progress in
     let after : Progress = c.go_on.new.progress in
     let way : (¬ (length before.search.ahead ≡ 0)) × (length before.rows.items ≤ c.args.cap) = search rules in
-    let settled : count_settled (length after.names.items) after.rows.items ≡ length before.rows.items = c.in_ok-go_on.ensures.settled way.0 in
+    let settled : count_settled after.nodes after.rows.items ≡ length before.rows.items = c.in_ok-go_on.ensures.settled way.0 in
     record {
       passing = c.in_ok-go_on.ensures.passing;
       listed = c.in_ok-go_on.ensures.listed ∙ c.loop-alloc.invariant.listed;
@@ -20,5 +20,5 @@ loop-alloc-smaller c =
     let before : Progress = c.loop-alloc.progress in
     let after : Progress = c.go_on.new.progress in
     let way : (¬ (length before.search.ahead ≡ 0)) × (length before.rows.items ≤ c.args.cap) = search rules in
-    let more : length after.names.items ≡ length before.names.items + 1 = c.in_ok-go_on.ensures.more way.0 in
+    let more : after.nodes ≡ before.nodes + 1 = c.in_ok-go_on.ensures.more way.0 in
     omega (arith, more, c.in_ok-go_on.ensures.few)

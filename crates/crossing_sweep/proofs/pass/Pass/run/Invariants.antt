@@ -1,4 +1,4 @@
-use Rattle.std.proofs.Common.{◌≡◌, ◌-◌, ◌≤◌, length}
+use Rattle.std.proofs.Common.{◌≡◌, ◌-◌, ◌≤◌}
 use Rattle.crossing_sweep.specs.Amid.{IsPassing}
 use Rattle.crossing_sweep.specs.Rows.{count_settled}
 use Rattle.crossing_sweep.specs.PassState.{nodes_max}
@@ -8,8 +8,8 @@ abbrev pub invariant-loop-alloc : goal.invariant-loop-alloc
 invariant-loop-alloc l = record {
   passing : IsPassing l.input l.progress;
   listed : l.progress.search.listed ≡ l.fn.self.listed;
-  settled : l.fn.self.settled ≤ l.cap → count_settled (length l.progress.names.items) l.progress.rows.items ≤ l.cap;
+  settled : l.fn.self.settled ≤ l.cap → count_settled l.progress.nodes l.progress.rows.items ≤ l.cap;
 }
 
 abbrev pub decreases-loop-alloc : goal.decreases-loop-alloc
-decreases-loop-alloc l = nodes_max l.input - length l.progress.names.items
+decreases-loop-alloc l = nodes_max l.input - l.progress.nodes

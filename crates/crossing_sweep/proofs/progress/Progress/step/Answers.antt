@@ -1,7 +1,7 @@
 use Rattle.std.proofs.Common.{rules, ◌≡◌, ℕ, ◌+◌, ◌-◌, ◌≤◌, Bool, true, List, ◌++◌, map, length, take, drop, sym, subst, ap, refl, ◌∙◌, arith}
 use Rattle.std.proofs.Math.Seq.{take-append_seam}
 use Rattle.std.proofs.lemmas.List.{drop-drop, take_rest}
-use Rattle.std.specs.Prelude.{filter}
+use Rattle.std.specs.Prelude.{All, filter}
 use Rattle.std.specs.List.{slice_range}
 use Rattle.std.specs.List.Sorted.{IsPermutation}
 use Rattle.overlay_terms.specs.Plane.{Point}
@@ -16,6 +16,7 @@ use Rattle.crossing_sweep.specs.Testing.{AreSeamsTested, seams_at}
 use Rattle.crossing_sweep.specs.declared.member.Member.{Member}
 use Rattle.crossing_sweep.specs.declared.row.Row.{Row}
 use Rattle.crossing_sweep.specs.declared.start.Start.{Start}
+use Rattle.crossing_sweep.proofs.NameLemmas.{all_begin, members_from}
 use Rattle.crossing_sweep.proofs.TurnedLemmas.{unit_after}
 use Rattle.crossing_sweep.proofs.TakenLemmas.{stepped}
 use Rattle.crossing_sweep.proofs.Leaving.{still_few, closed_at}
@@ -78,6 +79,24 @@ returns-clause-stepped c = λ inside.
     (subst Closed c.deref-2.ensures.value c.in_ok-close.ensures) put long tested in
     let Stepped : List Start → List Start → Type 0 = λ l m. IsStepped c.args.input.now c.args.at.now c.args.begin ms after l m self.search c.test_new.new.self rows c.close.new.rows.items in
     subst (Stepped (drop self.entered self.starts.items)) onward (subst (λ (l : List Start). Stepped l (drop entered l)) behind done)
+
+pub returns-clause-begun : goal.returns-clause-begun
+returns-clause-begun c =
+    let turned : List Member = c.turned.new.stay.items in
+    let stay : List Member = c.label.new.stay in
+    let size : c.turned.new.stay.len ≡ length stay = search rules in
+    let whole : take c.turned.new.stay.len (stay ++ drop (length stay) turned) ≡ stay = ap (λ j. take j (stay ++ drop (length stay) turned)) size ∙ take-append_seam stay (drop (length stay) turned) in
+    subst (λ (l : List Member). All (λ m. m.begin ≡ c.args.begin) l) (sym whole) (all_begin c.args.input.now.steps c.mask_over-under.result c.args.begin true stay c.label.ensures.begun)
+
+pub returns-clause-members : goal.returns-clause-members
+returns-clause-members c = λ m h.
+    let ms : List Member = c.args.self.now.status.items in
+    let low : ℕ = c.bundle_at-low.result.0 in
+    let high : ℕ = c.bundle_at-low.result.1 in
+    let turned : List Member = c.turned.new.stay.items in
+    let stay : List Member = c.label.new.stay in
+    let put = c.in_ok-replace.ensures ∙ ap (λ (xs : List Member). take low ms ++ xs ++ drop high ms) c.deref-6.ensures.value in
+    members_from ms (take c.turned.new.stay.len (stay ++ drop (length stay) turned)) c.replace.new.status.items low high put m h
 
 pub returns-then-not-within-clause-closed : goal.returns-then-not-within-clause-closed
 returns-then-not-within-clause-closed c = λ out.
