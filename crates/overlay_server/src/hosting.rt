@@ -8,11 +8,12 @@ ghost use Rattle.version_book.specs.Store.{has_store};
 ghost use Rattle.store_flushing.specs.Told.{told_in};
 ghost use Rattle.overlay_server.specs.Answering.{answer_in, fault_of, refusal_code};
 ghost use Rattle.overlay_server.specs.Moments.{HasOnlyNow};
-ghost use Rattle.overlay_server.specs.Refusing.{IsRefusedFrom, given_by, given_to};
-ghost use Rattle.overlay_server.specs.Serving.{IsLeftFrom, IsServedFrom, IsStoredOf, first_log, flusher_of, start_of};
+ghost use Rattle.overlay_server.specs.Given.{bytes_of, given_by, given_to};
+ghost use Rattle.overlay_server.specs.Refusing.{IsRefusedFrom};
+ghost use Rattle.overlay_server.specs.Serving.{IsLeftFrom, IsStoredOf, first_log, flusher_of, start_of};
 
 use crate::ending::Ending;
-use crate::listening::{Listeners, gathered, listened};
+use crate::listening::listened;
 use crate::opening::{Begun, BookAnswer, open_book};
 use crate::outcome::{Left, Served, ServerFault};
 use crate::refusing::{only_now, refused};
@@ -136,11 +137,11 @@ where
     requires book { opened.seen_log.book ≡ J.book }
     requires stored { (log : List Entry) (number : ℕ) → J.stored log number ↔ IsStoredOf D.Disk (start_of opened.engine) (flusher_of opened.engine) log number }
     requires readers { (0 < length readers.items) × (length readers.items ≤ 4) }
-    ensures served { IfOk result (IsServedFrom R.remaining D.Disk (start_of opened.engine) (flusher_of opened.engine) readers.items) }
+    ensures left { IfOk result (IsLeftFrom bytes_of D.Disk (start_of opened.engine) (flusher_of opened.engine) (given_by R.remaining readers.items)) }
     ensures refused { IfErr result (IsRefusedFrom D.Disk (start_of opened.engine) (flusher_of opened.engine) (given_by R.remaining readers.items)) }
 {
     let asked = ask_book::<J, &Q, D>(rt, alloc, opened, readers.len());
-    let Some(Listeners { ports, outcomes }) = listened(alloc, readers) else {
+    let Some(ports) = listened(alloc, readers) else {
         let Asked {
             start,
             begun: _begun,
@@ -149,8 +150,7 @@ where
         } = asked;
         return Err(refused(alloc, answer, flusher, start.seen_log));
     };
-    let left = asked.serve(rt, alloc, workers, gate, ports)?;
-    Ok(gathered(left, outcomes))
+    asked.serve(rt, alloc, workers, gate, ports)
 }
 
 /// The server of a book that is named by its history.
@@ -172,7 +172,7 @@ where
     requires book { opened.seen_log.book ≡ J.book }
     requires stored { (log : List Entry) (number : ℕ) → J.stored log number ↔ IsStoredOf D.Disk (start_of opened.engine) (flusher_of opened.engine) log number }
     requires ports { (0 < length ports.items) × (length ports.items ≤ 4) }
-    ensures left { IfOk result (IsLeftFrom R.remaining W.contents D.Disk (start_of opened.engine) (flusher_of opened.engine) ports.items) }
+    ensures left { IfOk result (IsLeftFrom W.contents D.Disk (start_of opened.engine) (flusher_of opened.engine) (given_to R.remaining W.contents ports.items)) }
     ensures refused { IfErr result (IsRefusedFrom D.Disk (start_of opened.engine) (flusher_of opened.engine) (given_to R.remaining W.contents ports.items)) }
 {
     let asked = ask_book::<J, &Q, D>(rt, alloc, opened, ports.len());
@@ -207,7 +207,7 @@ where
         requires meant { (log : List Entry) (number : ℕ) → J.stored log number ↔ IsStoredOf D.Disk self.start.version.value self.flusher log number }
         requires fault { IfErr self.begun (λ fault. (fault ≡ no_memory) ⊎ (fault ≡ BookFault.Gone)) }
         requires answer { answer_in self.answer ≡ fault_of self.begun }
-        ensures left { IfOk result (IsLeftFrom R.remaining W.contents D.Disk self.start.version.value self.flusher ports.items) }
+        ensures left { IfOk result (IsLeftFrom W.contents D.Disk self.start.version.value self.flusher (given_to R.remaining W.contents ports.items)) }
         ensures refused { IfErr result (IsRefusedFrom D.Disk self.start.version.value self.flusher (given_to R.remaining W.contents ports.items)) }
         // Of a book that was refused it is that refusal's number: so 44 tells that it gave no places, and nothing else.
         ensures code { IfErr result (λ fault. fault.code ≡ refusal_code (fault_of self.begun)) }
@@ -277,7 +277,7 @@ where
         requires told { told_in self.store.told ≡ [] }
         requires meant { (log : List Entry) (number : ℕ) → J.stored log number ↔ IsStoredOf D.Disk self.start.version.value self.store.flusher log number }
         requires sessions { self.sessions.items ≡ beginners (record { book = J.book; log = first_log self.start.version.value }) (length self.ports.items) }
-        ensures left { IfOk result (IsLeftFrom R.remaining W.contents D.Disk self.start.version.value self.store.flusher self.ports.items) }
+        ensures left { IfOk result (IsLeftFrom W.contents D.Disk self.start.version.value self.store.flusher (given_to R.remaining W.contents self.ports.items)) }
         ensures refused { IfErr result (IsRefusedFrom D.Disk self.start.version.value self.store.flusher (given_to R.remaining W.contents self.ports.items)) }
         ensures code { IfErr result (λ fault. fault.code ≡ 40) }
     {

@@ -1,7 +1,8 @@
 //! A server: from readers and an engine to what the sessions wrote, and what is left of the book and its store.
 ghost use Rattle.std.specs.Prelude.{◌≡◌, ◌<◌, ◌≤◌, is_some, length, IfOk, IfErr};
-ghost use Rattle.overlay_server.specs.Refusing.{IsRefusedFrom, given_by, given_to};
-ghost use Rattle.overlay_server.specs.Serving.{IsLeftFrom, IsServedFrom, flusher_of, start_of};
+ghost use Rattle.overlay_server.specs.Given.{bytes_of, given_by, given_to};
+ghost use Rattle.overlay_server.specs.Refusing.{IsRefusedFrom};
+ghost use Rattle.overlay_server.specs.Serving.{IsLeftFrom, flusher_of, start_of};
 
 use crate::hosting::{Opened, listen_in, serve_in};
 use crate::outcome::{Left, ServeOptions, Served, ServerFault};
@@ -18,7 +19,7 @@ use version_book::seen_log::open;
 use versions::Version;
 
 /// Runs workers, the store and one session a reader, each in a thread of its own, until all scripts have ended. Session
-/// k runs the k-th reader's script, counted from 0, and the outcomes stand in the readers' order. The book begins with the
+/// k runs the k-th reader's script, counted from 0, and what they wrote stands in the readers' order. The book begins with the
 /// engine's version and is committed to its store; without an engine it begins empty, and is kept in memory alone.
 ///
 /// Before it returns, it commits once more what the workers finished, so that each finished tile is in the store, unless
@@ -40,9 +41,9 @@ where
     Q: Threads + Wait + Sync,
     requires readers { (0 < length readers.items) × (length readers.items ≤ 4) }
     // Each reader has its replies; what is left of book and store stands for the log that has all that was seen.
-    ensures served { IfOk result (IsServedFrom R.remaining D.Disk (start_of engine) (flusher_of engine) readers.items) }
+    ensures left { IfOk result (IsLeftFrom bytes_of D.Disk (start_of engine) (flusher_of engine) (given_by R.remaining readers.items)) }
     // A disk comes back just where there was an engine.
-    ensures disk { IfOk result (λ served. is_some served.closed.disk ≡ is_some engine) }
+    ensures disk { IfOk result (λ left. is_some left.closed.disk ≡ is_some engine) }
     // The number is that of what the book answered as it was to be opened, and 40 where it was opened. The disk comes back,
     // and a crash at any moment left a file that stands for a version of the history that comes with it. In that history
     // the readers' sessions alone had commands accepted, those of their scripts, and none where no session was begun.
@@ -69,7 +70,7 @@ where
     G: Gate + Sync,
     Q: Threads + Wait + Sync,
     requires ports { (0 < length ports.items) × (length ports.items ≤ 4) }
-    ensures left { IfOk result (IsLeftFrom R.remaining W.contents D.Disk (start_of engine) (flusher_of engine) ports.items) }
+    ensures left { IfOk result (IsLeftFrom W.contents D.Disk (start_of engine) (flusher_of engine) (given_to R.remaining W.contents ports.items)) }
     ensures disk { IfOk result (λ left. is_some left.closed.disk ≡ is_some engine) }
     ensures refused { IfErr result (IsRefusedFrom D.Disk (start_of engine) (flusher_of engine) (given_to R.remaining W.contents ports.items)) }
 {

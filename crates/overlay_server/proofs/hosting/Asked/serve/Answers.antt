@@ -1,7 +1,7 @@
 use Rattle.std.proofs.Common.{◌∙◌, ap}
 use Rattle.book_history.specs.BookLogs.{BookLog}
 use Rattle.overlay_server.specs.Answering.{answer_in}
-use Rattle.overlay_server.specs.Refusing.{given_to}
+use Rattle.overlay_server.specs.Given.{given_to}
 use Rattle.overlay_server.proofs.Refusals.{may_answer, refused_at_once}
 use Rattle.overlay_server.proofs.Stores.{stopped_at_once}
 use Rattle.overlay_server.proofs.hosting.Asked.serve.Goals as goal

@@ -14,7 +14,7 @@ use Rattle.session_threads.specs.declared.port.Finished.{Finished}
 use Rattle.session_threads.proofs.Lists.{beside_length}
 use Rattle.server_session.specs.Stores.{store_of}
 use Rattle.overlay_server.specs.Keeping.{HoldsOfStore}
-use Rattle.overlay_server.specs.Refusing.{given_to}
+use Rattle.overlay_server.specs.Given.{given_to}
 use Rattle.overlay_server.specs.Serving.{first_log}
 use Rattle.overlay_server.proofs.Held.{runs_held}
 use Rattle.overlay_server.proofs.Refusals.{MayAnswer, refused_at_once}
