@@ -18,10 +18,7 @@ module _ {D : Type 0} (g : Ghosts D) (start : Version) (engine : Option (Engine 
   stored_too None = refl
   stored_too (Some e) = refl
 
-  there : (store : Option (Flusher D g)) (closed : Closed D) → store ≡ flusher_of engine → IsLeftOfStore g start store closed → is_some closed.disk ≡ is_some engine
-  there store closed same left = back store closed left ∙ ap (λ (o : Option (Flusher D g)). is_some o) same ∙ stored_too engine
-
-  pub left_disk : {W F : Type 0} (contents : W → Option (List ℕ)) (store : Option (Flusher D g)) (all : List Given) (r : Result (Left W D) F) → store ≡ flusher_of engine
-      → IfOk r (IsLeftFrom contents g start store all) → IfOk r (λ (left : Left W D). is_some left.closed.disk ≡ is_some engine)
-  left_disk contents store all (Ok left) same were = there store left.closed same were.kept
-  left_disk contents store all (Err fault) same were = tt
+  pub left_disk : {W F : Type 0} (contents : W → Option (List ℕ)) (all : List Given) (r : Result (Left W D) F) → IfOk r (IsLeftFrom contents g start (flusher_of engine) all)
+      → IfOk r (λ (left : Left W D). is_some left.closed.disk ≡ is_some engine)
+  left_disk contents all (Ok left) were = back (flusher_of engine) left.closed were.kept ∙ stored_too engine
+  left_disk contents all (Err fault) were = tt

@@ -24,25 +24,26 @@ use Rattle.overlay_server.specs.Serving.{AreServed, IsServed, Part, first_log}
 abbrev beginner : Book → Version → ℕ → Known
 beginner book start n = record { book = book; session = n; log = first_log start; made = [] }
 
-module _ {R W : Type 0} (remaining : R → Option (List ℕ)) (contents : W → Option (List ℕ)) (P : Script R W → Ended R W → Type 0) where
-  abbrev parts_of : List (Script R W) → List (Ended R W) → List (Part W)
-  parts_of [] ended = []
-  parts_of (s ∷ ss) [] = []
-  parts_of (s ∷ ss) (e ∷ es) = record { session = s.session; given = given_at remaining contents (port_of s); finished = finished_of e } ∷ parts_of ss es
+abbrev parts_of : {R W : Type 0} (remaining : R → Option (List ℕ)) (contents : W → Option (List ℕ)) → List (Script R W) → List (Ended R W) → List (Part W)
+parts_of remaining contents [] ended = []
+parts_of remaining contents (s ∷ ss) [] = []
+parts_of remaining contents (s ∷ ss) (e ∷ es) =
+    record { session = s.session; given = given_at remaining contents (port_of s); finished = finished_of e } ∷ parts_of remaining contents ss es
 
-  sessions_are : (ss : List (Script R W)) (es : List (Ended R W)) → AllZip P ss es → map (λ (p : Part W). p.session) (parts_of ss es) ≡ map session_of ss
+module _ {R W : Type 0} (remaining : R → Option (List ℕ)) (contents : W → Option (List ℕ)) (P : Script R W → Ended R W → Type 0) where
+  sessions_are : (ss : List (Script R W)) (es : List (Ended R W)) → AllZip P ss es → map (λ (p : Part W). p.session) (parts_of remaining contents ss es) ≡ map session_of ss
   sessions_are [] [] h = refl
   sessions_are [] (e ∷ es) h = absurd h
   sessions_are (s ∷ ss) [] h = absurd h
   sessions_are (s ∷ ss) (e ∷ es) h = ap (λ (ks : List Known). session_of s ∷ ks) (sessions_are ss es h.1)
 
-  given_are : (ss : List (Script R W)) (es : List (Ended R W)) → AllZip P ss es → map (λ (p : Part W). p.given) (parts_of ss es) ≡ given_to remaining contents (map port_of ss)
+  given_are : (ss : List (Script R W)) (es : List (Ended R W)) → AllZip P ss es → map (λ (p : Part W). p.given) (parts_of remaining contents ss es) ≡ given_to remaining contents (map port_of ss)
   given_are [] [] h = refl
   given_are [] (e ∷ es) h = absurd h
   given_are (s ∷ ss) [] h = absurd h
   given_are (s ∷ ss) (e ∷ es) h = ap (λ (gs : List Given). given_at remaining contents (port_of s) ∷ gs) (given_are ss es h.1)
 
-  finished_are : (ss : List (Script R W)) (es : List (Ended R W)) → AllZip P ss es → map (λ (p : Part W). p.finished) (parts_of ss es) ≡ map finished_of es
+  finished_are : (ss : List (Script R W)) (es : List (Ended R W)) → AllZip P ss es → map (λ (p : Part W). p.finished) (parts_of remaining contents ss es) ≡ map finished_of es
   finished_are [] [] h = refl
   finished_are [] (e ∷ es) h = absurd h
   finished_are (s ∷ ss) [] h = absurd h
@@ -81,7 +82,7 @@ of_ended book stored remaining contents (s ∷ ss) (e ∷ es) h =
 
 -- each session that ran was served, where the log has all of it
 served : {R W : Type 0} (book : Book) (stored : BookStore) (remaining : R → Option (List ℕ)) (contents : W → Option (List ℕ)) (log : List Entry) (ss : List (Script R W)) (es : List (Ended R W))
-    → AllZip (IsRunOf book stored remaining contents) ss es → All (HasAllOf log) (map ended_session es) → AllByRecursion (IsServed stored contents log) (parts_of remaining contents (IsRunOf book stored remaining contents) ss es)
+    → AllZip (IsRunOf book stored remaining contents) ss es → All (HasAllOf log) (map ended_session es) → AllByRecursion (IsServed stored contents log) (parts_of remaining contents ss es)
 served book stored remaining contents log [] es ran own = tt
 served book stored remaining contents log (s ∷ ss) [] ran own = absurd ran
 served book stored remaining contents log (s ∷ ss) (e ∷ es) ran own = (
@@ -147,7 +148,7 @@ module _ {R W : Type 0} (book : Book) (stored : BookStore) (remaining : R → Op
   pub are_served : AreServed stored contents start log (given_to remaining contents ports) (map finished_of ended)
   are_served = record {
     book = book;
-    parts = parts_of remaining contents (IsRunOf book stored remaining contents) scripts ended;
+    parts = parts_of remaining contents scripts ended;
     sessions =
         sessions_are remaining contents (IsRunOf book stored remaining contents) scripts ended ran ∙ seated.sessions
         ∙ ap (λ (n : ℕ). beginners (record { book = book; log = first_log start }) n) (sym (length-map ports (given_at remaining contents)));

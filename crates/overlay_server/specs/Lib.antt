@@ -3,6 +3,7 @@ pub mod Answering
 pub mod Closing
 pub mod Durability
 pub mod Given
+pub mod Hosting
 pub mod Keeping
 pub mod Moments
 pub mod Refusing
