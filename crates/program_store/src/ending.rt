@@ -1,5 +1,6 @@
 //! How a run ends.
 ghost use Rattle.std.specs.Prelude.{◌≡◌, true, is_some, IfOk, Ok};
+ghost use Rattle.std.specs.List.{list_all};
 ghost use Rattle.program_store.specs.Ending.{conclusion, ends_of, exit_status, is_end, is_kept, is_read_only, is_stored, kept_by, told_of, unsaid, was_run, was_written};
 
 use crate::fault::ProgramFault;
@@ -26,11 +27,32 @@ impl Ends {
         ensures { result ≡ ends_of sessions.now }
     {
         Ends {
-            at_end: sessions.iter().all(|session| is_end(&session.end)),
-            run: sessions.iter().all(|session| was_run(&session.end)),
-            written: sessions.iter().all(|session| was_written(&session.end)),
+            at_end: have_ended(sessions),
+            run: were_run(sessions),
+            written: were_written(sessions),
         }
     }
+}
+
+/// Whether each script was read to its end.
+fn have_ended<W>(sessions: &[Finished<W>]) -> bool
+    ensures { result ≡ list_all (λ session. is_end session.end) sessions.now }
+{
+    sessions.iter().all(|session| is_end(&session.end))
+}
+
+/// Whether each session had memory for its lines.
+fn were_run<W>(sessions: &[Finished<W>]) -> bool
+    ensures { result ≡ list_all (λ session. was_run session.end) sessions.now }
+{
+    sessions.iter().all(|session| was_run(&session.end))
+}
+
+/// Whether the replies of each session could be written.
+fn were_written<W>(sessions: &[Finished<W>]) -> bool
+    ensures { result ≡ list_all (λ session. was_written session.end) sessions.now }
+{
+    sessions.iter().all(|session| was_written(&session.end))
 }
 
 /// The end of a run: whether each script was read to its end and the newest version is in the store, where it is to be. A

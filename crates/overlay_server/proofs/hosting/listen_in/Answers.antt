@@ -1,4 +1,4 @@
-use Rattle.std.proofs.Common.{IfErr, IfOk, ap, subst, sym}
+use Rattle.std.proofs.Common.{rules, ◌≡◌, ◌∙◌, IfErr, IfOk, length, subst, sym}
 use Rattle.overlay_server.specs.Given.{bytes_of, given_by, given_to}
 use Rattle.overlay_server.specs.Hosting.{IsHosted}
 use Rattle.overlay_server.specs.Refusing.{IsRefusedFrom}
@@ -15,7 +15,8 @@ returns-in_err-hosted-clause-refused g c =
 
 pub run-requires-clause-hosted : goal.run-requires-clause-hosted
 run-requires-clause-hosted g c κs within =
-    subst (λ n. IsHosted g.J.BookName.book n c.in_ok-hosted.hosted) (sym c.in-Some.ensures.count) c.in_ok-hosted.ensures.hosted
+    let count : c.len.result ≡ length c.args.readers.items = search rules in
+    subst (λ n. IsHosted g.J.BookName.book n c.in_ok-hosted.hosted) (count ∙ sym c.in-Some.ensures.count) c.in_ok-hosted.ensures.hosted
 
 pub run-requires-clause-meant : goal.run-requires-clause-meant
 run-requires-clause-meant g c κs within =

@@ -1,10 +1,16 @@
-use Rattle.std.proofs.Common.{IfErr, IfOk, subst, sym}
+use Rattle.std.proofs.Common.{rules, ◌≡◌, IfErr, IfOk, length, subst, sym}
 use Rattle.overlay_server.specs.Given.{given_to}
+use Rattle.overlay_server.specs.Hosting.{IsHosted}
 use Rattle.overlay_server.specs.Refusing.{IsRefusedFrom}
 use Rattle.overlay_server.specs.Serving.{IsLeftFrom, flusher_of, start_of}
 use Rattle.overlay_server.proofs.Refusals.{passed_on}
 use Rattle.overlay_server.proofs.Stores.{CountsAs}
 use Rattle.overlay_server.proofs.hosting.serve_in.Goals as goal
+
+pub run-requires-clause-hosted : goal.run-requires-clause-hosted
+run-requires-clause-hosted g c κs within =
+    let count : c.len.result ≡ length c.args.ports.items = search rules in
+    subst (λ n. IsHosted g.J.BookName.book n c.in_ok-hosted.hosted) count c.in_ok-hosted.ensures.hosted
 
 pub run-requires-clause-meant : goal.run-requires-clause-meant
 run-requires-clause-meant g c κs within =

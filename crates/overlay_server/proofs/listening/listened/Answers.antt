@@ -1,9 +1,8 @@
-use Rattle.std.proofs.Common.{◌≡◌, ◌∙◌, ℕ, List, Some, ap, arith, sym}
-use Rattle.std.proofs.lemmas.List.{length-map}
+use Rattle.std.proofs.Common.{ℕ, List, Some, ap, arith}
 use Rattle.std.specs.Vec.{vec_len, vec_capacity}
 use Rattle.script_form.specs.Lines.{script_max}
 use Rattle.session_threads.proofs.Lists.{one_less, one_longer, one_on, room_left}
-use Rattle.overlay_server.specs.Given.{Given, bytes_of, given_at, given_from}
+use Rattle.overlay_server.specs.Given.{bytes_of, given_at, given_from}
 use Rattle.overlay_server.proofs.Lists.{pushed}
 use Rattle.overlay_server.proofs.listening.listened.Goals as goal
 

@@ -22,7 +22,7 @@ use Rattle.overlay_server.proofs.Parts.{AreSeated, all_of_book, as_many, begin_t
 use Rattle.overlay_server.proofs.Stopping.{any_of, come_to, stopped_from}
 use Rattle.overlay_server.proofs.Stores.{holds_first, holds_on, kept_twice, stopped_at_once}
 use Rattle.overlay_server.proofs.ServedParts.{served_from}
-use Rattle.overlay_server.proofs.hosting.Hosted.run.Goals as goal
+use Rattle.overlay_server.proofs.hosted.Hosted.run.Goals as goal
 
 pub seated-requires : goal.seated-requires
 seated-requires g c =
