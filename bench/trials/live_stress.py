@@ -33,6 +33,7 @@ sys.path.insert(0, str(pathlib.Path(__file__).resolve().parents[2]))
 
 from bench.reference import judging, model, read_store  # noqa: E402
 from bench.trials import stress  # noqa: E402
+from tools.replies import reply_length  # noqa: E402
 
 SESSIONS = 4
 PATIENCE = 60
@@ -300,7 +301,7 @@ class Channel:
         lines = whole.decode().split("\n") if whole else []
         at = 0
         while at < len(lines):
-            end = at + model.reply_length(lines[at])
+            end = at + reply_length(lines[at])
             if end > len(lines):
                 break
             found.append(lines[at:end])
