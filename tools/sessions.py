@@ -12,6 +12,7 @@ from typing import Any
 
 import limits
 import wkt
+from replies import reply_length
 
 COLUMNS = limits.COLUMNS
 EXPONENT_MAX = 100  # a number with a greater one is no coordinate
@@ -93,15 +94,10 @@ def reply_lines(replies: list[str], at: int) -> list[str]:
     """The lines of the reply that begins at a line."""
     if at >= len(replies):
         raise Unusable("the script has more lines with a reply than there are replies")
-    words = replies[at].split(" ")
-    more = 0
-    if words[0] in ("edges", "layers") and len(words) == 2:
-        more = int(words[1])
-    elif words[0] == "grid" and len(words) == 3:
-        more = int(words[2])
-    if at + 1 + more > len(replies):
+    end = at + reply_length(replies[at])
+    if end > len(replies):
         raise Unusable(f"the reply in line {at + 1} is cut off")
-    return replies[at : at + 1 + more]
+    return replies[at:end]
 
 
 def piece_of(line: str) -> Piece:

@@ -55,6 +55,8 @@ from typing import Any, BinaryIO, NamedTuple, cast
 
 NAME = re.compile(r"[A-Za-z][A-Za-z0-9_]{0,31}\Z")
 LARGEST_BATCH = 64
+SEVERAL = frozenset({"layers", "edges", "grid"})
+"""The first words of replies of several lines: the last word of such a first line says how many come after it."""
 COLUMNS = 33
 MOST_SESSIONS = 4
 BYTES_AHEAD = 1 << 20
@@ -115,6 +117,12 @@ def fault_of_start(told: str) -> Refused | None:
     first, *more = told.splitlines() or [""]
     fault = refusal_of(first)
     return Refused(fault.number, ": ".join([fault.text, *more])) if fault else None
+
+
+def lines_after(first: str) -> int:
+    """How many lines of a reply come after its first."""
+    words = first.split(" ")
+    return int(words[-1]) if words[0] in SEVERAL else 0
 
 
 def layer_of(line: str) -> Layer:
@@ -218,10 +226,8 @@ class Wire:
         """The next reply, whole. Where it does not come in time, what came of it begins the next one that is read."""
         line = self._block(1)
         first = line.decode()[:-1]
-        words = first.split(" ")
-        count = int(words[-1]) if words[0] in ("edges", "layers", "grid") else 0
         try:
-            return Reply(first, self._block(count))
+            return Reply(first, self._block(lines_after(first)))
         except TimeoutError:
             self._put_back([line])
             raise

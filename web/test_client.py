@@ -17,6 +17,7 @@ from typing import Any, BinaryIO, cast
 
 import limits  # of tools/
 import overlay_client
+import replies  # of tools/
 import testing
 from overlay_client import Boundary, Ended, Layer, Refused, Reply, Server, Session, edges_lines
 from testing import BAR, SHIFTED, SQUARE, TRIANGLE
@@ -145,6 +146,11 @@ class Commands(ClientCase):
             self.assertRaises(ValueError, action)
         self.assertEqual([layer.name for layer in one.layers()], ["A"])
         self.assertEqual(overlay_client.LARGEST_BATCH, limits.BATCH_MAX)
+
+    def test_replies_of_several_lines_are_those_of_the_tools(self) -> None:
+        self.assertEqual(overlay_client.SEVERAL, {*replies.SEVERAL})
+        for first in ("layers 3", "edges 0", "grid 4 2", "ok 7", "built 3", "in", "same", "error 10 unknown layer", "refused 1 error 10 unknown layer"):
+            self.assertEqual(1 + overlay_client.lines_after(first), replies.reply_length(first), first)
 
     def test_lines_up_to_the_limit_are_carried(self) -> None:
         one = self.session

@@ -28,6 +28,7 @@ from limits import (
     BATCH_MAX, COLUMN_WIDTH, COLUMNS, COORDINATE_MAX, GRID_MAX, LAYERS_MAX, LINE_MAX, NAME_MAX, PIECES_MAX, STEP_MAX,
     STEPS_MAX, TOKENS_MAX, WEIGHT_MAX,
 )
+from replies import reply_length
 
 TEXTS = {
     1: "wkt syntax at #", 2: "not whole at #", 3: "coordinate out of range at #", 4: "ring # open", 5: "ring # short",
@@ -820,12 +821,6 @@ def replies_of(script: bytes) -> list[list[str]]:
         except (Refused, RefusedAt) as refusal:
             replies.append([refusal.line()])
     return replies
-
-
-def reply_length(first: str) -> int:
-    """How many lines a reply has, by its first: after `layers N`, `edges N` and `grid nx ny` more lines belong to it."""
-    words = first.split(" ")
-    return 1 + int(words[-1]) if words[0] in ("layers", "edges", "grid") else 1
 
 
 def split_replies(lines: list[str]) -> list[list[str]]:

@@ -30,6 +30,7 @@ from bench.counting import Kept, Words, counted
 from bench.reference import judging, model, read_store
 from bench.trials import stress
 from limits import COLUMNS
+from replies import reply_length
 
 SESSIONS = 4
 PATIENCE = 60
@@ -299,7 +300,7 @@ class Channel:
         lines = whole.decode().split("\n") if whole else []
         at = 0
         while at < len(lines):
-            end = at + model.reply_length(lines[at])
+            end = at + reply_length(lines[at])
             if end > len(lines):
                 break
             found.append(lines[at:end])

@@ -1,119 +1,30 @@
 -- The command that a line asks for, or the batch that lines ask for, if their words are one: each turn asks for one thing.
-use Rattle.std.proofs.Common.{◌≡◌, ℕ, ◌⊎◌, inl, inr, false, IsTrue, List, [], ◌∷◌, ◌++◌, Option, Some, None, refl, sym, ap, ◌∙◌, subst}
+use Rattle.std.proofs.Common.{◌≡◌, ℕ, inl, inr, false, IsTrue, List, [], ◌∷◌, ◌++◌, Option, Some, None, refl, sym, ap, ◌∙◌, subst}
 use Rattle.std.proofs.lemmas.Bool.{true≢false}
-use Rattle.overlay_terms.specs.Plane.{WholePoint}
-use Rattle.overlay_terms.specs.Trees.{Tree}
 use Rattle.std.specs.Option.{option_map}
 use Rattle.overlay_terms.specs.Batches.{Batch}
 use Rattle.overlay_terms.specs.Commands.{Command}
 use Rattle.overlay_terms.specs.Commands as terms
 use Rattle.layer_expr.specs.Name.{is_name}
-use Rattle.layer_expr.specs.Grammar as expr
-use Rattle.layer_expr.specs.declared.fault.ExprFault.{ExprFault}
 use Rattle.layer_expr.proofs.LawLemmas as expr_laws
-use Rattle.wkt_form.specs.Grammar as wkt
-use Rattle.wkt_form.specs.declared.fault.WktFault.{WktFault}
 use Rattle.wkt_form.proofs.OneMeaning as wkt_laws
 use Rattle.script_form.specs.declared.fault.CommandFault.{CommandFault}
 use Rattle.script_form.specs.BatchLines.{IsCommandOf, IsNoCommand, AreCommandsOf, IsFirstUnread}
 use Rattle.script_form.specs.Turns.{Turn, alone, together, cut_off}
-use Rattle.script_form.specs.Requests.{Request, nothing, too_long, malformed, put_text, define_text, remove_name, locate, grid, list_layers, edges, wait, verify, sync, batch}
-
--- a command of a name that is one, and of a text that is read
-pub record IsPutOf (name text : List ℕ) (command : Command) : Type 0 where
-  pub named : IsTrue (is_name name)
-  pub rings : List (List WholePoint)
-  pub read : wkt.ReadsAs text rings
-  pub is : command ≡ terms.put name rings
-
-pub record IsDefineOf (name text : List ℕ) (command : Command) : Type 0 where
-  pub named : IsTrue (is_name name)
-  pub tree : Tree (List ℕ)
-  pub read : expr.ReadsAs text tree
-  pub is : command ≡ terms.define name tree
-
--- what a request asks for: a command, or none where it is no command, its name is none or its text is refused
-abbrev pub AsksFor : Request → Option Command → Type 0
-AsksFor (put_text name text) (Some command) = IsPutOf name text command
-AsksFor (put_text name text) None = (is_name name ≡ false) ⊎ ((fault : WktFault) × wkt.IsRefusedBy text fault)
-AsksFor (define_text name text) (Some command) = IsDefineOf name text command
-AsksFor (define_text name text) None = (is_name name ≡ false) ⊎ ((fault : ExprFault) × expr.IsRefusedBy text fault)
-AsksFor (remove_name name) (Some command) = IsTrue (is_name name) × (command ≡ terms.remove name)
-AsksFor (remove_name name) None = is_name name ≡ false
-AsksFor nothing o = o ≡ None
-AsksFor too_long o = o ≡ None
-AsksFor malformed o = o ≡ None
-AsksFor (locate name x y w) o = o ≡ None
-AsksFor (grid name x y step nx ny) o = o ≡ None
-AsksFor list_layers o = o ≡ None
-AsksFor (edges name k) o = o ≡ None
-AsksFor (wait name) o = o ≡ None
-AsksFor (verify name k) o = o ≡ None
-AsksFor sync o = o ≡ None
-AsksFor (batch size) o = o ≡ None
+use Rattle.script_form.specs.Requests.{Request, put_text, define_text, remove_name}
 
 -- a name that is one and is none
 clash : (name : List ℕ) → IsTrue (is_name name) → is_name name ≡ false → ⊥
 clash name is none = true≢false (sym is ∙ none)
 
-puts_one : (name text : List ℕ) (c d : Command) → IsPutOf name text c → IsPutOf name text d → c ≡ d
-puts_one name text c d a b = a.is ∙ ap (terms.put name) (wkt_laws.spells_one_layer text a.rings b.rings a.read b.read) ∙ sym b.is
+-- ==== Lines
 
-defines_one : (name text : List ℕ) (c d : Command) → IsDefineOf name text c → IsDefineOf name text d → c ≡ d
-defines_one name text c d a b = a.is ∙ ap (terms.define name) (expr_laws.one_tree text a.tree b.tree a.read b.read) ∙ sym b.is
-
-put_or_not : (name text : List ℕ) (c : Command) → IsPutOf name text c → (is_name name ≡ false) ⊎ ((fault : WktFault) × wkt.IsRefusedBy text fault) → ⊥
-put_or_not name text c a (inl none) = clash name a.named none
-put_or_not name text c a (inr (fault, wrong)) = wkt_laws.never_both text a.rings fault a.read wrong
-
-define_or_not : (name text : List ℕ) (c : Command) → IsDefineOf name text c → (is_name name ≡ false) ⊎ ((fault : ExprFault) × expr.IsRefusedBy text fault) → ⊥
-define_or_not name text c a (inl none) = clash name a.named none
-define_or_not name text c a (inr (fault, wrong)) = expr_laws.never_both text a.tree fault a.read wrong
-
--- a request asks for one command, or for none
-pub asks_for_one : (request : Request) (o p : Option Command) → AsksFor request o → AsksFor request p → o ≡ p
-asks_for_one (put_text name text) (Some c) (Some d) a b = ap Some (puts_one name text c d a b)
-asks_for_one (put_text name text) (Some c) None a b = absurd (put_or_not name text c a b)
-asks_for_one (put_text name text) None (Some d) a b = absurd (put_or_not name text d b a)
-asks_for_one (put_text name text) None None a b = refl
-asks_for_one (define_text name text) (Some c) (Some d) a b = ap Some (defines_one name text c d a b)
-asks_for_one (define_text name text) (Some c) None a b = absurd (define_or_not name text c a b)
-asks_for_one (define_text name text) None (Some d) a b = absurd (define_or_not name text d b a)
-asks_for_one (define_text name text) None None a b = refl
-asks_for_one (remove_name name) (Some c) (Some d) a b = ap Some (a.1 ∙ sym b.1)
-asks_for_one (remove_name name) (Some c) None a b = absurd (clash name a.0 b)
-asks_for_one (remove_name name) None (Some d) a b = absurd (clash name b.0 a)
-asks_for_one (remove_name name) None None a b = refl
-asks_for_one nothing o p a b = a ∙ sym b
-asks_for_one too_long o p a b = a ∙ sym b
-asks_for_one malformed o p a b = a ∙ sym b
-asks_for_one (locate name x y w) o p a b = a ∙ sym b
-asks_for_one (grid name x y step nx ny) o p a b = a ∙ sym b
-asks_for_one list_layers o p a b = a ∙ sym b
-asks_for_one (edges name k) o p a b = a ∙ sym b
-asks_for_one (wait name) o p a b = a ∙ sym b
-asks_for_one (verify name k) o p a b = a ∙ sym b
-asks_for_one sync o p a b = a ∙ sym b
-asks_for_one (batch size) o p a b = a ∙ sym b
-
--- ==== The lines of a batch
-
--- a line of a batch is one command
+-- a line is one command
 is_one : (request : Request) (c d : Command) → IsCommandOf request c → IsCommandOf request d → c ≡ d
 is_one (put_text name text) c d a b = a.command_is ∙ ap (terms.put name) (wkt_laws.spells_one_layer text a.rings b.rings a.read b.read) ∙ sym b.command_is
 is_one (define_text name text) c d a b = a.command_is ∙ ap (terms.define name) (expr_laws.one_tree text a.tree b.tree a.read b.read) ∙ sym b.command_is
 is_one (remove_name name) c d a b = a.command_is ∙ sym b.command_is
-is_one nothing c d a b = absurd a
-is_one too_long c d a b = absurd a
-is_one malformed c d a b = absurd a
-is_one (locate name x y w) c d a b = absurd a
-is_one (grid name x y step nx ny) c d a b = absurd a
-is_one list_layers c d a b = absurd a
-is_one (edges name k) c d a b = absurd a
-is_one (wait name) c d a b = absurd a
-is_one (verify name k) c d a b = absurd a
-is_one sync c d a b = absurd a
-is_one (batch size) c d a b = absurd a
+is_one other c d a b = absurd a
 
 are_one : (requests : List Request) (cs ds : Batch) → AreCommandsOf requests cs → AreCommandsOf requests ds → cs ≡ ds
 are_one [] [] [] a b = refl
@@ -131,17 +42,19 @@ one_or_not (put_text name text) c fault a (inr (named, wrong, by, is)) = wkt_law
 one_or_not (define_text name text) c fault a (inl none) = clash name a.named none.0
 one_or_not (define_text name text) c fault a (inr (named, wrong, by, is)) = expr_laws.never_both text a.tree wrong a.read by
 one_or_not (remove_name name) c fault a none = clash name a.named none.0
-one_or_not nothing c fault a none = absurd a
-one_or_not too_long c fault a none = absurd a
-one_or_not malformed c fault a none = absurd a
-one_or_not (locate name x y w) c fault a none = absurd a
-one_or_not (grid name x y step nx ny) c fault a none = absurd a
-one_or_not list_layers c fault a none = absurd a
-one_or_not (edges name k) c fault a none = absurd a
-one_or_not (wait name) c fault a none = absurd a
-one_or_not (verify name k) c fault a none = absurd a
-one_or_not sync c fault a none = absurd a
-one_or_not (batch size) c fault a none = absurd a
+one_or_not other c fault a none = absurd a
+
+-- what a request asks for: a command, or none, for a fault
+abbrev pub AsksFor : Request → Option Command → Type 0
+AsksFor request (Some command) = IsCommandOf request command
+AsksFor request None = (fault : CommandFault) × IsNoCommand request fault
+
+-- a request asks for one command, or for none
+asks_for_one : (request : Request) (o p : Option Command) → AsksFor request o → AsksFor request p → o ≡ p
+asks_for_one request (Some c) (Some d) a b = ap Some (is_one request c d a b)
+asks_for_one request (Some c) None a (fault, none) = absurd (one_or_not request c fault a none)
+asks_for_one request None (Some d) (fault, none) b = absurd (one_or_not request d fault b none)
+asks_for_one request None None a b = refl
 
 some_or_not : (before behind : List Request) (request : Request) (cs : Batch) (fault : CommandFault) → AreCommandsOf (before ++ request ∷ behind) cs → IsNoCommand request fault → ⊥
 some_or_not [] behind request [] fault a none = absurd a

@@ -8,12 +8,13 @@ use Rattle.overlay_terms.specs.Commands as terms
 use Rattle.overlay_terms.specs.Histories.{History, Version, newest}
 use Rattle.overlay_terms.proofs.BatchLemmas.{one_is_refused_alike}
 use Rattle.overlay_terms.proofs.NameLemmas.{name_itself}
+use Rattle.layer_expr.specs.declared.fault.ExprFault.TheVariants.{BadName}
 use Rattle.versions.specs.declared.fault.VersionFault.{VersionFault}
 use Rattle.versions.specs.Building.{wait_refusal}
 use Rattle.version_core.specs.Edges.{edges_refusal, finished_refusal}
 use Rattle.overlay_grid.specs.declared.fault.GridFault.{GridFault}
 use Rattle.script_form.specs.declared.fault.CommandFault.{CommandFault}
-use Rattle.script_form.specs.declared.fault.CommandFault.TheVariants.{OutOfMemory, Closing, Gone}
+use Rattle.script_form.specs.declared.fault.CommandFault.TheVariants.{Wkt, Expression, OutOfMemory, CommandSyntax, LineTooLong, Closing, Gone}
 use Rattle.script_form.specs.Replies.{error_line}
 use Rattle.script_form.specs.Requests.{Request, nothing, too_long, malformed, put_text, define_text, remove_name, locate, grid, list_layers, edges, wait, verify, sync, batch}
 use Rattle.script_form.specs.Transcript.{BookStore, IsRefused, IsAcceptedBy, IsSubmitted, IsSubmittedAll, IsRefusedBatch, IsAnswered, IsBatchAnswered, IsTurnAnswered, IsTurn, Asked, Drawn, IsEdgesTold, IsVerdictTold, IsBuiltTold, IsWaitClosed, asked_column}
@@ -130,20 +131,20 @@ drawn_none None text made reply told = told.nothing_made
 
 module _ (stored : BookStore) (session : ℕ) (before after : History) (made : List Batch) (reply : List ℕ) where
   put_comes : (name text : List ℕ) → IsAnswered stored session before (put_text name text) after made reply → Comes session before (alone (put_text name text)) after made reply
-  put_comes name text (inl (none, refused)) = inl (idle_line (put_text name text) after made reply (inl none) refused.nothing_made)
-  put_comes name text (inr (named, inl (fault, wrong, refused))) = inl (idle_line (put_text name text) after made reply (inr (fault, wrong)) refused.nothing_made)
+  put_comes name text (inl (none, refused)) = inl (idle_line (put_text name text) after made reply (Expression BadName, inl (none, refl)) refused.nothing_made)
+  put_comes name text (inr (named, inl (fault, wrong, refused))) = inl (idle_line (put_text name text) after made reply (Wkt fault, inr (named, fault, wrong, refl)) refused.nothing_made)
   put_comes name text (inr (named, inr (rings, read, by))) =
-      submitted session before (put_text name text) (terms.put name rings) after made reply (record { named = named; rings = rings; read = read; is = refl }) by
+      submitted session before (put_text name text) (terms.put name rings) after made reply (record { named = named; rings = rings; read = read; command_is = refl }) by
 
   define_comes : (name text : List ℕ) → IsAnswered stored session before (define_text name text) after made reply → Comes session before (alone (define_text name text)) after made reply
-  define_comes name text (inl (none, refused)) = inl (idle_line (define_text name text) after made reply (inl none) refused.nothing_made)
-  define_comes name text (inr (named, inl (fault, wrong, refused))) = inl (idle_line (define_text name text) after made reply (inr (fault, wrong)) refused.nothing_made)
+  define_comes name text (inl (none, refused)) = inl (idle_line (define_text name text) after made reply (Expression BadName, inl (none, refl)) refused.nothing_made)
+  define_comes name text (inr (named, inl (fault, wrong, refused))) = inl (idle_line (define_text name text) after made reply (Expression fault, inr (named, fault, wrong, refl)) refused.nothing_made)
   define_comes name text (inr (named, inr (tree, read, by))) =
-      submitted session before (define_text name text) (terms.define name tree) after made reply (record { named = named; tree = tree; read = read; is = refl }) by
+      submitted session before (define_text name text) (terms.define name tree) after made reply (record { named = named; tree = tree; read = read; command_is = refl }) by
 
   remove_comes : (name : List ℕ) → IsAnswered stored session before (remove_name name) after made reply → Comes session before (alone (remove_name name)) after made reply
-  remove_comes name (inl (none, refused)) = inl (idle_line (remove_name name) after made reply none refused.nothing_made)
-  remove_comes name (inr (named, by)) = submitted session before (remove_name name) (terms.remove name) after made reply (named, refl) by
+  remove_comes name (inl (none, refused)) = inl (idle_line (remove_name name) after made reply (Expression BadName, (none, refl)) refused.nothing_made)
+  remove_comes name (inr (named, by)) = submitted session before (remove_name name) (terms.remove name) after made reply (record { named = named; command_is = refl }) by
 
   locate_none : (name : List ℕ) (x y w : ℤ) → IsAnswered stored session before (locate name x y w) after made reply → made ≡ []
   locate_none name x y w (inl (none, refused)) = refused.nothing_made
@@ -194,20 +195,20 @@ module _ (stored : BookStore) (session : ℕ) (before after : History) (made : L
   sync_none (inr (inr (inr (some, told)))) = told.refused.nothing_made
 
   answered_comes : (request : Request) → IsAnswered stored session before request after made reply → Comes session before (alone request) after made reply
-  answered_comes nothing told = inl (idle_line nothing after made reply refl told.nothing_made)
-  answered_comes too_long refused = inl (idle_line too_long after made reply refl refused.nothing_made)
-  answered_comes malformed refused = inl (idle_line malformed after made reply refl refused.nothing_made)
+  answered_comes nothing told = inl (idle_line nothing after made reply (CommandSyntax, refl) told.nothing_made)
+  answered_comes too_long refused = inl (idle_line too_long after made reply (LineTooLong, refl) refused.nothing_made)
+  answered_comes malformed refused = inl (idle_line malformed after made reply (CommandSyntax, refl) refused.nothing_made)
   answered_comes (put_text name text) answered = put_comes name text answered
   answered_comes (define_text name text) answered = define_comes name text answered
   answered_comes (remove_name name) answered = remove_comes name answered
-  answered_comes (locate name x y w) answered = inl (idle_line (locate name x y w) after made reply refl (locate_none name x y w answered))
-  answered_comes (grid name x y step nx ny) answered = inl (idle_line (grid name x y step nx ny) after made reply refl (grid_none name x y step nx ny answered))
-  answered_comes list_layers answered = inl (idle_line list_layers after made reply refl (list_none answered))
-  answered_comes (edges name k) answered = inl (idle_line (edges name k) after made reply refl (edges_none name k answered))
-  answered_comes (wait name) answered = inl (idle_line (wait name) after made reply refl (wait_none name answered))
-  answered_comes (verify name k) answered = inl (idle_line (verify name k) after made reply refl (verify_none name k answered))
-  answered_comes sync answered = inl (idle_line sync after made reply refl (sync_none answered))
-  answered_comes (batch size) refused = inl (idle_line (batch size) after made reply refl refused.nothing_made)
+  answered_comes (locate name x y w) answered = inl (idle_line (locate name x y w) after made reply (CommandSyntax, refl) (locate_none name x y w answered))
+  answered_comes (grid name x y step nx ny) answered = inl (idle_line (grid name x y step nx ny) after made reply (CommandSyntax, refl) (grid_none name x y step nx ny answered))
+  answered_comes list_layers answered = inl (idle_line list_layers after made reply (CommandSyntax, refl) (list_none answered))
+  answered_comes (edges name k) answered = inl (idle_line (edges name k) after made reply (CommandSyntax, refl) (edges_none name k answered))
+  answered_comes (wait name) answered = inl (idle_line (wait name) after made reply (CommandSyntax, refl) (wait_none name answered))
+  answered_comes (verify name k) answered = inl (idle_line (verify name k) after made reply (CommandSyntax, refl) (verify_none name k answered))
+  answered_comes sync answered = inl (idle_line sync after made reply (CommandSyntax, refl) (sync_none answered))
+  answered_comes (batch size) refused = inl (idle_line (batch size) after made reply (CommandSyntax, refl) refused.nothing_made)
 
   taken_comes : (turn : Turn) → IsTurnAnswered stored session before turn after made reply → Comes session before turn after made reply
   taken_comes (alone request) (inl memory) = inl (outside (alone request) after made reply memory.1.nothing_made (memory_outside made reply memory.1))

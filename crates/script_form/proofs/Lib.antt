@@ -1,4 +1,3 @@
-pub mod WordLemmas
 pub mod NumberLemmas
 pub mod Pieces
 pub mod LongLines
@@ -7,8 +6,8 @@ pub mod ReadLemmas
 pub mod TranscriptLemmas
 pub mod TurnLemmas
 pub mod GatheringLemmas
-pub mod ShapeLemmas
-pub mod ShapeFrom
+pub mod Fronts
+pub mod ArgumentLemmas
 pub mod LineLaws
 pub mod JoinLaws
 mod Rows

@@ -1,7 +1,8 @@
 -- What worked lines ask for, and the lines of worked scripts.
 use Rattle.std.proofs.Common.{◌≡◌, pos, negsuc, Some, None, [], ◌∷◌, refl, codes}
 use Rattle.script_form.specs.Lines.{ended_lines, whole_lines}
-use Rattle.script_form.specs.Requests.{nothing, malformed, put_text, define_text, remove_name, locate, grid, list_layers, edges, wait, verify, sync, batch, number_of, request_of}
+use Rattle.script_form.specs.Words.{number_of}
+use Rattle.script_form.specs.Requests.{nothing, malformed, put_text, define_text, remove_name, locate, grid, list_layers, edges, wait, verify, sync, batch, request_of}
 
 a_text_runs_to_the_end_of_its_line : request_of (codes "PUT A POLYGON  EMPTY ") ≡ put_text (codes "A") (codes "POLYGON  EMPTY ")
 a_text_runs_to_the_end_of_its_line = refl

@@ -1,4 +1,5 @@
 pub mod Lines
+pub mod Words
 pub mod Requests
 pub mod Fault
 pub mod Replies

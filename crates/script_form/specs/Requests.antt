@@ -1,9 +1,8 @@
--- What a line asks for.
-use Rattle.std.specs.Prelude.{ℕ, ℤ, pos, neg_ℤ, ◌+◌, ◌*◌, ◌-◌, ◌==◌, nat_le, Bool, false, not, ◌&&◌, ◌||◌, List, [], ◌∷◌, length, drop, fold, codes, bytes_eq, Option, Some, None, if◌then◌else◌, take_while}
-use Rattle.std.specs.List.{list_all, prefix_len}
-use Rattle.std.specs.Char.{is_ascii_digit}
-use Rattle.overlay_terms.specs.Blank.{is_blank}
+-- What a line asks for: a table of commands, each its word and its arguments, and one reading of lines by it.
+use Rattle.std.specs.Prelude.{ℕ, ℤ, List, [], ◌∷◌, codes, bytes_eq, Option, Some, None, if◌then◌else◌}
+use Rattle.std.specs.List.{list_all}
 use Rattle.script_form.specs.Lines.{is_gap, is_skipped, is_too_long}
+use Rattle.script_form.specs.Words.{word_at, left_side_at, number_at, number_or_one_at, right_side_at, text_at}
 use Rattle.script_form.specs.declared.request.Request as code
 use Rattle.script_form.specs.declared.request.Request.TheVariants.{Nothing, TooLong, Malformed, Put, Define, Remove, Locate, Grid, ListLayers, Edges, Wait, Verify, Sync, Batch}
 
@@ -25,171 +24,99 @@ pub data Request : Type 0 where
   sync : Request
   batch : ℤ → Request
 
--- the bytes from the first on that fails the test
-abbrev pub skip_while : (ℕ → Bool) → List ℕ → List ℕ
-skip_while test bytes = drop (prefix_len test bytes) bytes
+-- ==== The table
 
-abbrev pub is_word_byte : ℕ → Bool
-is_word_byte b = not (is_gap b)
+-- a kind of argument: a word; a number; a number that is 1 where it is left out; a name that may end at a `=`; the `=` and the
+-- text behind it; a text. A text runs to the end of the line
+pub data Kind : Type 0 where
+  a_word : Kind
+  a_number : Kind
+  a_number_or_one : Kind
+  a_left_side : Kind
+  a_right_side : Kind
+  a_text : Kind
 
--- whether the bytes begin with one that passes the test
-abbrev pub begins : (ℕ → Bool) → List ℕ → Bool
-begins test [] = false
-begins test (b ∷ bs) = test b
+-- what an argument is: a number, or bytes
+abbrev pub Value : Kind → Type 0
+Value a_word = List ℕ
+Value a_number = ℤ
+Value a_number_or_one = ℤ
+Value a_left_side = List ℕ
+Value a_right_side = List ℕ
+Value a_text = List ℕ
 
--- a byte before the first of some words
-abbrev pub onto_word : ℕ → List (List ℕ) → List (List ℕ)
-onto_word b [] = (b ∷ []) ∷ []
-onto_word b (word ∷ words) = (b ∷ word) ∷ words
+-- the arguments of a command, one after another, and what it asks for by them
+pub data Arguments : Type 0 where
+  ends : Request → Arguments
+  takes : (kind : Kind) → (Value kind → Arguments) → Arguments
 
--- the words of a line, parted by gaps
-abbrev pub words_of : List ℕ → List (List ℕ)
-words_of [] = []
-words_of (b ∷ bs) =
-    if is_gap b then words_of bs
-    else (if begins is_word_byte bs then onto_word b (words_of bs) else (b ∷ []) ∷ words_of bs)
+-- a command: its word, and its arguments
+pub record Form : Type 0 where
+  pub name : List ℕ
+  pub arguments : Arguments
 
--- what stands behind the first word, from the next word on
-abbrev pub behind_first_word : List ℕ → List ℕ
-behind_first_word line = skip_while is_gap (skip_while is_word_byte (skip_while is_gap line))
+abbrev pub form : List ℕ → Arguments → Form
+form name arguments = record { name = name; arguments = arguments }
 
-abbrev pub is_empty : List ℕ → Bool
-is_empty bytes = length bytes == 0
+-- all commands; words are in upper case as they are
+abbrev pub forms : List Form
+forms =
+    form (codes "PUT") (takes a_word (λ name. takes a_text (λ rings. ends (put_text name rings))))
+    ∷ form (codes "DEFINE") (takes a_left_side (λ name. takes a_right_side (λ formula. ends (define_text name formula))))
+    ∷ form (codes "DROP") (takes a_word (λ name. ends (remove_name name)))
+    ∷ form (codes "LOCATE") (takes a_word (λ name. takes a_number (λ x. takes a_number (λ y. takes a_number_or_one (λ w. ends (locate name x y w))))))
+    ∷ form (codes "GRID")
+    (takes a_word (λ name. takes a_number (λ x. takes a_number (λ y. takes a_number (λ step. takes a_number (λ nx. takes a_number (λ ny. ends (grid name x y step nx ny))))))))
+    ∷ form (codes "LAYERS") (ends list_layers)
+    ∷ form (codes "BATCH") (takes a_number (λ size. ends (batch size)))
+    ∷ form (codes "EDGES") (takes a_word (λ name. takes a_number (λ column. ends (edges name column))))
+    ∷ form (codes "WAIT") (takes a_word (λ name. ends (wait name)))
+    ∷ form (codes "VERIFY") (takes a_word (λ name. takes a_number (λ column. ends (verify name column))))
+    ∷ form (codes "SYNC") (ends sync)
+    ∷ []
 
--- what digits are worth
-abbrev pub digits_value : List ℕ → ℕ
-digits_value ds = fold (λ n d. 10 * n + (d - 48)) 0 ds
+-- ==== The reading
 
--- whether the bytes are 1 to 18 digits
-abbrev pub are_digits : List ℕ → Bool
-are_digits ds = not (is_empty ds) && nat_le (length ds) 18 && list_all is_ascii_digit ds
+-- an argument in front of bytes, if one stands there, and what stands behind it
+abbrev pub argument_at : (kind : Kind) → List ℕ → Option (Value kind × List ℕ)
+argument_at a_word bytes = word_at bytes
+argument_at a_number bytes = number_at bytes
+argument_at a_number_or_one bytes = number_or_one_at bytes
+argument_at a_left_side bytes = left_side_at bytes
+argument_at a_right_side bytes = right_side_at bytes
+argument_at a_text bytes = text_at bytes
 
--- a number: an optional sign and 1 to 18 digits
-abbrev pub digits_number : List ℕ → Option ℕ
-digits_number ds = if are_digits ds then Some (digits_value ds) else None
+-- what is asked for behind an argument, if it stands there
+abbrev pub and_then : {A : Type 0} → Option (A × List ℕ) → (A → List ℕ → Option Request) → Option Request
+and_then None next = None
+and_then (Some (value, behind)) next = next value behind
 
-abbrev pub signed_by : (ℕ → ℤ) → Option ℕ → Option ℤ
-signed_by sign None = None
-signed_by sign (Some n) = Some (sign n)
+-- what arguments ask for, if the bytes are just these
+abbrev pub asked_in : Arguments → List ℕ → Option Request
+asked_in (ends request) bytes = if list_all is_gap bytes then Some request else None
+asked_in (takes kind more) bytes = and_then (argument_at kind bytes) (λ value behind. asked_in (more value) behind)
 
-abbrev pub number_of : List ℕ → Option ℤ
-number_of [] = None
-number_of (b ∷ bs) =
-    if b == 45 then signed_by (λ n. neg_ℤ (pos n)) (digits_number bs)
-    else (if b == 43 then signed_by (λ n. pos n) (digits_number bs) else signed_by (λ n. pos n) (digits_number (b ∷ bs)))
+-- the arguments of the command with this word
+abbrev pub arguments_of : List Form → List ℕ → Option Arguments
+arguments_of [] name = None
+arguments_of (form ∷ forms) name = if bytes_eq name form.name then Some form.arguments else arguments_of forms name
 
--- PUT: the name runs to the first gap, and the text begins at the next byte that is none
-abbrev pub put_of : List ℕ → Request
-put_of rest =
-    let name = take_while is_word_byte rest in
-    let text = skip_while is_gap (skip_while is_word_byte rest) in
-    if is_empty name || is_empty text then malformed else put_text name text
+abbrev pub asked_by : Option Arguments → List ℕ → Option Request
+asked_by None bytes = None
+asked_by (Some arguments) bytes = asked_in arguments bytes
 
-abbrev pub is_name_side : ℕ → Bool
-is_name_side b = is_word_byte b && not (b == 61)
+-- what a line asks for by its first word and what stands behind it
+abbrev pub asked_of : List ℕ → Option Request
+asked_of line = and_then (word_at line) (λ name behind. asked_by (arguments_of forms name) behind)
 
--- DEFINE: the name runs to the first gap or `=`, and the expression begins behind the `=` and the white space behind it
-abbrev pub behind_sign : List ℕ → List ℕ → Request
-behind_sign name [] = malformed
-behind_sign name (b ∷ bs) = if b == 61 then define_text name (skip_while is_blank bs) else malformed
-
-abbrev pub define_of : List ℕ → Request
-define_of rest =
-    let name = take_while is_name_side rest in
-    let sign = skip_while is_gap (skip_while is_name_side rest) in
-    if is_empty name then malformed else behind_sign name sign
-
--- LOCATE: a name, x, y, and perhaps w
-abbrev pub located : List ℕ → Option ℤ → Option ℤ → Option ℤ → Request
-located name (Some x) (Some y) (Some w) = locate name x y w
-located name (Some x) (Some y) None = malformed
-located name (Some x) None w = malformed
-located name None y w = malformed
-
-abbrev pub locate_of : List (List ℕ) → Request
-locate_of (name ∷ x ∷ y ∷ []) = located name (number_of x) (number_of y) (Some (pos 1))
-locate_of (name ∷ x ∷ y ∷ w ∷ []) = located name (number_of x) (number_of y) (number_of w)
-locate_of other = malformed
-
--- GRID: a name, x and y of the first point, the step, and how many points stand in a row and in a column
-abbrev pub gridded : List ℕ → Option ℤ → Option ℤ → Option ℤ → Option ℤ → Option ℤ → Request
-gridded name (Some x) (Some y) (Some step) (Some nx) (Some ny) = grid name x y step nx ny
-gridded name (Some x) (Some y) (Some step) (Some nx) None = malformed
-gridded name (Some x) (Some y) (Some step) None ny = malformed
-gridded name (Some x) (Some y) None nx ny = malformed
-gridded name (Some x) None step nx ny = malformed
-gridded name None y step nx ny = malformed
-
-abbrev pub grid_of : List (List ℕ) → Request
-grid_of (name ∷ x ∷ y ∷ step ∷ nx ∷ ny ∷ []) = gridded name (number_of x) (number_of y) (number_of step) (number_of nx) (number_of ny)
-grid_of other = malformed
-
-abbrev pub remove_of : List (List ℕ) → Request
-remove_of (name ∷ []) = remove_name name
-remove_of other = malformed
-
-abbrev pub list_of : List (List ℕ) → Request
-list_of [] = list_layers
-list_of (word ∷ words) = malformed
-
-abbrev pub wait_of : List (List ℕ) → Request
-wait_of (name ∷ []) = wait name
-wait_of other = malformed
-
-abbrev pub sync_of : List (List ℕ) → Request
-sync_of [] = sync
-sync_of (word ∷ words) = malformed
-
--- BATCH: how many commands it has
-abbrev pub sized : Option ℤ → Request
-sized None = malformed
-sized (Some n) = batch n
-
-abbrev pub batch_of : List (List ℕ) → Request
-batch_of (size ∷ []) = sized (number_of size)
-batch_of other = malformed
-
--- EDGES and VERIFY: a name and the number of a column
-abbrev pub numbered : List ℕ → Option ℤ → Option (List ℕ × ℤ)
-numbered name None = None
-numbered name (Some k) = Some (name, k)
-
-abbrev pub name_and_number : List (List ℕ) → Option (List ℕ × ℤ)
-name_and_number (name ∷ k ∷ []) = numbered name (number_of k)
-name_and_number other = None
-
-abbrev pub edges_at : Option (List ℕ × ℤ) → Request
-edges_at None = malformed
-edges_at (Some (name, k)) = edges name k
-
-abbrev pub verify_at : Option (List ℕ × ℤ) → Request
-verify_at None = malformed
-verify_at (Some (name, k)) = verify name k
-
--- the commands about tiles and about the store, by the first word
-abbrev pub about_tiles : List ℕ → List (List ℕ) → Request
-about_tiles word words =
-    if bytes_eq word (codes "EDGES") then edges_at (name_and_number words)
-    else (if bytes_eq word (codes "WAIT") then wait_of words
-    else (if bytes_eq word (codes "VERIFY") then verify_at (name_and_number words)
-    else (if bytes_eq word (codes "SYNC") then sync_of words else malformed)))
-
--- by its first word, in upper case as it is
-abbrev pub by_words : List (List ℕ) → List ℕ → Request
-by_words [] rest = malformed
-by_words (word ∷ words) rest =
-    if bytes_eq word (codes "PUT") then put_of rest
-    else (if bytes_eq word (codes "DEFINE") then define_of rest
-    else (if bytes_eq word (codes "DROP") then remove_of words
-    else (if bytes_eq word (codes "LOCATE") then locate_of words
-    else (if bytes_eq word (codes "GRID") then grid_of words
-    else (if bytes_eq word (codes "LAYERS") then list_of words
-    else (if bytes_eq word (codes "BATCH") then batch_of words else about_tiles word words))))))
+abbrev pub or_malformed : Option Request → Request
+or_malformed None = malformed
+or_malformed (Some request) = request
 
 abbrev pub request_of : List ℕ → Request
 request_of line =
     if is_too_long line then too_long
-    else (if is_skipped line then nothing else by_words (words_of line) (behind_first_word line))
+    else (if is_skipped line then nothing else or_malformed (asked_of line))
 
 -- what a request of the code asks for
 abbrev pub request : code.Request → Request
@@ -207,8 +134,3 @@ request (Wait name) = wait name.now
 request (Verify name number) = verify name.now number
 request Sync = sync
 request (Batch size) = batch size
-
--- what a line asks for by the request that the code found in it, if it found one
-abbrev pub request_found : Option code.Request → Request
-request_found None = malformed
-request_found (Some found) = request found

@@ -1,6 +1,7 @@
 //! Scripts: their lines, what each asks for, and the replies as bytes.
 #![tactic(auto)]
 
+mod arguments;
 pub mod fault;
 mod fault_text;
 pub mod gathering;

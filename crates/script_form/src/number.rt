@@ -2,7 +2,7 @@
 ghost use Rattle.std.specs.Prelude.{◌≡◌, ◌<◌, ◌≤◌, ◌^◌, IfSome, IsTrue, length};
 ghost use Rattle.std.specs.List.{list_all};
 ghost use Rattle.std.specs.Char.{is_ascii_digit};
-ghost use Rattle.script_form.specs.Requests.{number_of, digits_number, digits_value};
+ghost use Rattle.script_form.specs.Words.{number_of, digits_number, digits_value};
 
 /// The most digits of a number.
 const MAX_DIGITS: usize = 18;

@@ -1,9 +1,9 @@
 //! Words, parted by spaces and tabs.
-ghost use Rattle.std.specs.Prelude.{◌≡◌, ◌≤◌, ◌∷◌, [], length, IfNone, IfSome, take_while};
-ghost use Rattle.std.specs.List.{prefix_len};
+ghost use Rattle.std.specs.Prelude.{◌≡◌, ◌≤◌, length, take_while};
+ghost use Rattle.std.specs.List.{list_all, prefix_len};
 ghost use Rattle.overlay_terms.specs.Blank.{is_blank};
 ghost use Rattle.script_form.specs.Lines.{is_gap};
-ghost use Rattle.script_form.specs.Requests.{is_word_byte, is_name_side, skip_while, words_of};
+ghost use Rattle.script_form.specs.Words.{is_word_byte, is_name_side, skip_while};
 
 use overlay_terms::blank::is_blank;
 
@@ -89,16 +89,9 @@ pub fn split_name(bytes: &[u8]) -> (&[u8], &[u8])
     bytes.split_at(name_size(bytes))
 }
 
-/// The first word, and what stands behind it.
-pub fn first_word(bytes: &[u8]) -> Option<(&[u8], &[u8])>
-    ensures none { IfNone result (words_of bytes.now ≡ []) }
-    ensures some { IfSome result (λ found. words_of bytes.now ≡ found.0.now ∷ words_of found.1.now) }
-    ensures behind { IfSome result (λ found. found.1.now ≡ skip_while is_word_byte (skip_while is_gap bytes.now)) }
+/// Whether the bytes are gaps alone.
+pub fn all_gaps(bytes: &[u8]) -> bool
+    ensures { result ≡ list_all is_gap bytes.now }
 {
-    let (word, rest) = split_word(behind_gaps(bytes));
-    if word.is_empty() {
-        None
-    } else {
-        Some((word, rest))
-    }
+    bytes.iter().all(|b| is_gap(*b))
 }

@@ -1,23 +1,31 @@
 -- What is answered to a request that does not ask the store is so whatever is known of the store.
-use Rattle.std.proofs.Common.{ℕ, ℤ, List}
-use Rattle.book_history.specs.Known.{Known}
-use Rattle.script_form.specs.Requests.{edges, grid, list_layers, locate, verify}
-use Rattle.script_form.specs.Transcript.{BookStore}
+use Rattle.std.proofs.Common.{◌≡◌, ℕ, ◌⊎◌, inl, inr, Bool, true, false, List}
+use Rattle.std.proofs.lemmas.Bool.{true≢false}
+use Rattle.overlay_terms.specs.Batches.{Batch}
+use Rattle.overlay_terms.specs.Histories.{History}
+use Rattle.book_history.specs.Known.{Known, seen}
+use Rattle.script_form.specs.Requests.{Request, sync}
+use Rattle.script_form.specs.Transcript.{BookStore, IsOutOfMemory, IsAnswered}
 use Rattle.server_session.specs.Answering.{Answers}
 use Rattle.server_session.specs.Stores.{no_store}
 
-module _ (stored : BookStore) (was now : Known) where
-  pub locate_anywhere : {name : List ℕ} {x y w : ℤ} (reply : List ℕ) → Answers no_store was (locate name x y w) now reply → Answers stored was (locate name x y w) now reply
-  locate_anywhere reply is = record { stays = is.stays; answered = record { made = is.answered.made; answered = is.answered.answered; only = is.answered.only } }
+abbrev pub asks_store : Request → Bool
+asks_store sync = true
+asks_store other = false
 
-  pub grid_anywhere : {name : List ℕ} {x y step nx ny : ℤ} (reply : List ℕ) → Answers no_store was (grid name x y step nx ny) now reply → Answers stored was (grid name x y step nx ny) now reply
-  grid_anywhere reply is = record { stays = is.stays; answered = record { made = is.answered.made; answered = is.answered.answered; only = is.answered.only } }
+-- by whatever is known of the store
+same_answer : (stored other : BookStore) (session : ℕ) (before after : History) (request : Request) (made : List Batch) (reply : List ℕ) → asks_store request ≡ false
+    → IsAnswered stored session before request after made reply → IsAnswered other session before request after made reply
+same_answer stored other session before after sync made reply apart is = absurd (true≢false apart)
+same_answer stored other session before after request made reply apart is = is
 
-  pub edges_anywhere : {name : List ℕ} {k : ℤ} (reply : List ℕ) → Answers no_store was (edges name k) now reply → Answers stored was (edges name k) now reply
-  edges_anywhere reply is = record { stays = is.stays; answered = record { made = is.answered.made; answered = is.answered.answered; only = is.answered.only } }
-
-  pub verify_anywhere : {name : List ℕ} {k : ℤ} (reply : List ℕ) → Answers no_store was (verify name k) now reply → Answers stored was (verify name k) now reply
-  verify_anywhere reply is = record { stays = is.stays; answered = record { made = is.answered.made; answered = is.answered.answered; only = is.answered.only } }
-
-  pub list_anywhere : (reply : List ℕ) → Answers no_store was list_layers now reply → Answers stored was list_layers now reply
-  list_anywhere reply is = record { stays = is.stays; answered = record { made = is.answered.made; answered = is.answered.answered; only = is.answered.only } }
+pub anywhere : (stored : BookStore) (was now : Known) {request : Request} (reply : List ℕ) → Answers no_store was request now reply → asks_store request ≡ false
+    → Answers stored was request now reply
+anywhere stored was now {request} reply is apart = record {
+  stays = is.stays;
+  answered = record { made = is.answered.made; answered = either is.answered.made is.answered.answered; only = is.answered.only };
+} where
+  either : (made : List Batch) → IsOutOfMemory request made reply ⊎ IsAnswered no_store was.session (seen was) request (seen now) made reply
+      → IsOutOfMemory request made reply ⊎ IsAnswered stored was.session (seen was) request (seen now) made reply
+  either made (inl memory) = inl memory
+  either made (inr answered) = inr (same_answer no_store stored was.session (seen was) (seen now) request made reply apart answered)

@@ -1,5 +1,5 @@
 use Rattle.std.proofs.Common.{◌≡◌, ◌<◌, ◌^◌, take}
-use Rattle.script_form.specs.Requests.{digits_value}
+use Rattle.script_form.specs.Words.{digits_value}
 use Rattle.script_form.proofs.number.digits_value.Given as goal
 
 -- what the digits so far are worth

@@ -4,7 +4,7 @@ use Rattle.std.proofs.lemmas.Result.{err_from_is_err_and}
 use Rattle.version_book.specs.Store.{has_store}
 use Rattle.server_session.specs.Stores.{store_of}
 use Rattle.server_session.proofs.AnswerLemmas.{answers_define, answers_remove, answers_there, define_refused, refused_so, remove_refused}
-use Rattle.server_session.proofs.Anywhere.{edges_anywhere, grid_anywhere, list_anywhere, locate_anywhere, verify_anywhere}
+use Rattle.server_session.proofs.Anywhere.{anywhere}
 use Rattle.server_session.proofs.answering.answer_request.Goals as goal
 
 pub returns-in-Nothing : goal.returns-in-Nothing
@@ -35,16 +35,16 @@ returns-in_ok-change-in-Remove g c =
     rw c.in-Remove.is (answers_remove _ c.args.me.now c.submit-in-Remove.new.me c.in-Remove.name.now _ _ c.in_ok-change-in-Remove.ensures.ok c.submit-in-Remove.ensures)
 
 pub returns-in-Locate : goal.returns-in-Locate
-returns-in-Locate g c = rw c.in-Locate.is (search (rules, to_z-of_z, locate_anywhere (store_of g.J.BookName.stored (has_store c.args.shared.now)) c.args.me.now c.answer_locate.new.me _ c.answer_locate.ensures))
+returns-in-Locate g c = rw c.in-Locate.is (search (rules, to_z-of_z, anywhere (store_of g.J.BookName.stored (has_store c.args.shared.now)) c.args.me.now c.answer_locate.new.me _ c.answer_locate.ensures refl))
 
 pub returns-in-Grid : goal.returns-in-Grid
-returns-in-Grid g c = rw c.in-Grid.is (search (rules, to_z-of_z, grid_anywhere (store_of g.J.BookName.stored (has_store c.args.shared.now)) c.args.me.now c.answer_grid.new.me _ c.answer_grid.ensures))
+returns-in-Grid g c = rw c.in-Grid.is (search (rules, to_z-of_z, anywhere (store_of g.J.BookName.stored (has_store c.args.shared.now)) c.args.me.now c.answer_grid.new.me _ c.answer_grid.ensures refl))
 
 pub returns-in-ListLayers : goal.returns-in-ListLayers
-returns-in-ListLayers g c = rw c.in-ListLayers.is (list_anywhere _ c.args.me.now c.answer_list.new.me _ c.answer_list.ensures)
+returns-in-ListLayers g c = rw c.in-ListLayers.is (anywhere _ c.args.me.now c.answer_list.new.me _ c.answer_list.ensures refl)
 
 pub returns-in-Edges : goal.returns-in-Edges
-returns-in-Edges g c = rw c.in-Edges.is (search (rules, to_z-of_z, edges_anywhere (store_of g.J.BookName.stored (has_store c.args.shared.now)) c.args.me.now c.answer_edges.new.me _ c.answer_edges.ensures))
+returns-in-Edges g c = rw c.in-Edges.is (search (rules, to_z-of_z, anywhere (store_of g.J.BookName.stored (has_store c.args.shared.now)) c.args.me.now c.answer_edges.new.me _ c.answer_edges.ensures refl))
 
 pub returns-in-Verify : goal.returns-in-Verify
-returns-in-Verify g c = rw c.in-Verify.is (search (rules, to_z-of_z, verify_anywhere (store_of g.J.BookName.stored (has_store c.args.shared.now)) c.args.me.now c.answer_verify.new.me _ c.answer_verify.ensures))
+returns-in-Verify g c = rw c.in-Verify.is (search (rules, to_z-of_z, anywhere (store_of g.J.BookName.stored (has_store c.args.shared.now)) c.args.me.now c.answer_verify.new.me _ c.answer_verify.ensures refl))

@@ -1,0 +1,89 @@
+-- Words, numbers and texts of a line.
+use Rattle.std.specs.Prelude.{ℕ, ℤ, pos, neg_ℤ, ◌+◌, ◌*◌, ◌-◌, ◌==◌, nat_le, Bool, false, not, ◌&&◌, List, [], ◌∷◌, length, drop, fold, Option, Some, None, if◌then◌else◌, take_while}
+use Rattle.std.specs.List.{list_all, prefix_len}
+use Rattle.std.specs.Char.{is_ascii_digit}
+use Rattle.overlay_terms.specs.Blank.{is_blank}
+use Rattle.script_form.specs.Lines.{is_gap}
+
+-- the bytes from the first on that fails the test
+abbrev pub skip_while : (ℕ → Bool) → List ℕ → List ℕ
+skip_while test bytes = drop (prefix_len test bytes) bytes
+
+abbrev pub is_word_byte : ℕ → Bool
+is_word_byte b = not (is_gap b)
+
+-- a byte of a name before a `=`
+abbrev pub is_name_side : ℕ → Bool
+is_name_side b = is_word_byte b && not (b == 61)
+
+-- whether the bytes begin with one that passes the test
+abbrev pub begins : (ℕ → Bool) → List ℕ → Bool
+begins test [] = false
+begins test (b ∷ bs) = test b
+
+abbrev pub is_empty : List ℕ → Bool
+is_empty bytes = length bytes == 0
+
+-- what digits are worth
+abbrev pub digits_value : List ℕ → ℕ
+digits_value ds = fold (λ n d. 10 * n + (d - 48)) 0 ds
+
+-- whether the bytes are 1 to 18 digits
+abbrev pub are_digits : List ℕ → Bool
+are_digits ds = not (is_empty ds) && nat_le (length ds) 18 && list_all is_ascii_digit ds
+
+-- a number: an optional sign and 1 to 18 digits
+abbrev pub digits_number : List ℕ → Option ℕ
+digits_number ds = if are_digits ds then Some (digits_value ds) else None
+
+abbrev pub signed_by : (ℕ → ℤ) → Option ℕ → Option ℤ
+signed_by sign None = None
+signed_by sign (Some n) = Some (sign n)
+
+abbrev pub number_of : List ℕ → Option ℤ
+number_of [] = None
+number_of (b ∷ bs) =
+    if b == 45 then signed_by (λ n. neg_ℤ (pos n)) (digits_number bs)
+    else (if b == 43 then signed_by (λ n. pos n) (digits_number bs) else signed_by (λ n. pos n) (digits_number (b ∷ bs)))
+
+-- ==== In front of bytes
+
+-- bytes in front, if there are some, and what stands behind them
+abbrev pub some_front : List ℕ → List ℕ → Option (List ℕ × List ℕ)
+some_front front behind = if is_empty front then None else Some (front, behind)
+
+-- behind gaps, all bytes up to the first that fails a test
+abbrev pub front_at : (ℕ → Bool) → List ℕ → Option (List ℕ × List ℕ)
+front_at test bytes = some_front (take_while test (skip_while is_gap bytes)) (skip_while test (skip_while is_gap bytes))
+
+abbrev pub word_at : List ℕ → Option (List ℕ × List ℕ)
+word_at bytes = front_at is_word_byte bytes
+
+abbrev pub left_side_at : List ℕ → Option (List ℕ × List ℕ)
+left_side_at bytes = front_at is_name_side bytes
+
+abbrev pub with_behind : Option ℤ → List ℕ → Option (ℤ × List ℕ)
+with_behind None behind = None
+with_behind (Some n) behind = Some (n, behind)
+
+abbrev pub number_in : Option (List ℕ × List ℕ) → Option (ℤ × List ℕ)
+number_in None = None
+number_in (Some (digits, behind)) = with_behind (number_of digits) behind
+
+abbrev pub number_at : List ℕ → Option (ℤ × List ℕ)
+number_at bytes = number_in (word_at bytes)
+
+-- where nothing but gaps is left, the number is 1
+abbrev pub number_or_one_at : List ℕ → Option (ℤ × List ℕ)
+number_or_one_at bytes = if list_all is_gap bytes then Some (pos 1, []) else number_at bytes
+
+-- behind the `=` and the white space behind it
+abbrev pub behind_sign : List ℕ → Option (List ℕ × List ℕ)
+behind_sign [] = None
+behind_sign (b ∷ bs) = if b == 61 then Some (skip_while is_blank bs, []) else None
+
+abbrev pub right_side_at : List ℕ → Option (List ℕ × List ℕ)
+right_side_at bytes = behind_sign (skip_while is_gap bytes)
+
+abbrev pub text_at : List ℕ → Option (List ℕ × List ℕ)
+text_at bytes = some_front (skip_while is_gap bytes) []
