@@ -1,8 +1,8 @@
 #!/usr/bin/env python3
 """Measures memory and processor time of one tile with very many crossings: layers that zigzag over one column.
 
-python3 bench/measures/crowded.py PROGRAM.. [--layers N].. [--steps N] [--seconds N]
-python3 bench/measures/crowded.py --test
+python3 -m bench.measures.crowded PROGRAM.. [--layers N].. [--steps N] [--seconds N]
+python3 -m bench.measures.crowded --test
 
 PROGRAM is overlayd. Of so many layers half go to and fro from border to border and half up and down, so that each step
 of the one crosses each of the other. One derived layer of a column is waited for, by one worker: a small square and all
@@ -12,20 +12,16 @@ program has not ended after so many seconds of the clock it is stopped, and told
 
 from __future__ import annotations
 
-import argparse
 import os
 import signal
 import subprocess
-import sys
 import tempfile
 import threading
 from collections.abc import Sequence
 
-ROOT = os.path.dirname(os.path.dirname(os.path.dirname(os.path.abspath(__file__))))
-sys.path.insert(0, ROOT)
-
-from bench.tile_texts import Point, closed, text_of  # noqa: E402
-from tools.limits import COLUMN_WIDTH, LAYERS_MAX, STEPS_MAX  # noqa: E402
+from bench.counting import Words
+from bench.tile_texts import Point, closed, text_of
+from limits import COLUMN_WIDTH, LAYERS_MAX, STEPS_MAX
 
 MARGIN = 16
 
@@ -62,6 +58,7 @@ def measured(program: str, lines: Sequence[str], seconds: float) -> tuple[float,
 
 
 def test() -> None:
+    """The layers of a column and the lines that ask for them."""
     ring = zigzag(8, 0, False)
     assert ring[0] == ring[-1] and len(ring) == 9
     assert all(abs(a[0] - b[0]) == COLUMN_WIDTH - 2 * MARGIN for a, b in zip(ring[:7], ring[1:8]))
@@ -72,15 +69,13 @@ def test() -> None:
 
 
 def main() -> None:
-    parser = argparse.ArgumentParser(description=__doc__, formatter_class=argparse.RawDescriptionHelpFormatter)
-    parser.add_argument("programs", nargs="*", metavar="PROGRAM")
-    parser.add_argument("--layers", type=int, action="append", metavar="N")
-    parser.add_argument("--steps", type=int, default=STEPS_MAX, metavar="N")
-    parser.add_argument("--seconds", type=float, default=600, metavar="N")
-    parser.add_argument("--test", action="store_true")
-    words = parser.parse_args()
-    if words.test:
-        return test()
+    """Measures each program on each count of layers."""
+    parser = Words(__doc__, test)
+    parser.add_argument("programs", nargs="+", metavar="PROGRAM")
+    parser.add_argument("--layers", type=int, action="append", metavar="N", help="how many layers (2, 4, 8 and 30)")
+    parser.add_argument("--steps", type=int, default=STEPS_MAX, metavar="N", help="how many steps a layer has")
+    parser.add_argument("--seconds", type=float, default=600, metavar="N", help="when a program is stopped")
+    words = parser.words()
     for layers in words.layers or [2, 4, 8, LAYERS_MAX - 2]:
         for small in (True, False):
             for program in words.programs:
