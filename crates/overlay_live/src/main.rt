@@ -1,7 +1,6 @@
 //! The live polygon overlay server: each line of a session is answered before the next one is read.
 #![tactic(auto)]
 
-mod ending;
 mod ports;
 mod running;
 mod texts;

@@ -3,31 +3,16 @@ ghost use Rattle.std.specs.Prelude.{◌≡◌, ◌<◌, ◌≤◌, ◌^◌, leng
 
 use program_store::fault::ProgramFault;
 use program_store::refusal::Refusal;
+use program_store::source::Source;
 use program_store::store::is_store;
 use session_threads::port::Port;
 use std::fs::{File, OpenOptions, TryLockError};
-use std::io::{ErrorKind, Read, Stdin, Stdout, Write};
+use std::io::{ErrorKind, Stdin, Stdout, Write};
 use std::rt::Files;
 use std::{fs, io};
 
 /// The most bytes of a session, 2^62: none gets there.
 const BYTES_MAX: usize = 4_611_686_018_427_387_904;
-
-/// Where lines come from.
-#[derive(Drop)]
-pub enum Lines {
-    Input(Stdin),
-    File(File),
-}
-
-impl Read for Lines {
-    fn read(&mut self, buf: &mut [u8]) -> io::Result<usize> {
-        match self {
-            Lines::Input(input) => input.read(buf),
-            Lines::File(file) => file.read(buf),
-        }
-    }
-}
 
 /// Where replies go. Each write is one of the system's, so that nothing waits in a buffer. Where nobody reads any more it
 /// is an error: no program of the kit is ended by the signal.
@@ -62,7 +47,7 @@ pub fn open_ports<'p, Q: Files<File = File> + AllocGlobal>(
     input: Stdin,
     output: Stdout,
     pairs: &'p [(String, String)],
-) -> Result<Vec<Port<Lines, Replies>>, Refusal<'p>>
+) -> Result<Vec<Port<Source, Replies>>, Refusal<'p>>
     requires { length pairs.now ≤ 4 }
     ensures each { IfOk result (λ ports. length ports.items ≡ max 1 (length pairs.now)) }
     ensures some { IfOk result (λ ports. 0 < length ports.items) }
@@ -70,20 +55,20 @@ pub fn open_ports<'p, Q: Files<File = File> + AllocGlobal>(
 {
     let mut ports = Vec::new(rt.alloc());
     if pairs.is_empty() {
-        ports.push(port(Lines::Input(input), Replies::Output(output)))?;
+        ports.push(port(Source::Input(input), Replies::Output(output)))?;
         return Ok(ports);
     }
     'pairs: for pair in pairs {
         let (from, to) = pair;
         let reader = answered(open_to_read(rt, from), from)?;
         let writer = answered(open_to_write(rt, to), to)?;
-        ports.push(port(Lines::File(reader), Replies::File(writer)))?;
+        ports.push(port(Source::File(reader), Replies::File(writer)))?;
     }
     Ok(ports)
 }
 
 /// A pair that is open, for a session without end.
-fn port(reader: Lines, writer: Replies) -> Port<Lines, Replies>
+fn port(reader: Source, writer: Replies) -> Port<Source, Replies>
     ensures { result.most ≡ 2 ^ 62 }
 {
     Port {

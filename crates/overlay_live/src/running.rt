@@ -1,10 +1,9 @@
 //! What the words ask for, from the store and the pairs to the end of all sessions.
-use crate::ending::ends_of;
 use crate::ports::{Replies, open_ports};
 use crate::texts::{HELP, VERSION};
 use overlay_server::outcome::{Left, ServeOptions};
 use overlay_server::serving::serve_ports;
-use program_store::ending::{end_run, was_written};
+use program_store::ending::{Ends, end_run, was_written};
 use program_store::fault::ProgramFault;
 use program_store::refusal::Refusal;
 use program_store::store::open_store;
@@ -69,7 +68,7 @@ fn serve_plan<'a, Q: Files<File = File> + Threads + Wait + Sync + AllocGlobal>(
     };
     match serve_ports(rt, rt.alloc(), options, &OpenGate, engine, ports) {
         Ok(Left { sessions, closed }) => {
-            match end_run(keeping, &closed, true, ends_of(&sessions)) {
+            match end_run(keeping, &closed, true, Ends::of(&sessions)) {
                 Ok(complete) => Ok(complete),
                 Err(fault) => Err(about(fault, plan, &sessions)),
             }

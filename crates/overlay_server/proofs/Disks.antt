@@ -5,10 +5,9 @@ use Rattle.overlay_terms.specs.Histories.{Version}
 use Rattle.flush_core.specs.declared.flusher.Flusher.{Flusher}
 use Rattle.overlay_engine.specs.declared.engine.Engine.{Engine}
 use Rattle.store_flushing.specs.declared.closed.Closed.{Closed}
-use Rattle.session_threads.specs.declared.port.Port.{Port}
-use Rattle.overlay_server.specs.Serving.{IsLeftFrom, IsLeftOfStore, IsServedFrom, flusher_of}
+use Rattle.overlay_server.specs.Given.{Given}
+use Rattle.overlay_server.specs.Serving.{IsLeftFrom, IsLeftOfStore, flusher_of}
 use Rattle.overlay_server.specs.declared.outcome.Left.{Left}
-use Rattle.overlay_server.specs.declared.outcome.Served.{Served}
 
 module _ {D : Type 0} (g : Ghosts D) (start : Version) (engine : Option (Engine D g)) where
   back : (store : Option (Flusher D g)) (closed : Closed D) → IsLeftOfStore g start store closed → is_some closed.disk ≡ is_some store
@@ -19,15 +18,7 @@ module _ {D : Type 0} (g : Ghosts D) (start : Version) (engine : Option (Engine 
   stored_too None = refl
   stored_too (Some e) = refl
 
-  there : (store : Option (Flusher D g)) (closed : Closed D) → store ≡ flusher_of engine → IsLeftOfStore g start store closed → is_some closed.disk ≡ is_some engine
-  there store closed same left = back store closed left ∙ ap (λ (o : Option (Flusher D g)). is_some o) same ∙ stored_too engine
-
-  pub served_disk : {R F : Type 0} (remaining : R → Option (List ℕ)) (store : Option (Flusher D g)) (readers : List R) (r : Result (Served D) F) → store ≡ flusher_of engine
-      → IfOk r (IsServedFrom remaining g start store readers) → IfOk r (λ (served : Served D). is_some served.closed.disk ≡ is_some engine)
-  served_disk remaining store readers (Ok served) same were = there store served.closed same were.kept
-  served_disk remaining store readers (Err fault) same were = tt
-
-  pub left_disk : {R W F : Type 0} (remaining : R → Option (List ℕ)) (contents : W → Option (List ℕ)) (store : Option (Flusher D g)) (ports : List (Port R W)) (r : Result (Left W D) F)
-      → store ≡ flusher_of engine → IfOk r (IsLeftFrom remaining contents g start store ports) → IfOk r (λ (left : Left W D). is_some left.closed.disk ≡ is_some engine)
-  left_disk remaining contents store ports (Ok left) same were = there store left.closed same were.kept
-  left_disk remaining contents store ports (Err fault) same were = tt
+  pub left_disk : {W F : Type 0} (contents : W → Option (List ℕ)) (all : List Given) (r : Result (Left W D) F) → IfOk r (IsLeftFrom contents g start (flusher_of engine) all)
+      → IfOk r (λ (left : Left W D). is_some left.closed.disk ≡ is_some engine)
+  left_disk contents all (Ok left) were = back (flusher_of engine) left.closed were.kept ∙ stored_too engine
+  left_disk contents all (Err fault) were = tt

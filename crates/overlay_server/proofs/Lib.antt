@@ -3,7 +3,6 @@ pub mod Counts
 mod Disks
 pub mod Durable
 pub mod Held
-pub mod Listened
 pub mod Lists
 pub mod Parts
 mod Refusals

@@ -1,6 +1,7 @@
--- The sessions of a server, their ports, and what they left, side by side.
+-- The sessions of a server, what they were given, and what they left, side by side.
 use Rattle.std.proofs.Common.{◌≡◌, ◌∷◌, [], ℕ, zero, suc, ◌<◌, List, Option, length, map, refl, ap, sym, ◌∙◌, subst, arith}
 use Rattle.std.specs.List.{All, AllZip, AllByRecursion}
+use Rattle.std.proofs.lemmas.List.{length-map}
 use Rattle.std.proofs.lemmas.List.Elements.{All-append, All-cons, All-nil, All-head, All-tail}
 use Rattle.logbook.specs.Pages.{Book}
 use Rattle.overlay_terms.specs.Histories.{Version, Entry, History, BeginsWith}
@@ -16,31 +17,33 @@ use Rattle.session_threads.specs.declared.running.Script.{Script}
 use Rattle.session_threads.specs.declared.running.Ended.{Ended}
 use Rattle.session_threads.specs.declared.port.Finished.{Finished}
 use Rattle.session_threads.specs.declared.port.Port.{Port}
-use Rattle.overlay_server.specs.Serving.{ArePortsServed, IsPortServed, PortPart, first_log}
+use Rattle.overlay_server.specs.Given.{Given, given_at, given_to}
+use Rattle.overlay_server.specs.Serving.{AreServed, IsServed, Part, first_log}
 
 -- a session that a book begins with: it has seen the first version alone
 abbrev beginner : Book → Version → ℕ → Known
 beginner book start n = record { book = book; session = n; log = first_log start; made = [] }
 
-abbrev parts_of : {R W : Type 0} → List (Script R W) → List (Ended R W) → List (PortPart R W)
-parts_of [] ended = []
-parts_of (s ∷ ss) [] = []
-parts_of (s ∷ ss) (e ∷ es) = record { session = s.session; port = port_of s; finished = finished_of e } ∷ parts_of ss es
+abbrev parts_of : {R W : Type 0} (remaining : R → Option (List ℕ)) (contents : W → Option (List ℕ)) → List (Script R W) → List (Ended R W) → List (Part W)
+parts_of remaining contents [] ended = []
+parts_of remaining contents (s ∷ ss) [] = []
+parts_of remaining contents (s ∷ ss) (e ∷ es) =
+    record { session = s.session; given = given_at remaining contents (port_of s); finished = finished_of e } ∷ parts_of remaining contents ss es
 
-module _ {R W : Type 0} (P : Script R W → Ended R W → Type 0) where
-  sessions_are : (ss : List (Script R W)) (es : List (Ended R W)) → AllZip P ss es → map (λ (p : PortPart R W). p.session) (parts_of ss es) ≡ map session_of ss
+module _ {R W : Type 0} (remaining : R → Option (List ℕ)) (contents : W → Option (List ℕ)) (P : Script R W → Ended R W → Type 0) where
+  sessions_are : (ss : List (Script R W)) (es : List (Ended R W)) → AllZip P ss es → map (λ (p : Part W). p.session) (parts_of remaining contents ss es) ≡ map session_of ss
   sessions_are [] [] h = refl
   sessions_are [] (e ∷ es) h = absurd h
   sessions_are (s ∷ ss) [] h = absurd h
   sessions_are (s ∷ ss) (e ∷ es) h = ap (λ (ks : List Known). session_of s ∷ ks) (sessions_are ss es h.1)
 
-  ports_are : (ss : List (Script R W)) (es : List (Ended R W)) → AllZip P ss es → map (λ (p : PortPart R W). p.port) (parts_of ss es) ≡ map port_of ss
-  ports_are [] [] h = refl
-  ports_are [] (e ∷ es) h = absurd h
-  ports_are (s ∷ ss) [] h = absurd h
-  ports_are (s ∷ ss) (e ∷ es) h = ap (λ (rs : List (Port R W)). port_of s ∷ rs) (ports_are ss es h.1)
+  given_are : (ss : List (Script R W)) (es : List (Ended R W)) → AllZip P ss es → map (λ (p : Part W). p.given) (parts_of remaining contents ss es) ≡ given_to remaining contents (map port_of ss)
+  given_are [] [] h = refl
+  given_are [] (e ∷ es) h = absurd h
+  given_are (s ∷ ss) [] h = absurd h
+  given_are (s ∷ ss) (e ∷ es) h = ap (λ (gs : List Given). given_at remaining contents (port_of s) ∷ gs) (given_are ss es h.1)
 
-  finished_are : (ss : List (Script R W)) (es : List (Ended R W)) → AllZip P ss es → map (λ (p : PortPart R W). p.finished) (parts_of ss es) ≡ map finished_of es
+  finished_are : (ss : List (Script R W)) (es : List (Ended R W)) → AllZip P ss es → map (λ (p : Part W). p.finished) (parts_of remaining contents ss es) ≡ map finished_of es
   finished_are [] [] h = refl
   finished_are [] (e ∷ es) h = absurd h
   finished_are (s ∷ ss) [] h = absurd h
@@ -79,7 +82,7 @@ of_ended book stored remaining contents (s ∷ ss) (e ∷ es) h =
 
 -- each session that ran was served, where the log has all of it
 served : {R W : Type 0} (book : Book) (stored : BookStore) (remaining : R → Option (List ℕ)) (contents : W → Option (List ℕ)) (log : List Entry) (ss : List (Script R W)) (es : List (Ended R W))
-    → AllZip (IsRunOf book stored remaining contents) ss es → All (HasAllOf log) (map ended_session es) → AllByRecursion (IsPortServed stored remaining contents log) (parts_of ss es)
+    → AllZip (IsRunOf book stored remaining contents) ss es → All (HasAllOf log) (map ended_session es) → AllByRecursion (IsServed stored contents log) (parts_of remaining contents ss es)
 served book stored remaining contents log [] es ran own = tt
 served book stored remaining contents log (s ∷ ss) [] ran own = absurd ran
 served book stored remaining contents log (s ∷ ss) (e ∷ es) ran own = (
@@ -142,13 +145,16 @@ as_many book start ports scripts seated = sym (length-map_reader scripts) ∙ ap
 
 module _ {R W : Type 0} (book : Book) (stored : BookStore) (remaining : R → Option (List ℕ)) (contents : W → Option (List ℕ)) (start : Version) (ports : List (Port R W)) (scripts : List (Script R W)) (seated : AreSeated book start ports scripts)
     (ended : List (Ended R W)) (ran : AllZip (IsRunOf book stored remaining contents) scripts ended) (log : List Entry) (own : All (HasAllOf log) (map ended_session ended)) where
-  pub are_served : ArePortsServed stored remaining contents start log ports (map finished_of ended)
+  pub are_served : AreServed stored contents start log (given_to remaining contents ports) (map finished_of ended)
   are_served = record {
     book = book;
-    parts = parts_of scripts ended;
-    sessions = sessions_are (IsRunOf book stored remaining contents) scripts ended ran ∙ seated.sessions;
-    ports_are = ports_are (IsRunOf book stored remaining contents) scripts ended ran ∙ seated.ports_are;
-    finished_are = finished_are (IsRunOf book stored remaining contents) scripts ended ran;
+    parts = parts_of remaining contents scripts ended;
+    sessions =
+        sessions_are remaining contents (IsRunOf book stored remaining contents) scripts ended ran ∙ seated.sessions
+        ∙ ap (λ (n : ℕ). beginners (record { book = book; log = first_log start }) n) (sym (length-map ports (given_at remaining contents)));
+    given_are =
+        given_are remaining contents (IsRunOf book stored remaining contents) scripts ended ran ∙ ap (λ (ps : List (Port R W)). given_to remaining contents ps) seated.ports_are;
+    finished_are = finished_are remaining contents (IsRunOf book stored remaining contents) scripts ended ran;
     served = served book stored remaining contents log scripts ended ran own;
   }
 

@@ -13,7 +13,8 @@ use Rattle.overlay_server.specs.Answering.{answer_in, fault_of, refusal_code}
 use Rattle.book_history.specs.Logs.{history_of, IsLog}
 use Rattle.store_flushing.specs.Told.{told_in}
 use Rattle.store_flushing.specs.declared.keeper.told_log.Told.{Told}
-use Rattle.overlay_server.specs.Refusing.{AreStopped, Given, IsRefusedFrom, StoreComesBack}
+use Rattle.overlay_server.specs.Given.{Given}
+use Rattle.overlay_server.specs.Refusing.{AreStopped, IsRefusedFrom, StoreComesBack}
 use Rattle.overlay_server.specs.Serving.{first_log, store_from}
 use Rattle.overlay_server.specs.declared.opening.BookAnswer.{BookAnswer}
 use Rattle.overlay_server.specs.declared.outcome.ServerFault.{ServerFault}

@@ -2,10 +2,12 @@
 use Rattle.std.proofs.Common.{◌≡◌, ◌+◌, ◌<◌, ℕ, List, [], Option, All, length, map, sym, subst}
 use Rattle.std.specs.Arc.{arc_value}
 use Rattle.std.specs.List.{AllZip}
+use Rattle.std.proofs.lemmas.List.{length-map}
 use Rattle.logbook.specs.Pages.{Book}
 use Rattle.disk_model.specs.declared.disk.Disk.{Ghosts}
-use Rattle.overlay_terms.specs.Histories.{Version}
-use Rattle.book_history.specs.Logs.{newest_in, IsLog}
+use Rattle.overlay_terms.specs.Batches.{Batch}
+use Rattle.overlay_terms.specs.Histories.{Version, commands_in}
+use Rattle.book_history.specs.Logs.{history_of, newest_in, IsLog}
 use Rattle.book_lock.specs.Steps.{HasAllOf}
 use Rattle.store_flushing.specs.Told.{told_in}
 use Rattle.session_threads.specs.Counting.{made_in}
@@ -17,7 +19,8 @@ use Rattle.session_threads.specs.declared.running.Script.{Script}
 use Rattle.session_threads.specs.declared.running.Ended.{Ended}
 use Rattle.overlay_server.specs.Closing.{IsClosedOf}
 use Rattle.overlay_server.specs.Keeping.{IsStoreKept}
-use Rattle.overlay_server.specs.Serving.{ArePortsServed, IsLeftFrom, first_log, store_from}
+use Rattle.overlay_server.specs.Given.{given_at, given_to}
+use Rattle.overlay_server.specs.Serving.{AreServed, IsLeftFrom, first_log, store_from}
 use Rattle.overlay_server.specs.declared.outcome.Left.{Left}
 use Rattle.overlay_server.specs.declared.storing.Store.{Store}
 use Rattle.overlay_server.proofs.Parts.{AreSeated, are_served, begins_first}
@@ -47,7 +50,7 @@ pub record IsClosed {R W D : Type 0} (g : Ghosts D) (start : Version) (after : S
 
 pub served_from : {R W D : Type 0} (g : Ghosts D) (book : Book) (remaining : R → Option (List ℕ)) (contents : W → Option (List ℕ)) (start : Version) (ports : List (Port R W)) (store after : Store D g)
     (scripts : List (Script R W)) (ended : List (Ended R W)) (left : Left W D) → Began book start ports store scripts → Ran g book start remaining contents store after scripts ended
-    → IsClosed g start after ended left → IsLeftFrom remaining contents g start store.flusher ports left
+    → IsClosed g start after ended left → IsLeftFrom contents g start store.flusher (given_to remaining contents ports) left
 served_from {W = W} g book remaining contents start ports store after scripts ended left began ran closed =
     let stored = store_from g start store.flusher in
     let log = left.closed.seen_log.log in
@@ -57,9 +60,10 @@ served_from {W = W} g book remaining contents start ports store after scripts en
       log = closed.log;
       begins = begins;
       only =
-          no_other book stored remaining contents start ports scripts ended log began.seated ran.sessions closed.sessions closed.log begins closed.number;
+          subst (λ (n : ℕ). All (λ (c : ℕ × Batch). c.0 < n) (commands_in (history_of log).entries)) (sym (length-map ports (given_at remaining contents)))
+          (no_other book stored remaining contents start ports scripts ended log began.seated ran.sessions closed.sessions closed.log begins closed.number);
       sessions =
-          subst (λ (os : List (Finished W)). ArePortsServed stored remaining contents start log ports os) (sym closed.finished)
+          subst (λ (os : List (Finished W)). AreServed stored contents start log (given_to remaining contents ports) os) (sym closed.finished)
           (are_served book stored remaining contents start ports scripts began.seated ended ran.sessions log closed.sessions);
       kept = left_by g start store.reporter after.reporter (told_in store.told) (told_in after.told) store.flusher after.flusher left.closed
           began.log began.none_told ran.kept.flushed closed.store;

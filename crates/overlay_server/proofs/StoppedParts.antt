@@ -12,7 +12,8 @@ use Rattle.session_threads.specs.Seats.{session_of, port_of, ended_session}
 use Rattle.session_threads.specs.declared.port.Port.{Port}
 use Rattle.session_threads.specs.declared.running.Script.{Script}
 use Rattle.session_threads.specs.declared.running.Ended.{Ended}
-use Rattle.overlay_server.specs.Refusing.{AreStopped, Given, IsStopped, StoppedPart, given_at, given_to}
+use Rattle.overlay_server.specs.Given.{Given, given_at, given_to}
+use Rattle.overlay_server.specs.Refusing.{AreStopped, IsStopped, StoppedPart}
 use Rattle.overlay_server.specs.Serving.{first_log}
 use Rattle.overlay_server.proofs.Parts.{AreSeated, as_many}
 

@@ -29,7 +29,8 @@ use Rattle.session_threads.specs.declared.running.Script.{Script}
 use Rattle.session_threads.specs.declared.running.Ended.{Ended}
 use Rattle.session_threads.proofs.Lists.{beside_length}
 use Rattle.session_threads.proofs.NotBegun.{unbegun_same}
-use Rattle.overlay_server.specs.Refusing.{AreStopped, IsRefusedFrom, StoreComesBack, given_to}
+use Rattle.overlay_server.specs.Given.{given_to}
+use Rattle.overlay_server.specs.Refusing.{AreStopped, IsRefusedFrom, StoreComesBack}
 use Rattle.overlay_server.specs.Serving.{first_log, store_from}
 use Rattle.overlay_server.specs.declared.opening.BookAnswer.{BookAnswer}
 use Rattle.overlay_server.specs.declared.outcome.ServerFault.{ServerFault}

@@ -2,8 +2,9 @@ pub mod Alone
 pub mod Answering
 pub mod Closing
 pub mod Durability
+pub mod Given
+pub mod Hosting
 pub mod Keeping
-pub mod Listening
 pub mod Moments
 pub mod Refusing
 pub mod Runs

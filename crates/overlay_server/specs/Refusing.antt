@@ -9,7 +9,6 @@ use Rattle.flush_core.specs.declared.flusher.Flusher.{Flusher}
 use Rattle.book_history.specs.Known.{Known, seen}
 use Rattle.book_history.specs.Logs.{history_of, IsLog}
 use Rattle.book_lock.specs.Steps.{beginners, HasAllOf}
-use Rattle.script_form.specs.Lines.{script_max}
 use Rattle.script_form.specs.Transcript.{BookStore}
 use Rattle.script_form.specs.declared.session_end.SessionEnd.{SessionEnd}
 use Rattle.server_session.specs.Session.{IsSessionWithin}
@@ -17,32 +16,10 @@ use Rattle.store_flushing.specs.Among.{IsFileIn}
 use Rattle.store_flushing.specs.Storing.{IsStoreOf}
 use Rattle.store_flushing.specs.Told.{StaysTold, told_in}
 use Rattle.store_flushing.specs.declared.keeper.told_log.Told.{Told}
-use Rattle.session_threads.specs.declared.port.Port.{Port}
 use Rattle.overlay_server.specs.Answering.{answer_in, refusal_code}
+use Rattle.overlay_server.specs.Given.{Given}
 use Rattle.overlay_server.specs.Serving.{first_log, store_from}
 use Rattle.overlay_server.specs.declared.outcome.ServerFault.{ServerFault}
-
--- ---- what sessions are given
-
--- what a session is given: what its reader has, so many bytes of it at most, and what its writer has
-pub record Given : Type 0 where
-  pub most : ℕ
-  pub script : Option (List ℕ)
-  pub held : Option (List ℕ)
-
--- by a port
-abbrev pub given_at : {R W : Type 0} (remaining : R → Option (List ℕ)) (contents : W → Option (List ℕ)) → Port R W → Given
-given_at remaining contents port = record { most = port.most; script = remaining port.reader; held = contents port.writer }
-
-abbrev pub given_to : {R W : Type 0} (remaining : R → Option (List ℕ)) (contents : W → Option (List ℕ)) → List (Port R W) → List Given
-given_to remaining contents ports = map (given_at remaining contents) ports
-
--- by a reader alone, where the replies are kept as lists of bytes: the limit of scripts, and nothing written
-abbrev pub given_from : {R : Type 0} (remaining : R → Option (List ℕ)) → R → Given
-given_from remaining reader = record { most = script_max; script = remaining reader; held = Some [] }
-
-abbrev pub given_by : {R : Type 0} (remaining : R → Option (List ℕ)) → List R → List Given
-given_by remaining readers = map (given_from remaining) readers
 
 -- ---- sessions
 

@@ -15,17 +15,15 @@ use Rattle.book_history.specs.Known.{Known, seen}
 use Rattle.book_history.specs.Logs.{entry, no_event, history_of, newest_in, IsLog}
 use Rattle.book_lock.specs.Steps.{beginners, HasAllOf}
 use Rattle.script_form.specs.Transcript.{BookStore, store_by}
-use Rattle.server_session.specs.Session.{IsSessionWithin, IsSharedSession}
+use Rattle.server_session.specs.Session.{IsSessionWithin}
 use Rattle.store_flushing.specs.Among.{IsFileIn, IsFileExactlyIn}
 use Rattle.store_flushing.specs.Storing.{IsStoreOf, IsStored}
 use Rattle.store_flushing.specs.Told.{StaysTold, told_in}
 use Rattle.store_flushing.specs.declared.closed.Closed.{Closed}
 use Rattle.store_flushing.specs.declared.keeper.told_log.Told.{Told}
 use Rattle.session_threads.specs.declared.port.Finished.{Finished}
-use Rattle.session_threads.specs.declared.port.Port.{Port}
+use Rattle.overlay_server.specs.Given.{Given}
 use Rattle.overlay_server.specs.declared.outcome.Left.{Left}
-use Rattle.overlay_server.specs.declared.outcome.Outcome.{Outcome}
-use Rattle.overlay_server.specs.declared.outcome.Served.{Served}
 
 -- the version that a server begins with
 abbrev pub start_of : {D : Type 0} {g : Ghosts D} → Option (Engine D g) → Version
@@ -71,58 +69,31 @@ store_from g start store = store_by (IsHeldOf g start store) (is_some store)
 
 -- ---- sessions
 
--- a session's part in a server: what it had seen at first, its reader, and what it left
-pub record Part (R : Type 0) : Type 0 where
+-- a session's part in a server: what it had seen at first, what it was given, and what it left
+pub record Part (W : Type 0) : Type 0 where
   pub session : Known
-  pub reader : R
-  pub outcome : Outcome
-
--- a session was served: what it wrote are the replies to its reader's lines, by histories that it has seen then; the log
--- has all of that, and of the session's batches just those that it made; `stored` is what is known of the store
-pub record IsServed {R : Type 0} (stored : BookStore) (remaining : R → Option (List ℕ)) (log : List Entry) (part : Part R) : Type 0 where
-  pub now : Known
-  pub left : Option (List ℕ)
-  pub same : now.session ≡ part.session.session
-  pub goes_on : BeginsWith (seen now) (seen part.session)
-  pub ran : IsSharedSession stored part.outcome.end part.session now (remaining part.reader) left (Some []) (Some part.outcome.bytes.items)
-  pub own : HasAllOf log now
-
--- each reader has a session of the book that begins with a version, by their order, and was served
-pub record AreServed {R : Type 0} (stored : BookStore) (remaining : R → Option (List ℕ)) (start : Version) (log : List Entry) (readers : List R) (outcomes : List Outcome) : Type 0 where
-  pub book : Book
-  pub parts : List (Part R)
-  pub sessions : map (λ (part : Part R). part.session) parts ≡ beginners (record { book = book; log = first_log start }) (length readers)
-  pub readers_are : map (λ (part : Part R). part.reader) parts ≡ readers
-  pub outcomes_are : map (λ (part : Part R). part.outcome) parts ≡ outcomes
-  pub served : AllByRecursion (IsServed stored remaining log) parts
-
--- ---- sessions of ports
-
--- a session's part in a server: what it had seen at first, its port, and what it left
-pub record PortPart (R W : Type 0) : Type 0 where
-  pub session : Known
-  pub port : Port R W
+  pub given : Given
   pub finished : Finished W
 
--- a session was served: what it put behind what its writer had are the replies to its
--- reader's lines, by histories that it has seen then; the log has all of that, and of the session's batches just those that
--- it made
-pub record IsPortServed {R W : Type 0} (stored : BookStore) (remaining : R → Option (List ℕ)) (contents : W → Option (List ℕ)) (log : List Entry) (part : PortPart R W) : Type 0 where
+-- a session was served: what it put behind what its writer had are the replies to the lines that it was given, by histories
+-- that it has seen then; the log has all of that, and of the session's batches just those that it made; `stored` is what is
+-- known of the store
+pub record IsServed {W : Type 0} (stored : BookStore) (contents : W → Option (List ℕ)) (log : List Entry) (part : Part W) : Type 0 where
   pub now : Known
   pub left : Option (List ℕ)
   pub same : now.session ≡ part.session.session
   pub goes_on : BeginsWith (seen now) (seen part.session)
-  pub ran : IsSessionWithin part.port.most stored part.finished.end part.session now (remaining part.port.reader) left (contents part.port.writer) (contents part.finished.writer)
+  pub ran : IsSessionWithin part.given.most stored part.finished.end part.session now part.given.script left part.given.held (contents part.finished.writer)
   pub own : HasAllOf log now
 
--- each port has a session of the book that begins with a version, by their order, and was served
-pub record ArePortsServed {R W : Type 0} (stored : BookStore) (remaining : R → Option (List ℕ)) (contents : W → Option (List ℕ)) (start : Version) (log : List Entry) (ports : List (Port R W)) (finished : List (Finished W)) : Type 0 where
+-- each of what was given has a session of the book that begins with a version, by their order, and was served
+pub record AreServed {W : Type 0} (stored : BookStore) (contents : W → Option (List ℕ)) (start : Version) (log : List Entry) (all : List Given) (finished : List (Finished W)) : Type 0 where
   pub book : Book
-  pub parts : List (PortPart R W)
-  pub sessions : map (λ (part : PortPart R W). part.session) parts ≡ beginners (record { book = book; log = first_log start }) (length ports)
-  pub ports_are : map (λ (part : PortPart R W). part.port) parts ≡ ports
-  pub finished_are : map (λ (part : PortPart R W). part.finished) parts ≡ finished
-  pub served : AllByRecursion (IsPortServed stored remaining contents log) parts
+  pub parts : List (Part W)
+  pub sessions : map (λ (part : Part W). part.session) parts ≡ beginners (record { book = book; log = first_log start }) (length all)
+  pub given_are : map (λ (part : Part W). part.given) parts ≡ all
+  pub finished_are : map (λ (part : Part W). part.finished) parts ≡ finished
+  pub served : AllByRecursion (IsServed stored contents log) parts
 
 -- ---- the store
 
@@ -155,21 +126,12 @@ module _ {D : Type 0} (g : Ghosts D) where
 
 -- ---- the server
 
--- a server ran: from a version and its store to the end of its book, in which the sessions of its readers alone, numbered
--- from 0, had commands accepted
-pub record IsServedFrom {R D : Type 0} (remaining : R → Option (List ℕ)) (g : Ghosts D) (start : Version) (store : Option (Flusher D g)) (readers : List R) (served : Served D) : Type 0 where
-  pub version : arc_value served.closed.version ≡ newest_in served.closed.seen_log.log
-  pub log : IsLog served.closed.seen_log.log
-  pub begins : (history_of served.closed.seen_log.log).start ≡ start
-  pub only : All (λ c. c.0 < length readers) (commands_in (history_of served.closed.seen_log.log).entries)
-  pub sessions : AreServed (store_from g start store) remaining start served.closed.seen_log.log readers served.sessions.items
-  pub kept : IsLeftOfStore g start store served.closed
-
--- the same of a server of ports
-pub record IsLeftFrom {R W D : Type 0} (remaining : R → Option (List ℕ)) (contents : W → Option (List ℕ)) (g : Ghosts D) (start : Version) (store : Option (Flusher D g)) (ports : List (Port R W)) (left : Left W D) : Type 0 where
+-- a server ran: from a version and its store to the end of its book, in which its sessions alone, numbered from 0 and one for
+-- each of what was given, had commands accepted
+pub record IsLeftFrom {W D : Type 0} (contents : W → Option (List ℕ)) (g : Ghosts D) (start : Version) (store : Option (Flusher D g)) (all : List Given) (left : Left W D) : Type 0 where
   pub version : arc_value left.closed.version ≡ newest_in left.closed.seen_log.log
   pub log : IsLog left.closed.seen_log.log
   pub begins : (history_of left.closed.seen_log.log).start ≡ start
-  pub only : All (λ c. c.0 < length ports) (commands_in (history_of left.closed.seen_log.log).entries)
-  pub sessions : ArePortsServed (store_from g start store) remaining contents start left.closed.seen_log.log ports left.sessions.items
+  pub only : All (λ c. c.0 < length all) (commands_in (history_of left.closed.seen_log.log).entries)
+  pub sessions : AreServed (store_from g start store) contents start left.closed.seen_log.log all left.sessions.items
   pub kept : IsLeftOfStore g start store left.closed

@@ -1,7 +1,7 @@
 //! A server over one book: workers, a store and one session a reader, each in a thread of its own.
 #![tactic(auto)]
 
-mod ending;
+mod hosted;
 mod hosting;
 pub mod laws;
 mod listening;
@@ -13,7 +13,7 @@ mod storing;
 mod threads;
 
 pub use opening::BookAnswer;
-pub use outcome::{Left, Outcome, ServeOptions, Served, ServerFault};
+pub use outcome::{Left, ServeOptions, Served, ServerFault};
 pub use overlay_grid::{GridSpec, grid};
 pub use script_form::{CommandFault, SessionEnd};
 pub use server_session::session_run;

@@ -2,7 +2,6 @@
 ghost use Rattle.std.specs.Prelude.{◌≤◌};
 
 use crate::opening::BookAnswer;
-use script_form::SessionEnd;
 use session_threads::port::Finished;
 use store_flushing::closed::Closed;
 use store_flushing::keeper::told_log::ToldLog;
@@ -18,28 +17,16 @@ pub struct ServeOptions {
     pub ghost few: { workers ≤ 8 },
 }
 
-/// What a server of ports leaves: the writer of each session, in the order of the ports, and what is left of the book and
-/// its store.
+/// What a server leaves: the writer of each session and how it ended, in the order of the ports or readers, and what is left
+/// of the book and its store.
 #[derive(Debug, Drop)]
 pub struct Left<W, D> {
     pub sessions: Vec<Finished<W>>,
     pub closed: Closed<D>,
 }
 
-/// What a session wrote, and how it ended.
-#[derive(Debug, Drop)]
-pub struct Outcome {
-    pub bytes: Vec<u8>,
-    pub end: SessionEnd,
-}
-
-/// What a server leaves: what each session wrote, in the order of the readers, and what is left of the book and its
-/// store.
-#[derive(Debug, Drop)]
-pub struct Served<D> {
-    pub sessions: Vec<Outcome>,
-    pub closed: Closed<D>,
-}
+/// What a server of readers leaves: the writer of each session is a list with the bytes that it wrote.
+pub type Served<D> = Left<Vec<u8>, D>;
 
 /// Why a server could not run: 44 where the book gives no places, and 40 where memory or a thread was refused. Memory is
 /// refused before the first thread starts.

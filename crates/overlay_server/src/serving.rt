@@ -1,9 +1,11 @@
 //! A server: from readers and an engine to what the sessions wrote, and what is left of the book and its store.
 ghost use Rattle.std.specs.Prelude.{◌≡◌, ◌<◌, ◌≤◌, is_some, length, IfOk, IfErr};
-ghost use Rattle.overlay_server.specs.Refusing.{IsRefusedFrom, given_by, given_to};
-ghost use Rattle.overlay_server.specs.Serving.{IsLeftFrom, IsServedFrom, flusher_of, start_of};
+ghost use Rattle.book_history.specs.Rules.{head_of};
+ghost use Rattle.overlay_server.specs.Given.{bytes_of, given_by, given_to};
+ghost use Rattle.overlay_server.specs.Refusing.{IsRefusedFrom};
+ghost use Rattle.overlay_server.specs.Serving.{IsLeftFrom, first_log, flusher_of, start_of};
 
-use crate::hosting::{Opened, listen_in, serve_in};
+use crate::hosting::{listen_in, serve_in};
 use crate::outcome::{Left, ServeOptions, Served, ServerFault};
 use disk_model::disk::Disk;
 use overlay_engine::engine::Engine;
@@ -14,11 +16,11 @@ use std::marker::Brand;
 use std::sync::Wait;
 use std::thread::Threads;
 use tile_workers::gate::Gate;
-use version_book::seen_log::open;
+use version_book::seen_log::{LogWord, SeenLog, open};
 use versions::Version;
 
 /// Runs workers, the store and one session a reader, each in a thread of its own, until all scripts have ended. Session
-/// k runs the k-th reader's script, counted from 0, and the outcomes stand in the readers' order. The book begins with the
+/// k runs the k-th reader's script, counted from 0, and what they wrote stands in the readers' order. The book begins with the
 /// engine's version and is committed to its store; without an engine it begins empty, and is kept in memory alone.
 ///
 /// Before it returns, it commits once more what the workers finished, so that each finished tile is in the store, unless
@@ -40,16 +42,16 @@ where
     Q: Threads + Wait + Sync,
     requires readers { (0 < length readers.items) × (length readers.items ≤ 4) }
     // Each reader has its replies; what is left of book and store stands for the log that has all that was seen.
-    ensures served { IfOk result (IsServedFrom R.remaining D.Disk (start_of engine) (flusher_of engine) readers.items) }
+    ensures left { IfOk result (IsLeftFrom bytes_of D.Disk (start_of engine) (flusher_of engine) (given_by R.remaining readers.items)) }
     // A disk comes back just where there was an engine.
-    ensures disk { IfOk result (λ served. is_some served.closed.disk ≡ is_some engine) }
+    ensures disk { IfOk result (λ left. is_some left.closed.disk ≡ is_some engine) }
     // The number is that of what the book answered as it was to be opened, and 40 where it was opened. The disk comes back,
     // and a crash at any moment left a file that stands for a version of the history that comes with it. In that history
     // the readers' sessions alone had commands accepted, those of their scripts, and none where no session was begun.
     ensures refused { IfErr result (IsRefusedFrom D.Disk (start_of engine) (flusher_of engine) (given_by R.remaining readers.items)) }
 {
-    let opened = history_of_engine(alloc, engine);
-    listen_in::<Brand, D, R, G, Q>(rt, alloc, options.workers, gate, opened, readers)
+    let opened = history_of(alloc, &engine);
+    listen_in::<Brand, D, R, G, Q>(rt, alloc, options.workers, gate, opened, engine, readers)
 }
 
 /// The same where the replies of each session go to the writer beside its reader: each reply is written before more of the
@@ -69,25 +71,21 @@ where
     G: Gate + Sync,
     Q: Threads + Wait + Sync,
     requires ports { (0 < length ports.items) × (length ports.items ≤ 4) }
-    ensures left { IfOk result (IsLeftFrom R.remaining W.contents D.Disk (start_of engine) (flusher_of engine) ports.items) }
+    ensures left { IfOk result (IsLeftFrom W.contents D.Disk (start_of engine) (flusher_of engine) (given_to R.remaining W.contents ports.items)) }
     ensures disk { IfOk result (λ left. is_some left.closed.disk ≡ is_some engine) }
     ensures refused { IfErr result (IsRefusedFrom D.Disk (start_of engine) (flusher_of engine) (given_to R.remaining W.contents ports.items)) }
 {
-    let opened = history_of_engine(alloc, engine);
-    serve_in::<Brand, D, R, W, G, Q>(rt, alloc, options.workers, gate, opened, ports)
+    let opened = history_of(alloc, &engine);
+    serve_in::<Brand, D, R, W, G, Q>(rt, alloc, options.workers, gate, opened, engine, ports)
 }
 
-/// The book of an engine, or of no command where there is none, before it is opened.
-fn history_of_engine<D: Disk>(alloc: Global, engine: Option<Engine<D>>) -> Opened<D>
-    ensures { result.engine ≡ engine }
+/// The history of an engine's version, or of no command where there is none, before its book is opened.
+fn history_of<D: Disk>(alloc: Global, engine: &Option<Engine<D>>) -> (LogWord, SeenLog)
+    ensures head { result.0 ≡ head_of result.1.book }
+    ensures begun { result.1.log ≡ first_log (start_of engine.now) }
 {
-    let (head, seen_log) = match &engine {
+    match engine {
         Some(engine) => open(engine.version()),
         None => open(&Version::empty(alloc)),
-    };
-    Opened {
-        head,
-        seen_log,
-        engine,
     }
 }

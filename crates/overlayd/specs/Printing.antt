@@ -1,10 +1,12 @@
 -- What is printed of sessions.
 use Rattle.std.specs.Prelude.{ℕ, suc, Bool, true, false, List, [], ◌∷◌, ◌++◌, length, codes, decimal, nat_lt}
-use Rattle.overlay_server.specs.declared.outcome.Outcome.{Outcome}
+use Rattle.std.specs.declared.alloc.Global.{Global}
+use Rattle.std.specs.declared.vec.Vec.{Vec}
+use Rattle.session_threads.specs.declared.port.Finished.{Finished}
 
 -- what a session wrote
-abbrev pub replies_of : Outcome → List ℕ
-replies_of outcome = outcome.bytes.items
+abbrev pub replies_of : Finished (Vec ℕ Global) → List ℕ
+replies_of finished = finished.writer.items
 
 -- the replies of a session, behind a line with its number where there are several
 abbrev pub session_text : Bool → ℕ → List ℕ → List ℕ

@@ -1,7 +1,6 @@
 //! The polygon overlay server: it runs scripts over layers that are kept in a file, or in memory.
 #![tactic(auto)]
 
-mod ending;
 mod printing;
 mod running;
 mod script;

@@ -3,12 +3,12 @@ ghost use Rattle.std.specs.Prelude.{◌<◌, ◌≤◌, ◌^◌, map, OnOk, nat_
 ghost use Rattle.std.specs.Io.KnownBytes.{Appends};
 ghost use Rattle.overlayd.specs.Printing.{printed, session_text, replies_of};
 
-use overlay_server::outcome::Outcome;
+use session_threads::port::Finished;
 use std::io;
 use std::io::Write;
 
 /// Prints what each session wrote, in the order of the scripts, with a line for each before it where there are several.
-pub fn print_all<W: Write>(output: &mut W, sessions: &[Outcome]) -> io::Result<()>
+pub fn print_all<W: Write>(output: &mut W, sessions: &[Finished<Vec<u8>>]) -> io::Result<()>
     ensures { OnOk result
         (Appends (W.contents output.old) (W.contents output.new) (printed (map replies_of sessions.now))) }
 {
@@ -24,7 +24,7 @@ fn print_session<W: Write>(
     output: &mut W,
     several: bool,
     number: usize,
-    session: &Outcome,
+    session: &Finished<Vec<u8>>,
 ) -> io::Result<()>
     ensures { OnOk result
         (Appends (W.contents output.old) (W.contents output.new) (session_text several number (replies_of session.now))) }
@@ -32,5 +32,5 @@ fn print_session<W: Write>(
     if several {
         writeln!(output, "# script {number}")?;
     }
-    output.write_all(session.bytes.as_slice())
+    output.write_all(session.writer.as_slice())
 }

@@ -1,14 +1,14 @@
 //! What the words ask for, from the scripts to what is printed.
-use crate::ending::ends_of;
 use crate::printing::print_all;
 use crate::script::open_scripts;
-use overlay_server::outcome::{ServeOptions, Served};
+use overlay_server::outcome::{Left, ServeOptions};
 use overlay_server::serving::serve;
-use program_store::ending::end_run;
+use program_store::ending::{Ends, end_run};
 use program_store::fault::ProgramFault;
 use program_store::store::open_store;
 use program_store::streams::keep_streams;
 use program_words::own::own_words;
+use program_words::plan::Plan;
 use program_words::reading::read_words;
 use std::env::Env;
 use std::fs::File;
@@ -27,17 +27,17 @@ pub fn run<Q: Env + Files<File = File> + Threads + Wait + Sync + AllocGlobal>(
     mut output: Stdout,
     errors: Stderr,
 ) -> Result<bool, ProgramFault> {
-    let (keeping, paths) = read_words(rt.alloc(), &own_words(rt)?)?.into_parts();
+    let Plan { keeping, scripts } = read_words(rt.alloc(), &own_words(rt)?)?;
     keep_streams(rt, &input, &output, &errors)?;
-    let scripts = open_scripts(rt, input, &paths)?;
+    let sources = open_scripts(rt, input, &scripts)?;
     let engine = open_store(rt, &keeping)?;
     let options = ServeOptions {
         workers: keeping.workers as usize,
     };
-    match serve(rt, rt.alloc(), options, &OpenGate, engine, scripts) {
-        Ok(Served { sessions, closed }) => {
+    match serve(rt, rt.alloc(), options, &OpenGate, engine, sources) {
+        Ok(Left { sessions, closed }) => {
             let printed = print_all(&mut output, &sessions).is_ok();
-            end_run(&keeping, &closed, printed, ends_of(&sessions))
+            end_run(&keeping, &closed, printed, Ends::of(&sessions))
         }
         Err(refused) => Err(ProgramFault::of_server(refused.code)),
     }

@@ -2,26 +2,11 @@
 ghost use Rattle.std.specs.Prelude.{◌<◌, ◌≤◌, length, IfOk};
 
 use program_store::fault::ProgramFault;
+use program_store::source::Source;
+use std::fs;
 use std::fs::File;
-use std::io::{ErrorKind, Read, Stdin};
+use std::io::{ErrorKind, Stdin};
 use std::rt::Files;
-use std::{fs, io};
-
-/// A script: standard input, or a file.
-#[derive(Drop)]
-pub enum Script {
-    Input(Stdin),
-    File(File),
-}
-
-impl Read for Script {
-    fn read(&mut self, buf: &mut [u8]) -> io::Result<usize> {
-        match self {
-            Script::Input(input) => input.read(buf),
-            Script::File(file) => file.read(buf),
-        }
-    }
-}
 
 /// Opens the scripts at these paths, in their order; without one there is the input alone. The fault is `Script` where
 /// one can't be opened for another reason than want of memory.
@@ -29,19 +14,19 @@ pub fn open_scripts<Q: Files<File = File> + AllocGlobal>(
     rt: &Q,
     input: Stdin,
     paths: &[String],
-) -> Result<Vec<Script>, ProgramFault>
+) -> Result<Vec<Source>, ProgramFault>
     requires { length paths.now ≤ 4 }
     ensures some { IfOk result (λ scripts. 0 < length scripts.items) }
     ensures few { IfOk result (λ scripts. length scripts.items ≤ 4) }
 {
     let mut scripts = Vec::new(rt.alloc());
     if paths.is_empty() {
-        scripts.push(Script::Input(input))?;
+        scripts.push(Source::Input(input))?;
         return Ok(scripts);
     }
     'paths: for path in paths {
         let file = open_script(rt, path)?;
-        scripts.push(Script::File(file))?;
+        scripts.push(Source::File(file))?;
     }
     Ok(scripts)
 }

@@ -9,6 +9,7 @@ use Rattle.commit_plan.specs.declared.fault.StoreFault.{StoreFault}
 use Rattle.commit_plan.specs.declared.fault.StoreFault.TheVariants as store
 use Rattle.script_form.specs.declared.session_end.SessionEnd.{SessionEnd}
 use Rattle.script_form.specs.declared.session_end.SessionEnd.TheVariants.{End, Failed}
+use Rattle.session_threads.specs.declared.port.Finished.{Finished}
 use Rattle.store_flushing.specs.declared.closed.Closed.{Closed}
 use Rattle.program_store.specs.Fault.{status_of}
 use Rattle.program_store.specs.declared.ending.Ends.{Ends}
@@ -30,12 +31,12 @@ abbrev pub was_written : SessionEnd → Bool
 was_written End = true
 was_written (Failed code) = not (nat_eq code 49)
 
--- how all sessions ended, of things that have a session's end each
-abbrev pub ends_of : {A : Type 0} → (A → SessionEnd) → List A → Ends
-ends_of end all = record {
-  at_end = list_all (λ one. is_end (end one)) all;
-  run = list_all (λ one. was_run (end one)) all;
-  written = list_all (λ one. was_written (end one)) all;
+-- how all sessions ended
+abbrev pub ends_of : {W : Type 0} → List (Finished W) → Ends
+ends_of all = record {
+  at_end = list_all (λ one. is_end one.end) all;
+  run = list_all (λ one. was_run one.end) all;
+  written = list_all (λ one. was_written one.end) all;
 }
 
 -- the fault of which no session's replies tell

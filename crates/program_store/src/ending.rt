@@ -1,11 +1,13 @@
 //! How a run ends.
 ghost use Rattle.std.specs.Prelude.{◌≡◌, true, is_some, IfOk, Ok};
-ghost use Rattle.program_store.specs.Ending.{conclusion, exit_status, is_end, is_kept, is_read_only, is_stored, kept_by, told_of, unsaid, was_run, was_written};
+ghost use Rattle.std.specs.List.{list_all};
+ghost use Rattle.program_store.specs.Ending.{conclusion, ends_of, exit_status, is_end, is_kept, is_read_only, is_stored, kept_by, told_of, unsaid, was_run, was_written};
 
 use crate::fault::ProgramFault;
 use commit_plan::fault::StoreFault;
 use program_words::keeping::{Keeping, Opening};
 use script_form::SessionEnd;
+use session_threads::port::Finished;
 use store_flushing::closed::Closed;
 
 /// How the sessions of a run ended.
@@ -17,6 +19,40 @@ pub struct Ends {
     pub run: bool,
     /// Each session's replies could be written.
     pub written: bool,
+}
+
+impl Ends {
+    /// How these sessions ended.
+    pub fn of<W>(sessions: &[Finished<W>]) -> Ends
+        ensures { result ≡ ends_of sessions.now }
+    {
+        Ends {
+            at_end: have_ended(sessions),
+            run: were_run(sessions),
+            written: were_written(sessions),
+        }
+    }
+}
+
+/// Whether each script was read to its end.
+fn have_ended<W>(sessions: &[Finished<W>]) -> bool
+    ensures { result ≡ list_all (λ session. is_end session.end) sessions.now }
+{
+    sessions.iter().all(|session| is_end(&session.end))
+}
+
+/// Whether each session had memory for its lines.
+fn were_run<W>(sessions: &[Finished<W>]) -> bool
+    ensures { result ≡ list_all (λ session. was_run session.end) sessions.now }
+{
+    sessions.iter().all(|session| was_run(&session.end))
+}
+
+/// Whether the replies of each session could be written.
+fn were_written<W>(sessions: &[Finished<W>]) -> bool
+    ensures { result ≡ list_all (λ session. was_written session.end) sessions.now }
+{
+    sessions.iter().all(|session| was_written(&session.end))
 }
 
 /// The end of a run: whether each script was read to its end and the newest version is in the store, where it is to be. A
@@ -105,7 +141,7 @@ pub fn exit_status(ending: Result<bool, ProgramFault>) -> u8
 }
 
 /// Whether a script was read to its end.
-pub fn is_end(end: &SessionEnd) -> bool
+fn is_end(end: &SessionEnd) -> bool
     ensures { result ≡ is_end end.now }
 {
     match end {
@@ -115,7 +151,7 @@ pub fn is_end(end: &SessionEnd) -> bool
 }
 
 /// Whether a session had memory for its lines.
-pub fn was_run(end: &SessionEnd) -> bool
+fn was_run(end: &SessionEnd) -> bool
     ensures { result ≡ was_run end.now }
 {
     match end {

@@ -4,5 +4,6 @@
 pub mod ending;
 pub mod fault;
 pub mod refusal;
+pub mod source;
 pub mod store;
 pub mod streams;

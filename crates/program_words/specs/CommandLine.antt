@@ -1,11 +1,13 @@
 -- What the words behind the program's name ask for: `clap` finds what belongs to each option and which words are
 -- scripts, and the limits are tested on that.
-use Rattle.std.specs.Prelude.{ℕ, ◌==◌, nat_le, Bool, false, ◌&&◌, ◌||◌, not, if◌then◌else◌, List, [], ◌∷◌, length, map}
+use Rattle.std.specs.Prelude.{ℕ, ◌==◌, nat_le, Bool, true, false, ◌&&◌, ◌||◌, not, if◌then◌else◌, List, [], ◌∷◌, length, map}
 use Rattle.std.specs.Prelude.{Option, Some, None, is_some, unwrap_or, option_and_then, option_map, codes, bytes_eq, string_bytes}
 use Rattle.std.specs.List.{list_all}
 use Rattle.clap.specs.Words.{App, Row, Rule, Text, all_of, fault_of, first_of, matches_of, new_app, new_rule, with_rule}
 use Rattle.clap.specs.declared.builder.action.ArgAction.TheVariants.{Append, SetTrue}
 use Rattle.program_words.specs.Number.{number_of}
+use Rattle.program_words.specs.declared.keeping.Opening.{Opening}
+use Rattle.program_words.specs.declared.keeping.Opening.TheVariants.{Existing, New, ReadOnly}
 use Rattle.program_words.specs.declared.plan.Plan.{Plan}
 
 -- whether a text begins with a hyphen
@@ -42,10 +44,17 @@ abbrev pub is_set : Option Text → Bool
 is_set None = false
 is_set (Some text) = bytes_eq text (codes "true")
 
+-- how a store's file is opened: made or read alone only where it is named, and not both
+abbrev pub opening_of : (create read_only has_store : Bool) → Option Opening
+opening_of false false has_store = Some Existing
+opening_of true false true = Some New
+opening_of false true true = Some ReadOnly
+opening_of _ _ _ = None
+
 -- what words ask for
 pub record Request : Type 0 where
   pub store : Option Text
-  pub create : Bool
+  pub opening : Opening
   pub workers : ℕ
   pub max_blocks : ℕ
   pub scripts : List Text
@@ -55,23 +64,24 @@ abbrev pub number_or : Option Text → ℕ → ℕ → Option ℕ
 number_or None usual most = Some usual
 number_or (Some text) usual most = option_and_then (λ n. if nat_le 1 n && nat_le n most then Some n else None) (number_of text)
 
--- at most four scripts, and a file is made only where one is named
-abbrev pub are_within : Bool → Bool → ℕ → Bool
-are_within create has_store scripts = nat_le scripts 4 && (not create || has_store)
+-- at most four scripts
+abbrev pub are_few : ℕ → Bool
+are_few scripts = nat_le scripts 4
 
 abbrev pub within_limits : Request → Option Request
-within_limits r = if are_within r.create (is_some r.store) (length r.scripts) then Some r else None
+within_limits r = if are_few (length r.scripts) then Some r else None
 
 -- what the values that belong to the options ask for
 abbrev pub request_in : List Row → Option Request
 request_in rows =
-    option_and_then (λ workers. option_and_then (λ max_blocks. within_limits (record {
+    option_and_then (λ opening. option_and_then (λ workers. option_and_then (λ max_blocks. within_limits (record {
       store = first_of (codes "store") rows;
-      create = is_set (first_of (codes "create") rows);
+      opening = opening;
       workers = workers;
       max_blocks = max_blocks;
       scripts = unwrap_or (all_of (codes "script") rows) [];
-    })) (number_or (first_of (codes "max-blocks") rows) 65536 1048576)) (number_or (first_of (codes "workers") rows) 2 8)
+    })) (number_or (first_of (codes "max-blocks") rows) 65536 1048576)) (number_or (first_of (codes "workers") rows) 2 8))
+    (opening_of (is_set (first_of (codes "create") rows)) false (is_some (first_of (codes "store") rows)))
 
 -- whether `clap` has nothing against the words
 abbrev pub are_taken : List Text → Bool
@@ -85,9 +95,9 @@ request_of words =
 -- what a plan has
 abbrev pub request_kept : Plan → Request
 request_kept plan = record {
-  store = option_map string_bytes plan.store;
-  create = plan.create;
-  workers = plan.workers;
-  max_blocks = plan.max_blocks;
+  store = option_map string_bytes plan.keeping.store;
+  opening = plan.keeping.opening;
+  workers = plan.keeping.workers;
+  max_blocks = plan.keeping.max_blocks;
   scripts = map string_bytes plan.scripts.items;
 }

@@ -1,14 +1,13 @@
 -- What the words behind the live program's name ask for: a text by one word, or sessions, by what `clap` finds as in
 -- CommandLine.
-use Rattle.std.specs.Prelude.{ℕ, ◌==◌, ◌%◌, nat_le, Bool, true, false, ◌&&◌, ◌||◌, if◌then◌else◌, List, [], ◌∷◌, length, flat_map}
+use Rattle.std.specs.Prelude.{ℕ, ◌==◌, ◌%◌, nat_le, Bool, false, ◌&&◌, ◌||◌, if◌then◌else◌, List, [], ◌∷◌, length, flat_map}
 use Rattle.std.specs.Prelude.{Option, Some, None, is_some, unwrap_or, option_and_then, option_map, codes, bytes_eq, string_bytes}
 use Rattle.std.specs.List.{list_all}
 use Rattle.std.specs.declared.alloc.Global.{Global}
 use Rattle.std.specs.declared.string.String.{String}
 use Rattle.clap.specs.Words.{App, Row, Text, all_of, fault_of, first_of, matches_of, new_app, with_rule}
-use Rattle.program_words.specs.CommandLine.{flag, is_known, is_set, number_or, option, others}
+use Rattle.program_words.specs.CommandLine.{flag, is_known, is_set, number_or, opening_of, option, others}
 use Rattle.program_words.specs.declared.keeping.Opening.{Opening}
-use Rattle.program_words.specs.declared.keeping.Opening.TheVariants.{Existing, New, ReadOnly}
 use Rattle.program_words.specs.declared.live_plan.Asked.{Asked}
 use Rattle.program_words.specs.declared.live_plan.Asked.TheVariants as asked
 use Rattle.program_words.specs.declared.live_plan.LivePlan.{LivePlan}
@@ -22,13 +21,6 @@ unfoldable pub live_line : App
 live_line =
     with_rule (with_rule (with_rule (with_rule (with_rule (with_rule (new_app (codes "overlay_live"))
     (option (codes "store"))) (flag (codes "create"))) (flag (codes "read-only"))) (option (codes "workers"))) (option (codes "max-blocks"))) (others (codes "path"))
-
--- how a store's file is opened: made or read alone only where it is named, and not both
-abbrev pub opening_of : (create read_only has_store : Bool) → Option Opening
-opening_of false false has_store = Some Existing
-opening_of true false true = Some New
-opening_of false true true = Some ReadOnly
-opening_of _ _ _ = None
 
 -- what words ask of a run: its paths are those of the pairs, one pair after another
 pub record LiveRequest : Type 0 where

@@ -1,17 +1,16 @@
 //! The words of the live program as what they ask for.
-ghost use Rattle.std.specs.Prelude.{◌≡◌, ◌≢◌, ◌*◌, ◌%◌, length, map, string_bytes, vec_len};
-ghost use Rattle.std.specs.Prelude.{IfOk, IfErr, Some, None, true};
+ghost use Rattle.std.specs.Prelude.{◌≡◌, ◌*◌, ◌%◌, length, map, string_bytes, vec_len};
+ghost use Rattle.std.specs.Prelude.{IfOk, IfErr, Some, None};
 ghost use Rattle.std.specs.List.{list_all};
 ghost use Rattle.clap.specs.Words.{app_of, fault_of, found_of, matches_of, rows_of, FailsBy};
-ghost use Rattle.program_words.specs.LiveLine.{are_paired, is_alone, is_known_live, live_line, live_request_in, live_request_kept, live_request_of, opening_of, paths_of, question_kept, question_of};
+ghost use Rattle.program_words.specs.LiveLine.{are_paired, is_alone, is_known_live, live_line, live_request_in, live_request_kept, live_request_of, paths_of, question_kept, question_of};
 ghost use Rattle.program_words.specs.declared.fault.WordFault.TheVariants.{Words};
-ghost use Rattle.program_words.specs.declared.keeping.Opening.TheVariants.{Existing};
 
 use crate::fault::WordFault;
-use crate::keeping::{Keeping, Opening};
+use crate::keeping::Keeping;
 use crate::live_plan::{Asked, LivePlan, PAIRS_MAX};
 use crate::matching::{
-    flag, is_set, named, number_or, option, others, owned, refused, value, values,
+    flag, is_set, named, number_or, opening_of, option, others, owned, refused, value, values,
 };
 use crate::plan::{BLOCKS_MAX, WORKERS_MAX};
 use crate::reading::is_known;
@@ -123,20 +122,6 @@ fn planned(alloc: Global, matches: &ArgMatches<'_>) -> Result<LivePlan, WordFaul
         keeping,
         pairs: paired(alloc, paths)?,
     })
-}
-
-/// How the store's file is opened.
-fn opening_of(create: bool, read_only: bool, has_store: bool) -> Result<Opening, WordFault>
-    ensures ok { IfOk result (λ opening. opening_of create read_only has_store ≡ Some opening) }
-    ensures refused { IfErr result (λ fault. opening_of create read_only has_store ≡ None) }
-    ensures named { IfOk result (λ opening. opening ≢ Existing → has_store ≡ true) }
-{
-    match (create, read_only, has_store) {
-        (false, false, _) => Ok(Opening::Existing),
-        (true, false, true) => Ok(Opening::New),
-        (false, true, true) => Ok(Opening::ReadOnly),
-        _ => Err(WordFault::Words),
-    }
 }
 
 /// Whether so many paths are those of pairs, and not too many.

@@ -1,11 +1,13 @@
 //! What both programs read of their words by `clap`: the values of options and the words that belong to none.
 ghost use Rattle.std.specs.Prelude.{◌≡◌, ◌≢◌, ◌≤◌, ◌∷◌, length, map, option_map, string_bytes, vec_len};
-ghost use Rattle.std.specs.Prelude.{IfOk, IfErr, false, is_some, Some, None};
+ghost use Rattle.std.specs.Prelude.{IfOk, IfErr, false, true, is_some, Some, None};
 ghost use Rattle.clap.specs.Words.{all_of, rule_of, first_of, found_of, rows_of, kind_of};
-ghost use Rattle.program_words.specs.CommandLine.{flag, option, others, is_set, number_or};
+ghost use Rattle.program_words.specs.CommandLine.{flag, option, others, is_set, number_or, opening_of};
 ghost use Rattle.program_words.specs.declared.fault.WordFault.TheVariants.{Words};
+ghost use Rattle.program_words.specs.declared.keeping.Opening.TheVariants.{Existing};
 
 use crate::fault::WordFault;
+use crate::keeping::Opening;
 use crate::number::number_of;
 use clap::error::ErrorKind;
 use clap::{Arg, ArgAction, ArgMatches, Error};
@@ -124,4 +126,22 @@ pub(crate) fn all_owned(alloc: Global, texts: &[&str]) -> Result<Vec<String>, Al
         copies.push(String::from_str(alloc, text)?)?;
     }
     Ok(copies)
+}
+
+/// How the store's file is opened: made or read alone only where the words name it, and not both.
+pub(crate) fn opening_of(
+    create: bool,
+    read_only: bool,
+    has_store: bool,
+) -> Result<Opening, WordFault>
+    ensures ok { IfOk result (λ opening. opening_of create read_only has_store ≡ Some opening) }
+    ensures refused { IfErr result (λ fault. opening_of create read_only has_store ≡ None) }
+    ensures named { IfOk result (λ opening. opening ≢ Existing → has_store ≡ true) }
+{
+    match (create, read_only, has_store) {
+        (false, false, _) => Ok(Opening::Existing),
+        (true, false, true) => Ok(Opening::New),
+        (false, true, true) => Ok(Opening::ReadOnly),
+        _ => Err(WordFault::Words),
+    }
 }

@@ -1,14 +1,16 @@
 //! The words as a plan.
 ghost use Rattle.std.specs.Prelude.{◌≡◌, ◌≤◌, map, string_bytes};
-ghost use Rattle.std.specs.Prelude.{IfOk, IfErr, IsTrue, true, Some, None};
+ghost use Rattle.std.specs.Prelude.{IfOk, IfErr, IsTrue, Some, None};
 ghost use Rattle.std.specs.List.{list_all};
 ghost use Rattle.clap.specs.Words.{app_of, fault_of, found_of, matches_of, rows_of, FailsBy};
-ghost use Rattle.program_words.specs.CommandLine.{are_within, command_line, is_known, request_in, request_kept, request_of};
+ghost use Rattle.program_words.specs.CommandLine.{are_few, command_line, is_known, request_in, request_kept, request_of};
 ghost use Rattle.program_words.specs.declared.fault.WordFault.TheVariants.{Words};
 
 use crate::fault::WordFault;
+use crate::keeping::Keeping;
 use crate::matching::{
-    all_owned, flag, is_set, named, number_or, option, others, owned, refused, value, values,
+    all_owned, flag, is_set, named, number_or, opening_of, option, others, owned, refused, value,
+    values,
 };
 use crate::plan::{BLOCKS_MAX, Plan, SCRIPTS_MAX, WORKERS_MAX};
 use clap::{ArgMatches, Command, Error};
@@ -83,26 +85,29 @@ fn planned(alloc: Global, matches: &ArgMatches<'_>) -> Result<Plan, WordFault>
 {
     let create = is_set(value(matches, "create"));
     let store = value(matches, "store");
+    let opening = opening_of(create, false, store.is_some())?;
     let workers = number_or(value(matches, "workers"), 2, WORKERS_MAX)?;
     let max_blocks = number_or(value(matches, "max-blocks"), 65_536, BLOCKS_MAX)?;
     let paths = values(matches, "script").unwrap_or(&[]);
-    if !are_within(create, store.is_some(), paths.len()) {
+    if !are_few(paths.len()) {
         return Err(WordFault::Words);
     }
-    Ok(Plan {
+    let keeping = Keeping {
         store: owned(alloc, store)?,
-        create,
+        opening,
         workers,
         max_blocks,
+    };
+    Ok(Plan {
+        keeping,
         scripts: all_owned(alloc, paths)?,
     })
 }
 
-/// Whether so many scripts may stand, and a file be made.
-fn are_within(create: bool, has_store: bool, scripts: usize) -> bool
-    ensures value { result ≡ are_within create has_store scripts }
+/// Whether so many scripts may stand.
+fn are_few(scripts: usize) -> bool
+    ensures value { result ≡ are_few scripts }
     ensures few { IsTrue result → scripts ≤ 4 }
-    ensures made { IsTrue result → create ≡ true → has_store ≡ true }
 {
-    scripts <= SCRIPTS_MAX && (!create || has_store)
+    scripts <= SCRIPTS_MAX
 }

@@ -1,5 +1,7 @@
 //! What the program's words ask for where they say little, and all that they may say.
 use program_words::fault::WordFault;
+use program_words::keeping::Opening;
+use program_words::plan::Plan;
 use program_words::reading::read_words;
 use std::alloc::Global;
 use std::process::Abort;
@@ -41,13 +43,13 @@ fn words_of(rt: &impl Abort, alloc: Global, list: &[&str]) -> Vec<String> {
 }
 
 fn asked(rt: &impl Abort, alloc: Global, list: &[&str]) -> Result<Asked, WordFault> {
-    let plan = read_words(alloc, &words_of(rt, alloc, list))?;
+    let Plan { keeping, scripts } = read_words(alloc, &words_of(rt, alloc, list))?;
     Ok((
-        plan.store.is_some(),
-        plan.create,
-        plan.workers,
-        plan.max_blocks,
-        plan.scripts.len(),
+        keeping.store.is_some(),
+        keeping.opening == Opening::New,
+        keeping.workers,
+        keeping.max_blocks,
+        scripts.len(),
     ))
 }
 

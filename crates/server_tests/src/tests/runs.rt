@@ -3,7 +3,8 @@ ghost use Rattle.std.specs.Prelude.{ℕ};
 
 use layer_expr::name::Name;
 use overlay_server::SessionEnd;
-use overlay_server::outcome::{Left, Outcome, Served};
+use overlay_server::outcome::{Left, Served};
+use session_threads::port::Finished;
 use std::marker::Model;
 
 /// What a server leaves, of which a contract sees nothing.
@@ -31,7 +32,7 @@ impl<D> Run<D> {
     }
 
     /// What a session wrote, and how it ended.
-    pub fn session(&self, session: usize) -> Option<&Outcome> {
+    pub fn session(&self, session: usize) -> Option<&Finished<Vec<u8>>> {
         self.served.sessions.get(session)
     }
 

@@ -136,18 +136,18 @@ pub fn engine_of<D: Disk + Drop>(machine: Option<Machine<D>>) -> Option<Engine<D
 /// What a session wrote.
 pub fn written<D>(run: &Run<D>, session: usize) -> &[u8] {
     match run.session(session) {
-        Some(outcome) => &outcome.bytes,
+        Some(finished) => &finished.writer,
         None => &[],
     }
 }
 
 /// Compares what a session wrote, which was read to its end.
 pub fn expect<D>(rt: &impl Abort, run: &Run<D>, session: usize, text: &str) {
-    let Some(outcome) = run.session(session) else {
+    let Some(finished) = run.session(session) else {
         panic!(rt; "no session {session}");
     };
-    assert_eq!(rt; outcome.bytes.as_slice(), text.as_bytes());
-    assert_eq!(rt; outcome.end, SessionEnd::End);
+    assert_eq!(rt; finished.writer.as_slice(), text.as_bytes());
+    assert_eq!(rt; finished.end, SessionEnd::End);
 }
 
 /// A disk in memory of no bytes.

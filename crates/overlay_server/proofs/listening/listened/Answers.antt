@@ -1,8 +1,9 @@
-use Rattle.std.proofs.Common.{refl, arith}
+use Rattle.std.proofs.Common.{ℕ, List, Some, ap, arith}
 use Rattle.std.specs.Vec.{vec_len, vec_capacity}
+use Rattle.script_form.specs.Lines.{script_max}
 use Rattle.session_threads.proofs.Lists.{one_less, one_longer, one_on, room_left}
-use Rattle.overlay_server.specs.Listening.{bytes_in, limit_in, no_bytes, reader_in, script_limit}
-use Rattle.overlay_server.proofs.Lists.{pushed, pushed_one}
+use Rattle.overlay_server.specs.Given.{bytes_of, given_at, given_from}
+use Rattle.overlay_server.proofs.Lists.{pushed}
 use Rattle.overlay_server.proofs.listening.listened.Goals as goal
 
 pub push_reserved-requires : goal.push_reserved-requires
@@ -12,6 +13,7 @@ push_reserved-requires g c =
     at.invariant.grown at.invariant.room
 
 pub loop-reader-preserved : goal.loop-reader-preserved
+unfolding script_max
 loop-reader-preserved g c =
     let at = c.loop-reader in
     let reader = c.in-Some.reader in
@@ -20,7 +22,7 @@ loop-reader-preserved g c =
       left = one_less _ _ reader _ _ c.in-Some.ensures.steps.0 c.in-Some.ensures.steps.1 at.invariant.left;
       grown = one_longer at.yielded reader _ _ c.push_reserved.ensures.len at.invariant.grown;
       room = omega (arith, at.invariant.room, c.push_reserved.ensures.capacity);
-      readers = pushed_one reader_in at.ports.items _ _ at.yielded c.push_reserved.ensures.items at.invariant.readers;
-      limits = pushed limit_in script_limit at.ports.items _ _ at.yielded reader c.push_reserved.ensures.items at.invariant.limits refl;
-      empty = pushed bytes_in no_bytes at.ports.items _ _ at.yielded reader c.push_reserved.ensures.items at.invariant.empty c.new-writer.ensures.items;
+      given =
+          pushed (given_at g.R.Read.remaining bytes_of) (given_from g.R.Read.remaining) at.ports.items _ _ at.yielded reader c.push_reserved.ensures.items at.invariant.given
+          (ap (λ (bytes : List ℕ). record { most = script_max; script = g.R.Read.remaining reader; held = Some bytes }) c.new-writer.ensures.items);
     }

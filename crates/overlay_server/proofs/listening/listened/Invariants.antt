@@ -1,7 +1,7 @@
-use Rattle.std.proofs.Common.{◌≡◌, ◌++◌, ◌≤◌, length, map}
+use Rattle.std.proofs.Common.{◌≡◌, ◌++◌, ◌≤◌, length}
 use Rattle.std.specs.Vec.{vec_len, vec_capacity}
 use Rattle.std.specs.Vec.Iter.{into_iter_items, into_iter_len}
-use Rattle.overlay_server.specs.Listening.{bytes_in, limit_in, no_bytes, reader_in, script_limit}
+use Rattle.overlay_server.specs.Given.{bytes_of, given_by, given_to}
 use Rattle.overlay_server.proofs.listening.listened.Given as goal
 
 -- each reader so far has its port, and there is room for those of the others
@@ -11,7 +11,5 @@ invariant-loop-reader g l = record {
   left : into_iter_len l.reader-iterator ≡ length (into_iter_items l.reader-iterator);
   grown : vec_len l.ports ≡ length l.yielded;
   room : length (into_iter_items l.initial.reader-iterator) ≤ vec_capacity l.ports;
-  readers : map reader_in l.ports.items ≡ l.yielded;
-  limits : map limit_in l.ports.items ≡ map script_limit l.yielded;
-  empty : map bytes_in l.ports.items ≡ map no_bytes l.yielded;
+  given : given_to g.R.Read.remaining bytes_of l.ports.items ≡ given_by g.R.Read.remaining l.yielded;
 }

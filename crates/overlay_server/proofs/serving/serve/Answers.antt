@@ -1,10 +1,8 @@
-use Rattle.std.proofs.Common.{ap}
-use Rattle.overlay_server.specs.Serving.{flusher_of, start_of}
-use Rattle.overlay_server.proofs.Disks.{served_disk}
+use Rattle.overlay_server.specs.Given.{bytes_of, given_by}
+use Rattle.overlay_server.specs.Serving.{start_of}
+use Rattle.overlay_server.proofs.Disks.{left_disk}
 use Rattle.overlay_server.proofs.serving.serve.Goals as goal
 
 pub returns-clause-disk : goal.returns-clause-disk
 returns-clause-disk g c =
-    let opened = c.history_of_engine-opened in
-    served_disk g.D.Disk (start_of opened.result.engine) c.args.engine g.R.Read.remaining (flusher_of opened.result.engine) c.args.readers.items c.listen_in.result
-    (ap (λ e. flusher_of e) opened.ensures) c.listen_in.ensures.served
+    left_disk g.D.Disk (start_of c.args.engine) c.args.engine bytes_of (given_by g.R.Read.remaining c.args.readers.items) c.listen_in.result c.listen_in.ensures.left

@@ -3,4 +3,4 @@ use Rattle.overlay_server.specs.Serving.{IsStoredOf, flusher_of, start_of}
 use Rattle.overlay_server.proofs.serving.serve.Given as goal
 
 abbrev pub ghosts-listen_in : goal.ghosts-listen_in
-ghosts-listen_in g a = record { book = a.opened.seen_log.book; stored = IsStoredOf g.D.Disk (start_of a.opened.engine) (flusher_of a.opened.engine) }
+ghosts-listen_in g a = record { book = a.opened.1.book; stored = IsStoredOf g.D.Disk (start_of a.engine) (flusher_of a.engine) }

@@ -1,0 +1,13 @@
+use Rattle.std.proofs.Common.{◌∙◌, ap, subst, sym}
+use Rattle.book_history.specs.BookLogs.{BookLog}
+use Rattle.overlay_server.proofs.Refusals.{MayAnswer, refused_at_once}
+use Rattle.overlay_server.proofs.Stores.{stopped_at_once}
+use Rattle.overlay_server.proofs.hosted.Hosted.unserved.Goals as goal
+
+pub returns : goal.returns
+returns g c =
+    let self = c.args.self in
+    λ all. refused_at_once g.D.Disk self.version.value self.store.flusher all c.refused.result self.answer
+    (record { code = c.refused.ensures.code; same = c.refused.ensures.answer; may = subst MayAnswer (sym c.requires.answer) tt })
+    (ap (λ (l : BookLog). l.log) c.refused.ensures.seen_log ∙ c.requires.first) c.refused.ensures.told c.refused.ensures.sessions
+    (stopped_at_once g.D.Disk self.version.value self.store.flusher c.refused.result.disk c.refused.ensures.now c.refused.ensures.disk)

@@ -1,0 +1,24 @@
+-- A server's book as it is opened.
+use Rattle.std.specs.Prelude.{◌≡◌, ℕ, is_some, None, []}
+use Rattle.logbook.specs.Pages.{Book}
+use Rattle.disk_model.specs.declared.disk.Disk.{Ghosts}
+use Rattle.book_lock.specs.Steps.{beginners}
+use Rattle.store_flushing.specs.Told.{told_in}
+use Rattle.version_book.specs.Store.{has_store}
+use Rattle.overlay_server.specs.Answering.{answer_in}
+use Rattle.overlay_server.specs.Moments.{HasOnlyNow}
+use Rattle.overlay_server.specs.Serving.{first_log}
+use Rattle.overlay_server.specs.declared.hosted.Hosted.{Hosted}
+
+-- a book was just opened for so many sessions: this is its first version, which alone its reporter and these have seen; it
+-- knows whether it has a store, nothing was told durable, and since now there is no other moment of the disk
+pub record IsHosted {J S D : Type 0} {g : Ghosts D} (book : Book) (count : ℕ) (hosted : Hosted J S D g) : Type 0 where
+  pub number : hosted.number ≡ hosted.version.value.number
+  pub first : hosted.seen_log.log ≡ first_log hosted.version.value
+  pub answer : answer_in hosted.answer ≡ None
+  pub now : HasOnlyNow g
+  pub stored : has_store hosted.shared ≡ is_some hosted.store.flusher
+  pub of : hosted.store.reporter.book ≡ book
+  pub begun : hosted.store.reporter.log ≡ first_log hosted.version.value
+  pub untold : told_in hosted.store.told ≡ []
+  pub sessions : hosted.sessions.items ≡ beginners (record { book = book; log = first_log hosted.version.value }) count
