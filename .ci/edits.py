@@ -37,17 +37,7 @@ ASKED = (
 
 # Those among them that may lack a control still: it is told of them, and the gate does not fail for it.
 LACKING = (
-    "book_lock/add_entry_dropped", "book_lock/add_opening_version_for_all", "book_lock/keep_finished_with_another_tile",
-    "book_lock/keep_job_dropped", "book_lock/report_durable_number_invented", "book_lock/snapshot_read_under_the_lock",
-    "book_lock/submit_accepted_and_unchanged", "book_lock/submit_applied_twice", "book_lock/submit_entry_invented",
-    "book_lock/submit_number_invented", "commit_plan/record_kept_by_name", "flush_core/tiles_left_out",
-    "overlay_engine/durable_when_begun", "overlay_engine/late_result_kept", "overlay_grid/grid_point_repeated",
-    "root_store/done_before_the_last_sync", "root_store/gate_before_body_is_synced", "root_store/older_root_recovered",
-    "root_store/opened_without_a_sync", "root_store/torn_body_left", "root_store/written_over_an_open_root",
-    "root_store/written_over_the_live_root", "server_session/always_same",
-    "server_session/answers_from_a_private_version", "store_flushing/round_commits_a_version_of_its_own",
-    "tile_workers/work_finished_with_another_tile", "version_book/finish_job_dropped",
-    "version_book/submit_applied_twice", "version_core/always_same", "versions/number_for_each_command",
+    "commit_plan/record_kept_by_name", "overlay_grid/grid_point_repeated", "server_session/answers_from_a_private_version",
 )
 
 

@@ -34,7 +34,7 @@ drop_takes_a_name = refl
 drop_takes_one_name : request_of (codes "DROP A B") ≡ malformed
 drop_takes_one_name = refl
 
-a_point_has_a_denominator : request_of (codes "LOCATE I 14 14 2") ≡ locate (codes "I") (pos 14) (pos 14) (pos 2)
+a_point_has_a_denominator : request_of (codes "LOCATE I 14 15 2") ≡ locate (codes "I") (pos 14) (pos 15) (pos 2)
 a_point_has_a_denominator = refl
 
 a_whole_point_has_none : request_of (codes "LOCATE I -7 +2") ≡ locate (codes "I") (negsuc 6) (pos 2) (pos 1)
@@ -46,7 +46,7 @@ a_point_has_no_fourth_number = refl
 a_point_has_two_numbers : request_of (codes "LOCATE I 1") ≡ malformed
 a_point_has_two_numbers = refl
 
-a_grid_has_five_numbers : request_of (codes "GRID I 0 -2 2 4 4") ≡ grid (codes "I") (pos 0) (negsuc 1) (pos 2) (pos 4) (pos 4)
+a_grid_has_five_numbers : request_of (codes "GRID I 0 -2 3 4 5") ≡ grid (codes "I") (pos 0) (negsuc 1) (pos 3) (pos 4) (pos 5)
 a_grid_has_five_numbers = refl
 
 a_grid_has_no_sixth_number : request_of (codes "GRID I 0 0 2 4 4 4") ≡ malformed

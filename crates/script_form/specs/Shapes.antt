@@ -85,5 +85,6 @@ IsShapeOf nothing line = IsShort line × IsBlankOrComment line
 IsShapeOf malformed line = IsShort line × (IsBlankOrComment line → ⊥) × ((request : Request) → IsCommandLine request line → ⊥)
 IsShapeOf request line = IsShort line × IsCommandLine request line
 
+-- a line has the shape of a request exactly where it asks for it
 abbrev pub LinesAreRead : Type 0
 LinesAreRead = (request : Request) (line : List ℕ) → IsShapeOf request line ↔ (request_of line ≡ request)

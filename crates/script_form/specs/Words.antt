@@ -56,9 +56,11 @@ some_front front behind = if is_empty front then None else Some (front, behind)
 abbrev pub front_at : (ℕ → Bool) → List ℕ → Option (List ℕ × List ℕ)
 front_at test bytes = some_front (take_while test (skip_while is_gap bytes)) (skip_while test (skip_while is_gap bytes))
 
+-- the next word, and what stands after it
 abbrev pub word_at : List ℕ → Option (List ℕ × List ℕ)
 word_at bytes = front_at is_word_byte bytes
 
+-- what stands before the sign `=` of a definition, and what stands after it
 abbrev pub left_side_at : List ℕ → Option (List ℕ × List ℕ)
 left_side_at bytes = front_at is_name_side bytes
 
@@ -66,10 +68,12 @@ abbrev pub with_behind : Option ℤ → List ℕ → Option (ℤ × List ℕ)
 with_behind None behind = None
 with_behind (Some n) behind = Some (n, behind)
 
+-- the number that digits spell, and what stands after them
 abbrev pub number_in : Option (List ℕ × List ℕ) → Option (ℤ × List ℕ)
 number_in None = None
 number_in (Some (digits, behind)) = with_behind (number_of digits) behind
 
+-- the next word as a number, and what stands after it
 abbrev pub number_at : List ℕ → Option (ℤ × List ℕ)
 number_at bytes = number_in (word_at bytes)
 
@@ -82,8 +86,10 @@ abbrev pub behind_sign : List ℕ → Option (List ℕ × List ℕ)
 behind_sign [] = None
 behind_sign (b ∷ bs) = if b == 61 then Some (skip_while is_blank bs, []) else None
 
+-- what stands after the sign `=`, to the end of the line
 abbrev pub right_side_at : List ℕ → Option (List ℕ × List ℕ)
 right_side_at bytes = behind_sign (skip_while is_gap bytes)
 
+-- the rest of the line, from its first byte that is no blank
 abbrev pub text_at : List ℕ → Option (List ℕ × List ℕ)
 text_at bytes = some_front (skip_while is_gap bytes) []
