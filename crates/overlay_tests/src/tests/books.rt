@@ -91,24 +91,14 @@ pub enum Row {
     SubmitBeside(Change, Change),
 }
 
-/// A history of the empty version alone, which is no book's yet.
-struct Opened<J> {
-    head: LogWord<J>,
-    seen_log: SeenLog,
-    version: Version,
-    ghost head_is: { head ≡ head_of seen_log.book },
-    ghost begun: { seen_log.log ≡ entry no_event version ∷ [] },
-}
-
-/// Opens a history.
-fn open_history<J>(alloc: Global) -> Opened<J> {
+/// A history of the empty version alone, which is no book's yet, and this version.
+fn open_history<J>(alloc: Global) -> (LogWord<J>, SeenLog, Version)
+    ensures head { result.0 ≡ head_of result.1.book }
+    ensures begun { result.1.log ≡ entry no_event result.2 ∷ [] }
+{
     let version = Version::empty(alloc);
     let (head, seen_log) = open(&version);
-    Opened {
-        head,
-        seen_log,
-        version,
-    }
+    (head, seen_log, version)
 }
 
 /// Plays lists of rows in a book that was just opened. The tiles that are taken in a list are finished behind it.
@@ -126,19 +116,17 @@ pub fn play<R: Threads + Wait + Clock + Abort + Sync>(
 fn play_in<J: BookName + Send + Sync, R: Threads + Wait + Clock + Abort + Sync>(
     rt: &R,
     alloc: Global,
-    opened: Opened<J>,
+    opened: (LogWord<J>, SeenLog, Version),
     store: bool,
     lists: &[&[Row]],
     last: u64,
 )
-    requires book { opened.seen_log.book ≡ J.book }
+    requires head { opened.0 ≡ head_of J.book }
+    requires book { opened.1.book ≡ J.book }
+    requires begun { opened.1.log ≡ entry no_event opened.2 ∷ [] }
     requires anything { (log : _) (number : _) → J.stored log number }
 {
-    let Opened {
-        head,
-        seen_log,
-        version,
-    } = opened;
+    let (head, seen_log, version) = opened;
     let started = Shared::<J, &R>::start(rt, alloc, head, seen_log, version, store, 2);
     let (shared, reporter, mut sessions) = started.expect(rt, "no book");
     let other = sessions.pop().expect(rt, "no session");

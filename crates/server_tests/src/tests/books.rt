@@ -16,23 +16,14 @@ use version_book::seen_log::{BookName, LogWord, SeenLog, open};
 use version_book::shared::Shared;
 use versions::Version;
 
-/// A history of one version, which is no book's yet.
-struct History<J> {
-    head: LogWord<J>,
-    seen_log: SeenLog,
-    version: Version,
-    ghost head_is: { head ≡ head_of seen_log.book },
-    ghost begun: { seen_log.log ≡ entry no_event version ∷ [] },
-}
-
-fn empty_history<J>(alloc: Global) -> History<J> {
+/// A history of one version, which is no book's yet, and this version.
+fn empty_history<J>(alloc: Global) -> (LogWord<J>, SeenLog, Version)
+    ensures head { result.0 ≡ head_of result.1.book }
+    ensures begun { result.1.log ≡ entry no_event result.2 ∷ [] }
+{
     let version = Version::empty(alloc);
     let (head, seen_log) = open(&version);
-    History {
-        head,
-        seen_log,
-        version,
-    }
+    (head, seen_log, version)
 }
 
 /// Runs a script over an empty book, and says how its session ended.
@@ -49,7 +40,7 @@ where
 fn run_in<J, Q, R, W>(
     rt: &Q,
     alloc: Global,
-    history: History<J>,
+    history: (LogWord<J>, SeenLog, Version),
     reader: &mut R,
     writer: &mut W,
 ) -> SessionEnd
@@ -58,13 +49,11 @@ where
     Q: Threads + Wait + Sync + Abort,
     R: Read,
     W: Write,
-    requires { history.seen_log.book ≡ J.book }
+    requires head { history.0 ≡ head_of J.book }
+    requires book { history.1.book ≡ J.book }
+    requires begun { history.1.log ≡ entry no_event history.2 ∷ [] }
 {
-    let History {
-        head,
-        seen_log,
-        version,
-    } = history;
+    let (head, seen_log, version) = history;
     let started = Shared::<J, &Q>::start(rt, alloc, head, seen_log, version, false, 1);
     let (shared, reporter, mut sessions) = started.expect(rt, "no book");
     let mut me = sessions.pop().expect(rt, "no session");

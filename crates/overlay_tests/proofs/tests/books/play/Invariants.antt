@@ -2,4 +2,4 @@
 use Rattle.overlay_tests.proofs.tests.books.play.Given as goal
 
 abbrev pub ghosts-play_in : goal.ghosts-play_in
-ghosts-play_in g a = record { book = a.opened.seen_log.book; stored = λ log number. Unit {0} }
+ghosts-play_in g a = record { book = a.opened.1.book; stored = λ log number. Unit {0} }

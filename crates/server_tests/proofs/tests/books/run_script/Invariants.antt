@@ -2,4 +2,4 @@
 use Rattle.server_tests.proofs.tests.books.run_script.Given as goal
 
 abbrev pub ghosts-run_in : goal.ghosts-run_in
-ghosts-run_in g a = record { book = a.history.seen_log.book; stored = λ log number. ⊥ }
+ghosts-run_in g a = record { book = a.history.1.book; stored = λ log number. ⊥ }
