@@ -21,7 +21,7 @@ use Rattle.arrange.specs.declared.marked_seg.MarkedSeg.{MarkedSeg}
 use Rattle.arrange.proofs.KeptLemmas.{mark}
 use Rattle.arrange.proofs.FewSegments.{kept_few}
 
--- one more base layer behind others
+-- one more base layer after others
 from_push : (n : ℕ) (bases : List (List (List WholePoint))) (rings : List (List WholePoint)) → marked_from n (bases ++ rings ∷ []) ≡ marked_from n bases ++ marked_by (n + length bases) rings
 from_push n [] rings = let same : n ≡ n + 0 = omega arith in append-nil (marked_by n rings) ∙ ap (λ k. marked_by k rings) same
 from_push n (b ∷ bases) rings =

@@ -64,7 +64,7 @@ module _ (marked : List Marked) (ends : List LineEnd) (along : AreEndsAlong mark
       both_ways (is_lt (whole_cmp (place_at j) (place_at i)))
       (sorted_far (λ x y. is_lt (whole_cmp x.at y.at)) (ranks_by whole_cmp_total (λ (x : LineEnd). x.at)) ends along.in_order i j d le h) (ap is_lt e)
 
-  -- an end of a segment stands among the ends
+  -- an end of a segment is among the ends
   stands : (m : Marked) → Contains marked m → (x : LineEnd) → Contains (left_end m ∷ right_end m ∷ []) x → (v : WholePoint) → v ≡ x.at → (j : ℕ) × (j < length ends) × (place_at j ≡ v)
   stands m c x one v is =
       let there = Contains-permutation (both_ends marked) ends x along.moved (in_flat_map (λ n. left_end n ∷ right_end n ∷ []) marked m x c one) in
@@ -106,7 +106,7 @@ module _ (marked : List Marked) (ends : List LineEnd) (along : AreEndsAlong mark
     abbrev before : WholePoint → Bool
     before v = is_lt (whole_cmp v (place_at (n + 1)))
 
-    -- up to the first end all come before the second, and none behind it
+    -- up to the first end all come before the second, and none after it
     passed_before : (k : ℕ) → k < n + 1 → whole_cmp (place_at k) (place_at (n + 1)) ≡ Less
     passed_before k h = up_to_less (place_at k) (place_at n) (place_at (n + 1)) (in_turn k n (omega (arith, h)) (omega (arith, within))) apart
 

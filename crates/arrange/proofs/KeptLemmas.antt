@@ -21,7 +21,7 @@ kept_more column layer segs i s h e =
     ∙ filter-append (λ (m : Marked). touches column m.segment) (map (mark layer) (take i segs)) (mark layer (get_or segs i s) ∷ [])
     ∙ ap (λ t. kept_in column (map (mark layer) (take i segs)) ++ cond (touches column t) (mark layer t ∷ []) []) (sym e)
 
--- a segment that touches the column is added behind those kept
+-- a segment that touches the column is added after those kept
 pub kept_more_yes : (column layer : ℕ) (segs : List Segment) (i : ℕ) (s : Segment) (before : List Marked) (items new : List MarkedSeg) (m : MarkedSeg) →
     i < length segs → s ≡ get_or segs i s → touches column s ≡ true → marked_of m ≡ mark layer s → new ≡ items ++ m ∷ [] → map marked_of items ≡ before ++ kept_in column (map (mark layer) (take i segs)) →
     map marked_of new ≡ before ++ kept_in column (map (mark layer) (take (i + 1) segs))

@@ -47,7 +47,7 @@ take_none zero xs e = refl
 take_none (suc n) [] e = refl
 take_none (suc n) (x ∷ xs) e = absurd (cc)
 
--- the first elements, and those behind them
+-- the first elements, and those after them
 take_parts : {X : Type 0} (xs : List X) (a n : ℕ) → take (a + n) xs ≡ take a xs ++ take n (drop a xs)
 take_parts xs zero n = ap (λ m. take m xs) (zero-add n)
 take_parts {X} [] (suc a) n = let none : List X = [] in take_none (suc a + n) none refl ∙ sym (take_none n none refl)
@@ -86,7 +86,7 @@ module _ (lines : List LineSeg) where
     later : (i j : ℕ) (d : LineSeg) → i ≤ j → j < length lines → is_lt (line_cmp (get_or lines j d) (get_or lines i d)) ≡ false
     later i j d le l = sorted_far (λ x y. is_lt (line_cmp x y)) (ranks_by line_total (λ (x : LineSeg). x)) lines sorted i j d le l
 
-    -- where the ends of a part are equal, so is what stands between
+    -- where the ends of a part are equal, so is what is between
     squeezed : (i j k : ℕ) (d : LineSeg) → i ≤ j → j ≤ k → k < length lines → line_cmp (get_or lines i d) (get_or lines k d) ≡ Equal → line_cmp (get_or lines i d) (get_or lines j d) ≡ Equal
     squeezed i j k d le less l e =
         equal_from (line_cmp (get_or lines i d) (get_or lines j d))

@@ -158,7 +158,7 @@ covering_holds t s ahead on_left on_right p hp on_s =
     between_on t (whole s.left) p (whole s.right) one_positive hp one_positive on_left on_right level (after_left s p on_s) (before_right s p hp on_s)
 
 -- ---- all of them
--- what is told of each element may stand for it
+-- the order of the spots is that of the places of the names
 pairs_told : (k : ℕ) (s : Segment) (names : List PointName) (xs : List NamedPlace) → All (IsFound k s names) xs → AllPairs (λ a b. point_cmp (spot a) (spot b) ≡ Less) xs
     → AllPairs (λ a b. point_cmp (place_of a.name) (place_of b.name) ≡ Less) xs
 pairs_told k s names xs sound up = λ i j d l m.

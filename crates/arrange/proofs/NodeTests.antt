@@ -45,7 +45,7 @@ parallel_is s t =
     (λ h. parallel_from_turn s t (sym (level_from (pos 0) (turn_of s t) h)))
     (λ h. level_test (pos 0) (turn_of s t) (sym (turn_from_parallel s t h)))
 
--- points that their order does not tell apart are at one place
+-- points of which neither comes first are at one place
 pub vertex_is : (p q : Point) → is_eq (point_cmp p q) ≡ same_place p q
 vertex_is p q = is_eq_then (int_cmp (p.x *ℤ q.w) (q.x *ℤ p.w)) (int_cmp (p.y *ℤ q.w) (q.y *ℤ p.w))
 
@@ -72,7 +72,7 @@ pub on_border_by : (marked : List MarkedSeg) (p : Point) (a r : Bool) → a ≡ 
 on_border_by marked p a r e t k =
     k ∙ slanted_is marked p ∙ sym (ap (λ b. b && list_any (λ s. is_on s p && not (is_vertical s)) (segs marked)) (sym e ∙ t))
 
--- the number of a column stands in its place among the columns
+-- the number of a column is in its place among the columns
 column_at : (k : ℕ) → k < column_count → get_or columns k 0 ≡ k
 column_at k h = get_or-range_with_len 0 column_count k 0 h ∙ zero-add k
 

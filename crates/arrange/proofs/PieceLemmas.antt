@@ -43,7 +43,7 @@ module _ (s : Segment) (ahead : whole_cmp s.left s.right ≡ Less) (segments : L
   other_line t forward on_t turn q level =
       parallel_line t s (midpoint p r) q forward (no_turn_back s t turn) hm (on_line t (midpoint p r) on_t) (on_line s (midpoint p r) (middle_on s on_p on_r)) level
 
-  -- the left end of a segment that holds the middle is not behind the left end of the piece
+  -- the left end of a segment that holds the middle is not after the left end of the piece
   left_end_first : (t : Segment) → Contains segments t → whole_cmp t.left t.right ≡ Less → IsTrue (is_on t (midpoint p r)) → point_cmp p (whole t.left) ≡ Less → ⊥
   left_end_first t c forward on_t low =
       no_end_between (whole t.left) one_positive (other_line t forward on_t (along t c on_t) (whole t.left) (left_on_line t))

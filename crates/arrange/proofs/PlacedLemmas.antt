@@ -102,7 +102,7 @@ module _ (input : Input) (s : Segment) (valid : IsInput input) (among : Contains
     by p r piece begins c (inl d) = any_kept (λ h. IsTrue (has_ends p r h.piece)) before placed so_far.kept (h.complete p r piece d begins)
     by p r piece begins c (inr e) = listed_there p r piece (sym e) begins
 
--- the pieces on a segment that stands there already are in the list
+-- the pieces on a segment that is there already are in the list
 pub listed_already : (input : Input) (supports : List Segment) (s : Segment) (placed : List PlacedPiece) → Contains supports s → HoldsPieces input supports placed → HoldsPieces input (supports ++ s ∷ []) placed
 listed_already input supports s placed there h = record {
   sound = h.sound;

@@ -210,7 +210,7 @@ module _ (marked : List Marked) (m : Marked) (among : Contains marked m) (ahead 
     up_to_down : (u v : WholePoint) → point_cmp (whole u) (whole v) ≡ Less → up_to v ≡ true → up_to u ≡ true
     up_to_down u v e h = not_before_test p (whole u) (λ f. not_before_says p (whole v) h (less_through p (whole u) (whole v) hp one_positive one_positive f e))
 
-    -- the unit on which it lies and that goes on behind it
+    -- the unit on which it lies and that goes on after it
     pub unit_from : point_cmp p (whole m.segment.right) ≡ Less → UnitAt marked m.segment (λ v. not (is_lt (point_cmp p (whole v))))
     unit_from inside =
         unit_at_cut marked m among ahead up_to (not_before_test p (whole m.segment.left) (after_left m.segment p on_it)) (ap (λ o. not (is_lt o)) inside) up_to_down

@@ -18,7 +18,7 @@ marked_by layer rings = map (λ s. record { layer = layer; segment = s }) (segme
 abbrev pub kept_in : ℕ → List terms.Marked → List terms.Marked
 kept_in column marked = filter (λ m. touches column m.segment) marked
 
--- the most segments of an input: those of as many base layers as may stand, each with as many as it may have
+-- the most segments of an input: those of as many base layers as there may be, each with as many as it may have
 abbrev pub segments_max : ℕ
 segments_max = layers_max * steps_max
 

@@ -36,7 +36,7 @@ pub fn pieces(alloc: Global, input: &TileInput) -> Result<Vec<Elementary>, Alloc
     Ok(list)
 }
 
-/// Whether a segment stands among those of some base layers.
+/// Whether a segment is among those of some base layers.
 fn is_among(marked: &[MarkedSeg], seg: &Seg) -> bool
     ensures { result ≡ list_any (λ m. same_segment m.seg seg.now) marked.now }
 {
@@ -50,7 +50,7 @@ fn pieces_of(alloc: Global, placed: &[PlacedPiece]) -> Result<Vec<Elementary>, A
     placed.iter().map(|h| h.piece).collect(alloc)
 }
 
-/// Adds the pieces of a segment of the input that begin in the column, unless it stands among
+/// Adds the pieces of a segment of the input that begin in the column, unless it is among
 /// earlier ones.
 fn add_pieces_along(
     alloc: Global,

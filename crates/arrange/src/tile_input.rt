@@ -45,6 +45,19 @@ fn add_segments(
     Ok(())
 }
 
+/// The marked segments that have a point in a column, in their order.
+fn kept(alloc: Global, column: Column, marked: &[MarkedSeg]) -> Result<Vec<MarkedSeg>, AllocError>
+    ensures { IfOk result (λ list. map marked_of list.items ≡ kept_in column (map marked_of marked.now)) }
+{
+    let mut list = Vec::new(alloc);
+    for one in marked {
+        if touches(column, one.seg) {
+            list.push(*one)?;
+        }
+    }
+    Ok(list)
+}
+
 /// The segments of the base layers in reach that have a point in a column, each with the number of
 /// its layer, and the definitions in reach.
 #[derive(Debug, Drop)]
@@ -87,6 +100,27 @@ impl TileInput {
         for layer in 0..steps.bases() {
             add_segments(&mut marked, column, layer, bases[usize::from(layer)])?;
         }
+        Ok(TileInput {
+            column,
+            marked,
+            steps,
+        })
+    }
+
+    /// The input of a column whose segments are among some marked ones, as those of a wider strip: it takes those with a point
+    /// in the column.
+    pub fn of_marked(
+        alloc: Global,
+        column: Column,
+        marked: &[MarkedSeg],
+        steps: &StepList,
+    ) -> Result<TileInput, AllocError>
+        requires valid { IsInput (record { column = column; marked = kept_in column (map marked_of marked.now); steps = steps.now }) }
+        requires few { length (map marked_of marked.now) ≤ segments_max }
+        ensures { IfOk result (λ input. input ≡ record { column = column; marked = kept_in column (map marked_of marked.now); steps = steps.now }) }
+    {
+        let marked = kept(alloc, column, marked)?;
+        let steps = steps.try_copy(alloc)?;
         Ok(TileInput {
             column,
             marked,

@@ -25,6 +25,7 @@ use Rattle.exact_point.proofs.Nodes.{wide_too}
 use Rattle.exact_point.proofs.OnLine.{on_line, way_up, less_from_forward, no_turn_back}
 use Rattle.exact_point.proofs.PlaceOrder.{one_positive, level_from}
 use Rattle.tile_laws.proofs.Ranks.{Told, yes, no, told}
+use Rattle.crossing_sweep.specs.StripInput.{Span}
 use Rattle.crossing_sweep.specs.Leaning.{IsSteep}
 use Rattle.crossing_sweep.specs.Status.{IsStretchOf}
 use Rattle.crossing_sweep.specs.NextNode.{IsNextNode}
@@ -35,22 +36,22 @@ use Rattle.overlay_terms.proofs.Pairs.{all_second}
 use Rattle.crossing_sweep.proofs.QueueLemmas.{queued, first_from}
 
 -- a node over the left border, after a place of it
-record Entry (segments : List Segment) (column : ℕ) (q : Point) : Type 0 where
+record Entry (segments : List Segment) (strip : Span) (q : Point) : Type 0 where
   pub place : Point
   pub positive : pos 0 <ℤ place.w
   pub node : IsTrue (is_node segments place)
   pub after_q : point_cmp q place ≡ Less
-  pub over : place.x ≡ border column *ℤ place.w
+  pub over : place.x ≡ border strip.first *ℤ place.w
 
-module _ (segments : List Segment) (column : ℕ) (few : column < column_count) (q : Point) (hq : pos 0 <ℤ q.w) (u : Segment) (is : IsStretchOf segments u) (goes : GoesOn u q) (ends : IsTrue (is_node segments (whole u.right))) (wait : IsWaiting column q u) where
+module _ (segments : List Segment) (strip : Span) (few : strip.first < column_count) (q : Point) (hq : pos 0 <ℤ q.w) (u : Segment) (is : IsStretchOf segments u) (goes : GoesOn u q) (ends : IsTrue (is_node segments (whole u.right))) (wait : IsWaiting strip q u) where
   -- it ends on the border
-  at_end : u.right.x ≤ℤ border column → Entry segments column q
+  at_end : u.right.x ≤ℤ border strip.first → Entry segments strip q
   at_end h = record {
     place = whole u.right;
     positive = one_positive;
     node = ends;
     after_q = goes.lasting;
-    over = level u.right.x (border column) h (not_left u.right.x q.x q.w (border column) hq wait.on_border (x_in_order q (whole u.right) goes.lasting));
+    over = level u.right.x (border strip.first) h (not_left u.right.x q.x q.w (border strip.first) hq wait.on_border (x_in_order q (whole u.right) goes.lasting));
   }
     where
       not_left : (x y w b : ℤ) → pos 0 <ℤ w → y ≡ b *ℤ w → (y *ℤ pos 1) ≤ℤ (x *ℤ w) → b ≤ℤ x
@@ -63,12 +64,12 @@ module _ (segments : List Segment) (column : ℕ) (few : column < column_count) 
       level x b h k = omega (arith, ints, h, k)
 
   -- it crosses the border
-  at_cut : border column <ℤ u.right.x → Entry segments column q
+  at_cut : border strip.first <ℤ u.right.x → Entry segments strip q
   at_cut h = record {
-    place = point_over u (border column);
+    place = point_over u (border strip.first);
     positive = wide;
-    node = border_node segments is.holder column (point_over u (border column)) few refl (holder_holds segments u is (point_over u (border column)) wide on) slanted is.among;
-    after_q = less_from_forward q (point_over u (border column)) (inr (level, up));
+    node = border_node segments is.holder strip.first (point_over u (border strip.first)) few refl (holder_holds segments u is (point_over u (border strip.first)) wide on) slanted is.among;
+    after_q = less_from_forward q (point_over u (border strip.first)) (inr (level, up));
     over = refl;
   }
     where
@@ -76,10 +77,10 @@ module _ (segments : List Segment) (column : ℕ) (few : column < column_count) 
       wide_of l r b h k = omega (arith, ints, h, k)
 
       wide : pos 0 <ℤ (u.right.x -ℤ u.left.x)
-      wide = wide_of u.left.x u.right.x (border column) wait.begins_left h
+      wide = wide_of u.left.x u.right.x (border strip.first) wait.begins_left h
 
-      on : IsTrue (is_on u (point_over u (border column)))
-      on = on_point_over u (border column) wait.begins_left h
+      on : IsTrue (is_on u (point_over u (border strip.first)))
+      on = on_point_over u (border strip.first) wait.begins_left h
 
       not_level : (l r : ℤ) → pos 0 <ℤ (r -ℤ l) → int_eq l r ≡ false
       not_level l r h = false_from_ne_true (int_eq l r) (λ e. no_way l r h (level_from l r e))
@@ -90,17 +91,17 @@ module _ (segments : List Segment) (column : ℕ) (few : column < column_count) 
       slanted : is.holder.left.x <ℤ is.holder.right.x
       slanted = wide_too is.holder u is.held_by.first (no_turn_back u is.holder (no_turn segments u is)) (not_level u.left.x u.right.x wide)
 
-      level : ((point_over u (border column)).x *ℤ q.w) -ℤ (q.x *ℤ (point_over u (border column)).w) ≡ pos 0
-      level = same_x (border column) q.x q.w (u.right.x -ℤ u.left.x) wait.on_border
+      level : ((point_over u (border strip.first)).x *ℤ q.w) -ℤ (q.x *ℤ (point_over u (border strip.first)).w) ≡ pos 0
+      level = same_x (border strip.first) q.x q.w (u.right.x -ℤ u.left.x) wait.on_border
         where
           same_x : (b x w d : ℤ) → x ≡ b *ℤ w → ((b *ℤ d) *ℤ w) -ℤ (x *ℤ d) ≡ pos 0
           same_x b x w d e = omega (arith, ints, ap (λ z. z *ℤ d) e, last_turned b d w)
 
       -- the way from the place up to q falls
-      falls : (width u *ℤ ((q.y *ℤ (point_over u (border column)).w) -ℤ ((point_over u (border column)).y *ℤ q.w))) <ℤ pos 0
+      falls : (width u *ℤ ((q.y *ℤ (point_over u (border strip.first)).w) -ℤ ((point_over u (border strip.first)).y *ℤ q.w))) <ℤ pos 0
       falls =
-          down (width u) ((q.y *ℤ (point_over u (border column)).w) -ℤ ((point_over u (border column)).y *ℤ q.w)) (rise u) ((q.x *ℤ (point_over u (border column)).w) -ℤ ((point_over u (border column)).x *ℤ q.w)) ((point_over u (border column)).w *ℤ height_over u q)
-          (way_up u (point_over u (border column)) q (on_line u (point_over u (border column)) on)) (turned ((point_over u (border column)).x *ℤ q.w) (q.x *ℤ (point_over u (border column)).w) level) (less_product ((point_over u (border column)).w) (height_over u q) wide wait.passes_over)
+          down (width u) ((q.y *ℤ (point_over u (border strip.first)).w) -ℤ ((point_over u (border strip.first)).y *ℤ q.w)) (rise u) ((q.x *ℤ (point_over u (border strip.first)).w) -ℤ ((point_over u (border strip.first)).x *ℤ q.w)) ((point_over u (border strip.first)).w *ℤ height_over u q)
+          (way_up u (point_over u (border strip.first)) q (on_line u (point_over u (border strip.first)) on)) (turned ((point_over u (border strip.first)).x *ℤ q.w) (q.x *ℤ (point_over u (border strip.first)).w) level) (less_product ((point_over u (border strip.first)).w) (height_over u q) wide wait.passes_over)
         where
           turned : (a b : ℤ) → a -ℤ b ≡ pos 0 → b -ℤ a ≡ pos 0
           turned a b e = omega (arith, ints, e)
@@ -111,8 +112,8 @@ module _ (segments : List Segment) (column : ℕ) (few : column < column_count) 
           down : (d y e x z : ℤ) → (d *ℤ y) -ℤ (e *ℤ x) ≡ z → x ≡ pos 0 → z <ℤ pos 0 → (d *ℤ y) <ℤ pos 0
           down d y e x z f g h = omega (arith, ints, f, h, ap (λ t. e *ℤ t) g, *ℤ-zero e)
 
-      up : pos 0 <ℤ (((point_over u (border column)).y *ℤ q.w) -ℤ (q.y *ℤ (point_over u (border column)).w))
-      up = rising (width u) ((q.y *ℤ (point_over u (border column)).w)) ((point_over u (border column)).y *ℤ q.w) wide falls
+      up : pos 0 <ℤ (((point_over u (border strip.first)).y *ℤ q.w) -ℤ (q.y *ℤ (point_over u (border strip.first)).w))
+      up = rising (width u) ((q.y *ℤ (point_over u (border strip.first)).w)) ((point_over u (border strip.first)).y *ℤ q.w) wide falls
         where
           rising : (d a b : ℤ) → pos 0 <ℤ d → (d *ℤ (a -ℤ b)) <ℤ pos 0 → pos 0 <ℤ (b -ℤ a)
           rising d a b hd h =
@@ -123,14 +124,14 @@ module _ (segments : List Segment) (column : ℕ) (few : column < column_count) 
               apart_from a b l = omega (arith, ints, l)
 
   -- in either case a node over the border comes after the place
-  entry : Entry segments column q
-  entry = by_lt_z (border column) u.right.x at_cut at_end
+  entry : Entry segments strip q
+  entry = by_lt_z (border strip.first) u.right.x at_cut at_end
 
   -- so the next node is on the border, or it is none
-  not_right : (r : Point) → IsNextNode segments q r → (border column *ℤ r.w) <ℤ r.x → ⊥
+  not_right : (r : Point) → IsNextNode segments q r → (border strip.first *ℤ r.w) <ℤ r.x → ⊥
   not_right r next right =
       next.clear entry.place entry.positive entry.node entry.after_q
-      (in_order_by_x entry.place r (right_of entry.place.x (border column) entry.place.w r.w r.x entry.over (less_times (border column *ℤ r.w) r.x entry.place.w entry.positive right)))
+      (in_order_by_x entry.place r (right_of entry.place.x (border strip.first) entry.place.w r.w r.x entry.over (less_times (border strip.first *ℤ r.w) r.x entry.place.w entry.positive right)))
     where
       right_of : (x b w v y : ℤ) → x ≡ b *ℤ w → ((b *ℤ v) *ℤ w) <ℤ (y *ℤ w) → (x *ℤ v) <ℤ (y *ℤ w)
       right_of x b w v y e h = omega (arith, ints, h, ap (λ z. z *ℤ v) e, last_turned b w v)
@@ -152,8 +153,8 @@ one_slanted s t np = by (told (is_vertical s)) (told (is_vertical t))
         absurd (both_ways (is_parallel s t) np ((Decides-int_eq (width s *ℤ rise t) (rise s *ℤ width t)).1 (flat (width s) (rise s) (width t) (rise t) (no_width s.left.x s.right.x e) (no_width t.left.x t.right.x f))))
 
 -- a crossing over the left border is a border place
-border_crossing : (segments : List Segment) (column : ℕ) (r : Point) → column < column_count → is_crossing segments r ≡ true → r.x ≡ border column *ℤ r.w → is_on_border segments r ≡ true
-border_crossing segments column r few e over =
+border_crossing : (segments : List Segment) (k : ℕ) (r : Point) → k < column_count → is_crossing segments r ≡ true → r.x ≡ border k *ℤ r.w → is_on_border segments r ≡ true
+border_crossing segments k r few e over =
     let first = Any-from_list_any (λ t. is_on t r && list_any (λ u. is_on u r && not (is_parallel t u)) segments) segments e in
     let tests = and_parts (is_on first.1 r) (list_any (λ u. is_on u r && not (is_parallel first.1 u)) segments) first.4 in
     let second = Any-from_list_any (λ u. is_on u r && not (is_parallel first.1 u)) segments tests.1 in
@@ -163,7 +164,7 @@ border_crossing segments column r few e over =
   where
     on_border : (s : Segment) → Contains segments s → is_on s r ≡ true → is_vertical s ≡ false → is_on_border segments r ≡ true
     on_border s among on slanted =
-        and_from (list_any (λ j. int_eq r.x (border j *ℤ r.w)) columns) (list_any (λ s. is_on s r && not (is_vertical s)) segments) (border_found column r few over)
+        and_from (list_any (λ j. int_eq r.x (border j *ℤ r.w)) columns) (list_any (λ s. is_on s r && not (is_vertical s)) segments) (border_found k r few over)
         (any_from_Contains (λ s. is_on s r && not (is_vertical s)) segments s among (and_from (is_on s r) (not (is_vertical s)) on (not_from_false (is_vertical s) slanted)))
 
     which : (s t : Segment) → Contains segments s → Contains segments t → is_on s r ≡ true → is_on t r ≡ true → (is_vertical s ≡ false) ⊎ (is_vertical t ≡ false) → is_on_border segments r ≡ true
@@ -186,10 +187,10 @@ fixed_on_border segments column r few node over = by (or_cases (is_end segments 
     by (inr e) = or_right (is_end segments r) (is_on_border segments r) e
 
 -- a next node that is no border place lies right of the border
-right_of_border : (segments : List Segment) (column : ℕ) (q r : Point) → column < column_count → pos 0 <ℤ q.w → q.x ≡ border column *ℤ q.w → IsNextNode segments q r → is_crossing segments r ≡ true → is_on_border segments r ≡ false → (border column *ℤ r.w) <ℤ r.x
-right_of_border segments column q r few hq on_it next crossing no_border =
-    by_lt_z (border column *ℤ r.w) r.x (λ l. l)
-    (λ l. absurd (both_ways (is_on_border segments r) no_border (border_crossing segments column r few crossing (level (border column *ℤ r.w) r.x l (not_left (border column) q.x q.w r.x r.w hq on_it (x_in_order q r next.after))))))
+right_of_border : (segments : List Segment) (strip : Span) (q r : Point) → strip.first < column_count → pos 0 <ℤ q.w → q.x ≡ border strip.first *ℤ q.w → IsNextNode segments q r → is_crossing segments r ≡ true → is_on_border segments r ≡ false → (border strip.first *ℤ r.w) <ℤ r.x
+right_of_border segments strip q r few hq on_it next crossing no_border =
+    by_lt_z (border strip.first *ℤ r.w) r.x (λ l. l)
+    (λ l. absurd (both_ways (is_on_border segments r) no_border (border_crossing segments strip.first r few crossing (level (border strip.first *ℤ r.w) r.x l (not_left (border strip.first) q.x q.w r.x r.w hq on_it (x_in_order q r next.after))))))
   where
     level : (b x : ℤ) → x ≤ℤ b → b ≤ℤ x → x ≡ b
     level b x h k = omega (arith, ints, h, k)
@@ -200,27 +201,27 @@ right_of_border segments column q r few hq on_it next crossing no_border =
         most : (b x w y v : ℤ) → x ≡ b *ℤ w → (x *ℤ v) ≤ℤ (y *ℤ w) → ((b *ℤ v) *ℤ w) ≤ℤ (y *ℤ w)
         most b x w y v e h = omega (arith, ints, h, ap (λ z. z *ℤ v) e, last_turned b w v)
 
-module _ (n : ℤ) (segments : List Segment) (column : ℕ) (q r : Point) (entered : List Segment) (keys : List Point) (steep : IsSteep n) (proper : All IsProper segments) (next : IsNextNode segments q r) (up_to : IsUpTo column r) where
-  by_waiting : (waiting : List Segment) → HasEntered n segments column q entered waiting keys → IsQueued keys r
+module _ (n : ℤ) (segments : List Segment) (strip : Span) (q r : Point) (entered : List Segment) (keys : List Point) (steep : IsSteep n) (proper : All IsProper segments) (next : IsNextNode segments q r) (up_to : IsUpTo strip r) where
+  by_waiting : (waiting : List Segment) → HasEntered n segments strip q entered waiting keys → IsQueued keys r
   by_waiting [] has =
       let P : List Segment → Type 0 = λ s. IsStatusAt n segments q s in
-      queued n segments q r entered steep proper (subst P (append-nil entered) has.status_at) next column keys has.queue up_to
+      queued n segments q r entered steep proper (subst P (append-nil entered) has.status_at) next strip keys has.queue up_to
   by_waiting (w ∷ ws) has = by (or_cases (is_end segments r || is_crossing segments r) (is_on_border segments r) next.node)
     where
       fixed : (is_end segments r || is_on_border segments r) ≡ true → IsQueued keys r
       fixed h = has.queue.fixed r next.small.positive h next.after up_to
 
-      wait : IsWaiting column q w
-      wait = All-head (IsWaiting column q) w ws has.wait
+      wait : IsWaiting strip q w
+      wait = All-head (IsWaiting strip q) w ws has.wait
 
       crossing : is_crossing segments r ≡ true → Told (is_on_border segments r) → IsQueued keys r
       crossing k (yes e) = fixed (or_right (is_end segments r) (is_on_border segments r) e)
       crossing k (no e) =
-          absurd (not_right segments column has.few q has.status_at.small.positive w
+          absurd (not_right segments strip has.few q has.status_at.small.positive w
           (All-head (IsStretchOf segments) w ws (all_second (IsStretchOf segments) entered (w ∷ ws) has.status_at.stretches))
           (All-head (λ u. GoesOn u q) w ws (all_second (λ u. GoesOn u q) entered (w ∷ ws) has.status_at.go_on))
           (All-head (λ u. IsTrue (is_node segments (whole u.right))) w ws (all_second (λ u. IsTrue (is_node segments (whole u.right))) entered (w ∷ ws) has.status_at.end_at_nodes)) wait r next
-          (right_of_border segments column q r has.few has.status_at.small.positive wait.on_border next k e))
+          (right_of_border segments strip q r has.few has.status_at.small.positive wait.on_border next k e))
 
       by_two : (is_end segments r ≡ true) ⊎ (is_crossing segments r ≡ true) → IsQueued keys r
       by_two (inl e) = fixed (or_left (is_end segments r) (is_on_border segments r) e)
@@ -231,8 +232,8 @@ module _ (n : ℤ) (segments : List Segment) (column : ℕ) (q r : Point) (enter
       by (inr e) = fixed (or_right (is_end segments r) (is_on_border segments r) e)
 
 pub next_is_queued_at_border : NextIsQueuedAtBorder
-next_is_queued_at_border n segments column q r entered waiting keys steep proper has next up_to = by_waiting n segments column q r entered keys steep proper next up_to waiting has
+next_is_queued_at_border n segments strip q r entered waiting keys steep proper has next up_to = by_waiting n segments strip q r entered keys steep proper next up_to waiting has
 
 pub first_is_next_at_border : FirstIsNextAtBorder
-first_is_next_at_border n segments column q r entered waiting keys steep proper has first =
-    first_from segments column q r keys proper has.status_at.small (λ z next up_to. next_is_queued_at_border n segments column q z entered waiting keys steep proper has next up_to) first
+first_is_next_at_border n segments strip q r entered waiting keys steep proper has first =
+    first_from segments strip q r keys proper has.status_at.small (λ z next up_to. next_is_queued_at_border n segments strip q z entered waiting keys steep proper has next up_to) first

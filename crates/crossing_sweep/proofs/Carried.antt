@@ -7,24 +7,24 @@ use Rattle.std.proofs.lemmas.List.Elements.{All-map, All-weaker, All-contains}
 use Rattle.std.proofs.Math.IntN.{*ℤ-zero}
 use Rattle.std.specs.declared.cmp.Ordering.TheVariants.{Less}
 use Rattle.overlay_terms.specs.Plane.{WholePoint, Point, Segment, whole, point_cmp, height_over, is_on, is_below, coordinate_max}
-use Rattle.overlay_terms.specs.Column.{border, is_in_column}
+use Rattle.overlay_terms.specs.Column.{border}
 use Rattle.overlay_terms.specs.Layers.{Marked}
-use Rattle.overlay_terms.specs.Tiles.{Input, IsPiece, midpoint, below_bits, over_bits}
-use Rattle.overlay_terms.specs.TileLaws.{IsInput, IsProper}
+use Rattle.overlay_terms.specs.Tiles.{IsPiece, midpoint, below_bits, over_bits}
+use Rattle.overlay_terms.specs.TileLaws.{IsProper}
 use Rattle.overlay_terms.proofs.InputNumbers.{le_true, true_le, true_lt, middle_positive, x_in_order, in_order_by_x, least_through, less_middle, less_back, last_turned, most_times, twice_of}
-use Rattle.overlay_terms.proofs.InputNodes.{IsIn, is_in, ends_within}
+use Rattle.crossing_sweep.proofs.StripLemmas.{IsIn, is_in, ends_within}
 use Rattle.exact_point.proofs.OnLine.{after_left, before_right, on_line, less_from_forward, forward_from_less, middle_line, middle_after, middle_before}
 use Rattle.exact_point.proofs.PlaceOrder.{one_positive, less_through, not_after_less, Way, after, alike_right, at, before, way_of}
 use Rattle.exact_point.proofs.ByX.{Left, AtMost}
 use Rattle.tile_laws.proofs.JustRight.{is_over_x, is_under, is_level, bits_where, under_bits, up_to_bits}
-use Rattle.tile_laws.proofs.Statements.{segments_in}
 use Rattle.tile_laws.proofs.EvenRegion.{differ, odd}
-use Rattle.tile_laws.proofs.SideStrip.{is_past, is_in_strip, strip_parity, past_true, past_false}
+use Rattle.tile_laws.proofs.SideStrip.{is_past, is_in_strip as lies_in_strip, strip_parity, past_true, past_false}
 use Rattle.tile_laws.proofs.SideCount.{odd_count, odd_differ, odd_agree, odd_never, odd_ends}
 use Rattle.tile_laws.proofs.SideRegion.{region_even, layered, alike_from}
 use Rattle.tile_laws.proofs.SideLevel.{level_kept}
 use Rattle.tile_laws.proofs.SideMiddle.{below_is_under, near_is_up_to}
 use Rattle.tile_laws.proofs.SideBits.{all_in_map, up_to_split, bits_agree}
+use Rattle.crossing_sweep.specs.StripInput.{StripInput, IsStripInput, is_in_strip, segments_in}
 use Rattle.crossing_sweep.specs.Leaning.{lean, lean_whole, lean_segment, IsNear, IsSteep, IsSmall}
 use Rattle.crossing_sweep.specs.Sides.{lean_marked, IsNodal, IsPassed, SidesAreCarried}
 use Rattle.crossing_sweep.proofs.Lean.{lean_left, lean_height}
@@ -32,7 +32,7 @@ use Rattle.crossing_sweep.proofs.Meeting.{before_from_lean}
 use Rattle.crossing_sweep.proofs.Keeping.{IsFit, Reaches}
 use Rattle.crossing_sweep.proofs.Inputs.{steep_positive, near, fits, left_small, right_small, meeting_small, lean_at_most}
 use Rattle.crossing_sweep.proofs.OnAlike.{on_alike, below_is_alike}
-use Rattle.crossing_sweep.proofs.Strip.{IsBeside, stretch, apart, signs}
+use Rattle.crossing_sweep.proofs.Beside.{IsBeside, stretch, apart, signs}
 use Rattle.overlay_terms.proofs.Difference.{diff-neg, differences, same, split}
 
 -- ---- counts over leaned segments
@@ -93,7 +93,7 @@ low_small e h =
 guarded : (b c x : Bool) → b ≡ true → (c && x) ≡ (c && (b && x))
 guarded b c x h = grind (arith, h)
 
-module _ (n : ℤ) (input : Input) (p r : Point) (piece : IsPiece (segments_in input) p r) (steep : IsSteep n) (valid : IsInput input) (nodal_p : IsNodal p) (nodal_r : IsNodal r) (p_in : IsTrue (is_in_column input.column p)) where
+module _ (n : ℤ) (input : StripInput) (p r : Point) (piece : IsPiece (segments_in input) p r) (steep : IsSteep n) (valid : IsStripInput input) (nodal_p : IsNodal p) (nodal_r : IsNodal r) (p_in : IsTrue (is_in_strip input.strip p)) where
   hn : pos 0 <ℤ n
   hn = steep_positive n steep
 
@@ -134,8 +134,8 @@ module _ (n : ℤ) (input : Input) (p r : Point) (piece : IsPiece (segments_in i
         back_near = λ left meets. (near n p _ steep nodal_p.small (meeting_small t piece.support pt ps left meets), near n _ r steep (meeting_small t piece.support pt ps left meets) nodal_r.small);
       }
 
-  -- ---- between two places of the piece in the column, the one before the other
-  module _ (a b : Point) (small_a : IsSmall a) (small_b : IsSmall b) (from : point_cmp a p ≡ Less → ⊥) (less : point_cmp a b ≡ Less) (to : point_cmp b r ≡ Less) (a_in : IsTrue (is_in_column input.column a)) (b_in : IsTrue (is_in_column input.column b)) where
+  -- ---- between two places of the piece in the strip, the one before the other
+  module _ (a b : Point) (small_a : IsSmall a) (small_b : IsSmall b) (from : point_cmp a p ≡ Less → ⊥) (less : point_cmp a b ≡ Less) (to : point_cmp b r ≡ Less) (a_in : IsTrue (is_in_strip input.strip a)) (b_in : IsTrue (is_in_strip input.strip b)) where
     begin : AtMost (lean n p) (lean n a)
     begin = lean_at_most n p a steep nodal_p.small small_a from
 
@@ -150,12 +150,12 @@ module _ (n : ℤ) (input : Input) (p r : Point) (piece : IsPiece (segments_in i
 
     -- a whole point in the strip, with a small y
     abbrev is_there : WholePoint → Bool
-    is_there e = is_low e && is_in_strip s' (lean n a) (lean n b) (lean_whole n e)
+    is_there e = is_low e && lies_in_strip s' (lean n a) (lean n b) (lean_whole n e)
 
-    -- lies in the column
-    there_within : (e : WholePoint) → is_there e ≡ true → IsTrue (is_in_column input.column (whole e))
+    -- lies in the strip
+    there_within : (e : WholePoint) → is_there e ≡ true → IsTrue (is_in_strip input.strip (whole e))
     there_within e h =
-        let both = and_parts (is_low e) (is_in_strip s' (lean n a) (lean n b) (lean_whole n e)) h in
+        let both = and_parts (is_low e) (lies_in_strip s' (lean n a) (lean n b) (lean_whole n e)) h in
         let past = and_parts (is_past (lean n a) (lean_whole n e)) (not (is_past (lean n b) (lean_whole n e)))
         (and_parts (is_past (lean n a) (lean_whole n e) && not (is_past (lean n b) (lean_whole n e))) (int_lt (height_over s' (whole (lean_whole n e))) (pos 0)) both.1).0 in
         let small : IsSmall (whole e) = low_small e both.0 in
@@ -164,11 +164,11 @@ module _ (n : ℤ) (input : Input) (p r : Point) (piece : IsPiece (segments_in i
         let not_after : point_cmp b (whole e) ≡ Less → ⊥ =
         λ k. not_both (lean n b) (lean n (whole e)) (lean_left n b (whole e) hn (near n b (whole e) steep small_b small)
         (forward_from_less b (whole e) k)) (past_false (lean n b) (lean_whole n e) (from_not (is_past (lean n b) (lean_whole n e)) past.1)) in
-        let ia : IsIn input.column a = is_in input.column a small_a.positive a_in in
-        let ib : IsIn input.column b = is_in input.column b small_b.positive b_in in
-        and_from (int_le (border input.column *ℤ pos 1) e.x) (int_lt e.x (border (input.column + 1) *ℤ pos 1))
-        (true_le (border input.column *ℤ pos 1) e.x (least_through a (whole e) (border input.column) small_a.positive one_positive (x_in_order a (whole e) after) ia.low))
-        (true_lt e.x (border (input.column + 1) *ℤ pos 1) (right_of e.x b.x b.w (border (input.column + 1)) small_b.positive ib.high (not_right e b not_after)))
+        let ia : IsIn input.strip a = is_in input.strip a small_a.positive a_in in
+        let ib : IsIn input.strip b = is_in input.strip b small_b.positive b_in in
+        and_from (int_le (border input.strip.first *ℤ pos 1) e.x) (int_lt e.x (border (input.strip.last + 1) *ℤ pos 1))
+        (true_le (border input.strip.first *ℤ pos 1) e.x (least_through a (whole e) (border input.strip.first) small_a.positive one_positive (x_in_order a (whole e) after) ia.low))
+        (true_lt e.x (border (input.strip.last + 1) *ℤ pos 1) (right_of e.x b.x b.w (border (input.strip.last + 1)) small_b.positive ib.high (not_right e b not_after)))
       where
         from_not : (b : Bool) → not b ≡ true → b ≡ false
         from_not b k = grind (arith, k)
@@ -200,10 +200,10 @@ module _ (n : ℤ) (input : Input) (p r : Point) (piece : IsPiece (segments_in i
       second m = (m.layer == k) && (is_over_x (lean_segment n m.segment) (lean n b) && is_under (lean_segment n m.segment) s' (lean n b))
 
       abbrev left_end : Marked → Bool
-      left_end m = (m.layer == k) && is_in_strip s' (lean n a) (lean n b) (lean_whole n m.segment.left)
+      left_end m = (m.layer == k) && lies_in_strip s' (lean n a) (lean n b) (lean_whole n m.segment.left)
 
       abbrev right_end : Marked → Bool
-      right_end m = (m.layer == k) && is_in_strip s' (lean n a) (lean n b) (lean_whole n m.segment.right)
+      right_end m = (m.layer == k) && lies_in_strip s' (lean n a) (lean n b) (lean_whole n m.segment.right)
 
       all_signs : All (λ m. strip_parity s' (lean_segment n m.segment) (lean n a) (lean n b) ≡ false) input.marked
       all_signs i d l = signs_of (get_or input.marked i d).segment (all_in_map (λ m. m.segment) input.marked i d l)
@@ -217,7 +217,7 @@ module _ (n : ℤ) (input : Input) (p r : Point) (piece : IsPiece (segments_in i
           (All-weaker (λ m. strip_parity s' (lean_segment n m.segment) (lean n a) (lean n b) ≡ false) (λ m. differ (first m) (differ (second m) (differ (left_end m) (right_end m))) ≡ false)
           (λ m h. layered (m.layer == k) (is_over_x (lean_segment n m.segment) (lean n a) && is_under (lean_segment n m.segment) s' (lean n a))
           (is_over_x (lean_segment n m.segment) (lean n b) && is_under (lean_segment n m.segment) s' (lean n b))
-          (is_in_strip s' (lean n a) (lean n b) (lean_whole n m.segment.left)) (is_in_strip s' (lean n a) (lean n b) (lean_whole n m.segment.right)) h) input.marked all_signs)
+          (lies_in_strip s' (lean n a) (lean n b) (lean_whole n m.segment.left)) (lies_in_strip s' (lean n a) (lean n b) (lean_whole n m.segment.right)) h) input.marked all_signs)
 
       -- ends have a small y
       left_low : (m : Marked) → IsProper m.segment → is_low m.segment.left ≡ true
@@ -233,11 +233,11 @@ module _ (n : ℤ) (input : Input) (p r : Point) (piece : IsPiece (segments_in i
       ends_even =
           ap (λ b. differ b (odd right_end input.marked)) (odd_agree left_end (λ m. (m.layer == k) && is_there m.segment.left) input.marked
           (All-weaker (λ m. IsProper m.segment) (λ m. left_end m ≡ ((m.layer == k) && is_there m.segment.left))
-          (λ m pm. guarded (is_low m.segment.left) (m.layer == k) (is_in_strip s' (lean n a) (lean n b) (lean_whole n m.segment.left))
+          (λ m pm. guarded (is_low m.segment.left) (m.layer == k) (lies_in_strip s' (lean n a) (lean n b) (lean_whole n m.segment.left))
           (left_low m pm)) input.marked valid.proper))
           ∙ ap (differ (odd (λ m. (m.layer == k) && is_there m.segment.left) input.marked)) (odd_agree right_end (λ m. (m.layer == k) && is_there m.segment.right) input.marked
           (All-weaker (λ m. IsProper m.segment) (λ m. right_end m ≡ ((m.layer == k) && is_there m.segment.right))
-          (λ m pm. guarded (is_low m.segment.right) (m.layer == k) (is_in_strip s' (lean n a) (lean n b) (lean_whole n m.segment.right))
+          (λ m pm. guarded (is_low m.segment.right) (m.layer == k) (lies_in_strip s' (lean n a) (lean n b) (lean_whole n m.segment.right))
           (right_low m pm)) input.marked valid.proper))
           ∙ sym (odd_ends is_there k input.marked)
           ∙ region_even is_there k input.marked (λ e h. valid.even k e (there_within e h))
@@ -291,14 +291,14 @@ module _ (n : ℤ) (input : Input) (p r : Point) (piece : IsPiece (segments_in i
   before_r : point_cmp (midpoint p r) r ≡ Less
   before_r = middle_before p r piece.to_positive piece.in_order
 
-  z_in : IsTrue (is_in_column input.column (midpoint p r))
+  z_in : IsTrue (is_in_strip input.strip (midpoint p r))
   z_in =
-      let ip : IsIn input.column p = is_in input.column p piece.from_positive p_in in
-      and_from (int_le (border input.column *ℤ (midpoint p r).w) (midpoint p r).x) (int_lt (midpoint p r).x (border (input.column + 1) *ℤ (midpoint p r).w))
-      (true_le (border input.column *ℤ (midpoint p r).w) (midpoint p r).x
-      (least_through p (midpoint p r) (border input.column) piece.from_positive small_z.positive (x_in_order p (midpoint p r) after_p) ip.low))
-      (true_lt (midpoint p r).x (border (input.column + 1) *ℤ (midpoint p r).w)
-      (less_middle p r (border (input.column + 1)) piece.from_positive piece.to_positive ip.high (ends_within input.column (segments_in input) p r proper ip piece)))
+      let ip : IsIn input.strip p = is_in input.strip p piece.from_positive p_in in
+      and_from (int_le (border input.strip.first *ℤ (midpoint p r).w) (midpoint p r).x) (int_lt (midpoint p r).x (border (input.strip.last + 1) *ℤ (midpoint p r).w))
+      (true_le (border input.strip.first *ℤ (midpoint p r).w) (midpoint p r).x
+      (least_through p (midpoint p r) (border input.strip.first) piece.from_positive small_z.positive (x_in_order p (midpoint p r) after_p) ip.low))
+      (true_lt (midpoint p r).x (border (input.strip.last + 1) *ℤ (midpoint p r).w)
+      (less_middle p r (border (input.strip.last + 1)) piece.from_positive piece.to_positive ip.high (ends_within input.strip (segments_in input) p r proper ip piece)))
 
   level_z : height_over s' (lean n (midpoint p r)) ≡ pos 0
   level_z = lean_height n piece.support (midpoint p r) ∙ ap (λ h. n *ℤ h) (middle_line piece.support p r (on_line piece.support p piece.from_on) (on_line piece.support r piece.to_on)) ∙ *ℤ-zero n
@@ -340,8 +340,8 @@ module _ (n : ℤ) (input : Input) (p r : Point) (piece : IsPiece (segments_in i
       (is_under m.segment s' (lean n (midpoint p r)) || is_level m.segment s' (lean n (midpoint p r)))))
       (λ (m : Marked). let z : Marked = record { layer = m.layer; segment = lean_segment n m.segment } in z) input.marked)
 
-  -- ---- from the middle to any place that the piece passes in the column
-  module _ (q : Point) (passed : IsPassed input.column p r q) (k : ℕ) where
+  -- ---- from the middle to any place that the piece passes in the strip
+  module _ (q : Point) (passed : IsPassed input.strip p r q) (k : ℕ) where
     abbrev Alike : Type 0
     Alike =
         (under_bits (lean_marked n input.marked) s' (lean n (midpoint p r)) k ≡ under_bits (lean_marked n input.marked) s' (lean n q) k)

@@ -3,12 +3,11 @@ use Rattle.std.proofs.Common.{◌≡◌, ℤ, pos, ◌<ℤ◌, ap, sym, ◌∙�
 use Rattle.std.specs.Prelude.{IsTrue}
 use Rattle.std.specs.declared.cmp.Ordering.TheVariants.{Less}
 use Rattle.overlay_terms.specs.Plane.{Point, Segment, whole, point_cmp, height_over, is_on}
-use Rattle.overlay_terms.specs.Tiles.{Input, IsPiece, is_node}
-use Rattle.overlay_terms.specs.TileLaws.{IsInput}
+use Rattle.overlay_terms.specs.Tiles.{IsPiece, is_node, Input}
 use Rattle.exact_point.proofs.OnLine.{after_left, before_right, on_line, left_on_line, parallel_line, within_on, no_turn_back}
 use Rattle.exact_point.proofs.PlaceOrder.{Way, before, at, after, way_of, one_positive, less_through, alike_left, alike_right, not_before_self, not_after_less}
-use Rattle.tile_laws.proofs.Statements.{segments_in}
 use Rattle.tile_laws.proofs.StepUp.{under_bits_alike, up_to_bits_alike}
+use Rattle.crossing_sweep.specs.StripInput.{StripInput, IsStripInput, segments_in}
 use Rattle.crossing_sweep.specs.Leaning.{lean, lean_segment, IsSteep}
 use Rattle.crossing_sweep.specs.Status.{IsStretchOf}
 use Rattle.crossing_sweep.specs.NextNode.{IsNextNode}
@@ -20,7 +19,7 @@ use Rattle.crossing_sweep.proofs.StretchLemmas.{holder_holds, no_turn}
 use Rattle.crossing_sweep.proofs.Carried.{sides_are_carried}
 use Rattle.crossing_sweep.proofs.MaskLemmas.{over_of, level_of}
 
-module _ (n : ℤ) (input : Input) (u : Segment) (p q r : Point) (steep : IsSteep n) (valid : IsInput input) (is : IsStretchOf (segments_in input) u) (goes : GoesOn u q)
+module _ (n : ℤ) (input : StripInput) (u : Segment) (p q r : Point) (steep : IsSteep n) (valid : IsStripInput input) (is : IsStretchOf (segments_in input) u) (goes : GoesOn u q)
     (last_on : IsLastOn input u p q) (next : IsNextNode (segments_in input) q r) (nodal_r : IsNodal r) (hq : pos 0 <ℤ q.w) (level : height_over u r ≡ pos 0) (ends : IsTrue (is_node (segments_in input) (whole u.right))) where
   hp : pos 0 <ℤ p.w
   hp = last_on.nodal.small.positive
@@ -98,9 +97,9 @@ module _ (n : ℤ) (input : Input) (u : Segment) (p q r : Point) (steep : IsStee
   along = record { left = on_line is.holder (whole u.left) is.on_left; right = on_line is.holder (whole u.right) is.on_right }
 
   abbrev leaned : Input
-  leaned = record { column = input.column; marked = lean_marked n input.marked; steps = input.steps }
+  leaned = record { column = input.strip.first; marked = lean_marked n input.marked; steps = input.steps }
 
-  passed : IsPassed input.column p r p
+  passed : IsPassed input.strip p r p
   passed = record { small = last_on.nodal.small; from = p_not_before; to = to_r; within = last_on.within }
 
   closed : IsPieceWithSides n input u p r

@@ -25,6 +25,7 @@ use Rattle.exact_point.proofs.OnLine.{on_line, way_up, less_from_forward, no_tur
 use Rattle.exact_point.proofs.PlaceOrder.{Way, before, at, after, way_of, one_positive, less_through, alike_left, level_from, same_turned, same_self, not_before_self}
 use Rattle.exact_point.proofs.Signs.{negative_times, not_negative_times}
 use Rattle.tile_laws.proofs.Ranks.{Told, yes, no, told}
+use Rattle.crossing_sweep.specs.StripInput.{Span}
 use Rattle.crossing_sweep.specs.Leaning.{IsSteep}
 use Rattle.crossing_sweep.specs.Status.{IsStretchOf, SidesFallAlong}
 use Rattle.crossing_sweep.specs.NextNode.{IsNextNode}
@@ -41,10 +42,10 @@ use Rattle.crossing_sweep.proofs.PassLemmas.{contains_filter}
 use Rattle.arrange.proofs.FoundLemmas.{place_positive}
 
 -- ---- where one that waits is met is a node after the place
-module _ (segments : List Segment) (column : ℕ) (few : column < column_count) (q : Point) (hq : pos 0 <ℤ q.w) (u : Segment) (is : IsStretchOf segments u) (goes : GoesOn u q) (wait : IsWaiting column q u)
-    (z : Point) (entry : IsEntry column u z) (left : begins_left column u ≡ true) where
-  reaches : border column ≤ℤ u.right.x
-  reaches = not_left u.right.x q.x q.w (border column) hq wait.on_border (x_in_order q (whole u.right) goes.lasting)
+module _ (segments : List Segment) (strip : Span) (few : strip.first < column_count) (q : Point) (hq : pos 0 <ℤ q.w) (u : Segment) (is : IsStretchOf segments u) (goes : GoesOn u q) (wait : IsWaiting strip q u)
+    (z : Point) (entry : IsEntry strip u z) (left : begins_left strip u ≡ true) where
+  reaches : border strip.first ≤ℤ u.right.x
+  reaches = not_left u.right.x q.x q.w (border strip.first) hq wait.on_border (x_in_order q (whole u.right) goes.lasting)
     where
       not_left : (x y w b : ℤ) → pos 0 <ℤ w → y ≡ b *ℤ w → (y *ℤ pos 1) ≤ℤ (x *ℤ w) → b ≤ℤ x
       not_left x y w b hw e h = by_lt_z x b (λ l. absurd (less y w x b e h (less_times x b w hw l))) (λ l. l)
@@ -53,7 +54,7 @@ module _ (segments : List Segment) (column : ℕ) (few : column < column_count) 
           less y w x b e h k = omega (arith, ints, e, h, k)
 
   wide : pos 0 <ℤ (u.right.x -ℤ u.left.x)
-  wide = wide_of u.left.x u.right.x (border column) wait.begins_left reaches
+  wide = wide_of u.left.x u.right.x (border strip.first) wait.begins_left reaches
     where
       wide_of : (l r b : ℤ) → l <ℤ b → b ≤ℤ r → pos 0 <ℤ (r -ℤ l)
       wide_of l r b h k = omega (arith, ints, h, k)
@@ -68,13 +69,13 @@ module _ (segments : List Segment) (column : ℕ) (few : column < column_count) 
           no_way l r h e = omega (arith, ints, h, e)
 
   pub entry_node : IsTrue (is_node segments z)
-  entry_node = border_node segments is.holder column z few (entry.cut left) (holder_holds segments u is z entry.positive entry.on) slanted is.among
+  entry_node = border_node segments is.holder strip.first z few (entry.cut left) (holder_holds segments u is z entry.positive entry.on) slanted is.among
 
   pub entry_after : point_cmp q z ≡ Less
   entry_after = less_from_forward q z (inr (level, up))
     where
       level : (z.x *ℤ q.w) -ℤ (q.x *ℤ z.w) ≡ pos 0
-      level = same_x z.x z.w q.x q.w (border column) (entry.cut left) wait.on_border
+      level = same_x z.x z.w q.x q.w (border strip.first) (entry.cut left) wait.on_border
         where
           same_x : (x w y v b : ℤ) → x ≡ b *ℤ w → y ≡ b *ℤ v → (x *ℤ v) -ℤ (y *ℤ w) ≡ pos 0
           same_x x w y v b e f = omega (arith, ints, ap (λ t. t *ℤ v) e, ap (λ t. t *ℤ w) f, last_turned b w v)
@@ -104,8 +105,8 @@ module _ (segments : List Segment) (column : ℕ) (few : column < column_count) 
               apart_from : (a b : ℤ) → b ≤ℤ a → pos 0 ≤ℤ (a -ℤ b)
               apart_from a b l = omega (arith, ints, l)
 
-module _ (n : ℤ) (segments units : List Segment) (column : ℕ) (q r : Point) (entered to_come : List Segment) (keys : List Point) (steep : IsSteep n) (proper : All IsProper segments)
-    (are : AreStretches segments units) (come : HasCome n segments units column q entered to_come keys) (next : IsNextNode segments q r) where
+module _ (n : ℤ) (segments units : List Segment) (strip : Span) (q r : Point) (entered to_come : List Segment) (keys : List Point) (steep : IsSteep n) (proper : All IsProper segments)
+    (are : AreStretches segments units) (come : HasCome n segments units strip q entered to_come keys) (next : IsNextNode segments q r) where
   hq : pos 0 <ℤ q.w
   hq = come.full.status_at.small.positive
 
@@ -113,7 +114,7 @@ module _ (n : ℤ) (segments units : List Segment) (column : ℕ) (q r : Point) 
   hr = next.small.positive
 
   abbrev w : List Segment
-  w = waiting column to_come
+  w = waiting strip to_come
 
   -- the entered units fall along the node
   pub falls : SidesFallAlong r entered
@@ -127,11 +128,11 @@ module _ (n : ℤ) (segments units : List Segment) (column : ℕ) (q r : Point) 
       all = sides_fall n segments q r (entered ++ w) steep (up_to_next n segments q r (entered ++ w) steep proper come.full.status_at next)
 
   -- none that is to come is met before the node
-  pub not_met_before : (u : Segment) → Contains to_come u → (z : Point) → IsEntry column u z → point_cmp z r ≡ Less → ⊥
-  not_met_before u among z entry less = by (told (begins_left column u))
+  pub not_met_before : (u : Segment) → Contains to_come u → (z : Point) → IsEntry strip u z → point_cmp z r ≡ Less → ⊥
+  not_met_before u among z entry less = by (told (begins_left strip u))
     where
-      coming : IsToCome column q u
-      coming = All-contains (IsToCome column q) to_come u come.coming among
+      coming : IsToCome strip q u
+      coming = All-contains (IsToCome strip q) to_come u come.coming among
 
       unit : Contains units u
       unit = All-contains (Contains units) to_come u come.among among
@@ -139,10 +140,10 @@ module _ (n : ℤ) (segments units : List Segment) (column : ℕ) (q r : Point) 
       is : IsStretchOf segments u
       is = All-contains (IsStretchOf segments) units u are.stretches unit
 
-      by : Told (begins_left column u) → ⊥
+      by : Told (begins_left strip u) → ⊥
       by (yes e) =
-          let goes : GoesOn u q = All-contains (λ u. GoesOn u q) (entered ++ w) u come.full.status_at.go_on (Contains-append_right entered w u (contains_filter (begins_left column) to_come u among e)) in
-          next.clear z entry.positive (entry_node segments column come.few q hq u is goes (coming.waits e) z entry e) (entry_after segments column come.few q hq u is goes (coming.waits e) z entry e) less
+          let goes : GoesOn u q = All-contains (λ u. GoesOn u q) (entered ++ w) u come.full.status_at.go_on (Contains-append_right entered w u (contains_filter (begins_left strip) to_come u among e)) in
+          next.clear z entry.positive (entry_node segments strip come.few q hq u is goes (coming.waits e) z entry e) (entry_after segments strip come.few q hq u is goes (coming.waits e) z entry e) less
       by (no e) =
           next.clear (whole u.left) one_positive (All-contains (λ u. IsTrue (is_node segments (whole u.left))) units u are.left_nodes unit) (coming.later e)
           (sym (alike_left z (whole u.left) r entry.positive one_positive hr (entry.left e)) ∙ less)
@@ -151,7 +152,7 @@ module _ (n : ℤ) (segments units : List Segment) (column : ℕ) (q r : Point) 
 abbrev pub seg_of_start : Start → Segment
 seg_of_start s = s.unit.seg
 
-module _ (column : ℕ) (at_r : HPoint) (coming : List Start) (entries : All (λ s. IsEntry column s.unit.seg (place s.at)) coming) where
+module _ (strip : Span) (at_r : HPoint) (coming : List Start) (entries : All (λ s. IsEntry strip s.unit.seg (place s.at)) coming) where
   abbrev r : Point
   r = place at_r
 
@@ -170,14 +171,14 @@ module _ (column : ℕ) (at_r : HPoint) (coming : List Start) (entries : All (λ
   same_from : (s : Start) → enters s ≡ true → IsTrue (same_place (place s.at) r)
   same_from s e = sym (is_eq_then _ _) ∙ e
 
-  pub all_enter : All (λ u. (z : Point) × IsEntry column u z × IsTrue (same_place z r)) (map seg_of_start (take k coming))
-  all_enter = All-map (λ u. (z : Point) × IsEntry column u z × IsTrue (same_place z r)) seg_of_start (take k coming) each
+  pub all_enter : All (λ u. (z : Point) × IsEntry strip u z × IsTrue (same_place z r)) (map seg_of_start (take k coming))
+  all_enter = All-map (λ u. (z : Point) × IsEntry strip u z × IsTrue (same_place z r)) seg_of_start (take k coming) each
     where
-      each : All (λ s. (z : Point) × IsEntry column (seg_of_start s) z × IsTrue (same_place z r)) (take k coming)
+      each : All (λ s. (z : Point) × IsEntry strip (seg_of_start s) z × IsTrue (same_place z r)) (take k coming)
       each i d l =
           let inside : i < k = omega (arith, l, length-take-le k coming few) in
           let e = get_or-take k coming i d inside in
-          subst (λ s. (z : Point) × IsEntry column (seg_of_start s) z × IsTrue (same_place z r)) (sym e)
+          subst (λ s. (z : Point) × IsEntry strip (seg_of_start s) z × IsTrue (same_place z r)) (sym e)
           (place (get_or coming i d).at, entries i d (omega (arith, inside, few)), same_from (get_or coming i d) (prefix_len_passes enters coming i d inside))
 
   module _ (ordered : AllPairs (λ s t. ¬ (point_cmp (place t.at) (place s.at) ≡ Less)) coming) (none_before : (s : Start) → Contains coming s → point_cmp (place s.at) r ≡ Less → ⊥) where
@@ -220,11 +221,11 @@ module _ (column : ℕ) (at_r : HPoint) (coming : List Start) (entries : All (λ
       later : point_cmp r z ≡ Less
       later = by_first (way_of r x hr' hx)
 
-    pub all_later : All (λ u. (z : Point) × IsEntry column u z × (point_cmp r z ≡ Less)) (map seg_of_start (drop k coming))
-    all_later = All-map (λ u. (z : Point) × IsEntry column u z × (point_cmp r z ≡ Less)) seg_of_start (drop k coming) each
+    pub all_later : All (λ u. (z : Point) × IsEntry strip u z × (point_cmp r z ≡ Less)) (map seg_of_start (drop k coming))
+    all_later = All-map (λ u. (z : Point) × IsEntry strip u z × (point_cmp r z ≡ Less)) seg_of_start (drop k coming) each
       where
-        each : All (λ s. (z : Point) × IsEntry column (seg_of_start s) z × (point_cmp r z ≡ Less)) (drop k coming)
+        each : All (λ s. (z : Point) × IsEntry strip (seg_of_start s) z × (point_cmp r z ≡ Less)) (drop k coming)
         each i d l =
             let inside : k + i < length coming = omega (arith, l, length-drop k coming, few) in
-            subst (λ s. (z : Point) × IsEntry column (seg_of_start s) z × (point_cmp r z ≡ Less)) (sym (get_or-drop k coming i d))
+            subst (λ s. (z : Point) × IsEntry strip (seg_of_start s) z × (point_cmp r z ≡ Less)) (sym (get_or-drop k coming i d))
             (place (get_or coming (k + i) d).at, entries (k + i) d inside, later i d inside)

@@ -6,9 +6,8 @@ use Rattle.std.proofs.lemmas.Int.{ints}
 use Rattle.std.proofs.lemmas.Bool.{and_parts, and_from}
 use Rattle.std.proofs.lemmas.List.Elements.{All-map, All-contains}
 use Rattle.overlay_terms.specs.Plane.{Point, Segment, whole, point_cmp, is_on, coordinate_max}
-use Rattle.overlay_terms.specs.Column.{is_in_column}
-use Rattle.overlay_terms.specs.Tiles.{Input, IsPiece, is_node}
-use Rattle.overlay_terms.specs.TileLaws.{IsInput, IsProper}
+use Rattle.overlay_terms.specs.Tiles.{IsPiece, is_node, Input}
+use Rattle.overlay_terms.specs.TileLaws.{IsProper}
 use Rattle.exact_point.proofs.OnLine.{after_left, before_right, on_line, left_on_line, parallel_line, within_on, no_turn_back}
 use Rattle.exact_point.proofs.PlaceOrder.{Way, before, at, after, way_of, one_positive, less_through, alike_left, alike_right, not_before_self, not_after_less, on_same}
 use Rattle.tile_laws.proofs.JustRight.{under_bits, up_to_bits}
@@ -16,8 +15,8 @@ use Rattle.tile_laws.proofs.Candidates.{IsAmong}
 use Rattle.tile_laws.proofs.LastPlace.{Falls, falling}
 use Rattle.tile_laws.proofs.NextNode.{IsLast, last_of}
 use Rattle.exact_point.proofs.SameNodes.{node_alike}
-use Rattle.tile_laws.proofs.Statements.{segments_in}
 use Rattle.tile_laws.proofs.StepUp.{under_bits_alike, up_to_bits_alike}
+use Rattle.crossing_sweep.specs.StripInput.{StripInput, IsStripInput, is_in_strip, segments_in}
 use Rattle.crossing_sweep.specs.Leaning.{lean, lean_segment, IsSteep, IsSmall}
 use Rattle.crossing_sweep.specs.Status.{IsStretchOf}
 use Rattle.crossing_sweep.specs.Sides.{lean_marked, IsNodal, IsPassed}
@@ -29,8 +28,8 @@ use Rattle.crossing_sweep.proofs.NextNode.{places, node_place, few_places, IsFew
 use Rattle.crossing_sweep.proofs.Carried.{sides_are_carried}
 use Rattle.crossing_sweep.proofs.MaskLemmas.{over_of, level_of}
 
-module _ (n : ℤ) (input : Input) (u : Segment) (p q : Point) (steep : IsSteep n) (valid : IsInput input) (is : IsStretchOf (segments_in input) u) (goes : GoesOn u q) (small_q : IsSmall q)
-    (q_in : IsTrue (is_in_column input.column q)) (last_on : IsLastOn input u p q) (ends : IsTrue (is_node (segments_in input) (whole u.right))) where
+module _ (n : ℤ) (input : StripInput) (u : Segment) (p q : Point) (steep : IsSteep n) (valid : IsStripInput input) (is : IsStretchOf (segments_in input) u) (goes : GoesOn u q) (small_q : IsSmall q)
+    (q_in : IsTrue (is_in_strip input.strip q)) (last_on : IsLastOn input u p q) (ends : IsTrue (is_node (segments_in input) (whole u.right))) where
   abbrev xs : List Segment
   xs = segments_in input
 
@@ -141,15 +140,15 @@ module _ (n : ℤ) (input : Input) (u : Segment) (p q : Point) (steep : IsSteep 
   p_not_before : point_cmp p p ≡ Less → ⊥
   p_not_before h = not_after_less p p hp hp h h
 
-  at_p : IsPassed input.column p first.0 p
+  at_p : IsPassed input.strip p first.0 p
   at_p = record { small = last_on.nodal.small; from = p_not_before; to = p_less first.0 hr q_less; within = last_on.within }
 
-  at_q : IsPassed input.column p first.0 q
+  at_q : IsPassed input.strip p first.0 q
   at_q = record { small = small_q; from = last_on.from; to = q_less; within = q_in }
 
   -- ---- from the segment to the stretch
   abbrev leaned : Input
-  leaned = record { column = input.column; marked = lean_marked n input.marked; steps = input.steps }
+  leaned = record { column = input.strip.first; marked = lean_marked n input.marked; steps = input.steps }
 
   along : IsAlong is.holder u
   along = record { left = on_line is.holder (whole u.left) is.on_left; right = on_line is.holder (whole u.right) is.on_right }

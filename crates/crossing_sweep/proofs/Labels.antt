@@ -8,16 +8,15 @@ use Rattle.std.proofs.lemmas.List.Elements.{All-nil, All-cons, All-head, All-tai
 use Rattle.std.proofs.Math.ListN.{length-append}
 use Rattle.std.specs.declared.cmp.Ordering.TheVariants.{Less}
 use Rattle.overlay_terms.specs.Plane.{Point, Segment, whole, point_cmp, is_on}
-use Rattle.overlay_terms.specs.Column.{border, is_in_column}
+use Rattle.overlay_terms.specs.Column.{border}
 use Rattle.overlay_terms.specs.Layers.{layers_max}
-use Rattle.overlay_terms.specs.Tiles.{Input, is_node}
-use Rattle.overlay_terms.specs.TileLaws.{IsInput}
+use Rattle.overlay_terms.specs.Tiles.{is_node}
 use Rattle.overlay_terms.specs.Trees.{steps_value, mask_bits}
 use Rattle.overlay_terms.proofs.InputNumbers.{x_in_order, less_times, less_back, last_turned, lt_true, true_lt, true_le}
 use Rattle.overlay_terms.proofs.BitLemmas.{mask_bits-zero}
-use Rattle.tile_laws.proofs.Statements.{segments_in}
 use Rattle.arrange.specs.Units.{IsUnit, AreUnits, cover_bits}
 use Rattle.arrange.specs.declared.unit.Unit.{Unit}
+use Rattle.crossing_sweep.specs.StripInput.{Span, StripInput, IsStripInput, is_in_strip, segments_in}
 use Rattle.crossing_sweep.specs.Leaning.{IsSteep}
 use Rattle.crossing_sweep.specs.Status.{IsStretchOf}
 use Rattle.crossing_sweep.specs.Queue.{GoesOn, IsStatusAt}
@@ -40,17 +39,17 @@ last_over under (m ∷ []) (suc j) d e = absurd (omega (arith, e))
 last_over under (m ∷ m2 ∷ ms) zero d e = absurd (omega (arith, e))
 last_over under (m ∷ m2 ∷ ms) (suc j) d e = last_over m.over (m2 ∷ ms) j d (omega (arith, e))
 
--- ---- what lies before a place of the column, from its border on, lies in the column
-pub before_in_column : (k : ℕ) (p r : Point) → pos 0 <ℤ p.w → pos 0 <ℤ r.w → (border k *ℤ p.w) ≤ℤ p.x → point_cmp p r ≡ Less → IsTrue (is_in_column k r) → IsTrue (is_in_column k p)
-before_in_column k p r hp hr from less within =
-    let high : r.x <ℤ (border (k + 1) *ℤ r.w) = lt_true r.x (border (k + 1) *ℤ r.w) (and_parts (int_le (border k *ℤ r.w) r.x) (int_lt r.x (border (k + 1) *ℤ r.w)) within).1 in
-    and_from (int_le (border k *ℤ p.w) p.x) (int_lt p.x (border (k + 1) *ℤ p.w)) (true_le (border k *ℤ p.w) p.x from)
-    (true_lt p.x (border (k + 1) *ℤ p.w) (below p.x r.x p.w r.w (border (k + 1)) hp hr (x_in_order p r less) high))
+-- ---- what lies before a place of the strip, from its border on, lies in the strip
+pub before_in_strip : (strip : Span) (p r : Point) → pos 0 <ℤ p.w → pos 0 <ℤ r.w → (border strip.first *ℤ p.w) ≤ℤ p.x → point_cmp p r ≡ Less → IsTrue (is_in_strip strip r) → IsTrue (is_in_strip strip p)
+before_in_strip strip p r hp hr from less within =
+    let high : r.x <ℤ (border (strip.last + 1) *ℤ r.w) = lt_true r.x (border (strip.last + 1) *ℤ r.w) (and_parts (int_le (border strip.first *ℤ r.w) r.x) (int_lt r.x (border (strip.last + 1) *ℤ r.w)) within).1 in
+    and_from (int_le (border strip.first *ℤ p.w) p.x) (int_lt p.x (border (strip.last + 1) *ℤ p.w)) (true_le (border strip.first *ℤ p.w) p.x from)
+    (true_lt p.x (border (strip.last + 1) *ℤ p.w) (below p.x r.x p.w r.w (border (strip.last + 1)) hp hr (x_in_order p r less) high))
   where
     below : (x y w v b : ℤ) → pos 0 <ℤ w → pos 0 <ℤ v → (x *ℤ v) ≤ℤ (y *ℤ w) → y <ℤ (b *ℤ v) → x <ℤ (b *ℤ w)
     below x y w v b hw hv h l = less_back x (b *ℤ w) v hv (omega (arith, ints, h, less_times y (b *ℤ v) w hw l, last_turned b v w))
 
-module _ (n : ℤ) (input : Input) (units : List Unit) (r : Point) (passed : List Point) (steep : IsSteep n) (valid : IsInput input) (are : AreUnits input.marked units) (nodal : IsNodal r)
+module _ (n : ℤ) (input : StripInput) (units : List Unit) (r : Point) (passed : List Point) (steep : IsSteep n) (valid : IsStripInput input) (are : AreUnits input.marked units) (nodal : IsNodal r)
     (node : IsTrue (is_node (segments_in input) r)) (end : ℕ) (end_known : end < length passed) (at : place_at passed end ≡ r) where
   hr : pos 0 <ℤ r.w
   hr = nodal.small.positive
@@ -63,31 +62,31 @@ module _ (n : ℤ) (input : Input) (units : List Unit) (r : Point) (passed : Lis
   }
 
   -- ---- on the right border
-  module _ (out : is_in_column input.column r ≡ false) where
-    one_out : (under : ℕ) (m : Member) → IsTrue (is_on (seg_of m) r) → IsBegun input.steps under end (is_in_column input.column r) m → IsCarried n input passed r m
+  module _ (out : is_in_strip input.strip r ≡ false) where
+    one_out : (under : ℕ) (m : Member) → IsTrue (is_on (seg_of m) r) → IsBegun input.steps under end (is_in_strip input.strip r) m → IsCarried n input passed r m
     one_out under m on begun =
         begins_there m begun.begins
         (record {
           on = on;
-          last = λ h. absurd (both_ways (is_in_column input.column r) out h);
-          over = λ h. absurd (both_ways (is_in_column input.column r) out h);
+          last = λ h. absurd (both_ways (is_in_strip input.strip r) out h);
+          over = λ h. absurd (both_ways (is_in_strip input.strip r) out h);
           differs = begun.differs (mask_bits under) (mask_bits m.over) (λ k few. refl) (λ k few. refl) ∙ ap (λ b. b && is_one_of (steps_value input.steps (mask_bits under)) (steps_value input.steps (mask_bits m.over))) out ∙ sym (ap (λ b. b && sides_differ n input (seg_of m) r) out);
         })
 
-    pub all_out : (under : ℕ) (ms : List Member) → All (λ m. IsTrue (is_on (seg_of m) r)) ms → AreBegun input.steps under end (is_in_column input.column r) ms → All (IsCarried n input passed r) ms
+    pub all_out : (under : ℕ) (ms : List Member) → All (λ m. IsTrue (is_on (seg_of m) r)) ms → AreBegun input.steps under end (is_in_strip input.strip r) ms → All (IsCarried n input passed r) ms
     all_out under [] on begun = All-nil (IsCarried n input passed r)
     all_out under (m ∷ ms) on begun =
         All-cons (IsCarried n input passed r) m ms (one_out under m (All-head (λ (m : Member). IsTrue (is_on (seg_of m) r)) m ms on) begun.0)
         (all_out m.over ms (All-tail (λ (m : Member). IsTrue (is_on (seg_of m) r)) m ms on) begun.1)
 
-  -- ---- in the column
+  -- ---- in the strip
   module _ (full others : List Segment) (status : IsStatusAt n (segments_in input) r full) (go_up : MasksGoUp n input r full) where
     -- a mask is what lies under the member after some
     abbrev IsUnderNext : List Segment → ℕ → Type 0
     IsUnderNext done mask = (d : Segment) → length done < length full → HasBits mask (under_unit n input (get_or full (length done) d) r)
 
     module _ (done : List Segment) (m : Member) (rest : List Segment) (split : full ≡ done ++ (seg_of m ∷ rest)) (among : Contains units m.unit) (on_r : IsTrue (is_on (seg_of m) r)) (mask : ℕ) (under_next : IsUnderNext done mask)
-        (begun : IsBegun input.steps mask end (is_in_column input.column r) m) where
+        (begun : IsBegun input.steps mask end (is_in_strip input.strip r) m) where
       abbrev u : Segment
       u = m.unit.seg
 
@@ -131,7 +130,7 @@ module _ (n : ℤ) (input : Input) (units : List Unit) (r : Point) (passed : Lis
           high k few ∙ ap (λ s. up_to_unit n input s r k) (sym (here d)) ∙ sym (go_up.next (length done) d k (omega (arith, l, long))) ∙ ap (λ i. under_unit n input (get_or full i d) r k) (sym long)
 
     pub all_in : (done : List Segment) (ms : List Member) (mask : ℕ) → full ≡ done ++ (map seg_of ms ++ others) → All (λ m. Contains units m.unit) ms → All (λ m. IsTrue (is_on (seg_of m) r)) ms → IsUnderNext done mask
-        → AreBegun input.steps mask end (is_in_column input.column r) ms → All (IsCarried n input passed r) ms
+        → AreBegun input.steps mask end (is_in_strip input.strip r) ms → All (IsCarried n input passed r) ms
     all_in done [] mask split among on under_next begun = All-nil (IsCarried n input passed r)
     all_in done (m ∷ ms) mask split among on under_next begun =
         let c = All-head (λ (m : Member). Contains units m.unit) m ms among in
@@ -141,8 +140,8 @@ module _ (n : ℤ) (input : Input) (units : List Unit) (r : Point) (passed : Lis
         (All-tail (λ (m : Member). IsTrue (is_on (seg_of m) r)) m ms on) (next_under done m (map seg_of ms ++ others) split c h mask under_next begun.0) begun.1)
 
     -- what the highest member under the node carries is what lies under the first that begins there
-    module _ (within : IsTrue (is_in_column input.column r)) (under : List Member) (rest : List Segment) (split : full ≡ map seg_of under ++ rest) (carried : All (IsCarried n input passed r) under)
-        (in_column : All (λ m. IsTrue (is_in_column input.column (place_at passed m.begin))) under) where
+    module _ (within : IsTrue (is_in_strip input.strip r)) (under : List Member) (rest : List Segment) (split : full ≡ map seg_of under ++ rest) (carried : All (IsCarried n input passed r) under)
+        (in_strip : All (λ m. IsTrue (is_in_strip input.strip (place_at passed m.begin))) under) where
       long : length (map seg_of under) ≡ length under
       long = length-map under seg_of
 
@@ -173,7 +172,7 @@ module _ (n : ℤ) (input : Input) (units : List Unit) (r : Point) (passed : Lis
 
         up_there : HasBits (get_or under j d).over (up_to_unit n input (seg_of (get_or under j d)) r)
         up_there k few =
-            let c = in_column j d known in
+            let c = in_strip j d known in
             carry.carried.over c k few ∙ (masks_are_kept n input (seg_of (get_or under j d)) (place_at passed (get_or under j d).begin) r k steep valid stretch lasts nodal.small within (carry.carried.last c) ends).1
 
         some : IsUnderNext (map seg_of under) (mask_over 0 under)

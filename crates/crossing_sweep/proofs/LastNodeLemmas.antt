@@ -3,15 +3,15 @@ use Rattle.std.proofs.Common.{◌≡◌, pos, ◌<ℤ◌, sym, ◌∙◌}
 use Rattle.std.specs.Prelude.{IsTrue}
 use Rattle.std.specs.declared.cmp.Ordering.TheVariants.{Less}
 use Rattle.overlay_terms.specs.Plane.{Point, Segment, point_cmp, height_over, is_on}
-use Rattle.overlay_terms.specs.Tiles.{Input, is_node}
+use Rattle.overlay_terms.specs.Tiles.{is_node}
 use Rattle.exact_point.proofs.OnLine.{on_line}
 use Rattle.exact_point.proofs.PlaceOrder.{Way, before, at, after, way_of, less_through, not_before_self, not_after_less, on_same}
-use Rattle.tile_laws.proofs.Statements.{segments_in}
+use Rattle.crossing_sweep.specs.StripInput.{StripInput, segments_in}
 use Rattle.crossing_sweep.specs.NextNode.{IsNextNode}
 use Rattle.crossing_sweep.specs.Kept.{IsLastOn}
 use Rattle.crossing_sweep.specs.LastNode.{LastNodeStays, LastNodeIsNew}
 
-module _ (input : Input) (u : Segment) (p q r : Point) (hq : pos 0 <ℤ q.w) (last_on : IsLastOn input u p q) (next : IsNextNode (segments_in input) q r) (off : height_over u r ≡ pos 0 → ⊥) where
+module _ (input : StripInput) (u : Segment) (p q r : Point) (hq : pos 0 <ℤ q.w) (last_on : IsLastOn input u p q) (next : IsNextNode (segments_in input) q r) (off : height_over u r ≡ pos 0 → ⊥) where
   hp : pos 0 <ℤ p.w
   hp = last_on.nodal.small.positive
 

@@ -1,4 +1,4 @@
--- On the right border of a column a pass only closes pieces: its members are those of a full status that begin in the column, which goes on as at any node, but for members that pass under all places ahead.
+-- On the right border of a strip a pass only closes pieces: its members are those of a full status that begin in the strip, which goes on as at any node, but for members that pass under all places ahead.
 use Rattle.std.proofs.Common.{◌≡◌, ℕ, ℤ, pos, ◌+◌, ◌-ℤ◌, ◌+ℤ◌, ◌*ℤ◌, ◌<◌, ◌≤◌, ◌<ℤ◌, ◌≤ℤ◌, int_lt, int_le, append_assoc, inl, inr, ◌⊎◌, Bool, true, false, cond, List, [], ◌∷◌, ◌++◌, map, take, drop, length, get_or, refl, ap, sym, subst, ◌∙◌, arith}
 use Rattle.std.specs.Prelude.{IsTrue, All, Contains, filter, not}
 use Rattle.std.specs.Int.RustNames.{bit_xor}
@@ -17,9 +17,7 @@ use Rattle.std.proofs.lemmas.List.Sorted.{IsPermutation-refl, IsPermutation-cons
 use Rattle.std.proofs.Math.ListN.{length-append}
 use Rattle.std.specs.declared.cmp.Ordering.TheVariants.{Less}
 use Rattle.overlay_terms.specs.Plane.{Point, Segment, point_cmp, height_over, is_on}
-use Rattle.overlay_terms.specs.Column.{border, is_in_column}
-use Rattle.overlay_terms.specs.Tiles.{Input}
-use Rattle.overlay_terms.specs.TileLaws.{IsInput}
+use Rattle.overlay_terms.specs.Column.{border}
 use Rattle.overlay_terms.specs.Trees.{Steps}
 use Rattle.overlay_terms.proofs.InputNumbers.{le_true, lt_true, true_le, true_lt, left_most, most_back, less_back, less_times, last_turned}
 use Rattle.overlay_terms.proofs.Lists.{contains_map, contains_rest}
@@ -28,10 +26,10 @@ use Rattle.exact_point.specs.Place.{place, same_hpoint}
 use Rattle.exact_point.specs.PlaceOf.{place_of}
 use Rattle.exact_point.specs.declared.point.HPoint.{HPoint}
 use Rattle.exact_point.specs.declared.point_name.PointName.{PointName}
-use Rattle.arrange.specs.Arrangement.{segments_in}
 use Rattle.arrange.specs.declared.unit.Unit.{Unit}
 use Rattle.arrange.proofs.FoundLemmas.{place_positive}
 use Rattle.tile_laws.proofs.Ranks.{Told, yes, no, told}
+use Rattle.crossing_sweep.specs.StripInput.{StripInput, IsStripInput, is_in_strip, segments_in}
 use Rattle.crossing_sweep.specs.Status.{SidesFallAlong}
 use Rattle.crossing_sweep.specs.Step.{IsSplitAt}
 use Rattle.crossing_sweep.specs.NextNode.{IsNextNode}
@@ -41,7 +39,7 @@ use Rattle.crossing_sweep.specs.Rows.{place_at, AreBegun, IsCarried, mask_over, 
 use Rattle.crossing_sweep.specs.Stepping.{segs_to_come, IsStepped}
 use Rattle.crossing_sweep.specs.Amid.{IsClosedAt, IsAmid, PassesUnder, begins_within}
 use Rattle.crossing_sweep.specs.Testing.{AreSeamsTested, seams_at}
-use Rattle.crossing_sweep.specs.Crossed.{IsUnderWay, IsKey}
+use Rattle.crossing_sweep.specs.UnderWay.{IsUnderWay, IsKey}
 use Rattle.crossing_sweep.specs.declared.member.Member.{Member}
 use Rattle.crossing_sweep.specs.declared.start.Start.{Start}
 use Rattle.crossing_sweep.specs.declared.row.Row.{Row}
@@ -56,7 +54,7 @@ use Rattle.crossing_sweep.proofs.RightBorder.{not_left, on_border as on_right}
 use Rattle.overlay_terms.proofs.Pairs.{pairs_rest, pairs_head, pairs_second, all_pairs_append, all_first, all_second, pairs_map, pairs_from_map, all_from_map}
 use Rattle.overlay_terms.proofs.Whole.{more_none, same_most}
 use Rattle.crossing_sweep.specs.Passing.{IsAhead}
-use Rattle.crossing_sweep.proofs.Labels.{before_in_column}
+use Rattle.crossing_sweep.proofs.Labels.{before_in_strip}
 use Rattle.crossing_sweep.proofs.Passed.{still_at, last_at, not_after_before}
 use Rattle.crossing_sweep.proofs.TurnedLemmas.{unit_after, all_turned, units_filter}
 use Rattle.crossing_sweep.proofs.SplitLemmas.{is_under, is_up_to, under_falls, up_to_falls, prefix_parts, all_under, none_under, all_hold, all_over, rest_falls, split_parts}
@@ -92,7 +90,7 @@ module _ {X : Type 0} where
       by more both (no e) (yes f) = absurd (both_ways (p x) e (both f))
       by more both (no e) (no f) = rw e (rw f more)
 
-  -- ---- two parts, of which a test tells the elements
+  -- ---- two parts, whose elements a test separates
   first_of : (p : X → Bool) (xs ys : List X) → All (λ x. p x ≡ true) xs → All (λ x. p x ≡ false) ys → filter p (xs ++ ys) ≡ xs
   first_of p xs ys h l = filter-append p xs ys ∙ ap (λ zs. zs ++ filter p ys) (filter_all p xs h) ∙ ap (λ zs. xs ++ zs) (filter_none p ys l) ∙ append-nil xs
 
@@ -262,7 +260,7 @@ module _ (r : Point) where
   low_tests : (ms : List Member) → All (λ m. pos 0 <ℤ height_over m.unit.seg r) ms → All (λ m. tells_under m ≡ true) ms
   low_tests ms h i d l = true_lt (pos 0) (height_over (get_or ms i d).unit.seg r) (h i d l)
 
-  -- two lists that end alike, behind members under the place, are split there alike
+  -- two lists that end alike, after members under the place, are split there alike
   module _ (gone some kept u b o u2 b2 o2 : List Member) (gone_low : All (λ m. pos 0 <ℤ height_over m.unit.seg r) gone) (some_low : All (λ m. pos 0 <ℤ height_over m.unit.seg r) some) (one : AreParts u b o) (two : AreParts u2 b2 o2)
       (first : gone ++ kept ≡ u ++ b ++ o) (second : some ++ kept ≡ u2 ++ b2 ++ o2) where
     ends_alike : b ++ o ≡ b2 ++ o2
@@ -429,9 +427,9 @@ module _ (names : List PointName) (name : PointName) where
   pub named_last : (number : ℕ) → number ≡ length names → place_at (map place_of (names ++ name ∷ [])) number ≡ place_of name
   named_last number e = ap (λ ps. place_at ps number) (map-append place_of names (name ∷ [])) ∙ last_at (map place_of names) (place_of name) number (e ∙ sym (length-map names place_of))
 
-module _ (input : Input) (valid : IsInput input) (full status after : List Member) (coming : List Start) (at : HPoint) (name : PointName) (begin : ℕ) (search : Search) (rows more_rows : List Row) (names : List PointName)
+module _ (input : StripInput) (valid : IsStripInput input) (full status after : List Member) (coming : List Start) (at : HPoint) (name : PointName) (begin : ℕ) (search : Search) (rows more_rows : List Row) (names : List PointName)
     (way : IsUnderWay input search.listed full coming ((at, name) ∷ search.ahead) search.tests.items rows names) (least : All (λ e. point_cmp (place at) (place e.0) ≡ Less) search.ahead) (numbered : begin ≡ length names)
-    (gone some kept : List Member) (is : status ≡ gone ++ kept) (full_is : filter (begins_within input names) full ≡ some ++ kept) (gone_under : All (PassesUnder ((at, name) ∷ search.ahead)) gone) (some_under : All (PassesUnder ((at, name) ∷ search.ahead)) some) (out : is_in_column input.column (place at) ≡ false) (closed : IsClosedAt at begin status after rows more_rows) where
+    (gone some kept : List Member) (is : status ≡ gone ++ kept) (full_is : filter (begins_within input names) full ≡ some ++ kept) (gone_under : All (PassesUnder ((at, name) ∷ search.ahead)) gone) (some_under : All (PassesUnder ((at, name) ∷ search.ahead)) some) (out : is_in_strip input.strip (place at) ≡ false) (closed : IsClosedAt at begin status after rows more_rows) where
   abbrev r : Point
   r = place at
 
@@ -443,12 +441,12 @@ module _ (input : Input) (valid : IsInput input) (full status after : List Membe
 
   next : IsNextNode (segments_in input) way.q (place at)
   next =
-      first_is_node way.n (segments_in input) unit_segs input.column way.q (place at) (segs_of full) (segs_to_come coming) (points_of search.ahead) way.steep (proper_segments input valid) way.come
+      first_is_node way.n (segments_in input) unit_segs input.strip way.q (place at) (segs_of full) (segs_to_come coming) (points_of search.ahead) way.steep (proper_segments input valid) way.come
       (All-map (λ z. point_cmp (place at) z ≡ Less) (λ (d : HPoint × PointName). place d.0) search.ahead least)
 
   falls_full : SidesFallAlong (place at) (segs_of full)
   falls_full =
-      falls way.n (segments_in input) unit_segs input.column way.q (place at) (segs_of full) (segs_to_come coming) (place at ∷ points_of search.ahead) way.steep (proper_segments input valid)
+      falls way.n (segments_in input) unit_segs input.strip way.q (place at) (segs_of full) (segs_to_come coming) (place at ∷ points_of search.ahead) way.steep (proper_segments input valid)
       (units_are_stretches input way.units valid way.are) way.come next
 
   abbrev low_full : ℕ
@@ -512,7 +510,7 @@ module _ (input : Input) (valid : IsInput input) (full status after : List Membe
   over_same : closed.over ≡ high_kept
   over_same = same_over (place at) gone some kept closed.under closed.bundle closed.over low_kept held_kept high_kept gone_low some_low code_parts two_parts (sym is ∙ closed.was) full_parts
 
-  -- ---- no member of the full status that has not begun in the column makes a row
+  -- ---- no member of the full status that has not begun in the strip makes a row
   abbrev Carried : Member → Type 0
   Carried m = IsCarried way.n input (map place_of names) way.q m
 
@@ -524,7 +522,7 @@ module _ (input : Input) (valid : IsInput input) (full status after : List Membe
 
   differs_within : (m : Member) → IsCarried way.n input (map place_of names) way.q m → m.differs ≡ true → begins_within input names m ≡ true
   differs_within m is d =
-      (and_parts (is_in_column input.column (place_at (map place_of names) m.begin)) (sides_differ way.n input (seg_of m) (place_at (map place_of names) m.begin)) (sym is.carried.differs ∙ d)).0
+      (and_parts (is_in_strip input.strip (place_at (map place_of names) m.begin)) (sides_differ way.n input (seg_of m) (place_at (map place_of names) m.begin)) (sym is.carried.differs ∙ d)).0
 
   rows_same : more_rows ≡ rows ++ rows_of begin b
   rows_same =
@@ -563,9 +561,9 @@ module _ (input : Input) (valid : IsInput input) (full status after : List Membe
   turned : AllPairs (λ a b. pos 0 ≤ℤ turn_of a b) (segs_of staying)
   turned = turned_order (filter (λ m. ends_after (place at) m.unit.seg) together)
 
-  tested : AreSeamsTested input.column (place at) (segs_of full_after) (seams_at (is_in_column input.column (place at)) low_full (low_full + length stay)) search search
+  tested : AreSeamsTested input.strip (place at) (segs_of full_after) (seams_at (is_in_strip input.strip (place at)) low_full (low_full + length stay)) search search
   tested =
-      subst (λ t. AreSeamsTested input.column (place at) (segs_of full_after) (seams_at t low_full (low_full + length stay)) search search) (sym out) (no_seams input.column (place at) (segs_of full_after) search)
+      subst (λ t. AreSeamsTested input.strip (place at) (segs_of full_after) (seams_at t low_full (low_full + length stay)) search search) (sym out) (no_seams input.strip (place at) (segs_of full_after) search)
 
   steps : IsStepped input at begin full full_after coming rest search search rows more_rows
   steps =
@@ -576,13 +574,13 @@ module _ (input : Input) (valid : IsInput input) (full status after : List Membe
   leaves_way : IsUnderWay input search.listed full_after rest search.ahead search.tests.items more_rows (names ++ name ∷ [])
   leaves_way = goes_way input valid full full_after coming rest at name begin search search rows more_rows names way least numbered steps
 
-  -- ---- and the code's members are those that begin in the column
+  -- ---- and the code's members are those that begin in the strip
   abbrev v : Member → Bool
   v = begins_within input (names ++ name ∷ [])
 
   alike : (ms : List Member) → All (λ m. IsCarried way.n input (map place_of names) way.q m) ms → filter (begins_within input (names ++ name ∷ [])) ms ≡ filter (begins_within input names) ms
   alike ms are =
-      filter_alike (begins_within input (names ++ name ∷ [])) (begins_within input names) ms (λ i d l. ap (λ z. is_in_column input.column z) (named_before names name (get_or ms i d).begin (are i d l).known))
+      filter_alike (begins_within input (names ++ name ∷ [])) (begins_within input names) ms (λ i d l. ap (λ z. is_in_strip input.strip z) (named_before names name (get_or ms i d).begin (are i d l).known))
 
   key : IsKey input search.listed search.tests.items (at, name)
   key = All-head (IsKey input search.listed search.tests.items) (at, name) search.ahead way.keys
@@ -590,7 +588,7 @@ module _ (input : Input) (valid : IsInput input) (full status after : List Membe
   none_begins : filter (begins_within input (names ++ name ∷ [])) stay ≡ []
   none_begins =
       filter_none (begins_within input (names ++ name ∷ [])) stay
-      (λ i d l. ap (λ z. is_in_column input.column z) (named_last names name (get_or stay i d).begin (relabel_number begin (mask_over 0 u) staying i d l ∙ numbered) ∙ sym key.told) ∙ out)
+      (λ i d l. ap (λ z. is_in_strip input.strip z) (named_last names name (get_or stay i d).begin (relabel_number begin (mask_over 0 u) staying i d l ∙ numbered) ∙ sym key.told) ∙ out)
 
   low_alike : filter (begins_within input (names ++ name ∷ [])) u ≡ low_kept
   low_alike = alike u (all_first Carried u b (all_first Carried (u ++ b) o carried_parts))
@@ -601,27 +599,27 @@ module _ (input : Input) (valid : IsInput input) (full status after : List Membe
       ∙ ap (λ (ms : List Member). low_kept ++ ms) (alike o (all_second Carried (u ++ b) o carried_parts) ∙ sym over_same)
 
   -- ---- what has been closed passes under the places ahead
-  r_ahead : IsAhead (segments_in input) input.column way.q (place at)
-  r_ahead = All-head (IsAhead (segments_in input) input.column way.q) (place at) (points_of search.ahead) way.come.ahead
+  r_ahead : IsAhead (segments_in input) input.strip way.q (place at)
+  r_ahead = All-head (IsAhead (segments_in input) input.strip way.q) (place at) (points_of search.ahead) way.come.ahead
 
-  past : (border (input.column + 1) *ℤ (place at).w) ≤ℤ (place at).x
-  past = not_left input.column (place at) r_ahead.from out
+  past : (border (input.strip.last + 1) *ℤ (place at).w) ≤ℤ (place at).x
+  past = not_left input.strip (place at) r_ahead.from out
 
-  r_there : (place at).x ≡ border (input.column + 1) *ℤ (place at).w
-  r_there = same_most (place at).x (border (input.column + 1) *ℤ (place at).w) r_ahead.up_to past
+  r_there : (place at).x ≡ border (input.strip.last + 1) *ℤ (place at).w
+  r_there = same_most (place at).x (border (input.strip.last + 1) *ℤ (place at).w) r_ahead.up_to past
 
   module _ (e : HPoint × PointName) (c : Contains search.ahead e) where
     after_r : point_cmp (place at) (place e.0) ≡ Less
     after_r = All-contains (λ (e : HPoint × PointName). point_cmp (place at) (place e.0) ≡ Less) search.ahead e least c
 
-    e_ahead : IsAhead (segments_in input) input.column way.q (place e.0)
-    e_ahead = All-contains (IsAhead (segments_in input) input.column way.q) (place at ∷ points_of search.ahead) (place e.0) way.come.ahead (contains_rest (place at) (points_of search.ahead) (place e.0) (contains_map (λ (d : HPoint × PointName). place d.0) search.ahead e c))
+    e_ahead : IsAhead (segments_in input) input.strip way.q (place e.0)
+    e_ahead = All-contains (IsAhead (segments_in input) input.strip way.q) (place at ∷ points_of search.ahead) (place e.0) way.come.ahead (contains_rest (place at) (points_of search.ahead) (place e.0) (contains_map (λ (d : HPoint × PointName). place d.0) search.ahead e c))
 
-    e_there : (place e.0).x ≡ border (input.column + 1) *ℤ (place e.0).w
-    e_there = on_right input.column (place at) (place e.0) (place_positive at) (place_positive e.0) past after_r e_ahead.up_to
+    e_there : (place e.0).x ≡ border (input.strip.last + 1) *ℤ (place e.0).w
+    e_there = on_right input.strip (place at) (place e.0) (place_positive at) (place_positive e.0) past after_r e_ahead.up_to
 
     goes_under : (m : Member) → pos 0 <ℤ height_over m.unit.seg (place at) → pos 0 <ℤ height_over m.unit.seg (place e.0)
-    goes_under m h = still_under m.unit.seg (place at) (place e.0) (border (input.column + 1)) (place_positive at) (place_positive e.0) r_there e_there after_r (wide m.unit.seg.left.x m.unit.seg.right.x (left_most m.unit.seg m.ahead)) h
+    goes_under m h = still_under m.unit.seg (place at) (place e.0) (border (input.strip.last + 1)) (place_positive at) (place_positive e.0) r_there e_there after_r (wide m.unit.seg.left.x m.unit.seg.right.x (left_most m.unit.seg m.ahead)) h
       where
         wide : (l r : ℤ) → l ≤ℤ r → pos 0 ≤ℤ (r -ℤ l)
         wide l r h = omega (arith, ints, h)
@@ -630,9 +628,9 @@ module _ (input : Input) (valid : IsInput input) (full status after : List Membe
     held_goes_under m is w level on_r =
         let p : Point = place_at (map place_of names) m.begin in
         let hp : pos 0 <ℤ p.w = (way.carries.passes.small m.begin _ is.known).positive in
-        let inside = lt_true p.x (border (input.column + 1) *ℤ p.w) (and_parts (int_le (border input.column *ℤ p.w) p.x) (int_lt p.x (border (input.column + 1) *ℤ p.w)) w).1 in
-        held_under m.unit.seg (place at) (place e.0) (border (input.column + 1)) (place_positive at) (place_positive e.0) r_there e_there after_r
-        (wide_there m.unit.seg p (place at) (border (input.column + 1)) hp (place_positive at) is.carried.on on_r inside r_there) level
+        let inside = lt_true p.x (border (input.strip.last + 1) *ℤ p.w) (and_parts (int_le (border input.strip.first *ℤ p.w) p.x) (int_lt p.x (border (input.strip.last + 1) *ℤ p.w)) w).1 in
+        held_under m.unit.seg (place at) (place e.0) (border (input.strip.last + 1)) (place_positive at) (place_positive e.0) r_there e_there after_r
+        (wide_there m.unit.seg p (place at) (border (input.strip.last + 1)) hp (place_positive at) is.carried.on on_r inside r_there) level
 
   all_under_ahead : (ms : List Member) → All (λ m. pos 0 <ℤ height_over m.unit.seg (place at)) ms → All (PassesUnder search.ahead) ms
   all_under_ahead ms h i d l = all_of (λ (e : HPoint × PointName). pos 0 <ℤ height_over (get_or ms i d).unit.seg (place e.0)) search.ahead (λ e c. goes_under e c (get_or ms i d) (h i d l))
@@ -661,47 +659,47 @@ module _ (input : Input) (valid : IsInput input) (full status after : List Membe
   leaves_some = all_under_ahead low_kept two_parts.under
 
 -- ---- a pass goes on
-module _ (input : Input) (old new : Search) (status after : List Member) (coming rest_coming : List Start) (at : HPoint) (name : PointName) (begin : ℕ) (rows more_rows : List Row) (names : List PointName) (full : List Member) (all_coming : List Start)
+module _ (input : StripInput) (old new : Search) (status after : List Member) (coming rest_coming : List Start) (at : HPoint) (name : PointName) (begin : ℕ) (rows more_rows : List Row) (names : List PointName) (full : List Member) (all_coming : List Start)
     (way : IsUnderWay input old.listed full all_coming ((at, name) ∷ old.ahead) old.tests.items rows names) (least : All (λ e. point_cmp (place at) (place e.0) ≡ Less) old.ahead) (numbered : begin ≡ length names)
     (gone some kept : List Member) (is : status ≡ gone ++ kept) (full_is : filter (begins_within input names) full ≡ some ++ kept) (gone_under : All (PassesUnder ((at, name) ∷ old.ahead)) gone) (some_under : All (PassesUnder ((at, name) ∷ old.ahead)) some)
-    (same_status : is_in_column input.column (place at) ≡ true → status ≡ filter (begins_within input names) full) (to_come : is_in_column input.column (place at) ≡ true → all_coming ≡ coming)
-    (inner : is_in_column input.column (place at) ≡ true → IsStepped input at begin status after coming rest_coming old new rows more_rows)
-    (outer : is_in_column input.column (place at) ≡ false → IsClosedAt at begin status after rows more_rows) (same_search : is_in_column input.column (place at) ≡ false → new ≡ old) where
+    (same_status : is_in_strip input.strip (place at) ≡ true → status ≡ filter (begins_within input names) full) (to_come : is_in_strip input.strip (place at) ≡ true → all_coming ≡ coming)
+    (inner : is_in_strip input.strip (place at) ≡ true → IsStepped input at begin status after coming rest_coming old new rows more_rows)
+    (outer : is_in_strip input.strip (place at) ≡ false → IsClosedAt at begin status after rows more_rows) (same_search : is_in_strip input.strip (place at) ≡ false → new ≡ old) where
   abbrev all_passed : List Point
   all_passed = map place_of names
 
   next_node : IsNextNode (segments_in input) way.q (place at)
   next_node =
-      first_is_node way.n (segments_in input) (map (λ (u : Unit). u.seg) way.units) input.column way.q (place at) (segs_of full) (segs_to_come all_coming) (points_of old.ahead) way.steep (proper_segments input way.valid) way.come
+      first_is_node way.n (segments_in input) (map (λ (u : Unit). u.seg) way.units) input.strip way.q (place at) (segs_of full) (segs_to_come all_coming) (points_of old.ahead) way.steep (proper_segments input way.valid) way.come
       (All-map (λ z. point_cmp (place at) z ≡ Less) (λ (d : HPoint × PointName). place d.0) old.ahead least)
 
-  -- in the column all that has begun has begun there
-  begun_within : is_in_column input.column (place at) ≡ true → (number : ℕ) → number < length (map place_of names) → is_in_column input.column (place_at (map place_of names) number) ≡ true
+  -- in the strip all that has begun has begun there
+  begun_within : is_in_strip input.strip (place at) ≡ true → (number : ℕ) → number < length (map place_of names) → is_in_strip input.strip (place_at (map place_of names) number) ≡ true
   begun_within e number l =
       let passes = way.carries.passes in
       let hp = (passes.small number _ l).positive in
-      before_in_column input.column (place_at (map place_of names) number) (place at) hp next_node.small.positive (passes.from number _ l)
+      before_in_strip input.strip (place_at (map place_of names) number) (place at) hp next_node.small.positive (passes.from number _ l)
       (not_after_before (place_at (map place_of names) number) way.q (place at) hp way.come.full.status_at.small.positive next_node.small.positive (passes.up_to number _ l) next_node.after) e
 
-  full_status : is_in_column input.column (place at) ≡ true → full ≡ status
+  full_status : is_in_strip input.strip (place at) ≡ true → full ≡ status
   full_status e = sym (same_status e ∙ filter_all (begins_within input names) full (λ i d l. begun_within e (get_or full i d).begin (way.carries.members i d l).known))
 
   named_at : IsKey input old.listed old.tests.items (at, name)
   named_at = All-head (IsKey input old.listed old.tests.items) (at, name) old.ahead way.keys
 
-  still_within : is_in_column input.column (place at) ≡ true → (number : ℕ) → number < length (map place_of (names ++ name ∷ [])) → is_in_column input.column (place_at (map place_of (names ++ name ∷ [])) number) ≡ true
+  still_within : is_in_strip input.strip (place at) ≡ true → (number : ℕ) → number < length (map place_of (names ++ name ∷ [])) → is_in_strip input.strip (place_at (map place_of (names ++ name ∷ [])) number) ≡ true
   still_within e number l = by (cases_lt number (length names))
     where
       long : length (map place_of (names ++ name ∷ [])) ≡ length names + 1
       long = length-map (names ++ name ∷ []) place_of ∙ length-append names (name ∷ [])
 
-      by : (number < length names) ⊎ (length names ≤ number) → is_in_column input.column (place_at (map place_of (names ++ name ∷ [])) number) ≡ true
+      by : (number < length names) ⊎ (length names ≤ number) → is_in_strip input.strip (place_at (map place_of (names ++ name ∷ [])) number) ≡ true
       by (inl h) =
           let known : number < length (map place_of names) = omega (arith, h, length-map names place_of) in
-          ap (λ z. is_in_column input.column z) (named_before names name number known) ∙ begun_within e number known
-      by (inr h) = ap (λ z. is_in_column input.column z) (named_last names name number (omega (arith, h, l, long)) ∙ sym named_at.told) ∙ e
+          ap (λ z. is_in_strip input.strip z) (named_before names name number known) ∙ begun_within e number known
+      by (inr h) = ap (λ z. is_in_strip input.strip z) (named_last names name number (omega (arith, h, l, long)) ∙ sym named_at.told) ∙ e
 
-  goes_within : is_in_column input.column (place at) ≡ true → IsAmid input new after rest_coming more_rows (names ++ name ∷ [])
+  goes_within : is_in_strip input.strip (place at) ≡ true → IsAmid input new after rest_coming more_rows (names ++ name ∷ [])
   goes_within e =
       let P : List Member → Type 0 = λ (ms : List Member). IsUnderWay input old.listed ms all_coming ((at, name) ∷ old.ahead) old.tests.items rows names in
       let Q : List Start → Type 0 = λ (ss : List Start). IsUnderWay input old.listed status ss ((at, name) ∷ old.ahead) old.tests.items rows names in
@@ -724,13 +722,13 @@ module _ (input : Input) (old new : Search) (status after : List Member) (coming
         to_come = λ z c h. refl;
       }
 
-  none_within : is_in_column input.column (place at) ≡ false → (z : HPoint × PointName) → Contains old.ahead z → is_in_column input.column (place z.0) ≡ true → ⊥
+  none_within : is_in_strip input.strip (place at) ≡ false → (z : HPoint × PointName) → Contains old.ahead z → is_in_strip input.strip (place z.0) ≡ true → ⊥
   none_within out z c h =
-      let first = All-head (IsAhead (segments_in input) input.column way.q) (place at) (points_of old.ahead) way.come.ahead in
-      both_ways (is_in_column input.column (place at)) out
-      (before_in_column input.column (place at) (place z.0) next_node.small.positive (place_positive z.0) first.from (All-contains (λ (e : HPoint × PointName). point_cmp (place at) (place e.0) ≡ Less) old.ahead z least c) h)
+      let first = All-head (IsAhead (segments_in input) input.strip way.q) (place at) (points_of old.ahead) way.come.ahead in
+      both_ways (is_in_strip input.strip (place at)) out
+      (before_in_strip input.strip (place at) (place z.0) next_node.small.positive (place_positive z.0) first.from (All-contains (λ (e : HPoint × PointName). point_cmp (place at) (place e.0) ≡ Less) old.ahead z least c) h)
 
-  goes_out : is_in_column input.column (place at) ≡ false → IsAmid input old after rest_coming more_rows (names ++ name ∷ [])
+  goes_out : is_in_strip input.strip (place at) ≡ false → IsAmid input old after rest_coming more_rows (names ++ name ∷ [])
   goes_out out = record {
     full = full_after input way.valid full status after all_coming at name begin old rows more_rows names way least numbered gone some kept is full_is gone_under some_under out (outer out);
     all_coming = rest input way.valid full status after all_coming at name begin old rows more_rows names way least numbered gone some kept is full_is gone_under some_under out (outer out);
@@ -747,28 +745,28 @@ module _ (input : Input) (old new : Search) (status after : List Member) (coming
   }
 
   pub goes_on : IsAmid input new after rest_coming more_rows (names ++ name ∷ [])
-  goes_on = by (told (is_in_column input.column (place at)))
+  goes_on = by (told (is_in_strip input.strip (place at)))
     where
-      by : Told (is_in_column input.column (place at)) → IsAmid input new after rest_coming more_rows (names ++ name ∷ [])
+      by : Told (is_in_strip input.strip (place at)) → IsAmid input new after rest_coming more_rows (names ++ name ∷ [])
       by (yes e) = goes_within e
       by (no e) = subst (λ (s : Search). IsAmid input s after rest_coming more_rows (names ++ name ∷ [])) (sym (same_search e)) (goes_out e)
 
 -- the rows of a step end at its node
-pub closes : {input : Input} {old new : Search} {status after : List Member} {coming rest : List Start} (at : HPoint) (begin : ℕ) (rows more_rows : List Row)
-    → (is_in_column input.column (place at) ≡ true → IsStepped input at begin status after coming rest old new rows more_rows)
-    → (is_in_column input.column (place at) ≡ false → IsClosedAt at begin status after rows more_rows) → (bundle : List Member) × (more_rows ≡ rows ++ rows_of begin bundle)
-closes {input} at begin rows more_rows inner outer = by (told (is_in_column input.column (place at)))
+pub closes : {input : StripInput} {old new : Search} {status after : List Member} {coming rest : List Start} (at : HPoint) (begin : ℕ) (rows more_rows : List Row)
+    → (is_in_strip input.strip (place at) ≡ true → IsStepped input at begin status after coming rest old new rows more_rows)
+    → (is_in_strip input.strip (place at) ≡ false → IsClosedAt at begin status after rows more_rows) → (bundle : List Member) × (more_rows ≡ rows ++ rows_of begin bundle)
+closes {input} at begin rows more_rows inner outer = by (told (is_in_strip input.strip (place at)))
   where
-    by : Told (is_in_column input.column (place at)) → (bundle : List Member) × (more_rows ≡ rows ++ rows_of begin bundle)
+    by : Told (is_in_strip input.strip (place at)) → (bundle : List Member) × (more_rows ≡ rows ++ rows_of begin bundle)
     by (yes e) = ((inner e).bundle, (inner e).closed)
     by (no e) = ((outer e).bundle, (outer e).closed)
 
-pub still_listed : {input : Input} {old new : Search} {status after : List Member} {coming rest : List Start} (at : HPoint) (begin : ℕ) (rows more_rows : List Row)
-    → (is_in_column input.column (place at) ≡ true → IsStepped input at begin status after coming rest old new rows more_rows)
-    → (is_in_column input.column (place at) ≡ false → new ≡ old) → new.listed ≡ old.listed
-still_listed {input} {old} {new} at begin rows more_rows inner outer = by (told (is_in_column input.column (place at)))
+pub still_listed : {input : StripInput} {old new : Search} {status after : List Member} {coming rest : List Start} (at : HPoint) (begin : ℕ) (rows more_rows : List Row)
+    → (is_in_strip input.strip (place at) ≡ true → IsStepped input at begin status after coming rest old new rows more_rows)
+    → (is_in_strip input.strip (place at) ≡ false → new ≡ old) → new.listed ≡ old.listed
+still_listed {input} {old} {new} at begin rows more_rows inner outer = by (told (is_in_strip input.strip (place at)))
   where
-    by : Told (is_in_column input.column (place at)) → new.listed ≡ old.listed
+    by : Told (is_in_strip input.strip (place at)) → new.listed ≡ old.listed
     by (yes e) = (inner e).tested.listed
     by (no e) = ap (λ (s : Search). s.listed) (outer e)
 

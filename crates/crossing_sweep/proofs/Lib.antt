@@ -1,9 +1,10 @@
+pub mod StripLemmas
 pub mod Lean
 pub mod Meeting
 pub mod Keeping
 pub mod AtNode
 pub mod Near
-pub mod Strip
+pub mod Beside
 pub mod Below
 pub mod Inputs
 pub mod LeaningLaws
@@ -51,4 +52,6 @@ pub mod NodeCount
 pub mod Settled
 pub mod NameLemmas
 pub mod UnderWay
+pub mod ColumnFound
+pub mod StripParts
 pub mod Leaving

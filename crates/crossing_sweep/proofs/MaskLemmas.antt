@@ -12,8 +12,7 @@ use Rattle.std.proofs.Math.ListN.{get_or-map}
 use Rattle.std.proofs.Math.IntN.{*ℤ-zero}
 use Rattle.overlay_terms.specs.Plane.{Point, Segment, whole}
 use Rattle.overlay_terms.specs.Layers.{Marked}
-use Rattle.overlay_terms.specs.Tiles.{Input}
-use Rattle.overlay_terms.specs.TileLaws.{IsInput, IsProper}
+use Rattle.overlay_terms.specs.TileLaws.{IsProper}
 use Rattle.overlay_terms.proofs.Lists.{any_from, contains_map, from_map}
 use Rattle.overlay_terms.proofs.InputNumbers.{le_true, lt_true, true_le, true_lt}
 use Rattle.exact_point.specs.Crossing.{turn_of}
@@ -21,10 +20,11 @@ use Rattle.exact_point.proofs.Lines.{gap, gap_at, flat_gap}
 use Rattle.exact_point.proofs.OnLine.{left_on_line, less_from_forward, forward_from_less}
 use Rattle.exact_point.proofs.PlaceOrder.{one_positive}
 use Rattle.tile_laws.proofs.JustRight.{is_over_x, is_under, is_level, under_bits, up_to_bits}
-use Rattle.tile_laws.proofs.Statements.{segments_in}
 use Rattle.tile_laws.proofs.Ranks.{Orders}
 use Rattle.tile_laws.proofs.StepUp.{AreBelow, under_is_lower, step_up, none_below}
 use Rattle.tile_laws.proofs.UnderLemmas.{under_orders, level_under}
+use Rattle.overlay_terms.specs.Tiles.{Input}
+use Rattle.crossing_sweep.specs.StripInput.{StripInput, IsStripInput, segments_in}
 use Rattle.crossing_sweep.specs.Leaning.{lean, lean_segment, IsSteep, IsSmall, IsAfter}
 use Rattle.crossing_sweep.specs.Sides.{lean_marked}
 use Rattle.crossing_sweep.specs.Queue.{IsAlong, GoesOn, IsStatusAt}
@@ -87,7 +87,7 @@ module _ (n : ℤ) (q : Point) (steep : IsSteep n) (small : IsSmall q) where
       ((Decides-int_eq (gap t' u' (lean n q)) (pos 0)).1 (flat_gap t' u' (lean n (whole u.left)) (lean n q) one_positive none at_left))
       ((Decides-int_eq (turn_of t' u') (pos 0)).1 none)
 
-module _ (n : ℤ) (input : Input) (q : Point) (status : List Segment) (steep : IsSteep n) (valid : IsInput input) (is : IsStatusAt n (segments_in input) q status) where
+module _ (n : ℤ) (input : StripInput) (q : Point) (status : List Segment) (steep : IsSteep n) (valid : IsStripInput input) (is : IsStatusAt n (segments_in input) q status) where
   abbrev lq : Point
   lq = lean n q
 
@@ -95,7 +95,7 @@ module _ (n : ℤ) (input : Input) (q : Point) (status : List Segment) (steep : 
   hq = is.small.positive
 
   abbrev leaned : Input
-  leaned = record { column = input.column; marked = lean_marked n input.marked; steps = input.steps }
+  leaned = record { column = input.strip.first; marked = lean_marked n input.marked; steps = input.steps }
 
   orders : Orders (λ s. is_over_x s (lean n q)) (λ s t. is_under s t (lean n q))
   orders = under_orders (lean n q) hq

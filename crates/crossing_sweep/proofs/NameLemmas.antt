@@ -8,8 +8,6 @@ use Rattle.std.proofs.lemmas.List.{get_or-map, get_or_default, get_or_append_lef
 use Rattle.std.proofs.lemmas.List.Quantifiers.{all_pairs_push}
 use Rattle.std.proofs.lemmas.List.Elements.{All-nil, All-cons, All-head, All-tail, All-append, All-push, All-contains, All-weaker, Contains-append_left, Contains-append_right, Contains-append_cases, Contains-push}
 use Rattle.std.proofs.Math.ListN.{length-append}
-use Rattle.overlay_terms.specs.Column.{is_in_column}
-use Rattle.overlay_terms.specs.Tiles.{Input}
 use Rattle.overlay_terms.specs.Trees.{Steps}
 use Rattle.overlay_terms.proofs.Lists.{Contains-cons_cases, contains_rest, none_in_empty, from_map}
 use Rattle.overlay_terms.proofs.Pairs.{pairs_head, pairs_rest}
@@ -18,6 +16,7 @@ use Rattle.exact_point.specs.Place.{place}
 use Rattle.exact_point.specs.declared.point.HPoint.{HPoint}
 use Rattle.exact_point.specs.declared.point_name.PointName.{PointName}
 use Rattle.tile_laws.proofs.Ranks.{Told, yes, no, told}
+use Rattle.crossing_sweep.specs.StripInput.{StripInput, is_in_strip}
 use Rattle.crossing_sweep.specs.Amid.{IsClosedAt}
 use Rattle.crossing_sweep.specs.Stepping.{IsStepped}
 use Rattle.crossing_sweep.specs.NodeNames.{no_name, name_at, IsNamed, IsNameAmong, AreNumbered, AreKept}
@@ -89,7 +88,7 @@ numbers_rise names are i j d l m = by (eqb_tells i j)
     by (inl t) = let same : (get_or names i d).number ≡ (get_or names j d).number = ap (λ k. (get_or names k d).number) t.1 in omega (arith, same)
     by (inr t) = let differ : i ≢ j = t.1 in let less : i < j = omega (arith, l, differ) in let rise : (get_or names i d).number < (get_or names j d).number = are i j d less m in omega (arith, rise)
 
--- where those with lower numbers end, the name with a number stands
+-- where those with lower numbers end, the name with a number is
 module _ (names : List NodeName) (number k : ℕ) (are : AreNumbered names) (n : IsNamed names number) (there : IsPartitionPoint (λ (e : NodeName). ltb e.number number ≡ true) (λ (e : NodeName). ltb e.number number ≡ false) names k) where
   abbrev one : NodeName
   one = record { number = number; name = n.0 }
@@ -165,12 +164,12 @@ pub record AreClosed (begin : ℕ) (status : List Member) (rows more_rows : List
 middle_among : (status under bundle over : List Member) → status ≡ under ++ bundle ++ over → (m : Member) → Contains bundle m → Contains status m
 middle_among status under bundle over e m c = subst (λ (l : List Member). Contains l m) (sym e) (Contains-append_left (under ++ bundle) over m (Contains-append_right under bundle m c))
 
-pub are_closed : {input : Input} {old new : Search} {status after : List Member} {coming rest : List Start} (at : HPoint) (begin : ℕ) (rows more_rows : List Row)
-    → (is_in_column input.column (place at) ≡ true → IsStepped input at begin status after coming rest old new rows more_rows)
-    → (is_in_column input.column (place at) ≡ false → IsClosedAt at begin status after rows more_rows) → AreClosed begin status rows more_rows
-are_closed {input} {old} {new} {status} at begin rows more_rows inner outer = by (told (is_in_column input.column (place at)))
+pub are_closed : {input : StripInput} {old new : Search} {status after : List Member} {coming rest : List Start} (at : HPoint) (begin : ℕ) (rows more_rows : List Row)
+    → (is_in_strip input.strip (place at) ≡ true → IsStepped input at begin status after coming rest old new rows more_rows)
+    → (is_in_strip input.strip (place at) ≡ false → IsClosedAt at begin status after rows more_rows) → AreClosed begin status rows more_rows
+are_closed {input} {old} {new} {status} at begin rows more_rows inner outer = by (told (is_in_strip input.strip (place at)))
   where
-    by : Told (is_in_column input.column (place at)) → AreClosed begin status rows more_rows
+    by : Told (is_in_strip input.strip (place at)) → AreClosed begin status rows more_rows
     by (yes e) = record { bundle = (inner e).bundle; closed = (inner e).closed; among = middle_among status (inner e).under (inner e).bundle (inner e).over (inner e).was }
     by (no e) = record { bundle = (outer e).bundle; closed = (outer e).closed; among = middle_among status (outer e).under (outer e).bundle (outer e).over (outer e).was }
 

@@ -12,7 +12,7 @@ use Rattle.overlay_terms.specs.TileLaws.{IsProper}
 use Rattle.exact_point.specs.PlaceOf.{cut_place}
 use Rattle.exact_point.proofs.PlaceOrder.{one_positive}
 use Rattle.tile_laws.proofs.Candidates.{candidates, candidates_with}
-use Rattle.tile_laws.proofs.Statements.{segments_in}
+use Rattle.crossing_sweep.specs.StripInput.{segments_in}
 use Rattle.crossing_sweep.specs.Beginning.{foot}
 use Rattle.crossing_sweep.specs.RowLaws.{NodesAreFew}
 use Rattle.overlay_terms.proofs.Pairs.{pairs_head, pairs_rest}
@@ -55,12 +55,12 @@ pub nodes_are_few : NodesAreFew
 nodes_are_few input q passed valid is =
     let proper : All IsProper (segments_in input) = All-map IsProper (λ m. m.segment) input.marked valid.proper in
     let positive : All (λ (y : Point). pos 0 <ℤ y.w) passed = λ i d l. (is.small i d l).positive in
-    let later : All (λ y. point_cmp (foot input.column) y ≡ Less) passed =
+    let later : All (λ y. point_cmp (foot input.strip) y ≡ Less) passed =
     λ i d l. let y = get_or passed i d in
     let on : LiesOn (segments_in input) y = lies_on (segments_in input) proper y (positive i d l) (is.nodes i d l) in
-    after_foot input.column on.segment y (All-contains IsProper (segments_in input) on.segment proper on.among) (positive i d l) on.on (is.from i d l) in
-    let few : length passed ≤ rest_of (segments_in input) proper (foot input.column) = ordered_few (segments_in input) proper (foot input.column) passed one_positive later is.ordered positive is.nodes in
-    let all : rest_of (segments_in input) proper (foot input.column) ≤ length (places (segments_in input) proper) = few_rest (segments_in input) proper (foot input.column) in
+    after_foot input.strip on.segment y (All-contains IsProper (segments_in input) on.segment proper on.among) (positive i d l) on.on (is.from i d l) in
+    let few : length passed ≤ rest_of (segments_in input) proper (foot input.strip) = ordered_few (segments_in input) proper (foot input.strip) passed one_positive later is.ordered positive is.nodes in
+    let all : rest_of (segments_in input) proper (foot input.strip) ≤ length (places (segments_in input) proper) = few_rest (segments_in input) proper (foot input.strip) in
     let count : length (places (segments_in input) proper) ≡ length (segments_in input) * (length (segments_in input) * 3 + column_count) = place_count (segments_in input) proper in
     let long : length (segments_in input) ≡ length input.marked = length-map input.marked (λ m. m.segment) in
     at_most (length passed) _ _ (length (segments_in input)) (length input.marked) few all count long

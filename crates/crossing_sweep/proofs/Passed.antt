@@ -10,6 +10,7 @@ use Rattle.overlay_terms.specs.Column.{border}
 use Rattle.overlay_terms.specs.Tiles.{is_node}
 use Rattle.overlay_terms.proofs.Lists.{any_from, any_left}
 use Rattle.exact_point.proofs.PlaceOrder.{Way, before, at, after, way_of, less_through, alike_left, not_before_self, not_after_less}
+use Rattle.crossing_sweep.specs.StripInput.{Span}
 use Rattle.crossing_sweep.specs.Leaning.{IsSmall}
 use Rattle.crossing_sweep.specs.NextNode.{IsNextNode}
 use Rattle.crossing_sweep.specs.Queue.{IsUpTo, IsQueued}
@@ -46,14 +47,14 @@ module _ (passed : List Point) (r : Point) where
       plus_zero i = omega arith
 
 -- ---- one more place
-module _ (segments : List Segment) (column : ℕ) (q r : Point) (passed : List Point) (is : ArePassed segments column q passed) (next : IsNextNode segments q r) (hq : pos 0 <ℤ q.w) (from : (border column *ℤ r.w) ≤ℤ r.x) (within : IsUpTo column r) where
+module _ (segments : List Segment) (strip : Span) (q r : Point) (passed : List Point) (is : ArePassed segments strip q passed) (next : IsNextNode segments q r) (hq : pos 0 <ℤ q.w) (from : (border strip.first *ℤ r.w) ≤ℤ r.x) (within : IsUpTo strip r) where
   hr : pos 0 <ℤ r.w
   hr = next.small.positive
 
   before_r : All (λ z. point_cmp z r ≡ Less) passed
   before_r i d l = not_after_before (get_or passed i d) q r (is.small i d l).positive hq hr (is.up_to i d l) next.after
 
-  complete : (p : Point) → pos 0 <ℤ p.w → IsTrue (is_node segments p) → (border column *ℤ p.w) ≤ℤ p.x → IsUpTo column p → (point_cmp r p ≡ Less → ⊥) → IsQueued (passed ++ r ∷ []) p
+  complete : (p : Point) → pos 0 <ℤ p.w → IsTrue (is_node segments p) → (border strip.first *ℤ p.w) ≤ℤ p.x → IsUpTo strip p → (point_cmp r p ≡ Less → ⊥) → IsQueued (passed ++ r ∷ []) p
   complete p hp node from_p up_to not_after = by (way_of q p hq hp)
     where
       old : (point_cmp q p ≡ Less → ⊥) → IsQueued (passed ++ r ∷ []) p
@@ -69,13 +70,13 @@ module _ (segments : List Segment) (column : ℕ) (q r : Point) (passed : List P
       by (at e) = old (not_before_self q p hq hp e)
       by (after e) = old (not_after_less p q hp hq e)
 
-  pub one_passed : ArePassed segments column r (passed ++ r ∷ [])
+  pub one_passed : ArePassed segments strip r (passed ++ r ∷ [])
   one_passed = record {
     ordered = all_pairs_append (λ a b. point_cmp a b ≡ Less) passed (r ∷ []) is.ordered (λ i j d l m. absurd (omega (arith, l, m))) (λ i d l. All-cons (λ b. point_cmp (get_or passed i d) b ≡ Less) r [] (before_r i d l) (All-nil (λ b. point_cmp (get_or passed i d) b ≡ Less)));
     small = All-push IsSmall passed r is.small next.small;
     nodes = All-push (λ z. IsTrue (is_node segments z)) passed r is.nodes next.node;
-    from = All-push (λ z. (border column *ℤ z.w) ≤ℤ z.x) passed r is.from from;
-    within = All-push (IsUpTo column) passed r is.within within;
+    from = All-push (λ z. (border strip.first *ℤ z.w) ≤ℤ z.x) passed r is.from from;
+    within = All-push (IsUpTo strip) passed r is.within within;
     up_to = All-push (λ z. point_cmp r z ≡ Less → ⊥) passed r (λ i d l h. not_after_less (get_or passed i d) r (is.small i d l).positive hr (before_r i d l) h) (λ h. not_after_less r r hr hr h h);
     complete = complete;
   }

@@ -1,5 +1,5 @@
 -- Offered places in their order, each once.
-use Rattle.std.proofs.Common.{◌≡◌, ℕ, pos, ◌<ℤ◌, ◌++◌, true, ◌⊎◌, inl, inr, List, [], ◌∷◌, map, refl, ap, sym, subst, ◌∙◌}
+use Rattle.std.proofs.Common.{◌≡◌, pos, ◌<ℤ◌, ◌++◌, true, ◌⊎◌, inl, inr, List, [], ◌∷◌, map, refl, ap, sym, subst, ◌∙◌}
 use Rattle.std.specs.Prelude.{AllPairs, Any, Contains, IsTrue}
 use Rattle.std.specs.Cmp.{eq_by_cmp_equiv}
 use Rattle.std.proofs.lemmas.Cmp.{on_total}
@@ -19,11 +19,11 @@ use Rattle.exact_point.specs.PointName.{IsPlaceOf}
 use Rattle.exact_point.specs.declared.point.HPoint.{HPoint}
 use Rattle.exact_point.specs.declared.point_name.PointName.{PointName}
 use Rattle.exact_point.proofs.PlaceOrder.{same_through, same_self}
-use Rattle.arrange.specs.Arrangement.{is_in_closed_column}
 use Rattle.arrange.specs.NamedPlaces.{named_cmp}
 use Rattle.arrange.specs.declared.named_place.NamedPlace.{NamedPlace}
 use Rattle.arrange.proofs.SortedPlaces.{strict_pairs, same_spots}
 use Rattle.arrange.proofs.FoundLemmas.{place_positive}
+use Rattle.crossing_sweep.specs.StripInput.{is_in_closed_strip, Span}
 use Rattle.crossing_sweep.specs.Ahead.{HasAdded, IsOffered, AreOffered, known_entry}
 use Rattle.crossing_sweep.specs.RankedPlace.{ranked_cmp, ranked_total, same_ranked, named_of, ranked_entry}
 use Rattle.crossing_sweep.specs.declared.ranked_place.RankedPlace.{RankedPlace}
@@ -47,27 +47,27 @@ pushed_added places z =
     only e (inl c) = inl c
     only e (inr c) = inr (last e (Contains-cons_cases (ranked_entry z) [] e c))
 
--- how a place stands among others is told by a function of what is sorted
-module _ {T : Type 0} (now : T → RankedPlace) (column : ℕ) (names : List PointName) (places sorted list : List T) (moved : IsPermutation places sorted) (up : IsSorted (λ a b. ranked_cmp (now a) (now b)) sorted) (is : list ≡ dedup (λ a b. same_ranked (now a) (now b)) sorted) where
+-- the order of a place among others is given by a function of what is sorted
+module _ {T : Type 0} (now : T → RankedPlace) (strip : Span) (names : List PointName) (places sorted list : List T) (moved : IsPermutation places sorted) (up : IsSorted (λ a b. ranked_cmp (now a) (now b)) sorted) (is : list ≡ dedup (λ a b. same_ranked (now a) (now b)) sorted) where
   pub in_order : AllPairs (λ a b. ranked_cmp (now a) (now b) ≡ Less) list
   in_order =
       let P : List T → Type 0 = λ l. AllPairs (λ a b. ranked_cmp (now a) (now b) ≡ Less) l in
       subst P (sym is) (strict_pairs (λ a b. ranked_cmp (now a) (now b)) (dedup (λ a b. same_ranked (now a) (now b)) sorted) (IsStrictlySortedBy-dedup (on_total now ranked_total) (λ x y. refl) sorted up))
 
   -- they are offered all the same
-  pub offered_once : AreOffered column names (map (λ t. ranked_entry (now t)) places) → AreOffered column names (map (λ t. ranked_entry (now t)) list)
+  pub offered_once : AreOffered strip names (map (λ t. ranked_entry (now t)) places) → AreOffered strip names (map (λ t. ranked_entry (now t)) list)
   offered_once are =
-      let P : List T → Type 0 = λ l. AreOffered column names (map (λ t. ranked_entry (now t)) l) in
-      subst P (sym is) (record { sound = all_of (IsOffered column names) (map (λ t. ranked_entry (now t)) (dedup (λ a b. same_ranked (now a) (now b)) sorted)) sound; complete = complete })
+      let P : List T → Type 0 = λ l. AreOffered strip names (map (λ t. ranked_entry (now t)) l) in
+      subst P (sym is) (record { sound = all_of (IsOffered strip names) (map (λ t. ranked_entry (now t)) (dedup (λ a b. same_ranked (now a) (now b)) sorted)) sound; complete = complete })
     where
-      sound : (e : HPoint × PointName) → Contains (map (λ t. ranked_entry (now t)) (dedup (λ a b. same_ranked (now a) (now b)) sorted)) e → IsOffered column names e
+      sound : (e : HPoint × PointName) → Contains (map (λ t. ranked_entry (now t)) (dedup (λ a b. same_ranked (now a) (now b)) sorted)) e → IsOffered strip names e
       sound e c =
           let z = from_map (λ t. ranked_entry (now t)) (dedup (λ a b. same_ranked (now a) (now b)) sorted) e c in
           let there : Contains places z.0 = Contains-permutation sorted places z.0 (IsPermutation-sym places sorted moved) (Contains-from_dedup (λ a b. same_ranked (now a) (now b)) sorted z.0 z.1) in
-          let Q : HPoint × PointName → Type 0 = λ e. IsOffered column names e in
-          subst Q z.2 (All-contains (IsOffered column names) (map (λ t. ranked_entry (now t)) places) (ranked_entry (now z.0)) are.sound (contains_map (λ t. ranked_entry (now t)) places z.0 there))
+          let Q : HPoint × PointName → Type 0 = λ e. IsOffered strip names e in
+          subst Q z.2 (All-contains (IsOffered strip names) (map (λ t. ranked_entry (now t)) places) (ranked_entry (now z.0)) are.sound (contains_map (λ t. ranked_entry (now t)) places z.0 there))
 
-      complete : (name : PointName) (p : Point) → Contains names name → pos 0 <ℤ p.w → IsPlaceOf name p → IsTrue (is_in_closed_column column p) → Any (λ e. IsTrue (same_place p (place e.0))) (map (λ t. ranked_entry (now t)) (dedup (λ a b. same_ranked (now a) (now b)) sorted))
+      complete : (name : PointName) (p : Point) → Contains names name → pos 0 <ℤ p.w → IsPlaceOf name p → IsTrue (is_in_closed_strip strip p) → Any (λ e. IsTrue (same_place p (place e.0))) (map (λ t. ranked_entry (now t)) (dedup (λ a b. same_ranked (now a) (now b)) sorted))
       complete name p c hp stands within =
           let IsAt : HPoint × PointName → Type 0 = λ e. IsTrue (same_place p (place e.0)) in
           let a = are.complete name p c hp stands within in

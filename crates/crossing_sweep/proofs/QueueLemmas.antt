@@ -19,6 +19,7 @@ use Rattle.exact_point.proofs.Nodes.{end_among, left_node}
 use Rattle.exact_point.proofs.OnLine.{after_left, before_right, on_line, left_on_line, right_on_line, parallel_line, one_direction, parallel_from_turn, parallel_through, no_turn_back}
 use Rattle.exact_point.proofs.PlaceOrder.{Way, before, at, after, way_of, one_positive, less_through, alike_left, level_from}
 use Rattle.tile_laws.proofs.Ranks.{Told, yes, no, told}
+use Rattle.crossing_sweep.specs.StripInput.{Span}
 use Rattle.crossing_sweep.specs.Leaning.{IsSteep, IsSmall}
 use Rattle.crossing_sweep.specs.Status.{IsStretchOf, NoNodeBetween, IsStatus}
 use Rattle.crossing_sweep.specs.NextNode.{IsNextNode}
@@ -112,7 +113,7 @@ module _ (n : ℤ) (segments : List Segment) (q r : Point) (status : List Segmen
           on = on_member n segments q r status steep up_to_next i u l (ap (λ z. height_over z r) e ∙ level);
         }
 
-  module _ (column : ℕ) (keys : List Point) (queue : IsQueue segments column q status keys) (up_to : IsUpTo column r) where
+  module _ (strip : Span) (keys : List Point) (queue : IsQueue segments strip q status keys) (up_to : IsUpTo strip r) where
     -- two members that hold it have neighbours that cross there
     from_pair : (i j : ℕ) (d : Segment) → i < j → j < length status → IsTrue (is_on (get_or status i d) r) → IsTrue (is_on (get_or status j d) r) → IsQueued keys r
     from_pair i j d l m on_i on_j = queue.seams i d r (omega (arith, l, m)) next.small.positive (lower_crosses_next n segments q r status steep up_to_next i j d l m on_i on_j) next.after up_to
@@ -173,22 +174,22 @@ module _ (n : ℤ) (segments : List Segment) (q r : Point) (status : List Segmen
       by (inr e) = fixed (or_right (is_end segments r) (is_on_border segments r) e)
 
 pub next_is_queued : NextIsQueued
-next_is_queued n segments column q r status keys steep proper is queue next up_to = queued n segments q r status steep proper is next column keys queue up_to
+next_is_queued n segments strip q r status keys steep proper is queue next up_to = queued n segments q r status steep proper is next strip keys queue up_to
 
 -- where each next node is among the places, the first of them is the next one
-pub first_from : (segments : List Segment) (column : ℕ) (q r : Point) (keys : List Point) → All IsProper segments → IsSmall q → ((z : Point) → IsNextNode segments q z → IsUpTo column z → IsQueued keys z)
-    → IsFirstOf segments column q r keys → IsNextNode segments q r
-first_from segments column q r keys proper small is_known first =
+pub first_from : (segments : List Segment) (strip : Span) (q r : Point) (keys : List Point) → All IsProper segments → IsSmall q → ((z : Point) → IsNextNode segments q z → IsUpTo strip z → IsQueued keys z)
+    → IsFirstOf segments strip q r keys → IsNextNode segments q r
+first_from segments strip q r keys proper small is_known first =
     let found = each_has_next segments q r proper small.positive first.small.positive first.node first.after in
     by found.0 found.1 found.2
   where
     by : (z : Point) → IsNextNode segments q z → (point_cmp r z ≡ Less → ⊥) → IsNextNode segments q r
     by z next not_after = record { small = first.small; node = first.node; after = first.after; clear = clear }
       where
-        -- the next node is not after r, so it is not right of the column
-        z_up_to : Way z r → IsUpTo column z
-        z_up_to (before e) = most_through z r (border (column + 1)) next.small.positive first.small.positive (x_in_order z r e) first.up_to
-        z_up_to (at e) = most_through z r (border (column + 1)) next.small.positive first.small.positive (level z r e) first.up_to
+        -- the next node is not after r, so it is not right of the strip
+        z_up_to : Way z r → IsUpTo strip z
+        z_up_to (before e) = most_through z r (border (strip.last + 1)) next.small.positive first.small.positive (x_in_order z r e) first.up_to
+        z_up_to (at e) = most_through z r (border (strip.last + 1)) next.small.positive first.small.positive (level z r e) first.up_to
           where
             level : (z r : Point) → IsTrue (same_place z r) → (z.x *ℤ r.w) ≤ℤ (r.x *ℤ z.w)
             level z r e =
@@ -215,5 +216,5 @@ first_from segments column q r keys proper small is_known first =
             to_z (after e) = absurd (not_before (less_through z p r next.small.positive hp first.small.positive e before_r))
 
 pub first_is_next : FirstIsNext
-first_is_next n segments column q r status keys steep proper is queue first =
-    first_from segments column q r keys proper is.small (λ z next up_to. queued n segments q z status steep proper is next column keys queue up_to) first
+first_is_next n segments strip q r status keys steep proper is queue first =
+    first_from segments strip q r keys proper is.small (λ z next up_to. queued n segments q z status steep proper is next strip keys queue up_to) first

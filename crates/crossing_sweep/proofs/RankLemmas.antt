@@ -32,7 +32,7 @@ module _ (p q : Point) (hp : pos 0 <ℤ p.w) (hq : pos 0 <ℤ q.w) where
   swap : (a : ℤ) → (a *ℤ p.w) *ℤ q.w ≡ (a *ℤ q.w) *ℤ p.w
   swap a = last_turned a p.w q.w
 
-  -- over one whole x the rows tell the order; a place beyond the rows comes after them
+  -- over one whole x the rows give the order; a place beyond the rows comes after them
   over_one_x : (across r s : ℤ) → r <ℤ s → IsInRow across r p ⊎ IsBetween across r p → IsInRow across s q ⊎ IsBetween across s q → point_cmp p q ≡ Less
   over_one_x across r s less (inl i) (inl j) =
       below_less p q (ap (λ x. x *ℤ q.w) (sym i.upright) ∙ swap across ∙ ap (λ x. x *ℤ p.w) j.upright) (floors_tell r s p.y p.w q.y q.w hp hq less i.floor.high j.floor.low)

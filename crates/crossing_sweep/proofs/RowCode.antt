@@ -15,6 +15,6 @@ pub begun_more : (steps : Steps) (begin : ℕ) (within : Bool) (under : ℕ) (ms
 begun_more steps begin within under [] m all one = (one, all)
 begun_more steps begin within under (x ∷ xs) m all one = (all.0, begun_more steps begin within x.over xs m all.1 one)
 
--- one element changed, and not what is told of it
+-- one element changed, and not what holds of it
 pub same_told : {X Y : Type 0} (f : X → Y) (xs : List X) (i : ℕ) (d new : X) → i < length xs → f new ≡ f (get_or xs i d) → map f (set xs i new) ≡ map f xs
 same_told f xs i d new l e = map-set f xs i new ∙ ap (λ y. set (map f xs) i y) (e ∙ sym (get_or-map f xs i d (f d) l)) ∙ set-get_or (map f xs) i (f d)

@@ -9,9 +9,9 @@ use Rattle.std.proofs.lemmas.List.Kept.{AllPairs-filter}
 use Rattle.std.proofs.Math.IntN.{*ℤ-zero, *ℤ_comm}
 use Rattle.std.specs.declared.cmp.Ordering.TheVariants.{Less}
 use Rattle.overlay_terms.specs.Plane.{Point, Segment, whole, point_cmp, same_place, height_over, is_on}
-use Rattle.overlay_terms.specs.Column.{border, is_in_column}
-use Rattle.overlay_terms.specs.Tiles.{Input, is_node, IsBoundary, midpoint, below_bits, over_bits}
-use Rattle.overlay_terms.specs.TileLaws.{IsInput, IsProper}
+use Rattle.overlay_terms.specs.Column.{border}
+use Rattle.overlay_terms.specs.Tiles.{is_node, midpoint, below_bits, over_bits}
+use Rattle.overlay_terms.specs.TileLaws.{IsProper}
 use Rattle.overlay_terms.specs.Trees.{steps_value}
 use Rattle.overlay_terms.proofs.InputNumbers.{le_true, left_most, most_times, last_turned}
 use Rattle.overlay_terms.proofs.Lists.{any_from, any_left, any_contains, contains_map, from_map}
@@ -21,13 +21,12 @@ use Rattle.exact_point.proofs.Lines.{gap, gap_at, flat_gap}
 use Rattle.exact_point.proofs.OnLine.{within_on, on_line, one_direction, after_left, before_right, forward_from_less, way_up}
 use Rattle.exact_point.proofs.Signs.{negative_times, not_negative_times}
 use Rattle.exact_point.proofs.PlaceOrder.{Way, before, at, after, way_of, one_positive, less_through, alike_right, same_turned, on_same, not_after_less}
-use Rattle.exact_point.proofs.SameMiddle.{in_column_alike}
+use Rattle.crossing_sweep.proofs.StripLemmas.{in_strip_alike, sides_alike}
 use Rattle.tile_laws.proofs.Ranks.{Told, yes, no, told}
-use Rattle.tile_laws.proofs.SameBoundary.{boundary_alike}
-use Rattle.tile_laws.proofs.Statements.{segments_in}
 use Rattle.arrange.specs.Units.{AreUnits}
 use Rattle.arrange.specs.declared.unit.Unit.{Unit}
 use Rattle.arrange.proofs.UnitPieces.{IsUnitPiece, piece_on_unit}
+use Rattle.crossing_sweep.specs.StripInput.{StripInput, IsStripInput, IsStripBoundary, is_in_strip, segments_in, Span}
 use Rattle.crossing_sweep.specs.Leaning.{lean, lean_segment, IsSteep, IsSmall, IsAfter}
 use Rattle.crossing_sweep.specs.Status.{IsStretchOf}
 use Rattle.crossing_sweep.specs.NextNode.{IsNextNode}
@@ -50,7 +49,7 @@ use Rattle.crossing_sweep.proofs.ClosedLemmas.{stretch_is_closed}
 use Rattle.crossing_sweep.proofs.UnitStretchLemmas.{units_are_stretches}
 use Rattle.crossing_sweep.proofs.PassLemmas.{pass_goes_on, entered_holds, filter_contains, contains_filter, all_of}
 use Rattle.crossing_sweep.proofs.Passed.{not_after_before, still_known, still_at, last_known, last_at, one_passed}
-use Rattle.crossing_sweep.proofs.Labels.{before_in_column, all_out, all_in, first_under}
+use Rattle.crossing_sweep.proofs.Labels.{before_in_strip, all_out, all_in, first_under}
 
 -- ---- whether two values are one
 differ_from : (u o : Bool) → is_one_of u o ≡ true → u ≡ o → ⊥
@@ -77,8 +76,8 @@ differ_back true false h = refl
 differ_back false true h = refl
 differ_back false false h = absurd (h refl)
 
--- ---- a unit that waits at the left border holds no earlier place of the column
-module _ (column : ℕ) (q p : Point) (u : Segment) (proper : IsProper u) (hq : pos 0 <ℤ q.w) (hp : pos 0 <ℤ p.w) (waits : IsWaiting column q u) (on : IsTrue (is_on u p)) (from : (border column *ℤ p.w) ≤ℤ p.x) where
+-- ---- a unit that waits at the left border holds no earlier place of the strip
+module _ (strip : Span) (q p : Point) (u : Segment) (proper : IsProper u) (hq : pos 0 <ℤ q.w) (hp : pos 0 <ℤ p.w) (waits : IsWaiting strip q u) (on : IsTrue (is_on u p)) (from : (border strip.first *ℤ p.w) ≤ℤ p.x) where
   wide : pos 0 ≤ℤ (u.right.x -ℤ u.left.x)
   wide = up_from u.left.x u.right.x (left_most u proper.first)
     where
@@ -95,7 +94,7 @@ module _ (column : ℕ) (q p : Point) (u : Segment) (proper : IsProper u) (hq : 
       higher d y e x w h form none up hd hw low = omega (arith, ints, form, ap (λ z. e *ℤ z) none, *ℤ-zero e, not_negative_times d y hd up, *ℤ_comm w h, negative_times h w low hw)
 
       by : Forward ((q.x *ℤ p.w) -ℤ (p.x *ℤ q.w)) ((q.y *ℤ p.w) -ℤ (p.y *ℤ q.w)) → ⊥
-      by (inl h) = not_right p.x p.w q.x q.w (border column) hq from waits.on_border h
+      by (inl h) = not_right p.x p.w q.x q.w (border strip.first) hq from waits.on_border h
       by (inr h) = higher (u.right.x -ℤ u.left.x) ((q.y *ℤ p.w) -ℤ (p.y *ℤ q.w)) (u.right.y -ℤ u.left.y) ((q.x *ℤ p.w) -ℤ (p.x *ℤ q.w)) p.w (height_over u q) (way_up u p q (on_line u p on)) h.0 h.1 wide hp waits.passes_over
   no_earlier (at e) not_after = level (height_over u q) (on_line u q (sym (on_same u p q hp hq e) ∙ on)) waits.passes_over
     where
@@ -104,10 +103,10 @@ module _ (column : ℕ) (q p : Point) (u : Segment) (proper : IsProper u) (hq : 
   no_earlier (after e) not_after = not_after e
 
 -- ---- one step
-module _ (n : ℤ) (input : Input) (units : List Unit) (q r : Point) (under bundle over stay : List Member) (entering rest : List Segment) (keys new passed : List Point) (rows : List Row) (end : ℕ)
-    (steep : IsSteep n) (valid : IsInput input) (are : AreUnits input.marked units)
-    (come : HasCome n (segments_in input) (map (λ (u : Unit). u.seg) units) input.column q (segs_of under ++ segs_of bundle ++ segs_of over) (entering ++ rest) (r ∷ keys))
-    (step : IsStepTo (segments_in input) input.column r (segs_of under) (segs_of bundle) (segs_of over) entering (segs_of stay) rest keys new)
+module _ (n : ℤ) (input : StripInput) (units : List Unit) (q r : Point) (under bundle over stay : List Member) (entering rest : List Segment) (keys new passed : List Point) (rows : List Row) (end : ℕ)
+    (steep : IsSteep n) (valid : IsStripInput input) (are : AreUnits input.marked units)
+    (come : HasCome n (segments_in input) (map (λ (u : Unit). u.seg) units) input.strip q (segs_of under ++ segs_of bundle ++ segs_of over) (entering ++ rest) (r ∷ keys))
+    (step : IsStepTo (segments_in input) input.strip r (segs_of under) (segs_of bundle) (segs_of over) entering (segs_of stay) rest keys new)
     (begin : BeginAt input units r passed under stay end) (carries : Carries n input q passed (under ++ bundle ++ over) rows) where
   proper : All IsProper (segments_in input)
   proper = All-map IsProper (λ m. m.segment) input.marked valid.proper
@@ -115,8 +114,8 @@ module _ (n : ℤ) (input : Input) (units : List Unit) (q r : Point) (under bund
   stretches : AreStretches (segments_in input) (map (λ (u : Unit). u.seg) units)
   stretches = units_are_stretches input units valid are
 
-  taken : IsTaken n (segments_in input) (map (λ (u : Unit). u.seg) units) input.column q r (segs_of under ++ segs_of stay ++ segs_of over) rest new
-  taken = pass_goes_on n (segments_in input) (map (λ (u : Unit). u.seg) units) input.column q r (segs_of under) (segs_of bundle) (segs_of over) entering (segs_of stay) rest keys new steep proper stretches come step
+  taken : IsTaken n (segments_in input) (map (λ (u : Unit). u.seg) units) input.strip q r (segs_of under ++ segs_of stay ++ segs_of over) rest new
+  taken = pass_goes_on n (segments_in input) (map (λ (u : Unit). u.seg) units) input.strip q r (segs_of under) (segs_of bundle) (segs_of over) entering (segs_of stay) rest keys new steep proper stretches come step
 
   next : IsNextNode (segments_in input) q r
   next = taken.next
@@ -130,8 +129,8 @@ module _ (n : ℤ) (input : Input) (units : List Unit) (q r : Point) (under bund
   hr : pos 0 <ℤ r.w
   hr = next.small.positive
 
-  first : IsAhead (segments_in input) input.column q r
-  first = All-head (IsAhead (segments_in input) input.column q) r keys come.ahead
+  first : IsAhead (segments_in input) input.strip q r
+  first = All-head (IsAhead (segments_in input) input.strip q) r keys come.ahead
 
   abbrev later : List Point
   later = passed ++ r ∷ []
@@ -159,8 +158,8 @@ module _ (n : ℤ) (input : Input) (units : List Unit) (q r : Point) (under bund
   before_r : (m : Member) → IsCarried n input passed q m → point_cmp (place_at passed m.begin) r ≡ Less
   before_r m c = not_after_before (place_at passed m.begin) q r (positive_begin m c) hq hr (not_later_begin m c) next.after
 
-  from_border : (m : Member) → IsCarried n input passed q m → (border input.column *ℤ (place_at passed m.begin).w) ≤ℤ (place_at passed m.begin).x
-  from_border m c = All-contains (λ z. (border input.column *ℤ z.w) ≤ℤ z.x) passed (place_at passed m.begin) carries.passes.from (begin_place m c)
+  from_border : (m : Member) → IsCarried n input passed q m → (border input.strip.first *ℤ (place_at passed m.begin).w) ≤ℤ (place_at passed m.begin).x
+  from_border m c = All-contains (λ z. (border input.strip.first *ℤ z.w) ≤ℤ z.x) passed (place_at passed m.begin) carries.passes.from (begin_place m c)
 
   -- one that does not hold the node goes on as it was
   kept : (m : Member) → IsCarried n input passed q m → (height_over (seg_of m) r ≡ pos 0 → ⊥) → IsCarried n input (passed ++ r ∷ []) r m
@@ -188,7 +187,7 @@ module _ (n : ℤ) (input : Input) (units : List Unit) (q r : Point) (under bund
       (less_none (height_over (seg_of (get_or over i d)) r) (all_from_map (λ u. height_over u r <ℤ pos 0) seg_of over step.split.passes_over i d l))
 
   -- ---- those that begin
-  new_status : IsStatusAt n (segments_in input) r (segs_of under ++ segs_of stay ++ segs_of over ++ waiting input.column rest)
+  new_status : IsStatusAt n (segments_in input) r (segs_of under ++ segs_of stay ++ segs_of over ++ waiting input.strip rest)
   new_status = taken.come.full.status_at
 
   stay_level : (m : Member) → Contains stay m → height_over (seg_of m) r ≡ pos 0
@@ -197,9 +196,9 @@ module _ (n : ℤ) (input : Input) (units : List Unit) (q r : Point) (under bund
       by : Contains (segs_of bundle) (seg_of m) ⊎ Contains entering (seg_of m) → height_over (seg_of m) r ≡ pos 0
       by (inl h) = All-contains (λ u. height_over u r ≡ pos 0) (segs_of bundle) (seg_of m) step.split.hold h
       by (inr h) =
-          let met = All-contains (λ u. (z : Point) × IsEntry input.column u z × IsTrue (same_place z r)) entering (seg_of m) step.enter h in
+          let met = All-contains (λ u. (z : Point) × IsEntry input.strip u z × IsTrue (same_place z r)) entering (seg_of m) step.enter h in
           let among = All-contains (Contains (map (λ (u : Unit). u.seg) units)) (entering ++ rest) (seg_of m) come.among (Contains-append_left entering rest (seg_of m) h) in
-          entered_holds input.column r (seg_of m) (All-contains (IsStretchOf (segments_in input)) (map (λ (u : Unit). u.seg) units) (seg_of m) stretches.stretches among).proper hr met.0 met.1 met.2
+          entered_holds input.strip r (seg_of m) (All-contains (IsStretchOf (segments_in input)) (map (λ (u : Unit). u.seg) units) (seg_of m) stretches.stretches among).proper hr met.0 met.1 met.2
 
   stay_on : All (λ m. IsTrue (is_on (seg_of m) r)) stay
   stay_on = all_of (λ m. IsTrue (is_on (seg_of m) r)) stay on
@@ -210,25 +209,25 @@ module _ (n : ℤ) (input : Input) (units : List Unit) (q r : Point) (under bund
           within_on (seg_of m) r hr (stay_level m c) goes.begun (λ h. not_after_less r (whole (seg_of m).right) hr one_positive goes.lasting h)
 
   abbrev full : List Segment
-  full = segs_of under ++ segs_of stay ++ segs_of over ++ waiting input.column rest
+  full = segs_of under ++ segs_of stay ++ segs_of over ++ waiting input.strip rest
 
   begun : All (IsCarried n input (passed ++ r ∷ []) r) stay
-  begun = by (told (is_in_column input.column r))
+  begun = by (told (is_in_strip input.strip r))
     where
-      split : segs_of under ++ segs_of stay ++ segs_of over ++ waiting input.column rest ≡ segs_of under ++ (segs_of stay ++ (segs_of over ++ waiting input.column rest))
-      split = append_assoc (segs_of under ++ segs_of stay) (segs_of over) (waiting input.column rest) ∙ append_assoc (segs_of under) (segs_of stay) (segs_of over ++ waiting input.column rest)
+      split : segs_of under ++ segs_of stay ++ segs_of over ++ waiting input.strip rest ≡ segs_of under ++ (segs_of stay ++ (segs_of over ++ waiting input.strip rest))
+      split = append_assoc (segs_of under ++ segs_of stay) (segs_of over) (waiting input.strip rest) ∙ append_assoc (segs_of under) (segs_of stay) (segs_of over ++ waiting input.strip rest)
 
       Within : Point → Type 0
-      Within z = IsTrue (is_in_column input.column z)
+      Within z = IsTrue (is_in_strip input.strip z)
 
-      by : Told (is_in_column input.column r) → All (IsCarried n input (passed ++ r ∷ []) r) stay
+      by : Told (is_in_strip input.strip r) → All (IsCarried n input (passed ++ r ∷ []) r) stay
       by (no e) = all_out n input units r (passed ++ r ∷ []) steep valid are nodal next.node end end_known end_at e (mask_over 0 under) stay stay_on begin.begun
       by (yes e) =
           let go_up = masks_step_up n input r full steep valid new_status in
-          all_in n input units r (passed ++ r ∷ []) steep valid are nodal next.node end end_known end_at full (segs_of over ++ waiting input.column rest) new_status go_up (segs_of under) stay (mask_over 0 under) split begin.among stay_on
-          (first_under n input units r (passed ++ r ∷ []) steep valid are nodal next.node end end_known end_at full (segs_of over ++ waiting input.column rest) new_status go_up e under (segs_of stay ++ (segs_of over ++ waiting input.column rest)) split kept_under
+          all_in n input units r (passed ++ r ∷ []) steep valid are nodal next.node end end_known end_at full (segs_of over ++ waiting input.strip rest) new_status go_up (segs_of under) stay (mask_over 0 under) split begin.among stay_on
+          (first_under n input units r (passed ++ r ∷ []) steep valid are nodal next.node end end_known end_at full (segs_of over ++ waiting input.strip rest) new_status go_up e under (segs_of stay ++ (segs_of over ++ waiting input.strip rest)) split kept_under
           (λ i d l. let c = all_first (IsCarried n input passed q) under bundle members_low i d l in
-          subst Within (sym (still_at passed r (get_or under i d).begin c.known)) (before_in_column input.column (place_at passed (get_or under i d).begin) r (positive_begin (get_or under i d) c) hr (from_border (get_or under i d) c) (before_r (get_or under i d) c) e))
+          subst Within (sym (still_at passed r (get_or under i d).begin c.known)) (before_in_strip input.strip (place_at passed (get_or under i d).begin) r (positive_begin (get_or under i d) c) hr (from_border (get_or under i d) c) (before_r (get_or under i d) c) e))
           under refl)
           begin.begun
 
@@ -242,12 +241,12 @@ module _ (n : ℤ) (input : Input) (units : List Unit) (q r : Point) (under bund
     pub level : height_over (seg_of m) r ≡ pos 0
 
   abbrev old_status : List Segment
-  old_status = segs_of under ++ segs_of bundle ++ segs_of over ++ waiting input.column (entering ++ rest)
+  old_status = segs_of under ++ segs_of bundle ++ segs_of over ++ waiting input.strip (entering ++ rest)
 
-  middle : (P : Segment → Type 0) → All P (segs_of under ++ segs_of bundle ++ segs_of over ++ waiting input.column (entering ++ rest)) → All (λ m. P (seg_of m)) bundle
+  middle : (P : Segment → Type 0) → All P (segs_of under ++ segs_of bundle ++ segs_of over ++ waiting input.strip (entering ++ rest)) → All (λ m. P (seg_of m)) bundle
   middle P h =
       all_from_map P seg_of bundle
-      (all_second P (segs_of under) (segs_of bundle) (all_first P (segs_of under ++ segs_of bundle) (segs_of over) (all_first P (segs_of under ++ segs_of bundle ++ segs_of over) (waiting input.column (entering ++ rest)) h)))
+      (all_second P (segs_of under) (segs_of bundle) (all_first P (segs_of under ++ segs_of bundle) (segs_of over) (all_first P (segs_of under ++ segs_of bundle ++ segs_of over) (waiting input.strip (entering ++ rest)) h)))
 
   endings : All IsEnding bundle
   endings i d l = record {
@@ -267,7 +266,7 @@ module _ (n : ℤ) (input : Input) (units : List Unit) (q r : Point) (under bund
         within_on (seg_of m) r hr is.level (λ h. is.goes.begun (less_through q r (whole (seg_of m).left) hq hr one_positive next.after h))
         (λ h. next.clear (whole (seg_of m).right) one_positive is.ends is.goes.lasting h)
 
-    module _ (within : IsTrue (is_in_column input.column (place_at passed m.begin))) where
+    module _ (within : IsTrue (is_in_strip input.strip (place_at passed m.begin))) where
       abbrev Sides : Type 0
       Sides = (below_bits input.marked (midpoint (place_at passed m.begin) r) ≡ under_unit n input (seg_of m) (place_at passed m.begin))
           × (over_bits input.marked (midpoint (place_at passed m.begin) r) ≡ up_to_unit n input (seg_of m) (place_at passed m.begin))
@@ -284,12 +283,12 @@ module _ (n : ℤ) (input : Input) (units : List Unit) (q r : Point) (under bund
           differ_back (steps_value input.steps (under_unit n input (seg_of m) (place_at passed m.begin))) (steps_value input.steps (up_to_unit n input (seg_of m) (place_at passed m.begin)))
           (λ e. apart (ap (steps_value input.steps) sides.0 ∙ e ∙ sym (ap (steps_value input.steps) sides.1)))
 
-      piece_ends : sides_differ n input (seg_of m) (place_at passed m.begin) ≡ true → IsBoundary input.marked input.steps input.column (place_at passed m.begin) r
+      piece_ends : sides_differ n input (seg_of m) (place_at passed m.begin) ≡ true → IsStripBoundary input.marked input.steps input.strip (place_at passed m.begin) r
       piece_ends d =
           let closed = stretch_is_closed n input (seg_of m) (place_at passed m.begin) q r steep valid is.stretch is.goes (is.carried.carried.last within) next nodal hq is.level is.ends in
           record {
             piece = closed.piece;
-            column = within;
+            begins = within;
             sides = λ e. differ_from (steps_value input.steps (under_unit n input (seg_of m) (place_at passed m.begin))) (steps_value input.steps (up_to_unit n input (seg_of m) (place_at passed m.begin))) d
                 (sym (ap (steps_value input.steps) sides.0) ∙ e ∙ ap (steps_value input.steps) sides.1);
           }
@@ -297,10 +296,10 @@ module _ (n : ℤ) (input : Input) (units : List Unit) (q r : Point) (under bund
     -- one that differs becomes a row
     one_row : m.differs ≡ true → IsRow input (passed ++ r ∷ []) (row_to end m)
     one_row d =
-        let parts = and_parts (is_in_column input.column (place_at passed m.begin)) (sides_differ n input (seg_of m) (place_at passed m.begin)) (sym is.carried.carried.differs ∙ d) in
+        let parts = and_parts (is_in_strip input.strip (place_at passed m.begin)) (sides_differ n input (seg_of m) (place_at passed m.begin)) (sym is.carried.carried.differs ∙ d) in
         let begins_at : place_at (passed ++ r ∷ []) m.begin ≡ place_at passed m.begin = still_at passed r m.begin is.carried.known in
-        let P : Point → Type 0 = λ z. IsBoundary input.marked input.steps input.column (place_at (passed ++ r ∷ []) m.begin) z in
-        let R : Point → Type 0 = λ z. IsBoundary input.marked input.steps input.column z r in
+        let P : Point → Type 0 = λ z. IsStripBoundary input.marked input.steps input.strip (place_at (passed ++ r ∷ []) m.begin) z in
+        let R : Point → Type 0 = λ z. IsStripBoundary input.marked input.steps input.strip z r in
         let Q : Point → Type 0 = λ z. IsTrue (is_on (seg_of m) z) in
         record {
           from_known = still_known passed r m.begin is.carried.known;
@@ -328,10 +327,10 @@ module _ (n : ℤ) (input : Input) (units : List Unit) (q r : Point) (under bund
       On z = IsTrue (is_on row.support z)
 
       To : Point → Type 0
-      To z = IsBoundary input.marked input.steps input.column (place_at passed row.first) z
+      To z = IsStripBoundary input.marked input.steps input.strip (place_at passed row.first) z
 
       From : Point → Type 0
-      From z = IsBoundary input.marked input.steps input.column z (place_at (passed ++ r ∷ []) row.last)
+      From z = IsStripBoundary input.marked input.steps input.strip z (place_at (passed ++ r ∷ []) row.last)
 
   -- ---- each once
   apart : (a b : Member) → IsEnding a → IsEnding b → IsAfter (lean_segment n (seg_of a)) (lean_segment n (seg_of b)) (lean n q) → a.begin ≡ b.begin → ⊥
@@ -369,7 +368,7 @@ module _ (n : ℤ) (input : Input) (units : List Unit) (q r : Point) (under bund
   in_order =
       pairs_from_map AreAfter seg_of bundle
       (pairs_second AreAfter (segs_of under) (segs_of bundle) (pairs_first AreAfter (segs_of under ++ segs_of bundle) (segs_of over)
-      (pairs_first AreAfter (segs_of under ++ segs_of bundle ++ segs_of over) (waiting input.column (entering ++ rest)) come.full.status_at.ordered)))
+      (pairs_first AreAfter (segs_of under ++ segs_of bundle ++ segs_of over) (waiting input.strip (entering ++ rest)) come.full.status_at.ordered)))
 
   abbrev AreApart : Row → Row → Type 0
   AreApart a b = a.first ≡ b.first → a.last ≡ b.last → ⊥
@@ -392,7 +391,7 @@ module _ (n : ℤ) (input : Input) (units : List Unit) (q r : Point) (under bund
   IsOf a b row = IsTrue (same_place a (place_at (passed ++ r ∷ []) row.first) && same_place b (place_at (passed ++ r ∷ []) row.last))
 
   -- a piece of the boundary that ends at the node lies on the unit of a member, and is its row
-  module _ (a b : Point) (boundary : IsBoundary input.marked input.steps input.column a b) (at_r : IsTrue (same_place b r)) where
+  module _ (a b : Point) (boundary : IsStripBoundary input.marked input.steps input.strip a b) (at_r : IsTrue (same_place b r)) where
     ha : pos 0 <ℤ a.w
     ha = boundary.piece.from_positive
 
@@ -408,7 +407,7 @@ module _ (n : ℤ) (input : Input) (units : List Unit) (q r : Point) (under bund
     module _ (m : Member) (among : Contains bundle m) (is : IsEnding m) (piece : IsUnitPiece input.marked (seg_of m) a b) where
       same_from : Way (place_at passed m.begin) a → IsTrue (same_place a (place_at passed m.begin))
       same_from (before e) =
-          let within = before_in_column input.column (place_at passed m.begin) a (positive_begin m is.carried) ha (from_border m is.carried) e boundary.column in
+          let within = before_in_strip input.strip (place_at passed m.begin) a (positive_begin m is.carried) ha (from_border m is.carried) e boundary.begins in
           absurd ((is.carried.carried.last within).last a ha piece.from_on boundary.piece.from_node e not_later_a)
       same_from (at e) = same_turned (place_at passed m.begin) a e
       same_from (after e) =
@@ -417,9 +416,9 @@ module _ (n : ℤ) (input : Input) (units : List Unit) (q r : Point) (under bund
 
       found_row : IsTrue (same_place a (place_at passed m.begin)) → Any (IsOf a b) (rows_of end bundle)
       found_row e =
-          let within : IsTrue (is_in_column input.column (place_at passed m.begin)) = sym (in_column_alike a (place_at passed m.begin) ha (positive_begin m is.carried) e input.column) ∙ boundary.column in
-          let there = boundary_alike input.marked input.steps input.column (a, b) (place_at passed m.begin, r) (positive_begin m is.carried, hr) (and_from (same_place a (place_at passed m.begin)) (same_place b r) e at_r) boundary in
-          let d : m.differs ≡ true = is.carried.carried.differs ∙ and_from (is_in_column input.column (place_at passed m.begin)) (sides_differ n input (seg_of m) (place_at passed m.begin)) within (differ_there m is within there.sides) in
+          let within : IsTrue (is_in_strip input.strip (place_at passed m.begin)) = sym (in_strip_alike a (place_at passed m.begin) ha (positive_begin m is.carried) e input.strip) ∙ boundary.begins in
+          let there = sides_alike input.marked input.steps a b (place_at passed m.begin) r ha hb (positive_begin m is.carried) hr e at_r boundary.sides in
+          let d : m.differs ≡ true = is.carried.carried.differs ∙ and_from (is_in_strip input.strip (place_at passed m.begin)) (sides_differ n input (seg_of m) (place_at passed m.begin)) within (differ_there m is within there) in
           any_from (IsOf a b) (rows_of end bundle) (row_to end m) (contains_map (row_to end) (filter (λ m. m.differs) bundle) m (contains_filter (λ (m : Member). m.differs) bundle m among d))
           (and_from (same_place a (place_at (passed ++ r ∷ []) m.begin)) (same_place b (place_at (passed ++ r ∷ []) end)) (ap (λ z. same_place a z) (still_at passed r m.begin is.carried.known) ∙ e) (ap (λ z. same_place b z) end_at ∙ at_r))
 
@@ -427,7 +426,7 @@ module _ (n : ℤ) (input : Input) (units : List Unit) (q r : Point) (under bund
       found = found_row (same_from (way_of (place_at passed m.begin) a (positive_begin m is.carried) ha))
 
     on_unit : (u : Segment) → IsUnitPiece input.marked u a b → Any (IsOf a b) (rows_of end bundle)
-    on_unit u piece = last (Contains-append_cases (segs_of under ++ segs_of bundle ++ segs_of over) (waiting input.column (entering ++ rest)) u in_status)
+    on_unit u piece = last (Contains-append_cases (segs_of under ++ segs_of bundle ++ segs_of over) (waiting input.strip (entering ++ rest)) u in_status)
       where
         among : Contains (map (λ (u : Unit). u.seg) units) u
         among = are.complete u piece.unit
@@ -449,11 +448,11 @@ module _ (n : ℤ) (input : Input) (units : List Unit) (q r : Point) (under bund
             by (at e) = sym (alike_right q r (whole u.right) hq hr one_positive e) ∙ next.after
             by (after e) = absurd (before_right u r hr (sym (on_same u b r hb hr at_r) ∙ piece.to_on) e)
 
-        in_status : Contains (segs_of under ++ segs_of bundle ++ segs_of over ++ waiting input.column (entering ++ rest)) u
+        in_status : Contains (segs_of under ++ segs_of bundle ++ segs_of over ++ waiting input.strip (entering ++ rest)) u
         in_status = come.full.members u among goes
 
-        from_left : (border input.column *ℤ a.w) ≤ℤ a.x
-        from_left = le_true (border input.column *ℤ a.w) a.x (and_parts (int_le (border input.column *ℤ a.w) a.x) (int_lt a.x (border (input.column + 1) *ℤ a.w)) boundary.column).0
+        from_left : (border input.strip.first *ℤ a.w) ≤ℤ a.x
+        from_left = le_true (border input.strip.first *ℤ a.w) a.x (and_parts (int_le (border input.strip.first *ℤ a.w) a.x) (int_lt a.x (border (input.strip.last + 1) *ℤ a.w)) boundary.begins).0
 
         of_member : (m : Member) × Contains bundle m × (seg_of m ≡ u) → Any (IsOf a b) (rows_of end bundle)
         of_member (m, c, e) =
@@ -468,12 +467,12 @@ module _ (n : ℤ) (input : Input) (units : List Unit) (q r : Point) (under bund
         three (inl h) = two (Contains-append_cases (segs_of under) (segs_of bundle) u h)
         three (inr h) = absurd (less_none (height_over u r) (All-contains (λ u. height_over u r <ℤ pos 0) (segs_of over) u step.split.passes_over h) level)
 
-        last : Contains (segs_of under ++ segs_of bundle ++ segs_of over) u ⊎ Contains (waiting input.column (entering ++ rest)) u → Any (IsOf a b) (rows_of end bundle)
+        last : Contains (segs_of under ++ segs_of bundle ++ segs_of over) u ⊎ Contains (waiting input.strip (entering ++ rest)) u → Any (IsOf a b) (rows_of end bundle)
         last (inl h) = three (Contains-append_cases (segs_of under ++ segs_of bundle) (segs_of over) u h)
         last (inr h) =
-            let parts = filter_contains (begins_left input.column) (entering ++ rest) u h in
-            let waits : IsWaiting input.column q u = (All-contains (IsToCome input.column q) (entering ++ rest) u come.coming parts.0).waits parts.1 in
-            absurd (no_earlier input.column q a u proper_u hq ha waits piece.from_on from_left (way_of a q ha hq) not_later_a)
+            let parts = filter_contains (begins_left input.strip) (entering ++ rest) u h in
+            let waits : IsWaiting input.strip q u = (All-contains (IsToCome input.strip q) (entering ++ rest) u come.coming parts.0).waits parts.1 in
+            absurd (no_earlier input.strip q a u proper_u hq ha waits piece.from_on from_left (way_of a q ha hq) not_later_a)
 
     ends_at_r : Any (IsOf a b) (rows_of end bundle)
     ends_at_r = let unit = piece_on_unit input.marked valid.proper a b boundary.piece in on_unit unit.0 unit.1
@@ -490,7 +489,7 @@ module _ (n : ℤ) (input : Input) (units : List Unit) (q r : Point) (under bund
       is : IsRow input passed any.1
       is = All-contains (IsRow input passed) rows any.1 carries.are_rows.sound among
 
-  complete : (a b : Point) → IsBoundary input.marked input.steps input.column a b → (point_cmp r b ≡ Less → ⊥) → Any (IsOf a b) (rows ++ rows_of end bundle)
+  complete : (a b : Point) → IsStripBoundary input.marked input.steps input.strip a b → (point_cmp r b ≡ Less → ⊥) → Any (IsOf a b) (rows ++ rows_of end bundle)
   complete a b boundary not_after = by (way_of b r hb hr)
     where
       hb : pos 0 <ℤ b.w
@@ -506,7 +505,7 @@ module _ (n : ℤ) (input : Input) (units : List Unit) (q r : Point) (under bund
 
   on_it_goes : Carries n input r (passed ++ r ∷ []) (under ++ stay ++ over) (rows ++ rows_of end bundle)
   on_it_goes = record {
-    passes = one_passed (segments_in input) input.column q r passed carries.passes next hq first.from first.up_to;
+    passes = one_passed (segments_in input) input.strip q r passed carries.passes next hq first.from first.up_to;
     members = All-append (IsCarried n input (passed ++ r ∷ []) r) (under ++ stay) over (All-append (IsCarried n input (passed ++ r ∷ []) r) under stay kept_under begun) kept_over;
     are_rows = record {
       sound = All-append (IsRow input (passed ++ r ∷ [])) rows (rows_of end bundle) (λ i d l. old_row (get_or rows i d) (carries.are_rows.sound i d l)) new_rows;

@@ -12,8 +12,8 @@ use Rattle.exact_point.specs.Crossing.{IsCrossingOf}
 use Rattle.exact_point.specs.Place.{place}
 use Rattle.exact_point.specs.declared.point.HPoint.{HPoint}
 use Rattle.exact_point.specs.declared.point_name.PointName.{PointName}
-use Rattle.arrange.specs.Arrangement.{is_in_closed_column}
 use Rattle.tile_laws.proofs.Ranks.{Told, yes, no, told}
+use Rattle.crossing_sweep.specs.StripInput.{is_in_closed_strip, Span}
 use Rattle.crossing_sweep.specs.Queue.{IsQueued}
 use Rattle.crossing_sweep.specs.Ahead.{points_of}
 use Rattle.crossing_sweep.specs.Testing.{IsFound, AreTested, IsFoundIn, AreSeamsTested}
@@ -32,12 +32,12 @@ still_queued old new kept p queued =
     let d = from_map (λ (d : HPoint × PointName). place d.0) old queued.1 (any_contains (λ z. IsTrue (same_place p z)) (points_of old) queued) in
     any_from (λ z. IsTrue (same_place p z)) (points_of new) (place d.0.0) (contains_map (λ (d : HPoint × PointName). place d.0) new d.0 (kept d.0 d.1)) (subst (λ z. IsTrue (same_place p z)) (sym d.2) queued.4)
 
-module _ (column : ℕ) (r : Point) (segs : List Segment) where
+module _ (strip : Span) (r : Point) (segs : List Segment) where
   abbrev ArePair : Segment × Segment → Type 0
   ArePair t = Contains segs t.0 × Contains segs t.1
 
   -- no seam
-  pub no_seams : (search : Search) → AreSeamsTested column r segs [] search search
+  pub no_seams : (search : Search) → AreSeamsTested strip r segs [] search search
   no_seams search = record {
     listed = refl;
     kept = λ e c. c;
@@ -51,7 +51,7 @@ module _ (column : ℕ) (r : Point) (segs : List Segment) where
   }
 
   -- a seam with no neighbours
-  pub no_seam : (seam : ℕ) (search : Search) → (seam ≡ 0) ⊎ (length segs ≤ seam) → AreSeamsTested column r segs (seam ∷ []) search search
+  pub no_seam : (seam : ℕ) (search : Search) → (seam ≡ 0) ⊎ (length segs ≤ seam) → AreSeamsTested strip r segs (seam ∷ []) search search
   no_seam seam search none = record {
     listed = refl;
     kept = λ e c. c;
@@ -72,12 +72,12 @@ module _ (column : ℕ) (r : Point) (segs : List Segment) where
   module _ (j : ℕ) (inside : j + 1 < length segs) (a b : Segment) (here_a : (d : Segment) → get_or segs j d ≡ a) (here_b : (d : Segment) → get_or segs (j + 1) d ≡ b) (old mid new : Search)
       (same_ahead : mid.ahead ≡ old.ahead) (same_listed : mid.listed ≡ old.listed) (put : old.listed ≡ true → mid.tests.items ≡ old.tests.items ++ (a, b) ∷ [])
       (not_put : old.listed ≡ false → mid.tests.items ≡ old.tests.items) (still_listed : new.listed ≡ mid.listed) (still_tests : new.tests.items ≡ mid.tests.items)
-      (tested : AreTested column r a b mid.ahead new.ahead) where
+      (tested : AreTested strip r a b mid.ahead new.ahead) where
     kept : (e : HPoint × PointName) → Contains old.ahead e → Contains new.ahead e
     kept e c = tested.kept e (subst (λ (es : List (HPoint × PointName)). Contains es e) (sym same_ahead) c)
 
     found : (i : ℕ) (d : Segment) (p : Point) → Contains ((j + 1) ∷ []) (i + 1) → i + 1 < length segs → pos 0 <ℤ p.w → IsCrossingOf (get_or segs i d) (get_or segs (i + 1) d) p → point_cmp r p ≡ Less
-        → IsTrue (is_in_closed_column column p) → IsQueued (points_of new.ahead) p
+        → IsTrue (is_in_closed_strip strip p) → IsQueued (points_of new.ahead) p
     found i d p c l hp crossing less within =
         let same : i ≡ j = omega (arith, only_one (j + 1) (i + 1) c) in
         tested.found p hp
@@ -91,17 +91,17 @@ module _ (column : ℕ) (r : Point) (segs : List Segment) where
     among_b : Contains segs b
     among_b = (j + 1, inside, here_b b)
 
-    only : (old.listed ≡ true → Contains new.tests.items (a, b)) → (e : HPoint × PointName) → Contains new.ahead e → Contains old.ahead e ⊎ IsFoundIn column r segs old.listed new.tests.items e
+    only : (old.listed ≡ true → Contains new.tests.items (a, b)) → (e : HPoint × PointName) → Contains new.ahead e → Contains old.ahead e ⊎ IsFoundIn strip r segs old.listed new.tests.items e
     only is_told e c = by (tested.only e c)
       where
-        by : Contains mid.ahead e ⊎ IsFound column r a b e → Contains old.ahead e ⊎ IsFoundIn column r segs old.listed new.tests.items e
+        by : Contains mid.ahead e ⊎ IsFound strip r a b e → Contains old.ahead e ⊎ IsFoundIn strip r segs old.listed new.tests.items e
         by (inl h) = inl (subst (λ (es : List (HPoint × PointName)). Contains es e) same_ahead h)
         by (inr f) = inr (record { lower = a; upper = b; lower_among = among_a; upper_among = among_b; found = f; told = is_told })
 
-    pub one_seam : AreSeamsTested column r segs ((j + 1) ∷ []) old new
+    pub one_seam : AreSeamsTested strip r segs ((j + 1) ∷ []) old new
     one_seam = by (told old.listed)
       where
-        by : Told old.listed → AreSeamsTested column r segs ((j + 1) ∷ []) old new
+        by : Told old.listed → AreSeamsTested strip r segs ((j + 1) ∷ []) old new
         by (yes e) =
             let tests : new.tests.items ≡ old.tests.items ++ (a, b) ∷ [] = still_tests ∙ put e in
             record {
@@ -129,19 +129,19 @@ module _ (column : ℕ) (r : Point) (segs : List Segment) where
             }
 
   -- two seams in turn
-  module _ (low high : ℕ) (old mid new : Search) (first : AreSeamsTested column r segs (low ∷ []) old mid) (second : AreSeamsTested column r segs (high ∷ []) mid new) where
+  module _ (low high : ℕ) (old mid new : Search) (first : AreSeamsTested strip r segs (low ∷ []) old mid) (second : AreSeamsTested strip r segs (high ∷ []) mid new) where
     found_both : (i : ℕ) (d : Segment) (p : Point) → Contains (low ∷ high ∷ []) (i + 1) → i + 1 < length segs → pos 0 <ℤ p.w → IsCrossingOf (get_or segs i d) (get_or segs (i + 1) d) p → point_cmp r p ≡ Less
-        → IsTrue (is_in_closed_column column p) → IsQueued (points_of new.ahead) p
+        → IsTrue (is_in_closed_strip strip p) → IsQueued (points_of new.ahead) p
     found_both i d p c l hp crossing less within = by (Contains-cons_cases low (high ∷ []) (i + 1) c)
       where
         by : (low ≡ i + 1) ⊎ Contains (high ∷ []) (i + 1) → IsQueued (points_of new.ahead) p
         by (inl e) = still_queued mid.ahead new.ahead second.kept p (first.found i d p (subst (λ x. Contains (low ∷ []) x) e (contains_first low [])) l hp crossing less within)
         by (inr h) = second.found i d p h l hp crossing less within
 
-    only_both : (e : HPoint × PointName) → Contains new.ahead e → Contains old.ahead e ⊎ IsFoundIn column r segs old.listed new.tests.items e
+    only_both : (e : HPoint × PointName) → Contains new.ahead e → Contains old.ahead e ⊎ IsFoundIn strip r segs old.listed new.tests.items e
     only_both e c = by (second.only e c)
       where
-        before : Contains old.ahead e ⊎ IsFoundIn column r segs old.listed mid.tests.items e → Contains old.ahead e ⊎ IsFoundIn column r segs old.listed new.tests.items e
+        before : Contains old.ahead e ⊎ IsFoundIn strip r segs old.listed mid.tests.items e → Contains old.ahead e ⊎ IsFoundIn strip r segs old.listed new.tests.items e
         before (inl h) = inl h
         before (inr f) =
             inr (record {
@@ -153,12 +153,12 @@ module _ (column : ℕ) (r : Point) (segs : List Segment) where
               told = λ g. subst (λ (ts : List (Segment × Segment)). Contains ts (f.lower, f.upper)) (sym second.tests) (Contains-append_left mid.tests.items second.more (f.lower, f.upper) (f.told g));
             })
 
-        by : Contains mid.ahead e ⊎ IsFoundIn column r segs mid.listed new.tests.items e → Contains old.ahead e ⊎ IsFoundIn column r segs old.listed new.tests.items e
+        by : Contains mid.ahead e ⊎ IsFoundIn strip r segs mid.listed new.tests.items e → Contains old.ahead e ⊎ IsFoundIn strip r segs old.listed new.tests.items e
         by (inl h) = before (first.only e h)
         by (inr f) =
             inr (record { lower = f.lower; upper = f.upper; lower_among = f.lower_among; upper_among = f.upper_among; found = f.found; told = λ g. f.told (first.listed ∙ g) })
 
-    pub two_seams : AreSeamsTested column r segs (low ∷ high ∷ []) old new
+    pub two_seams : AreSeamsTested strip r segs (low ∷ high ∷ []) old new
     two_seams = record {
       listed = second.listed ∙ first.listed;
       kept = λ e c. second.kept e (first.kept e c);
@@ -172,7 +172,7 @@ module _ (column : ℕ) (r : Point) (segs : List Segment) where
     }
 
   -- one seam, counted twice
-  pub same_seam : (low high : ℕ) (old new : Search) → low ≡ high → AreSeamsTested column r segs (low ∷ []) old new → AreSeamsTested column r segs (low ∷ high ∷ []) old new
+  pub same_seam : (low high : ℕ) (old new : Search) → low ≡ high → AreSeamsTested strip r segs (low ∷ []) old new → AreSeamsTested strip r segs (low ∷ high ∷ []) old new
   same_seam low high old new same first = record {
     listed = first.listed;
     kept = first.kept;

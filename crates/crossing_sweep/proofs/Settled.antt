@@ -7,9 +7,9 @@ use Rattle.std.proofs.lemmas.List.Elements.{All-head, All-tail}
 use Rattle.std.proofs.lemmas.List.Sorted.{sum_by-IsPermutation}
 use Rattle.std.proofs.lemmas.List.Sums.{sum_by-cons, sum_by-append}
 use Rattle.overlay_terms.specs.Plane.{Point}
-use Rattle.overlay_terms.specs.Tiles.{Input}
 use Rattle.exact_point.specs.PlaceOf.{place_of}
 use Rattle.exact_point.specs.declared.point_name.PointName.{PointName}
+use Rattle.crossing_sweep.specs.StripInput.{StripInput}
 use Rattle.crossing_sweep.specs.Rows.{count_settled, row_to, rows_of, AreRows, AreSorted}
 use Rattle.crossing_sweep.specs.declared.member.Member.{Member}
 use Rattle.crossing_sweep.specs.declared.row.Row.{Row}
@@ -33,7 +33,7 @@ none_settled n (m ∷ ms) =
     omega (arith, sum_by-cons (one_for (n + 1)) (row_to n m) (map (row_to n) ms), none, none_settled n ms)
 
 -- after a step the rows made before it have settled, and no others
-pub settled_after : (input : Input) (q : Point) (names : List PointName) (rows more_rows : List Row) (bundle : List Member) (begin : ℕ) → AreRows input (map place_of names) q rows → begin ≡ length names → more_rows ≡ rows ++ rows_of begin bundle
+pub settled_after : (input : StripInput) (q : Point) (names : List PointName) (rows more_rows : List Row) (bundle : List Member) (begin : ℕ) → AreRows input (map place_of names) q rows → begin ≡ length names → more_rows ≡ rows ++ rows_of begin bundle
     → count_settled (length names + 1) more_rows ≡ length rows
 settled_after input q names rows more_rows bundle begin are numbered closed =
     let n : ℕ = length names in

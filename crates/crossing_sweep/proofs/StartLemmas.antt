@@ -1,4 +1,4 @@
--- Where a pass over a column meets a unit first, and the order of those that wait at the left border.
+-- Where a pass over a strip meets a unit first, and the order of those that wait at the left border.
 use Rattle.std.proofs.Common.{◌≡◌, ℕ, ℤ, pos, ◌+◌, ◌<◌, ◌*ℤ◌, ◌<ℤ◌, ◌≤ℤ◌, neg_ℤ, int_le, inl, inr, ◌⊎◌, true, false, Bool, cond, List, [], ◌∷◌, ◌++◌, map, take, length, get_or, ap, sym, subst, ◌∙◌, arith}
 use Rattle.std.specs.Prelude.{IsTrue, All, Contains, filter}
 use Rattle.std.specs.List.{AllPairs, IsDistinct}
@@ -10,13 +10,13 @@ use Rattle.std.proofs.lemmas.List.Elements.{All-map, All-contains, Contains-get_
 use Rattle.std.proofs.lemmas.List.Kept.{AllPairs-filter}
 use Rattle.std.proofs.lemmas.List.Sorted.{Contains-permutation, IsPermutation-sym, sorted_far, ranks_by}
 use Rattle.std.proofs.lemmas.Map.Keys.{IsDistinct-IsPermutation, IsDistinct-from_apart, apart_from_distinct}
-use Rattle.overlay_terms.specs.Tiles.{Input}
 use Rattle.overlay_terms.specs.SameInput.{same_segment, same_segment-Decides}
 use Rattle.overlay_terms.proofs.Lists.{contains_map, from_map}
 use Rattle.exact_point.specs.Crossing.{turn_of}
 use Rattle.exact_point.specs.Place.{place}
 use Rattle.exact_point.proofs.Lines.{width, rise}
 use Rattle.arrange.specs.declared.unit.Unit.{Unit}
+use Rattle.crossing_sweep.specs.StripInput.{StripInput, Span}
 use Rattle.crossing_sweep.specs.declared.start.Start.{Start}
 use Rattle.crossing_sweep.specs.Queue.{IsUpTo}
 use Rattle.crossing_sweep.specs.Beginning.{IsMetBefore}
@@ -53,13 +53,13 @@ right_held s ahead =
     within_on s (whole s.right) one_positive (right_on_line s) (not_after_less (whole s.left) (whole s.right) one_positive one_positive (ends_in_order s ahead))
     (not_before_self (whole s.right) (whole s.right) one_positive one_positive (same_self (whole s.right)))
 
-module _ (column : ℕ) (s : Segment) (ahead : whole_cmp s.left s.right ≡ Less) where
-  -- one that does not begin left of the column is met at its left end
-  pub entry_left : border column ≤ℤ s.left.x → IsEntry column s (whole s.left)
+module _ (strip : Span) (s : Segment) (ahead : whole_cmp s.left s.right ≡ Less) where
+  -- one that does not begin left of the strip is met at its left end
+  pub entry_left : border strip.first ≤ℤ s.left.x → IsEntry strip s (whole s.left)
   entry_left h = record {
     positive = one_positive;
     on = left_held s ahead;
-    cut = λ e. absurd (not_left (border column) s.left.x h (lt_true s.left.x (border column) e));
+    cut = λ e. absurd (not_left (border strip.first) s.left.x h (lt_true s.left.x (border strip.first) e));
     left = λ e. same_self (whole s.left);
   }
     where
@@ -67,12 +67,12 @@ module _ (column : ℕ) (s : Segment) (ahead : whole_cmp s.left s.right ≡ Less
       not_left b l h k = omega (arith, ints, h, k)
 
   -- one that ends on the left border is met there
-  pub entry_right : s.left.x <ℤ border column → s.right.x ≤ℤ border column → IsTrue (is_met column s) → IsEntry column s (whole s.right)
+  pub entry_right : s.left.x <ℤ border strip.first → s.right.x ≤ℤ border strip.first → IsTrue (is_met strip s) → IsEntry strip s (whole s.right)
   entry_right h k met = record {
     positive = one_positive;
     on = right_held s ahead;
-    cut = λ e. level s.right.x (border column) k (le_true (border column) s.right.x (and_parts (int_le s.left.x (border (column + 1))) (int_le (border column) s.right.x) met).1);
-    left = λ e. absurd (both_ways (begins_left column s) e (true_lt s.left.x (border column) h));
+    cut = λ e. level s.right.x (border strip.first) k (le_true (border strip.first) s.right.x (and_parts (int_le s.left.x (border (strip.last + 1))) (int_le (border strip.first) s.right.x) met).1);
+    left = λ e. absurd (both_ways (begins_left strip s) e (true_lt s.left.x (border strip.first) h));
   }
     where
       level : (r b : ℤ) → r ≤ℤ b → b ≤ℤ r → r ≡ b *ℤ pos 1
@@ -152,11 +152,11 @@ left_out p items i x l e old new inv out eq =
     ap (map (λ (s : Start). s.unit)) eq ∙ inv
     ∙ sym (filter_more p items i x l ∙ ap (λ b. filter p (take i items) ++ cond b (get_or items i x ∷ []) []) (ap p (sym e) ∙ out) ∙ append-nil (filter p (take i items)))
 
--- ---- the units of a column, in order
-module _ (input : Input) (units : List Unit) (are : AreUnits input.marked units) (old new : List Start) (listed : map (λ (s : Start). s.unit) old ≡ filter (λ (u : Unit). is_met input.column u.seg) units)
-    (entries : All (λ s. IsEntry input.column s.unit.seg (place s.at)) old) (moved : IsPermutation old new) (sorted : IsSorted start_cmp new) where
+-- ---- the units of a strip, in order
+module _ (input : StripInput) (units : List Unit) (are : AreUnits input.marked units) (old new : List Start) (listed : map (λ (s : Start). s.unit) old ≡ filter (λ (u : Unit). is_met input.strip u.seg) units)
+    (entries : All (λ s. IsEntry input.strip s.unit.seg (place s.at)) old) (moved : IsPermutation old new) (sorted : IsSorted start_cmp new) where
   abbrev met_unit : Unit → Bool
-  met_unit u = is_met input.column u.seg
+  met_unit u = is_met input.strip u.seg
 
   abbrev seg_of : Start → Segment
   seg_of s = s.unit.seg
@@ -167,8 +167,8 @@ module _ (input : Input) (units : List Unit) (are : AreUnits input.marked units)
   in_new : (s : Start) → Contains old s → Contains new s
   in_new s c = Contains-permutation old new s moved c
 
-  entry : (s : Start) → Contains new s → IsEntry input.column s.unit.seg (place s.at)
-  entry s c = All-contains (λ s. IsEntry input.column s.unit.seg (place s.at)) old s entries (in_old s c)
+  entry : (s : Start) → Contains new s → IsEntry input.strip s.unit.seg (place s.at)
+  entry s c = All-contains (λ s. IsEntry input.strip s.unit.seg (place s.at)) old s entries (in_old s c)
 
   unit_met : (s : Start) → Contains new s → Contains units s.unit × (met_unit s.unit ≡ true)
   unit_met s c = filter_contains met_unit units s.unit (subst (λ (us : List Unit). Contains us s.unit) listed (contains_map (λ (s : Start). s.unit) old s (in_old s c)))
@@ -176,20 +176,20 @@ module _ (input : Input) (units : List Unit) (are : AreUnits input.marked units)
   is_unit : (s : Start) → Contains new s → IsUnit input.marked s.unit.seg
   is_unit s c = All-contains (λ (u : Unit). IsUnit input.marked u.seg) units s.unit are.sound (unit_met s c).0
 
-  complete : (u : Segment) → Contains (map (λ (u : Unit). u.seg) units) u → IsUpTo input.column (whole u.left) → border input.column ≤ℤ u.right.x → Contains (map seg_of new) u
+  complete : (u : Segment) → Contains (map (λ (u : Unit). u.seg) units) u → IsUpTo input.strip (whole u.left) → border input.strip.first ≤ℤ u.right.x → Contains (map seg_of new) u
   complete u c up_to reach =
       let v = from_map (λ (u : Unit). u.seg) units u c in
-      let yes : met_unit v.0 ≡ true = subst (λ (s : Segment). is_met input.column s ≡ true) (sym v.2) (met u up_to reach) in
+      let yes : met_unit v.0 ≡ true = subst (λ (s : Segment). is_met input.strip s ≡ true) (sym v.2) (met u up_to reach) in
       let s = from_map (λ (s : Start). s.unit) old v.0 (subst (λ (us : List Unit). Contains us v.0) (sym listed) (contains_filter met_unit units v.0 v.1 yes)) in
       subst (λ (w : Segment). Contains (map seg_of new) w) (ap (λ (u : Unit). u.seg) s.2 ∙ v.2) (contains_map seg_of new s.0 (in_new s.0 s.1))
     where
       once : (x b : ℤ) → x ≤ℤ (b *ℤ pos 1) → x ≤ℤ b
       once x b h = omega (arith, ints, h)
 
-      met : (u : Segment) → IsUpTo input.column (whole u.left) → border input.column ≤ℤ u.right.x → is_met input.column u ≡ true
+      met : (u : Segment) → IsUpTo input.strip (whole u.left) → border input.strip.first ≤ℤ u.right.x → is_met input.strip u ≡ true
       met u h k =
-          and_from (int_le u.left.x (border (input.column + 1))) (int_le (border input.column) u.right.x) (true_le u.left.x (border (input.column + 1)) (once u.left.x (border (input.column + 1)) h))
-          (true_le (border input.column) u.right.x k)
+          and_from (int_le u.left.x (border (input.strip.last + 1))) (int_le (border input.strip.first) u.right.x) (true_le u.left.x (border (input.strip.last + 1)) (once u.left.x (border (input.strip.last + 1)) h))
+          (true_le (border input.strip.first) u.right.x k)
 
   -- ---- no unit stands there twice
   abbrev same : Start → Start → Bool
@@ -217,16 +217,16 @@ module _ (input : Input) (units : List Unit) (are : AreUnits input.marked units)
       ((same_segment-Decides (get_or new i d).unit.seg (get_or new j d).unit.seg).1 e)
 
   -- ---- one that is met before another
-  module _ (s t : Start) (among_s : Contains new s) (among_t : Contains new t) (apart_st : s.unit.seg ≡ t.unit.seg → ⊥) (not_back : is_lt (start_cmp t s) ≡ false) (left_s : begins_left input.column s.unit.seg ≡ true)
-      (left_t : begins_left input.column t.unit.seg ≡ true) where
+  module _ (s t : Start) (among_s : Contains new s) (among_t : Contains new t) (apart_st : s.unit.seg ≡ t.unit.seg → ⊥) (not_back : is_lt (start_cmp t s) ≡ false) (left_s : begins_left input.strip s.unit.seg ≡ true)
+      (left_t : begins_left input.strip t.unit.seg ≡ true) where
     abbrev p : Point
     p = place s.at
 
     abbrev r : Point
     r = place t.at
 
-    later_than : (u : Segment) (z : Point) → IsEntry input.column u z → begins_left input.column u ≡ true → point_cmp (whole u.left) z ≡ Less
-    later_than u z is left = in_order_by_x (whole u.left) z (right_of u.left.x (border input.column) z.x z.w is.positive (lt_true u.left.x (border input.column) left) (is.cut left))
+    later_than : (u : Segment) (z : Point) → IsEntry input.strip u z → begins_left input.strip u ≡ true → point_cmp (whole u.left) z ≡ Less
+    later_than u z is left = in_order_by_x (whole u.left) z (right_of u.left.x (border input.strip.first) z.x z.w is.positive (lt_true u.left.x (border input.strip.first) left) (is.cut left))
       where
         right_of : (l b x w : ℤ) → pos 0 <ℤ w → l <ℤ b → x ≡ b *ℤ w → (l *ℤ w) <ℤ (x *ℤ pos 1)
         right_of l b x w hw h e = omega (arith, ints, less_times l b w hw h, e)
@@ -265,7 +265,7 @@ module _ (input : Input) (units : List Unit) (are : AreUnits input.marked units)
             (sym (alike_right (whole t.unit.seg.left) r p one_positive hr hp (same_turned p r e)) ∙ later_than t.unit.seg r (entry t among_t) left_t)
             (parallel_from_turn s.unit.seg t.unit.seg (none_of (turn_of s.unit.seg t.unit.seg) h (no_less (turn_of s.unit.seg t.unit.seg) by_turn)))
 
-    met_before : IsMetBefore input.column s.unit.seg t.unit.seg
+    met_before : IsMetBefore input.strip s.unit.seg t.unit.seg
     met_before = record {
       first = p;
       second = r;
@@ -280,9 +280,9 @@ module _ (input : Input) (units : List Unit) (are : AreUnits input.marked units)
         by (at e) = inr (e, turns e)
         by (after e) = absurd (both_ways (is_lt (start_cmp t s)) not_back (ap (λ o. is_lt (ordering_then o (int_cmp (pos 0) (turn_of s.unit.seg t.unit.seg)))) e))
 
-  ordered : AllPairs (λ a b. begins_left input.column a ≡ true → begins_left input.column b ≡ true → IsMetBefore input.column a b) (map seg_of new)
+  ordered : AllPairs (λ a b. begins_left input.strip a ≡ true → begins_left input.strip b ≡ true → IsMetBefore input.strip a b) (map seg_of new)
   ordered =
-      pairs_map (λ a b. begins_left input.column a ≡ true → begins_left input.column b ≡ true → IsMetBefore input.column a b) seg_of new
+      pairs_map (λ a b. begins_left input.strip a ≡ true → begins_left input.strip b ≡ true → IsMetBefore input.strip a b) seg_of new
       (λ i j d l m.
       met_before (get_or new i d) (get_or new j d) (Contains-get_or new i d (omega (arith, l, m))) (Contains-get_or new j d m) (apart i j d l m)
       (sorted_far (λ x y. is_lt (start_cmp x y)) (ranks_by start_total (λ (s : Start). s)) new sorted i j d (omega (arith, l)) m))
@@ -297,11 +297,11 @@ module _ (input : Input) (units : List Unit) (are : AreUnits input.marked units)
     units = units;
     are = are;
     among = all_of (λ s. Contains units s.unit) new (λ s c. (unit_met s c).0);
-    entries = all_of (λ s. IsEntry input.column s.unit.seg (place s.at)) new entry;
+    entries = all_of (λ s. IsEntry input.strip s.unit.seg (place s.at)) new entry;
     met = record {
       among = All-map (Contains (map (λ (u : Unit). u.seg) units)) seg_of new
           (all_of (λ s. Contains (map (λ (u : Unit). u.seg) units) s.unit.seg) new (λ s c. contains_map (λ (u : Unit). u.seg) units s.unit (unit_met s c).0));
-      entries = All-map (λ u. (z : Point) × IsEntry input.column u z) seg_of new (all_of (λ s. (z : Point) × IsEntry input.column s.unit.seg z) new (λ s c. (place s.at, entry s c)));
+      entries = All-map (λ u. (z : Point) × IsEntry input.strip u z) seg_of new (all_of (λ s. (z : Point) × IsEntry input.strip s.unit.seg z) new (λ s c. (place s.at, entry s c)));
       complete = complete;
       ordered = ordered;
     };

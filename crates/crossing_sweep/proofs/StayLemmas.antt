@@ -1,4 +1,4 @@
--- The units that go on after a node stand in the order of their directions, no two in one direction.
+-- The units that go on after a node are in the order of their directions, no two in one direction.
 use Rattle.std.proofs.Common.{◌≡◌, ℕ, ℤ, pos, ◌<◌, ◌-ℤ◌, ◌*ℤ◌, ◌<ℤ◌, ◌≤ℤ◌, inl, inr, ◌⊎◌, List, [], ◌∷◌, ◌++◌, length, get_or, ap, sym, subst, ◌∙◌, arith}
 use Rattle.std.specs.Prelude.{IsTrue, All, Contains, filter, ◌≢◌}
 use Rattle.std.specs.List.{AllPairs}
@@ -23,6 +23,7 @@ use Rattle.exact_point.proofs.OnLine.{right_on_line, within_on, parallel_line, n
 use Rattle.exact_point.proofs.PlaceOrder.{Way, before, at, after, way_of, one_positive, less_through, alike_left, not_before_self, same_turned, not_after_less}
 use Rattle.tile_laws.proofs.Ranks.{Told, yes, no, told}
 use Rattle.arrange.specs.Units.{IsUnit}
+use Rattle.crossing_sweep.specs.StripInput.{Span}
 use Rattle.crossing_sweep.specs.Leaning.{lean, lean_segment, IsAfter, IsSteep}
 use Rattle.crossing_sweep.specs.Status.{IsStretchOf}
 use Rattle.crossing_sweep.specs.NextNode.{IsNextNode}
@@ -79,7 +80,7 @@ module _ (marked : List Marked) (a b : Segment) (is_a : IsUnit marked a) (is_b :
       by (at e) = first_ends (not_before_self (whole b.right) (whole a.right) one_positive one_positive (same_turned (whole a.right) (whole b.right) e))
       by (after e) = second_ends (not_after_less (whole b.right) (whole a.right) one_positive one_positive e)
 
--- ---- lists in which nothing stands twice
+-- ---- lists in which nothing is there twice
 same_back : (s t : Segment) → same_segment s t ≡ same_segment t s
 same_back s t =
     same_tests (same_segment s t) (same_segment t s) (λ h. (same_segment-Decides t s).1 (sym ((same_segment-Decides s t).0 h))) (λ h. (same_segment-Decides s t).1 (sym ((same_segment-Decides t s).0 h)))
@@ -108,9 +109,9 @@ not_after_itself a q (inr h) = none (a.right.x -ℤ a.left.x) (a.right.y -ℤ a.
     none x y h = omega (arith, ints, h, *ℤ_comm x y)
 
 -- ---- those that stay
-module _ (n : ℤ) (segments units : List Segment) (marked : List Marked) (column : ℕ) (q r : Point) (under bundle over entering rest : List Segment) (keys : List Point) (steep : IsSteep n)
-    (are : AreStretches segments units) (are_units : All (IsUnit marked) units) (come : HasCome n segments units column q (under ++ bundle ++ over) (entering ++ rest) keys) (next : IsNextNode segments q r)
-    (split : IsSplitAt r under bundle over) (enter : All (λ u. (z : Point) × IsEntry column u z × IsTrue (same_place z r)) entering) (once : AllPairs (λ a b. a ≢ b) entering) (stay : List Segment)
+module _ (n : ℤ) (segments units : List Segment) (marked : List Marked) (strip : Span) (q r : Point) (under bundle over entering rest : List Segment) (keys : List Point) (steep : IsSteep n)
+    (are : AreStretches segments units) (are_units : All (IsUnit marked) units) (come : HasCome n segments units strip q (under ++ bundle ++ over) (entering ++ rest) keys) (next : IsNextNode segments q r)
+    (split : IsSplitAt r under bundle over) (enter : All (λ u. (z : Point) × IsEntry strip u z × IsTrue (same_place z r)) entering) (once : AllPairs (λ a b. a ≢ b) entering) (stay : List Segment)
     (moved : IsPermutation (filter (ends_after r) (bundle ++ entering)) stay) where
   hq : pos 0 <ℤ q.w
   hq = come.full.status_at.small.positive
@@ -122,7 +123,7 @@ module _ (n : ℤ) (segments units : List Segment) (marked : List Marked) (colum
   entered = under ++ bundle ++ over
 
   abbrev w : List Segment
-  w = waiting column (entering ++ rest)
+  w = waiting strip (entering ++ rest)
 
   in_entered : (u : Segment) → Contains bundle u → Contains entered u
   in_entered u c = Contains-append_left (under ++ bundle) over u (Contains-append_right under bundle u c)
@@ -137,16 +138,16 @@ module _ (n : ℤ) (segments units : List Segment) (marked : List Marked) (colum
   holds : (u : Segment) → Contains bundle u ⊎ Contains entering u → height_over u r ≡ pos 0
   holds u (inl c) = All-contains (λ u. height_over u r ≡ pos 0) bundle u split.hold c
   holds u (inr c) =
-      let met = All-contains (λ u. (z : Point) × IsEntry column u z × IsTrue (same_place z r)) entering u enter c in
-      entered_holds column r u (All-contains (IsStretchOf segments) units u are.stretches (unit_of u (inr c))).proper hr met.0 met.1 met.2
+      let met = All-contains (λ u. (z : Point) × IsEntry strip u z × IsTrue (same_place z r)) entering u enter c in
+      entered_holds strip r u (All-contains (IsStretchOf segments) units u are.stretches (unit_of u (inr c))).proper hr met.0 met.1 met.2
 
   begun : (u : Segment) → Contains bundle u ⊎ Contains entering u → point_cmp r (whole u.left) ≡ Less → ⊥
   begun u (inl c) less = (bundle_goes u c).begun (less_through q r (whole u.left) hq hr one_positive next.after less)
   begun u (inr c) less =
-      let met = All-contains (λ u. (z : Point) × IsEntry column u z × IsTrue (same_place z r)) entering u enter c in
+      let met = All-contains (λ u. (z : Point) × IsEntry strip u z × IsTrue (same_place z r)) entering u enter c in
       after_left u met.0 met.1.on (alike_left met.0 r (whole u.left) met.1.positive hr one_positive met.2 ∙ less)
 
-  -- ---- none of them stands there twice
+  -- ---- none of them is there twice
   status_apart : AllPairs (λ a b. a ≢ b) (entered ++ w)
   status_apart i j d l m e =
       not_after_itself (lean_segment n (get_or (entered ++ w) i d)) (lean n q)
@@ -157,14 +158,14 @@ module _ (n : ℤ) (segments units : List Segment) (marked : List Marked) (colum
       pairs_second (λ a b. a ≢ b) under bundle (pairs_first (λ a b. a ≢ b) (under ++ bundle) over (pairs_first (λ a b. a ≢ b) entered w status_apart))
 
   across : (a b : Segment) → Contains bundle a → Contains entering b → a ≡ b → ⊥
-  across a b c d e = by (told (begins_left column b))
+  across a b c d e = by (told (begins_left strip b))
     where
-      coming : IsToCome column q b
-      coming = All-contains (IsToCome column q) (entering ++ rest) b come.coming (Contains-append_left entering rest b d)
+      coming : IsToCome strip q b
+      coming = All-contains (IsToCome strip q) (entering ++ rest) b come.coming (Contains-append_left entering rest b d)
 
-      by : Told (begins_left column b) → ⊥
+      by : Told (begins_left strip b) → ⊥
       by (yes f) =
-          pairs_across (λ a b. a ≢ b) entered w a b status_apart (in_entered a c) (contains_filter (begins_left column) (entering ++ rest) b (Contains-append_left entering rest b d) f) e
+          pairs_across (λ a b. a ≢ b) entered w a b status_apart (in_entered a c) (contains_filter (begins_left strip) (entering ++ rest) b (Contains-append_left entering rest b d) f) e
       by (no f) = (bundle_goes b (subst (λ z. Contains bundle z) e c)).begun (coming.later f)
 
   all_apart : AllPairs (λ a b. a ≢ b) (bundle ++ entering)

@@ -15,6 +15,7 @@ use Rattle.exact_point.proofs.OnLine.{on_line, one_direction, parallel_from_turn
 use Rattle.exact_point.proofs.PlaceOrder.{Way, before, at, after, way_of, one_positive, less_through, on_same, level_from, level_test}
 use Rattle.tile_laws.proofs.Ranks.{Told, yes, no, told}
 use Rattle.std.specs.Ordering.{int_eq}
+use Rattle.crossing_sweep.specs.StripInput.{Span}
 use Rattle.crossing_sweep.proofs.NextNode.{left_on, right_on}
 use Rattle.crossing_sweep.specs.Leaning.{IsSteep}
 use Rattle.crossing_sweep.specs.Status.{IsStretchOf, AreTurned}
@@ -96,7 +97,7 @@ module _ (n : ℤ) (segments units : List Segment) (q r : Point) (under bundle o
   among_new : All (Contains units) (under ++ stay ++ over)
   among_new = all_new (Contains units) (all_under (Contains units) full.among) staying.among (all_over (Contains units) full.among)
 
-  -- one that goes on after the node stands in it
+  -- one that goes on after the node is in it
   members_new : (u : Segment) → Contains units u → GoesOn u r → Contains (under ++ stay ++ over) u
   members_new u c goes = by_sign (told (int_eq (height_over u r) (pos 0)))
     where
@@ -138,8 +139,8 @@ status_goes_on n segments units q r under bundle over stay steep proper are full
 
 -- ---- the places found ahead
 -- an index that lies in one of two parts of a list, or where they meet
-module _ (segments : List Segment) (column : ℕ) (q r : Point) (under bundle over stay : List Segment) (keys new : List Point) (hq : pos 0 <ℤ q.w)
-    (queue : IsQueue segments column q (under ++ bundle ++ over) keys) (next : IsNextNode segments q r) (turned : AreTurned segments r stay) (grown : IsGrown column r under stay over keys new) where
+module _ (segments : List Segment) (strip : Span) (q r : Point) (under bundle over stay : List Segment) (keys new : List Point) (hq : pos 0 <ℤ q.w)
+    (queue : IsQueue segments strip q (under ++ bundle ++ over) keys) (next : IsNextNode segments q r) (turned : AreTurned segments r stay) (grown : IsGrown strip r under stay over keys new) where
   hr' : pos 0 <ℤ r.w
   hr' = next.small.positive
 
@@ -161,7 +162,7 @@ module _ (segments : List Segment) (column : ℕ) (q r : Point) (under bundle ov
   length_two : (xs ys zs : List Segment) → length (xs ++ ys ++ zs) ≡ length xs + length ys + length zs
   length_two xs ys zs = length-append (xs ++ ys) zs ∙ ap (λ k. k + length zs) (length-append xs ys)
 
-  -- where an element of the first part stands
+  -- the place of an element of the first part
   at_first : (ys : List Segment) (i : ℕ) (d : Segment) → i < length under → get_or (under ++ ys ++ over) i d ≡ get_or under i d
   at_first ys i d l = get_or_append_left (under ++ ys) over d i (omega (arith, l, length-append under ys)) ∙ get_or_append_left under ys d i l
 
@@ -173,7 +174,7 @@ module _ (segments : List Segment) (column : ℕ) (q r : Point) (under bundle ov
   at_stay k d l = get_or_append_left (under ++ stay) over d (length under + k) (omega (arith, l, length-append under stay)) ∙ get_or-append-add under stay k d
 
   module _ (i : ℕ) (d : Segment) (p : Point) (inside : i + 1 < length (under ++ stay ++ over)) (hp : pos 0 <ℤ p.w)
-      (crossing : IsCrossingOf (get_or (under ++ stay ++ over) i d) (get_or (under ++ stay ++ over) (i + 1) d) p) (later : point_cmp r p ≡ Less) (up_to : IsUpTo column p) where
+      (crossing : IsCrossingOf (get_or (under ++ stay ++ over) i d) (get_or (under ++ stay ++ over) (i + 1) d) p) (later : point_cmp r p ≡ Less) (up_to : IsUpTo strip p) where
     -- both in the first part
     in_first : i + 1 < length under → IsQueued new p
     in_first h =
@@ -210,7 +211,7 @@ module _ (segments : List Segment) (column : ℕ) (q r : Point) (under bundle ov
         one_more : (i k : ℕ) → i ≡ length (under ++ stay) + k → i + 1 ≡ length (under ++ stay) + (k + 1)
         one_more i k e = omega (arith, e)
 
-    -- by where the pair stands
+    -- by the place of the pair
     by_second : Order (i + 1) (length (under ++ stay)) → length under < i + 1 → IsQueued new p
     by_second (lower h) m = in_middle (i - length under) (omega (arith, m)) (omega (arith, h, m, length-append under stay))
     by_second (same e) m = grown.tested i d p (inr e) inside hp crossing later up_to
@@ -224,7 +225,7 @@ module _ (segments : List Segment) (column : ℕ) (q r : Point) (under bundle ov
       by_first (higher h) = by_second (order_of (i + 1) (length (under ++ stay))) h
 
 pub queue_goes_on : QueueGoesOn
-queue_goes_on segments column q r under bundle over stay keys new hq queue next turned grown = record {
-  fixed = λ p hp fixed later up_to. still segments column q r under bundle over stay keys new hq queue next turned grown p hp later (λ e. queue.fixed p hp fixed e up_to);
-  seams = λ i d p inside hp crossing later up_to. known segments column q r under bundle over stay keys new hq queue next turned grown i d p inside hp crossing later up_to;
+queue_goes_on segments strip q r under bundle over stay keys new hq queue next turned grown = record {
+  fixed = λ p hp fixed later up_to. still segments strip q r under bundle over stay keys new hq queue next turned grown p hp later (λ e. queue.fixed p hp fixed e up_to);
+  seams = λ i d p inside hp crossing later up_to. known segments strip q r under bundle over stay keys new hq queue next turned grown i d p inside hp crossing later up_to;
 }

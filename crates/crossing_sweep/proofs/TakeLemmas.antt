@@ -117,7 +117,7 @@ some_left known taken es v l view e =
     absurd (omega (arith, l, ap length none, length-map (drop taken known) known_entry, length-drop taken known))
 
 -- ---- the next of those known
--- it stands before the others
+-- it comes before the others
 pub next_of : (known : List NamedPlace) (taken : ℕ) (k : NamedPlace) → taken < length known → k ≡ get_or known taken k → drop taken known ≡ k ∷ drop (taken + 1) known
 next_of known taken k l e = drop_more known taken k l ∙ ap (λ (z : NamedPlace). z ∷ drop (taken + 1) known) (sym e)
 

@@ -11,9 +11,8 @@ use Rattle.std.proofs.Math.ListN.{length-append}
 use Rattle.std.proofs.lemmas.List.Elements.{All-map, All-contains, Contains-get_or, Contains-append_cases, Contains-append_left, Contains-append_right}
 use Rattle.std.specs.declared.cmp.Ordering.TheVariants.{Less}
 use Rattle.overlay_terms.specs.Plane.{Point, Segment, point_cmp, same_place}
-use Rattle.overlay_terms.specs.Column.{border, is_in_column}
+use Rattle.overlay_terms.specs.Column.{border}
 use Rattle.overlay_terms.specs.Layers.{Marked}
-use Rattle.overlay_terms.specs.Tiles.{Input}
 use Rattle.overlay_terms.specs.TileLaws.{IsProper}
 use Rattle.overlay_terms.proofs.InputNumbers.{x_in_order, most_back, most_times, last_turned, le_true, true_le}
 use Rattle.overlay_terms.proofs.Lists.{any_from, any_contains, contains_map, Contains-cons_cases, contains_first, contains_rest, from_map}
@@ -22,10 +21,10 @@ use Rattle.exact_point.specs.Place.{place, same_hpoint}
 use Rattle.exact_point.specs.declared.point.HPoint.{HPoint}
 use Rattle.exact_point.specs.declared.point_name.PointName.{PointName}
 use Rattle.exact_point.proofs.PlaceOrder.{not_before_self, same_turned, less_through}
-use Rattle.arrange.specs.Arrangement.{segments_in, is_in_closed_column}
 use Rattle.arrange.specs.Units.{IsUnit}
 use Rattle.arrange.specs.declared.unit.Unit.{Unit}
 use Rattle.arrange.proofs.FoundLemmas.{place_positive}
+use Rattle.crossing_sweep.specs.StripInput.{StripInput, is_in_strip, segments_in, is_in_closed_strip}
 use Rattle.crossing_sweep.specs.Status.{IsStretchOf, SidesFallAlong}
 use Rattle.crossing_sweep.specs.NextNode.{IsNextNode}
 use Rattle.crossing_sweep.specs.Queue.{GoesOn, IsUpTo, IsQueued}
@@ -57,12 +56,12 @@ use Rattle.crossing_sweep.proofs.TurnedLemmas.{unit_after, same_segs, segs_moved
 pub segs_parts : (under bundle over : List Member) → segs_of (under ++ bundle ++ over) ≡ segs_of under ++ segs_of bundle ++ segs_of over
 segs_parts under bundle over = map-append seg_of (under ++ bundle) over ∙ ap (λ us. us ++ segs_of over) (map-append seg_of under bundle)
 
-module _ (input : Input) (n : ℤ) (units : List Unit) (q : Point) (at : HPoint) (under bundle over stay : List Member) (coming entering rest : List Start) (old new : Search)
+module _ (input : StripInput) (n : ℤ) (units : List Unit) (q : Point) (at : HPoint) (under bundle over stay : List Member) (coming entering rest : List Start) (old new : Search)
     (stands : StandsBefore n input units q at (under ++ bundle ++ over) coming old.ahead)
     (enters : entering ≡ take (prefix_len (λ s. same_hpoint s.at at) coming) coming) (remains : rest ≡ drop (prefix_len (λ s. same_hpoint s.at at) coming) coming)
     (split_of : SidesFallAlong (place at) (segs_of (under ++ bundle ++ over)) → IsSplitAt (place at) (segs_of under) (segs_of bundle) (segs_of over))
     (moved : IsPermutation (filter (ends_after (place at)) (segs_of bundle ++ segs_to_come entering)) (segs_of stay)) (sorted : AllPairs (λ a b. pos 0 ≤ℤ turn_of a b) (segs_of stay))
-    (tested : AreSeamsTested input.column (place at) (segs_of (under ++ stay ++ over)) (seams_at (is_in_column input.column (place at)) (length under) (length (under ++ stay))) old new) where
+    (tested : AreSeamsTested input.strip (place at) (segs_of (under ++ stay ++ over)) (seams_at (is_in_strip input.strip (place at)) (length under) (length (under ++ stay))) old new) where
   abbrev r : Point
   r = place at
 
@@ -106,39 +105,39 @@ module _ (input : Input) (n : ℤ) (units : List Unit) (q : Point) (at : HPoint)
   coming_parts : segs_to_come coming ≡ e ++ t
   coming_parts = ap segs_to_come (sym whole_coming) ∙ map-append (λ (s : Start). s.unit.seg) entering rest
 
-  come : HasCome n segments unit_segs input.column q (u ++ b ++ o) (e ++ t) (r ∷ keys)
+  come : HasCome n segments unit_segs input.strip q (u ++ b ++ o) (e ++ t) (r ∷ keys)
   come =
-      subst (λ (us : List Segment). HasCome n segments unit_segs input.column q us (e ++ t) (r ∷ keys)) (segs_parts under bundle over)
-      (subst (λ (us : List Segment). HasCome n segments unit_segs input.column q (segs_of (under ++ bundle ++ over)) us (r ∷ keys)) coming_parts stands.come)
+      subst (λ (us : List Segment). HasCome n segments unit_segs input.strip q us (e ++ t) (r ∷ keys)) (segs_parts under bundle over)
+      (subst (λ (us : List Segment). HasCome n segments unit_segs input.strip q (segs_of (under ++ bundle ++ over)) us (r ∷ keys)) coming_parts stands.come)
 
   least : All (λ z. point_cmp r z ≡ Less) keys
   least = All-map (λ z. point_cmp r z ≡ Less) (λ (d : HPoint × PointName). place d.0) old.ahead stands.least
 
   next : IsNextNode segments q r
-  next = first_is_node n segments unit_segs input.column q r (u ++ b ++ o) (e ++ t) keys stands.steep proper come least
+  next = first_is_node n segments unit_segs input.strip q r (u ++ b ++ o) (e ++ t) keys stands.steep proper come least
 
   hr : pos 0 <ℤ r.w
   hr = place_positive at
 
   split : IsSplitAt r u b o
   split = split_of (subst (λ (us : List Segment). SidesFallAlong r us) (sym (segs_parts under bundle over))
-      (falls n segments unit_segs input.column q r (u ++ b ++ o) (e ++ t) (r ∷ keys) stands.steep proper stretches come next))
+      (falls n segments unit_segs input.strip q r (u ++ b ++ o) (e ++ t) (r ∷ keys) stands.steep proper stretches come next))
 
   -- ---- those that enter, and those that come later
-  enter : All (λ u. (z : Point) × IsEntry input.column u z × IsTrue (same_place z r)) e
+  enter : All (λ u. (z : Point) × IsEntry input.strip u z × IsTrue (same_place z r)) e
   enter =
-      subst (λ (xs : List Start). All (λ u. (z : Point) × IsEntry input.column u z × IsTrue (same_place z r)) (segs_to_come xs)) (sym enters) (all_enter input.column at coming stands.entries)
+      subst (λ (xs : List Start). All (λ u. (z : Point) × IsEntry input.strip u z × IsTrue (same_place z r)) (segs_to_come xs)) (sym enters) (all_enter input.strip at coming stands.entries)
 
   not_earlier : (x : Start) → Contains coming x → point_cmp (place x.at) r ≡ Less → ⊥
   not_earlier x c =
-      not_met_before n segments unit_segs input.column q r (u ++ b ++ o) (e ++ t) (r ∷ keys) stands.steep proper stretches come next x.unit.seg
+      not_met_before n segments unit_segs input.strip q r (u ++ b ++ o) (e ++ t) (r ∷ keys) stands.steep proper stretches come next x.unit.seg
       (subst (λ (us : List Segment). Contains us x.unit.seg) coming_parts (contains_map (λ (s : Start). s.unit.seg) coming x c)) (place x.at)
-      (All-contains (λ s. IsEntry input.column s.unit.seg (place s.at)) coming x stands.entries c)
+      (All-contains (λ s. IsEntry input.strip s.unit.seg (place s.at)) coming x stands.entries c)
 
-  remain : All (λ u. (z : Point) × IsEntry input.column u z × (point_cmp r z ≡ Less)) t
+  remain : All (λ u. (z : Point) × IsEntry input.strip u z × (point_cmp r z ≡ Less)) t
   remain =
-      subst (λ (xs : List Start). All (λ u. (z : Point) × IsEntry input.column u z × (point_cmp r z ≡ Less)) (segs_to_come xs)) (sym remains)
-      (all_later input.column at coming stands.entries stands.ordered not_earlier)
+      subst (λ (xs : List Start). All (λ u. (z : Point) × IsEntry input.strip u z × (point_cmp r z ≡ Less)) (segs_to_come xs)) (sym remains)
+      (all_later input.strip at coming stands.entries stands.ordered not_earlier)
 
   once : AllPairs (λ a b. a ≢ b) e
   once =
@@ -150,10 +149,10 @@ module _ (input : Input) (n : ℤ) (units : List Unit) (q : Point) (at : HPoint)
 
   -- ---- those that stay
   from : (v : Segment) → Contains s v → (Contains b v ⊎ Contains e v) × GoesOn v r
-  from v c = stay_from n segments unit_segs input.marked input.column q r u b o e t (r ∷ keys) stands.steep stretches are_units come next split enter once s moved v c
+  from v c = stay_from n segments unit_segs input.marked input.strip q r u b o e t (r ∷ keys) stands.steep stretches are_units come next split enter once s moved v c
 
   abbrev w : List Segment
-  w = waiting input.column (e ++ t)
+  w = waiting input.strip (e ++ t)
 
   stretch_of : (v : Segment) → Contains (segs_of (under ++ stay ++ over)) v → IsStretchOf segments v
   stretch_of v c = last (Contains-append_cases (u ++ s) o v (subst (λ (us : List Segment). Contains us v) (segs_parts under stay over) c))
@@ -174,25 +173,25 @@ module _ (input : Input) (n : ℤ) (units : List Unit) (q : Point) (at : HPoint)
       last (inr d) = of_status (Contains-append_right (u ++ b) o v d)
 
   -- ---- the places found ahead
-  first : IsAhead segments input.column q r
-  first = All-contains (IsAhead segments input.column q) (r ∷ keys) r come.ahead (contains_first r keys)
+  first : IsAhead segments input.strip q r
+  first = All-contains (IsAhead segments input.strip q) (r ∷ keys) r come.ahead (contains_first r keys)
 
-  ahead : All (IsAhead segments input.column r) (points_of new.ahead)
-  ahead = All-map (IsAhead segments input.column r) (λ (d : HPoint × PointName). place d.0) new.ahead (all_of (λ (d : HPoint × PointName). IsAhead segments input.column r (place d.0)) new.ahead (λ d c. by d (tested.only d c)))
+  ahead : All (IsAhead segments input.strip r) (points_of new.ahead)
+  ahead = All-map (IsAhead segments input.strip r) (λ (d : HPoint × PointName). place d.0) new.ahead (all_of (λ (d : HPoint × PointName). IsAhead segments input.strip r (place d.0)) new.ahead (λ d c. by d (tested.only d c)))
     where
-      by : (d : HPoint × PointName) → Contains old.ahead d ⊎ IsFoundIn input.column r (segs_of (under ++ stay ++ over)) old.listed new.tests.items d → IsAhead segments input.column r (place d.0)
+      by : (d : HPoint × PointName) → Contains old.ahead d ⊎ IsFoundIn input.strip r (segs_of (under ++ stay ++ over)) old.listed new.tests.items d → IsAhead segments input.strip r (place d.0)
       by d (inl c) =
-          let was = All-contains (IsAhead segments input.column q) (r ∷ keys) (place d.0) come.ahead (contains_rest r keys (place d.0) (contains_map (λ (d : HPoint × PointName). place d.0) old.ahead d c)) in
+          let was = All-contains (IsAhead segments input.strip q) (r ∷ keys) (place d.0) come.ahead (contains_rest r keys (place d.0) (contains_map (λ (d : HPoint × PointName). place d.0) old.ahead d c)) in
           record { small = was.small; node = was.node; after = All-contains (λ (d : HPoint × PointName). point_cmp r (place d.0) ≡ Less) old.ahead d stands.least c; from = was.from; up_to = was.up_to }
       by d (inr f) =
-          let parts = and_parts (int_le (border input.column *ℤ (place d.0).w) (place d.0).x) (int_le (place d.0).x (border (input.column + 1) *ℤ (place d.0).w)) f.found.in_column in
+          let parts = and_parts (int_le (border input.strip.first *ℤ (place d.0).w) (place d.0).x) (int_le (place d.0).x (border (input.strip.last + 1) *ℤ (place d.0).w)) f.found.in_strip in
           record {
             small = point_small d.0;
             node = stretches_cross segments f.lower f.upper (place d.0) (stretch_of f.lower f.lower_among) (stretch_of f.upper f.upper_among) (place_positive d.0) f.found.crossing.on_first f.found.crossing.on_second
                 f.found.crossing.not_parallel;
             after = f.found.after;
-            from = le_true (border input.column *ℤ (place d.0).w) (place d.0).x parts.0;
-            up_to = le_true (place d.0).x (border (input.column + 1) *ℤ (place d.0).w) parts.1;
+            from = le_true (border input.strip.first *ℤ (place d.0).w) (place d.0).x parts.0;
+            up_to = le_true (place d.0).x (border (input.strip.last + 1) *ℤ (place d.0).w) parts.1;
           }
 
   kept : (p : Point) → pos 0 <ℤ p.w → IsQueued (r ∷ keys) p → point_cmp r p ≡ Less → IsQueued (points_of new.ahead) p
@@ -205,26 +204,26 @@ module _ (input : Input) (n : ℤ) (units : List Unit) (q : Point) (at : HPoint)
           any_from (λ z. IsTrue (same_place p z)) (points_of new.ahead) (place d.0.0) (contains_map (λ (d : HPoint × PointName). place d.0) new.ahead d.0 (tested.kept d.0 d.1))
           (subst (λ z. IsTrue (same_place p z)) (sym d.2) queued.4)
 
-  within : (p : Point) → pos 0 <ℤ p.w → point_cmp r p ≡ Less → IsUpTo input.column p → IsTrue (is_in_closed_column input.column p)
+  within : (p : Point) → pos 0 <ℤ p.w → point_cmp r p ≡ Less → IsUpTo input.strip p → IsTrue (is_in_closed_strip input.strip p)
   within p hp less up_to =
-      and_from (int_le (border input.column *ℤ p.w) p.x) (int_le p.x (border (input.column + 1) *ℤ p.w))
-      (true_le (border input.column *ℤ p.w) p.x (from_later (border input.column) r.x r.w p.x p.w hr hp first.from (x_in_order r p less)))
-      (true_le p.x (border (input.column + 1) *ℤ p.w) up_to)
+      and_from (int_le (border input.strip.first *ℤ p.w) p.x) (int_le p.x (border (input.strip.last + 1) *ℤ p.w))
+      (true_le (border input.strip.first *ℤ p.w) p.x (from_later (border input.strip.first) r.x r.w p.x p.w hr hp first.from (x_in_order r p less)))
+      (true_le p.x (border (input.strip.last + 1) *ℤ p.w) up_to)
     where
       from_later : (b x w y v : ℤ) → pos 0 <ℤ w → pos 0 <ℤ v → (b *ℤ w) ≤ℤ x → (x *ℤ v) ≤ℤ (y *ℤ w) → (b *ℤ v) ≤ℤ y
       from_later b x w y v hw hv h k = most_back (b *ℤ v) y w hw (omega (arith, ints, k, most_times (b *ℤ w) x v hv h, last_turned b w v))
 
   abbrev Found : Segment → Segment → Point → Type 0
-  Found a b p = pos 0 <ℤ p.w → IsCrossingOf a b p → point_cmp r p ≡ Less → IsUpTo input.column p → IsQueued (points_of new.ahead) p
+  Found a b p = pos 0 <ℤ p.w → IsCrossingOf a b p → point_cmp r p ≡ Less → IsUpTo input.strip p → IsQueued (points_of new.ahead) p
 
-  -- on the right border of the column each node was known before
-  on_border : is_in_column input.column r ≡ false → (a b : Segment) (p : Point) → Contains (u ++ s ++ o) a → Contains (u ++ s ++ o) b → Found a b p
+  -- on the right border of the strip each node was known before
+  on_border : is_in_strip input.strip r ≡ false → (a b : Segment) (p : Point) → Contains (u ++ s ++ o) a → Contains (u ++ s ++ o) b → Found a b p
   on_border out a b p among_a among_b hp crossing less up_to =
-      kept p hp (come.queue.fixed p hp (fixed_on_border segments (input.column + 1) p (not_last input.column at come.few past) node (on_right input.column r p hr hp past less up_to))
+      kept p hp (come.queue.fixed p hp (fixed_on_border segments (input.strip.last + 1) p (not_last input.strip.last at stands.valid.known past) node (on_right input.strip r p hr hp past less up_to))
       (less_through q r p stands.come.full.status_at.small.positive hr hp first.after less) up_to) less
     where
-      past : (border (input.column + 1) *ℤ r.w) ≤ℤ r.x
-      past = not_left input.column r first.from out
+      past : (border (input.strip.last + 1) *ℤ r.w) ≤ℤ r.x
+      past = not_left input.strip r first.from out
 
       whole : (v : Segment) → Contains (u ++ s ++ o) v → IsStretchOf segments v
       whole v c = stretch_of v (subst (λ (us : List Segment). Contains us v) (sym (segs_parts under stay over)) c)
@@ -233,22 +232,22 @@ module _ (input : Input) (n : ℤ) (units : List Unit) (q : Point) (at : HPoint)
       node = stretches_cross segments a b p (whole a among_a) (whole b among_b) hp crossing.on_first crossing.on_second crossing.not_parallel
 
   -- in it the two seams are tested
-  in_column : is_in_column input.column r ≡ true → (i : ℕ) (d : Segment) (p : Point) → (i + 1 ≡ length u) ⊎ (i + 1 ≡ length (u ++ s)) → i + 1 < length (u ++ s ++ o)
+  in_strip : is_in_strip input.strip r ≡ true → (i : ℕ) (d : Segment) (p : Point) → (i + 1 ≡ length u) ⊎ (i + 1 ≡ length (u ++ s)) → i + 1 < length (u ++ s ++ o)
       → Found (get_or (u ++ s ++ o) i d) (get_or (u ++ s ++ o) (i + 1) d) p
-  in_column inner i d p which inside hp crossing less up_to = found i d p (seam i which) inside hp crossing less (within p hp less up_to)
+  in_strip inner i d p which inside hp crossing less up_to = found i d p (seam i which) inside hp crossing less (within p hp less up_to)
     where
       seams : List ℕ
       seams = length under ∷ length (under ++ stay) ∷ []
 
-      both : AreSeamsTested input.column r (segs_of (under ++ stay ++ over)) seams old new
-      both = subst (λ b. AreSeamsTested input.column r (segs_of (under ++ stay ++ over)) (seams_at b (length under) (length (under ++ stay))) old new) inner tested
+      both : AreSeamsTested input.strip r (segs_of (under ++ stay ++ over)) seams old new
+      both = subst (λ b. AreSeamsTested input.strip r (segs_of (under ++ stay ++ over)) (seams_at b (length under) (length (under ++ stay))) old new) inner tested
 
       found : (i : ℕ) (d : Segment) (p : Point) → Contains seams (i + 1) → i + 1 < length (u ++ s ++ o) → pos 0 <ℤ p.w → IsCrossingOf (get_or (u ++ s ++ o) i d) (get_or (u ++ s ++ o) (i + 1) d) p
-          → point_cmp r p ≡ Less → IsTrue (is_in_closed_column input.column p) → IsQueued (points_of new.ahead) p
+          → point_cmp r p ≡ Less → IsTrue (is_in_closed_strip input.strip p) → IsQueued (points_of new.ahead) p
       found =
           subst (λ (us : List Segment).
           (i : ℕ) (d : Segment) (p : Point) → Contains seams (i + 1) → i + 1 < length us → pos 0 <ℤ p.w → IsCrossingOf (get_or us i d) (get_or us (i + 1) d) p
-          → point_cmp r p ≡ Less → IsTrue (is_in_closed_column input.column p) → IsQueued (points_of new.ahead) p)
+          → point_cmp r p ≡ Less → IsTrue (is_in_closed_strip input.strip p) → IsQueued (points_of new.ahead) p)
           (segs_parts under stay over) both.found
 
       seam : (i : ℕ) → (i + 1 ≡ length u) ⊎ (i + 1 ≡ length (u ++ s)) → Contains seams (i + 1)
@@ -257,40 +256,40 @@ module _ (input : Input) (n : ℤ) (units : List Unit) (q : Point) (at : HPoint)
           subst (λ x. Contains seams x) (sym (f ∙ ap length (sym (map-append seg_of under stay)) ∙ length-map (under ++ stay) seg_of))
           (contains_rest (length under) (length (under ++ stay) ∷ []) (length (under ++ stay)) (contains_first (length (under ++ stay)) []))
 
-  grown : IsGrown input.column r u s o (r ∷ keys) (points_of new.ahead)
-  grown = record { kept = kept; tested = λ i d p which inside. by i d p which inside (told (is_in_column input.column r)) }
+  grown : IsGrown input.strip r u s o (r ∷ keys) (points_of new.ahead)
+  grown = record { kept = kept; tested = λ i d p which inside. by i d p which inside (told (is_in_strip input.strip r)) }
     where
-      by : (i : ℕ) (d : Segment) (p : Point) → (i + 1 ≡ length u) ⊎ (i + 1 ≡ length (u ++ s)) → i + 1 < length (u ++ s ++ o) → Told (is_in_column input.column r)
+      by : (i : ℕ) (d : Segment) (p : Point) → (i + 1 ≡ length u) ⊎ (i + 1 ≡ length (u ++ s)) → i + 1 < length (u ++ s ++ o) → Told (is_in_strip input.strip r)
           → Found (get_or (u ++ s ++ o) i d) (get_or (u ++ s ++ o) (i + 1) d) p
-      by i d p which inside (yes e) = in_column e i d p which inside
+      by i d p which inside (yes e) = in_strip e i d p which inside
       by i d p which inside (no e) =
           on_border e (get_or (u ++ s ++ o) i d) (get_or (u ++ s ++ o) (i + 1) d) p (Contains-get_or (u ++ s ++ o) i d (before_next i (length (u ++ s ++ o)) inside)) (Contains-get_or (u ++ s ++ o) (i + 1) d inside)
         where
           before_next : (i n : ℕ) → i + 1 < n → i < n
           before_next i n l = omega (arith, l)
 
-  pub is_step : IsStepTo segments input.column r u b o e s t keys (points_of new.ahead)
+  pub is_step : IsStepTo segments input.strip r u b o e s t keys (points_of new.ahead)
   is_step = record {
     split = split;
     enter = enter;
     remain = remain;
-    stay_from = stay_from n segments unit_segs input.marked input.column q r u b o e t (r ∷ keys) stands.steep stretches are_units come next split enter once s moved;
-    stay_all = stay_all n segments unit_segs input.marked input.column q r u b o e t (r ∷ keys) stands.steep stretches are_units come next split enter once s moved;
-    turned = stay_turned n segments unit_segs input.marked input.column q r u b o e t (r ∷ keys) stands.steep stretches are_units come next split enter once s moved sorted;
+    stay_from = stay_from n segments unit_segs input.marked input.strip q r u b o e t (r ∷ keys) stands.steep stretches are_units come next split enter once s moved;
+    stay_all = stay_all n segments unit_segs input.marked input.strip q r u b o e t (r ∷ keys) stands.steep stretches are_units come next split enter once s moved;
+    turned = stay_turned n segments unit_segs input.marked input.strip q r u b o e t (r ∷ keys) stands.steep stretches are_units come next split enter once s moved sorted;
     least = least;
     grown = grown;
     ahead = ahead;
   }
 
 -- what the code has done, by the numbers of members
-module _ (input : Input) (at : HPoint) (begin : ℕ) (ms after turned stay : List Member) (low high len k : ℕ) (coming : List Start) (old new : Search) (rows more_rows : List Row) (in_order : low ≤ high)
+module _ (input : StripInput) (at : HPoint) (begin : ℕ) (ms after turned stay : List Member) (low high len k : ℕ) (coming : List Start) (old new : Search) (rows more_rows : List Row) (in_order : low ≤ high)
     (few : high ≤ length ms)
     (split : SidesFallAlong (place at) (segs_of ms) → IsSplitAt (place at) (segs_of (take low ms)) (segs_of (slice_range ms low high)) (segs_of (drop high ms)))
     (count : k ≡ prefix_len (λ s. same_hpoint s.at at) coming)
     (moved : IsPermutation (filter (unit_after (place at)) (units_of (slice_range ms low high) ++ map (λ (s : Start). s.unit) (take k coming))) (units_of turned))
     (sorted : AllPairs (λ a b. pos 0 ≤ℤ turn_of a b) (segs_of turned)) (labelled : units_of stay ≡ units_of turned)
-    (begun : AreBegun input.steps (mask_over 0 (take low ms)) begin (is_in_column input.column (place at)) stay) (closed : more_rows ≡ rows ++ rows_of begin (slice_range ms low high))
-    (is : after ≡ take low ms ++ stay ++ drop high ms) (long : len ≡ length stay) (tested : AreSeamsTested input.column (place at) (segs_of after) (seams_at (is_in_column input.column (place at)) low (low + len)) old new) where
+    (begun : AreBegun input.steps (mask_over 0 (take low ms)) begin (is_in_strip input.strip (place at)) stay) (closed : more_rows ≡ rows ++ rows_of begin (slice_range ms low high))
+    (is : after ≡ take low ms ++ stay ++ drop high ms) (long : len ≡ length stay) (tested : AreSeamsTested input.strip (place at) (segs_of after) (seams_at (is_in_strip input.strip (place at)) low (low + len)) old new) where
   was : ms ≡ take low ms ++ slice_range ms low high ++ drop high ms
   was =
       sym (take-append-drop low ms) ∙ ap (λ ys. take low ms ++ ys) (drop_split ms low high in_order) ∙ sym (append_assoc (take low ms) (slice_range ms low high) (drop high ms))
@@ -302,12 +301,12 @@ module _ (input : Input) (at : HPoint) (begin : ℕ) (ms after turned stay : Lis
   up = omega (arith, length-append (take low ms) stay, below, long)
 
   abbrev inside : Bool
-  inside = is_in_column input.column (place at)
+  inside = is_in_strip input.strip (place at)
 
-  at_seams : AreSeamsTested input.column (place at) (segs_of after) (seams_at inside (length (take low ms)) (length (take low ms ++ stay))) old new
+  at_seams : AreSeamsTested input.strip (place at) (segs_of after) (seams_at inside (length (take low ms)) (length (take low ms ++ stay))) old new
   at_seams =
-      subst (λ j. AreSeamsTested input.column (place at) (segs_of after) (seams_at inside j (length (take low ms ++ stay))) old new) (sym below)
-      (subst (λ j. AreSeamsTested input.column (place at) (segs_of after) (seams_at inside low j) old new) up tested)
+      subst (λ j. AreSeamsTested input.strip (place at) (segs_of after) (seams_at inside j (length (take low ms ++ stay))) old new) (sym below)
+      (subst (λ j. AreSeamsTested input.strip (place at) (segs_of after) (seams_at inside low j) old new) up tested)
 
   stay_moved : IsPermutation (filter (unit_after (place at)) (units_of (slice_range ms low high) ++ map (λ (s : Start). s.unit) (take k coming))) (units_of stay)
   stay_moved =
@@ -334,5 +333,5 @@ module _ (input : Input) (at : HPoint) (begin : ℕ) (ms after turned stay : Lis
         is_step input n units q at (take low ms) (slice_range ms low high) (drop high ms) stay coming (take k coming) (drop k coming) old new
         (subst (λ (xs : List Member). StandsBefore n input units q at xs coming old.ahead) was stands) (ap (λ j. take j coming) count) (ap (λ j. drop j coming) count)
         (λ falls. split (subst (λ (xs : List Member). SidesFallAlong (place at) (segs_of xs)) (sym was) falls)) (segs_moved (place at) (slice_range ms low high) stay (take k coming) stay_moved) stay_sorted
-        (subst (λ (xs : List Member). AreSeamsTested input.column (place at) (segs_of xs) (seams_at inside (length (take low ms)) (length (take low ms ++ stay))) old new) is at_seams);
+        (subst (λ (xs : List Member). AreSeamsTested input.strip (place at) (segs_of xs) (seams_at inside (length (take low ms)) (length (take low ms ++ stay))) old new) is at_seams);
   }

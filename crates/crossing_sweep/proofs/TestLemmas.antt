@@ -1,5 +1,5 @@
 -- Two neighbours that have been tested.
-use Rattle.std.proofs.Common.{◌≡◌, ℕ, pos, ◌<ℤ◌, inl, inr, ◌⊎◌, Bool, true, false, List, subst, ap, ◌∙◌}
+use Rattle.std.proofs.Common.{◌≡◌, pos, ◌<ℤ◌, inl, inr, ◌⊎◌, Bool, true, false, List, subst, ap, ◌∙◌}
 use Rattle.std.specs.Prelude.{IsTrue, Contains, ◌&&◌}
 use Rattle.std.specs.Ordering.{is_lt}
 use Rattle.std.proofs.lemmas.Bool.{both_ways, and_parts, and_from}
@@ -13,35 +13,35 @@ use Rattle.exact_point.specs.declared.point.HPoint.{HPoint}
 use Rattle.exact_point.specs.declared.point_name.PointName.{PointName}
 use Rattle.exact_point.specs.declared.point_name.PointName.TheVariants.{Cross}
 use Rattle.exact_point.proofs.PlaceOrder.{same_through, same_turned, alike_right}
-use Rattle.arrange.specs.Arrangement.{is_in_closed_column}
 use Rattle.arrange.proofs.FoundLemmas.{place_positive}
+use Rattle.crossing_sweep.specs.StripInput.{is_in_closed_strip, Span}
 use Rattle.crossing_sweep.specs.Ahead.{points_of, HasAdded}
 use Rattle.crossing_sweep.specs.Testing.{IsFound, AreTested}
 use Rattle.crossing_sweep.proofs.KnownLemmas.{within_alike}
 
-module _ (column : ℕ) (r : Point) (hr : pos 0 <ℤ r.w) (a b : Segment) (old : List (HPoint × PointName)) where
+module _ (strip : Span) (r : Point) (hr : pos 0 <ℤ r.w) (a b : Segment) (old : List (HPoint × PointName)) where
   -- two that cross nowhere
-  pub nowhere : CrossNowhere a b → AreTested column r a b old old
+  pub nowhere : CrossNowhere a b → AreTested strip r a b old old
   nowhere none = record { kept = λ e c. c; found = λ p hp crossing less within. absurd (none p hp crossing); only = λ e c. inl c }
 
   module _ (z : HPoint) (meets : IsCrossingOf a b (place z)) (alone : IsOnlyCrossingOf a b (place z)) where
     abbrev is_ahead : Bool
-    is_ahead = is_lt (point_cmp r (place z)) && is_in_closed_column column (place z)
+    is_ahead = is_lt (point_cmp r (place z)) && is_in_closed_strip strip (place z)
 
     -- two that cross elsewhere
-    pub elsewhere : is_ahead ≡ false → AreTested column r a b old old
+    pub elsewhere : is_ahead ≡ false → AreTested strip r a b old old
     elsewhere out = record {
       kept = λ e c. c;
       found = λ p hp crossing less within.
           let same : IsTrue (same_place (place z) p) = alone p hp crossing in
           absurd (both_ways is_ahead out
-          (and_from (is_lt (point_cmp r (place z))) (is_in_closed_column column (place z)) (ap is_lt (alike_right r (place z) p hr (place_positive z) hp same ∙ less))
-          (within_alike column (place z) p (place_positive z) hp same ∙ within)));
+          (and_from (is_lt (point_cmp r (place z))) (is_in_closed_strip strip (place z)) (ap is_lt (alike_right r (place z) p hr (place_positive z) hp same ∙ less))
+          (within_alike strip (place z) p (place_positive z) hp same ∙ within)));
       only = λ e c. inl c;
     }
 
     -- two that cross ahead
-    pub ahead : is_ahead ≡ true → place z ≡ crossing_place a b → (new : List (HPoint × PointName)) → HasAdded old z (Cross a b) new → AreTested column r a b old new
+    pub ahead : is_ahead ≡ true → place z ≡ crossing_place a b → (new : List (HPoint × PointName)) → HasAdded old z (Cross a b) new → AreTested strip r a b old new
     ahead holds value new added = record {
       kept = added.kept;
       found = λ p hp crossing less within.
@@ -52,12 +52,12 @@ module _ (column : ℕ) (r : Point) (hr : pos 0 <ℤ r.w) (a b : Segment) (old :
       only = λ e c. which e (added.only e c);
     }
       where
-        parts : (is_lt (point_cmp r (place z)) ≡ true) × (is_in_closed_column column (place z) ≡ true)
-        parts = and_parts (is_lt (point_cmp r (place z))) (is_in_closed_column column (place z)) holds
+        parts : (is_lt (point_cmp r (place z)) ≡ true) × (is_in_closed_strip strip (place z) ≡ true)
+        parts = and_parts (is_lt (point_cmp r (place z))) (is_in_closed_strip strip (place z)) holds
 
-        here : IsFound column r a b (z, Cross a b)
-        here = record { crossing = meets; after = less_told (point_cmp r (place z)) parts.0; in_column = parts.1; named = (place z, place_positive z, meets); told = value }
+        here : IsFound strip r a b (z, Cross a b)
+        here = record { crossing = meets; after = less_told (point_cmp r (place z)) parts.0; in_strip = parts.1; named = (place z, place_positive z, meets); told = value }
 
-        which : (e : HPoint × PointName) → Contains old e ⊎ ((z, Cross a b) ≡ e) → Contains old e ⊎ IsFound column r a b e
+        which : (e : HPoint × PointName) → Contains old e ⊎ ((z, Cross a b) ≡ e) → Contains old e ⊎ IsFound strip r a b e
         which e (inl h) = inl h
-        which e (inr f) = inr (subst (λ d. IsFound column r a b d) f here)
+        which e (inr f) = inr (subst (λ d. IsFound strip r a b d) f here)

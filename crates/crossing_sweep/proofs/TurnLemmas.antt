@@ -1,4 +1,4 @@
--- At a node: between those that pass under it and those over it, the stretches that hold it and go on stand in the order of their directions.
+-- At a node: between those that pass under it and those over it, the stretches that hold it and go on are in the order of their directions.
 use Rattle.std.proofs.Common.{◌≡◌, ℕ, ℤ, pos, ◌<◌, ◌++◌, ◌*ℤ◌, ◌<ℤ◌, ◌≤ℤ◌, List, get_or, length, ap, sym, ◌∙◌, arith, append_assoc, subst}
 use Rattle.std.specs.Prelude.{All}
 use Rattle.std.specs.List.{AllPairs}

@@ -1,34 +1,35 @@
 -- A pass under way: how it begins, goes on from node to node, and what it has found at the end.
-use Rattle.std.proofs.Common.{◌≡◌, ℕ, ℤ, pos, ◌+◌, ◌*◌, ◌<◌, ◌≤◌, ◌^◌, ◌*ℤ◌, ◌<ℤ◌, ◌≤ℤ◌, inl, inr, ◌⊎◌, Bool, true, false, ◌&&◌, ◌||◌, List, [], ◌∷◌, ◌++◌, length, get_or, map, refl, ap, sym, subst, ◌∙◌, arith}
+use Rattle.std.proofs.Common.{◌≡◌, ℕ, pos, ◌+◌, ◌*◌, ◌<◌, ◌≤◌, ◌^◌, ◌*ℤ◌, ◌<ℤ◌, inl, inr, ◌⊎◌, Bool, true, false, ◌&&◌, ◌||◌, List, [], ◌∷◌, ◌++◌, length, get_or, map, refl, ap, sym, subst, ◌∙◌, arith}
 use Rattle.std.specs.Prelude.{IsTrue, All, AllPairs, Contains, not}
 use Rattle.std.specs.List.{list_any}
 use Rattle.std.specs.Ordering.{int_eq}
 use Rattle.std.specs.declared.cmp.Ordering.TheVariants.{Less}
 use Rattle.std.proofs.lemmas.Int.{ints}
-use Rattle.std.proofs.lemmas.Bool.{and_parts, both_ways, or_cases, or_left, or_right}
+use Rattle.std.proofs.lemmas.Bool.{and_parts, and_from, both_ways, or_cases, or_left, or_right}
 use Rattle.std.proofs.lemmas.List.{length-map, map-append}
 use Rattle.std.proofs.lemmas.List.Elements.{All-nil, All-head, All-tail, All-map, All-append, All-push, All-weaker, All-contains, Contains-append_left}
 use Rattle.std.proofs.lemmas.List.Folds.{Any-from_list_any, list_any-from_Any}
 use Rattle.std.proofs.lemmas.List.Sorted.{All-permutation, length_permutation}
 use Rattle.std.proofs.Math.ListN.{length-append}
 use Rattle.overlay_terms.specs.Plane.{Point, Segment, whole, point_cmp, same_place, is_on}
-use Rattle.overlay_terms.specs.Column.{columns, border, is_in_column}
-use Rattle.overlay_terms.specs.Tiles.{Input, is_end, is_on_border, is_vertical, IsTileOf}
-use Rattle.overlay_terms.specs.TileLaws.{IsInput, IsProper}
-use Rattle.overlay_terms.proofs.InputNumbers.{less_back, less_times, last_turned}
+use Rattle.overlay_terms.specs.Column.{columns, border}
+use Rattle.overlay_terms.specs.Tiles.{is_end, is_on_border, is_vertical}
+use Rattle.overlay_terms.specs.TileLaws.{IsProper}
+use Rattle.overlay_terms.proofs.InputNumbers.{last_turned}
+use Rattle.overlay_terms.proofs.InputLists.{any_from_Contains}
 use Rattle.overlay_terms.proofs.Lists.{any_from, any_contains, from_map}
-use Rattle.overlay_terms.proofs.PlaceLemmas.{IsSamePlace, places_alike}
+use Rattle.overlay_terms.proofs.PlaceLemmas.{places_alike}
 use Rattle.exact_point.specs.Crossing.{IsCrossingOf}
 use Rattle.exact_point.specs.Place.{place}
 use Rattle.exact_point.specs.PlaceOf.{place_of}
 use Rattle.exact_point.specs.PointName.{HasPlace}
 use Rattle.exact_point.specs.declared.point.HPoint.{HPoint}
 use Rattle.exact_point.specs.declared.point_name.PointName.{PointName}
-use Rattle.exact_point.proofs.PlaceOrder.{one_positive, same_through, on_same, level_from}
-use Rattle.tile_laws.proofs.Statements.{segments_in}
+use Rattle.exact_point.proofs.PlaceOrder.{one_positive, same_through, on_same, level_from, level_test}
+use Rattle.exact_point.proofs.SameNodes.{same_back}
 use Rattle.arrange.specs.Units.{IsUnit}
 use Rattle.arrange.specs.declared.unit.Unit.{Unit}
-use Rattle.arrange.proofs.NodeLemmas.{one_of_two}
+use Rattle.crossing_sweep.specs.StripInput.{StripInput, IsStripInput, AreStripSome, IsStripTile, is_in_strip, segments_in}
 use Rattle.crossing_sweep.specs.Leaning.{IsSteep, IsSmall}
 use Rattle.crossing_sweep.specs.Queue.{IsQueued}
 use Rattle.crossing_sweep.specs.Passing.{HasCome, IsEntry, IsStepTo, IsTaken}
@@ -41,9 +42,10 @@ use Rattle.crossing_sweep.specs.Stepping.{segs_to_come, StandsBefore, IsStepped}
 use Rattle.crossing_sweep.specs.PassState.{nodes_max}
 use Rattle.crossing_sweep.specs.RowLaws.{AreAll}
 use Rattle.crossing_sweep.specs.Rows.{place_at, IsRow, row_ends, count_settled, AreSorted, BeginAt, Carries}
-use Rattle.crossing_sweep.proofs.NameLemmas.{map_alike, place_named, name_same, name_known}
-use Rattle.crossing_sweep.specs.Crossed.{IsInner, IsUnitPair, IsCrossingAmong, IsSpan, AreNodes, HasFound, IsCaused, IsKey, IsUnderWay}
 use Rattle.crossing_sweep.specs.NodeNames.{no_name, name_at, IsNamed, named_ends, AreKept}
+use Rattle.crossing_sweep.specs.Crossed.{IsUnitPair, IsCrossingAmong, IsSpan}
+use Rattle.crossing_sweep.specs.StripCrossed.{IsInnerInStrip, AreStripNodes, HasStripFound}
+use Rattle.crossing_sweep.specs.UnderWay.{IsCaused, IsKey, IsUnderWay}
 use Rattle.crossing_sweep.specs.declared.node_name.NodeName.{NodeName}
 use Rattle.crossing_sweep.specs.declared.member.Member.{Member}
 use Rattle.crossing_sweep.specs.declared.start.Start.{Start}
@@ -57,26 +59,28 @@ use Rattle.crossing_sweep.proofs.BeginLemmas.{pass_begins}
 use Rattle.crossing_sweep.proofs.TakenLemmas.{segs_parts}
 use Rattle.crossing_sweep.proofs.RowLemmas.{rows_go_on}
 use Rattle.crossing_sweep.proofs.NodeCount.{nodes_are_few}
-use Rattle.crossing_sweep.proofs.RowOrder.{rows_begin, rows_tell_oversize, rows_end}
+use Rattle.crossing_sweep.proofs.RowOrder.{rows_begin, rows_are_some, rows_end}
+use Rattle.crossing_sweep.proofs.StripLemmas.{first_known}
 use Rattle.crossing_sweep.proofs.Settled.{settled_sorted}
+use Rattle.crossing_sweep.proofs.NameLemmas.{map_alike, place_named, name_same, name_known}
 
 -- the segments of an input are proper
-pub proper_segments : (input : Input) → IsInput input → All IsProper (segments_in input)
+pub proper_segments : (input : StripInput) → IsStripInput input → All IsProper (segments_in input)
 proper_segments input valid = All-map IsProper (λ m. m.segment) input.marked valid.proper
 
 -- ---- a pass begins
 steep_enough : IsSteep (pos (2 ^ 200))
 steep_enough = omega (arith, ints)
 
-begins_way : (input : Input) (listed : Bool) (starts : List Start) (ahead : List (HPoint × PointName)) → IsInput input → AreStarts input starts → AreKnownPlaces input ahead → IsUnderWay input listed [] starts ahead [] [] []
+begins_way : (input : StripInput) (listed : Bool) (starts : List Start) (ahead : List (HPoint × PointName)) → IsStripInput input → AreStarts input starts → AreKnownPlaces input ahead → IsUnderWay input listed [] starts ahead [] [] []
 begins_way input listed starts ahead valid are known = record {
   valid = valid;
   n = pos (2 ^ 200);
   steep = steep_enough;
   units = are.units;
   are = are.are;
-  q = foot input.column;
-  come = pass_begins (pos (2 ^ 200)) (segments_in input) (map (λ (u : Unit). u.seg) are.units) input.column (segs_to_come starts) (points_of ahead) steep_enough (proper_segments input valid) (units_are_stretches input are.units valid are.are) valid.column are.met known.points;
+  q = foot input.strip;
+  come = pass_begins (pos (2 ^ 200)) (segments_in input) (map (λ (u : Unit). u.seg) are.units) input.strip (segs_to_come starts) (points_of ahead) steep_enough (proper_segments input valid) (units_are_stretches input are.units valid are.are) valid.in_order (first_known input valid) are.met known.points;
   entries = are.entries;
   once = are.once;
   ordered = are.ordered;
@@ -92,7 +96,7 @@ begins_way input listed starts ahead valid are known = record {
 }
 
 -- with what is empty at first
-pub begins_there : (input : Input) (listed : Bool) (starts : List Start) (ahead : List (HPoint × PointName)) (status : List Member) (tests : List (Segment × Segment)) (rows : List Row) (names : List PointName) → IsInput input → AreStarts input starts → AreKnownPlaces input ahead
+pub begins_there : (input : StripInput) (listed : Bool) (starts : List Start) (ahead : List (HPoint × PointName)) (status : List Member) (tests : List (Segment × Segment)) (rows : List Row) (names : List PointName) → IsStripInput input → AreStarts input starts → AreKnownPlaces input ahead
     → status ≡ [] → tests ≡ [] → rows ≡ [] → names ≡ [] → IsUnderWay input listed status starts ahead tests rows names
 begins_there input listed starts ahead status tests rows names valid are known e f g h =
     let P : List Member → Type 0 = λ l. IsUnderWay input listed l starts ahead tests rows names in
@@ -107,11 +111,11 @@ more_among : (tests more : List (Segment × Segment)) (p : Point) → IsCrossing
 more_among tests more p any =
     any_from (λ (t : Segment × Segment). IsCrossingOf t.0 t.1 p) (tests ++ more) any.1 (Contains-append_left tests more any.1 (any_contains (λ (t : Segment × Segment). IsCrossingOf t.0 t.1 p) tests any)) any.4
 
-still_caused : (input : Input) (listed : Bool) (tests more : List (Segment × Segment)) (p : Point) → IsCaused input listed tests p → IsCaused input listed (tests ++ more) p
+still_caused : (input : StripInput) (listed : Bool) (tests more : List (Segment × Segment)) (p : Point) → IsCaused input listed tests p → IsCaused input listed (tests ++ more) p
 still_caused input listed tests more p (inl h) = inl h
 still_caused input listed tests more p (inr h) = inr (λ e. more_among tests more p (h e))
 
-module _ (input : Input) (valid : IsInput input) (status after : List Member) (coming rest : List Start) (at : HPoint) (name : PointName) (begin : ℕ) (old new : Search) (rows more_rows : List Row) (names : List PointName)
+module _ (input : StripInput) (valid : IsStripInput input) (status after : List Member) (coming rest : List Start) (at : HPoint) (name : PointName) (begin : ℕ) (old new : Search) (rows more_rows : List Row) (names : List PointName)
     (way : IsUnderWay input old.listed status coming ((at, name) ∷ old.ahead) old.tests.items rows names) (least : All (λ e. point_cmp (place at) (place e.0) ≡ Less) old.ahead)
     (numbered : begin ≡ length names) (stepped : IsStepped input at begin status after coming rest old new rows more_rows) where
   abbrev u : List Member
@@ -135,7 +139,7 @@ module _ (input : Input) (valid : IsInput input) (status after : List Member) (c
   stands : StandsBefore way.n input way.units way.q at status coming old.ahead
   stands = record { valid = valid; steep = way.steep; are = way.are; come = way.come; least = least; entries = way.entries; once = way.once; ordered = way.ordered }
 
-  step : IsStepTo (segments_in input) input.column (place at) (segs_of u) (segs_of b) (segs_of o) (segs_to_come e) (segs_of s) (segs_to_come rest) (points_of old.ahead) (points_of new.ahead)
+  step : IsStepTo (segments_in input) input.strip (place at) (segs_of u) (segs_of b) (segs_of o) (segs_to_come e) (segs_of s) (segs_to_come rest) (points_of old.ahead) (points_of new.ahead)
   step = stepped.step way.n way.units way.q stands
 
   status_parts : segs_of status ≡ segs_of u ++ segs_of b ++ segs_of o
@@ -150,20 +154,20 @@ module _ (input : Input) (valid : IsInput input) (status after : List Member) (c
   abbrev unit_segs : List Segment
   unit_segs = map (λ (u : Unit). u.seg) way.units
 
-  come : HasCome way.n (segments_in input) (map (λ (u : Unit). u.seg) way.units) input.column way.q (segs_of u ++ segs_of b ++ segs_of o) (segs_to_come e ++ segs_to_come rest) (place at ∷ points_of old.ahead)
+  come : HasCome way.n (segments_in input) (map (λ (u : Unit). u.seg) way.units) input.strip way.q (segs_of u ++ segs_of b ++ segs_of o) (segs_to_come e ++ segs_to_come rest) (place at ∷ points_of old.ahead)
   come =
-      let P : List Segment → Type 0 = λ (l : List Segment). HasCome way.n (segments_in input) (map (λ (u : Unit). u.seg) way.units) input.column way.q l (segs_to_come coming) (place at ∷ points_of old.ahead) in
-      let Q : List Segment → Type 0 = λ (l : List Segment). HasCome way.n (segments_in input) (map (λ (u : Unit). u.seg) way.units) input.column way.q (segs_of u ++ segs_of b ++ segs_of o) l (place at ∷ points_of old.ahead) in
+      let P : List Segment → Type 0 = λ (l : List Segment). HasCome way.n (segments_in input) (map (λ (u : Unit). u.seg) way.units) input.strip way.q l (segs_to_come coming) (place at ∷ points_of old.ahead) in
+      let Q : List Segment → Type 0 = λ (l : List Segment). HasCome way.n (segments_in input) (map (λ (u : Unit). u.seg) way.units) input.strip way.q (segs_of u ++ segs_of b ++ segs_of o) l (place at ∷ points_of old.ahead) in
       subst Q coming_parts (subst P status_parts way.come)
 
-  taken : IsTaken way.n (segments_in input) (map (λ (u : Unit). u.seg) way.units) input.column way.q (place at) (segs_of u ++ segs_of s ++ segs_of o) (segs_to_come rest) (points_of new.ahead)
+  taken : IsTaken way.n (segments_in input) (map (λ (u : Unit). u.seg) way.units) input.strip way.q (place at) (segs_of u ++ segs_of s ++ segs_of o) (segs_to_come rest) (points_of new.ahead)
   taken =
-      pass_goes_on way.n (segments_in input) (map (λ (u : Unit). u.seg) way.units) input.column way.q (place at) (segs_of u) (segs_of b) (segs_of o) (segs_to_come e) (segs_of s) (segs_to_come rest) (points_of old.ahead) (points_of new.ahead)
+      pass_goes_on way.n (segments_in input) (map (λ (u : Unit). u.seg) way.units) input.strip way.q (place at) (segs_of u) (segs_of b) (segs_of o) (segs_to_come e) (segs_of s) (segs_to_come rest) (points_of old.ahead) (points_of new.ahead)
       way.steep (proper_segments input valid) (units_are_stretches input way.units valid way.are) come step
 
-  come_after : HasCome way.n (segments_in input) (map (λ (u : Unit). u.seg) way.units) input.column (place at) (segs_of after) (segs_to_come rest) (points_of new.ahead)
+  come_after : HasCome way.n (segments_in input) (map (λ (u : Unit). u.seg) way.units) input.strip (place at) (segs_of after) (segs_to_come rest) (points_of new.ahead)
   come_after =
-      let P : List Segment → Type 0 = λ (l : List Segment). HasCome way.n (segments_in input) (map (λ (u : Unit). u.seg) way.units) input.column (place at) l (segs_to_come rest) (points_of new.ahead) in
+      let P : List Segment → Type 0 = λ (l : List Segment). HasCome way.n (segments_in input) (map (λ (u : Unit). u.seg) way.units) input.strip (place at) l (segs_to_come rest) (points_of new.ahead) in
       subst P after_parts taken.come
 
   -- ---- the members
@@ -220,7 +224,7 @@ module _ (input : Input) (valid : IsInput input) (status after : List Member) (c
       let Q : Bool → Type 0 = λ (l : Bool). IsCaused input l (old.tests.items ++ stepped.tested.more) p in
       subst P (sym stepped.tested.tests) (subst Q (sym stepped.tested.listed) (still_caused input old.listed old.tests.items stepped.tested.more p h))
 
-  new_key : (x : HPoint × PointName) → Contains old.ahead x ⊎ IsFoundIn input.column (place at) (segs_of after) old.listed new.tests.items x → IsKey input new.listed new.tests.items x
+  new_key : (x : HPoint × PointName) → Contains old.ahead x ⊎ IsFoundIn input.strip (place at) (segs_of after) old.listed new.tests.items x → IsKey input new.listed new.tests.items x
   new_key x (inl c) =
       let is = All-contains (IsKey input old.listed old.tests.items) old.ahead x (All-tail (IsKey input old.listed old.tests.items) (at, name) old.ahead way.keys) c in
       record { named = is.named; told = is.told; caused = still (place x.0) is.caused }
@@ -237,7 +241,7 @@ module _ (input : Input) (valid : IsInput input) (status after : List Member) (c
       omega (arith, long, length-append names (name ∷ []), stepped.tested.few, some, way.few)
     where
       within : Bool
-      within = is_in_column input.column (place at)
+      within = is_in_strip input.strip (place at)
 
       at_most_two : (b : Bool) (i j : ℕ) → length (seams_at b i j) ≤ 2
       at_most_two true i j = omega arith
@@ -270,7 +274,7 @@ module _ (input : Input) (valid : IsInput input) (status after : List Member) (c
     are = way.are;
     q = place at;
     come = come_after;
-    entries = all_second (λ (s : Start). IsEntry input.column s.unit.seg (place s.at)) e rest (subst (λ (l : List Start). All (λ s. IsEntry input.column s.unit.seg (place s.at)) l) stepped.came way.entries);
+    entries = all_second (λ (s : Start). IsEntry input.strip s.unit.seg (place s.at)) e rest (subst (λ (l : List Start). All (λ s. IsEntry input.strip s.unit.seg (place s.at)) l) stepped.came way.entries);
     once = pairs_second AreTwo e rest (subst (λ (l : List Start). AllPairs AreTwo l) stepped.came way.once);
     ordered = pairs_second ComesLater e rest (subst (λ (l : List Start). AllPairs ComesLater l) stepped.came way.ordered);
     to_enter = all_second (λ (s : Start). Contains way.units s.unit) e rest (subst (λ (l : List Start). All (λ s. Contains way.units s.unit) l) stepped.came way.to_enter);
@@ -299,39 +303,22 @@ end_there segments p z hp hz e h =
     by s (inl f) = or_left (same_place p (whole s.left)) (same_place p (whole s.right)) (same_through p z (whole s.left) hp hz one_positive e f)
     by s (inr f) = or_right (same_place p (whole s.left)) (same_place p (whole s.right)) (same_through p z (whole s.right) hp hz one_positive e f)
 
--- no place of a border lies strictly between the borders of a column
-not_on_border : (segments : List Segment) (k : ℕ) (p z : Point) → pos 0 <ℤ p.w → pos 0 <ℤ z.w → IsTrue (same_place p z) → (border k *ℤ p.w) <ℤ p.x → p.x <ℤ (border (k + 1) *ℤ p.w) → is_on_border segments z ≡ true → ⊥
-not_on_border segments k p z hp hz e low high on =
+-- a place with another name is on a border, too
+border_there : (segments : List Segment) (p z : Point) → pos 0 <ℤ p.w → pos 0 <ℤ z.w → IsTrue (same_place p z) → is_on_border segments z ≡ true → is_on_border segments p ≡ true
+border_there segments p z hp hz e on =
     let parts = and_parts (list_any (λ j. int_eq z.x (border j *ℤ z.w)) columns) (list_any (λ s. is_on s z && not (is_vertical s)) segments) on in
     let which = Any-from_list_any (λ j. int_eq z.x (border j *ℤ z.w)) columns parts.0 in
-    at_one which.1 (level_from z.x (border which.1 *ℤ z.w) which.4)
-  where
-    alike : IsSamePlace p z
-    alike = places_alike p z hp hz e
+    let held = Any-from_list_any (λ s. is_on s z && not (is_vertical s)) segments parts.1 in
+    let tests = and_parts (is_on held.1 z) (not (is_vertical held.1)) held.4 in
+    let level : p.x ≡ border which.1 *ℤ p.w =
+    same_back p.x (border which.1 *ℤ p.w) z.w hz
+    ((places_alike p z hp hz e).x_level ∙ ap (λ t. t *ℤ p.w) (level_from z.x (border which.1 *ℤ z.w) which.4) ∙ last_turned (border which.1) z.w p.w) in
+    and_from (list_any (λ j. int_eq p.x (border j *ℤ p.w)) columns) (list_any (λ s. is_on s p && not (is_vertical s)) segments)
+    (any_from_Contains (λ j. int_eq p.x (border j *ℤ p.w)) columns which.1 (any_contains (λ j. IsTrue (int_eq z.x (border j *ℤ z.w))) columns which) (level_test p.x (border which.1 *ℤ p.w) level))
+    (any_from_Contains (λ s. is_on s p && not (is_vertical s)) segments held.1 (any_contains (λ s. IsTrue (is_on s z && not (is_vertical s))) segments held)
+    (and_from (is_on held.1 p) (not (is_vertical held.1)) (on_same held.1 p z hp hz e ∙ tests.0) tests.1))
 
-    under_it : (b c x w y v : ℤ) → pos 0 <ℤ v → x *ℤ v ≡ y *ℤ w → y ≡ c *ℤ v → (b *ℤ w) <ℤ x → (b *ℤ w) <ℤ (c *ℤ w)
-    under_it b c x w y v hv f g h = less_back (b *ℤ w) (c *ℤ w) v hv (omega (arith, ints, f, ap (λ t. t *ℤ w) g, last_turned c v w, less_times (b *ℤ w) x v hv h))
-
-    over_it : (b c x w y v : ℤ) → pos 0 <ℤ v → x *ℤ v ≡ y *ℤ w → y ≡ c *ℤ v → x <ℤ (b *ℤ w) → (c *ℤ w) <ℤ (b *ℤ w)
-    over_it b c x w y v hv f g h = less_back (c *ℤ w) (b *ℤ w) v hv (omega (arith, ints, f, ap (λ t. t *ℤ w) g, last_turned c v w, less_times x (b *ℤ w) v hv h))
-
-    at_one : (j : ℕ) → z.x ≡ border j *ℤ z.w → ⊥
-    at_one j f =
-        let after_low : border k <ℤ border j = less_back (border k) (border j) p.w hp (under_it (border k) (border j) p.x p.w z.x z.w hz alike.x_level f low) in
-        let before_high : border j <ℤ border (k + 1) = less_back (border j) (border (k + 1)) p.w hp (over_it (border (k + 1)) (border j) p.x p.w z.x z.w hz alike.x_level f high) in
-        by after_low before_high (one_of_two j k (most after_low) (most before_high))
-      where
-        most : {a b : ℤ} → a <ℤ b → a ≤ℤ b
-        most {a} {b} h = omega (arith, ints, h)
-
-        not_less : (a : ℤ) → a <ℤ a → ⊥
-        not_less a h = omega (arith, ints, h)
-
-        by : border k <ℤ border j → border j <ℤ border (k + 1) → (j ≡ k) ⊎ (j ≡ k + 1) → ⊥
-        by h l (inl g) = not_less (border k) (let P : ℕ → Type 0 = λ i. border k <ℤ border i in subst P g h)
-        by h l (inr g) = not_less (border (k + 1)) (let P : ℕ → Type 0 = λ i. border i <ℤ border (k + 1) in subst P g l)
-
-module _ (input : Input) (valid : IsInput input) (listed : Bool) (status : List Member) (coming : List Start) (ahead : List (HPoint × PointName)) (tests : List (Segment × Segment)) (rows sorted : List Row) (names : List PointName) (cap : ℕ)
+module _ (input : StripInput) (valid : IsStripInput input) (listed : Bool) (status : List Member) (coming : List Start) (ahead : List (HPoint × PointName)) (tests : List (Segment × Segment)) (rows sorted : List Row) (names : List PointName) (cap : ℕ)
     (way : IsUnderWay input listed status coming ahead tests rows names) (ended : (ahead ≡ []) ⊎ (cap < length rows)) (members : List Member) (kept : List NodeName) (are_kept : AreKept names members rows kept) (nodes : ℕ) (counted : nodes ≡ length names)
     (settled : count_settled nodes rows ≤ cap) (are : AreSorted rows sorted) where
   as_many : length sorted ≡ length rows
@@ -390,22 +377,19 @@ module _ (input : Input) (valid : IsInput input) (listed : Bool) (status : List 
 
   at_end : length sorted ≤ cap → AreAll input (map place_of names) sorted
   at_end few =
-      let P : List (HPoint × PointName) → Type 0 = λ (l : List (HPoint × PointName)). HasCome way.n (segments_in input) (map (λ (u : Unit). u.seg) way.units) input.column way.q (segs_of status) (segs_to_come coming) (points_of l) in
+      let P : List (HPoint × PointName) → Type 0 = λ (l : List (HPoint × PointName)). HasCome way.n (segments_in input) (map (λ (u : Unit). u.seg) way.units) input.strip way.q (segs_of status) (segs_to_come coming) (points_of l) in
       rows_end way.n input way.units way.q status (segs_to_come coming) (map place_of names) rows sorted way.steep valid (subst P (none_ahead few) way.come) way.carries are
 
-  are_nodes : AreNodes input (length sorted ≤ cap) (map place_of names)
+  are_nodes : AreStripNodes input (length sorted ≤ cap) (map place_of names)
   are_nodes = record {
     ordered = way.carries.passes.ordered;
     nodes = λ i d l. record { positive = (way.carries.passes.small i d l).positive; node = way.carries.passes.nodes i d l; from = way.carries.passes.from i d l; up_to = way.carries.passes.within i d l };
     all = λ few p is. (at_end few).nodes p is.positive is.node is.from is.up_to;
   }
 
-  crossings : listed ≡ true → length sorted ≤ cap → (p : Point) → IsInner input p → IsCrossingAmong tests p
-  crossings l few p is = by ((at_end few).nodes p is.positive is.node (most (border input.column *ℤ p.w) p.x is.after_border) (most p.x (border (input.column + 1) *ℤ p.w) is.before_border))
+  crossings : listed ≡ true → length sorted ≤ cap → (p : Point) → IsInnerInStrip input p → IsCrossingAmong tests p
+  crossings l few p is = by ((at_end few).nodes p is.is.positive is.is.node is.is.from is.is.up_to)
     where
-      most : (a b : ℤ) → a <ℤ b → a ≤ℤ b
-      most a b h = omega (arith, ints, h)
-
       by : IsQueued (map place_of names) p → IsCrossingAmong tests p
       by any = because (All-contains (IsCaused input listed tests) (map place_of names) any.1 way.causes among)
         where
@@ -416,22 +400,22 @@ module _ (input : Input) (valid : IsInput input) (listed : Bool) (status : List 
           hz = (All-contains IsSmall (map place_of names) any.1 way.carries.passes.small among).positive
 
           fixed : (is_end (segments_in input) any.1 ≡ true) ⊎ (is_on_border (segments_in input) any.1 ≡ true) → ⊥
-          fixed (inl h) = both_ways (is_end (segments_in input) p) is.no_end (end_there (segments_in input) p any.1 is.positive hz any.4 h)
-          fixed (inr h) = not_on_border (segments_in input) input.column p any.1 is.positive hz any.4 is.after_border is.before_border h
+          fixed (inl h) = both_ways (is_end (segments_in input) p) is.no_end (end_there (segments_in input) p any.1 is.is.positive hz any.4 h)
+          fixed (inr h) = both_ways (is_on_border (segments_in input) p) is.no_border (border_there (segments_in input) p any.1 is.is.positive hz any.4 h)
 
           moved : (t : Segment × Segment) → IsCrossingOf t.0 t.1 any.1 → IsCrossingOf t.0 t.1 p
-          moved t c = record { not_parallel = c.not_parallel; on_first = on_same t.0 p any.1 is.positive hz any.4 ∙ c.on_first; on_second = on_same t.1 p any.1 is.positive hz any.4 ∙ c.on_second }
+          moved t c = record { not_parallel = c.not_parallel; on_first = on_same t.0 p any.1 is.is.positive hz any.4 ∙ c.on_first; on_second = on_same t.1 p any.1 is.is.positive hz any.4 ∙ c.on_second }
 
           because : IsCaused input listed tests any.1 → IsCrossingAmong tests p
           because (inl h) = absurd (fixed (or_cases (is_end (segments_in input) any.1) (is_on_border (segments_in input) any.1) h))
           because (inr h) = let c = h l in any_from (λ (t : Segment × Segment). IsCrossingOf t.0 t.1 p) tests c.1 (any_contains (λ (t : Segment × Segment). IsCrossingOf t.0 t.1 any.1) tests c) (moved c.1 c.4)
 
-  pub ends_way : HasFound input cap listed sorted kept nodes tests
+  pub ends_way : HasStripFound input cap listed sorted kept nodes tests
   ends_way = record {
     spans = spans;
     numbered = are_kept.numbered;
-    tile = λ few. subst (λ (l : List (Point × Point)). IsTileOf input.marked input.steps input.column l) all_ends (at_end few).tile;
-    too_many = λ more. rows_tell_oversize way.n input way.q (map place_of names) status rows sorted cap valid way.carries are (omega (arith, more, as_many));
+    are_some = subst (λ (l : List (Point × Point)). AreStripSome input l) all_ends (rows_are_some way.n input way.q (map place_of names) status rows sorted way.carries are);
+    tile = λ few. subst (λ (l : List (Point × Point)). IsStripTile input l) all_ends (at_end few).tile;
     stops = omega (arith, settled, settled_sorted nodes rows sorted are);
     all = names;
     among = are_kept.among;
@@ -446,7 +430,7 @@ module _ (input : Input) (valid : IsInput input) (listed : Bool) (status : List 
 
 -- ---- how many nodes
 -- no more nodes are passed than there can be
-pub count_most : (input : Input) {listed : Bool} {status : List Member} {coming : List Start} {ahead : List (HPoint × PointName)} {tests : List (Segment × Segment)} {rows : List Row} (names : List PointName) → IsUnderWay input listed status coming ahead tests rows names
+pub count_most : (input : StripInput) {listed : Bool} {status : List Member} {coming : List Start} {ahead : List (HPoint × PointName)} {tests : List (Segment × Segment)} {rows : List Row} (names : List PointName) → IsUnderWay input listed status coming ahead tests rows names
     → length names ≤ nodes_max input
 count_most input names way =
     most (length names) (length (map place_of names)) (nodes_max input) (sym (length-map names place_of)) (nodes_are_few input way.q (map place_of names) way.valid way.carries.passes)

@@ -12,8 +12,7 @@ use Rattle.std.proofs.Math.IntN.{*ℤ-zero, *ℤ_comm}
 use Rattle.std.specs.declared.cmp.Ordering.TheVariants.{Less}
 use Rattle.overlay_terms.specs.Plane.{WholePoint, Point, Segment, whole, point_cmp, height_over, is_on}
 use Rattle.overlay_terms.specs.Layers.{layers_max, Marked}
-use Rattle.overlay_terms.specs.Tiles.{Input}
-use Rattle.overlay_terms.specs.TileLaws.{IsInput, IsProper}
+use Rattle.overlay_terms.specs.TileLaws.{IsProper}
 use Rattle.overlay_terms.specs.Trees.{mask_bits}
 use Rattle.overlay_terms.proofs.ClosedRings.{bit}
 use Rattle.overlay_terms.proofs.Tests.{same_tests}
@@ -28,6 +27,7 @@ use Rattle.tile_laws.proofs.JustRight.{is_over_x, is_under, is_level}
 use Rattle.tile_laws.proofs.UnderLemmas.{level_under}
 use Rattle.arrange.specs.Units.{is_collinear, covers, cover_bits, IsUnit}
 use Rattle.arrange.proofs.UnitLineLemmas.{whole_order, is_end_of}
+use Rattle.crossing_sweep.specs.StripInput.{StripInput, IsStripInput}
 use Rattle.crossing_sweep.specs.Leaning.{lean, lean_segment, IsSteep, IsSmall}
 use Rattle.crossing_sweep.specs.Sides.{lean_marked}
 use Rattle.crossing_sweep.specs.Queue.{IsAlong, GoesOn}
@@ -71,7 +71,7 @@ one_of_two true true false false h = refl
 one_of_two true false x y h = refl
 one_of_two false o x y h = refl
 
-module _ (n : ℤ) (input : Input) (u : Segment) (q : Point) (steep : IsSteep n) (valid : IsInput input) (unit : IsUnit input.marked u) (proper_u : IsProper u) (small : IsSmall q) (goes : GoesOn u q) where
+module _ (n : ℤ) (input : StripInput) (u : Segment) (q : Point) (steep : IsSteep n) (valid : IsStripInput input) (unit : IsUnit input.marked u) (proper_u : IsProper u) (small : IsSmall q) (goes : GoesOn u q) where
   hn : pos 0 <ℤ n
   hn = steep_positive n steep
 

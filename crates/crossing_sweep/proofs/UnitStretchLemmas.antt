@@ -6,17 +6,17 @@ use Rattle.std.proofs.lemmas.Bool.{and_parts}
 use Rattle.std.proofs.lemmas.List.Elements.{All-map, All-contains, All-weaker}
 use Rattle.overlay_terms.specs.Plane.{WholePoint, Point, Segment, whole, point_cmp, is_on, InRange}
 use Rattle.overlay_terms.specs.Layers.{Marked}
-use Rattle.overlay_terms.specs.Tiles.{Input, is_node}
-use Rattle.overlay_terms.specs.TileLaws.{IsInput, IsProper}
+use Rattle.overlay_terms.specs.Tiles.{is_node}
+use Rattle.overlay_terms.specs.TileLaws.{IsProper}
 use Rattle.overlay_terms.proofs.Lists.{any_from, contains_map, from_map}
 use Rattle.exact_point.proofs.OnLine.{on_line}
 use Rattle.exact_point.proofs.PlaceOrder.{one_positive, less_through, not_before_test, not_before_says}
-use Rattle.tile_laws.proofs.Statements.{segments_in}
 use Rattle.arrange.specs.Units.{IsUnit, AreUnits}
 use Rattle.arrange.specs.declared.unit.Unit.{Unit}
 use Rattle.arrange.proofs.UnitLineLemmas.{IsEndOf, end_of}
 use Rattle.arrange.proofs.UnitCover.{UnitAt, unit_at_cut, not_lt}
 use Rattle.arrange.proofs.UnitNodes.{Holder, holder_of, left_end_node, right_end_node}
+use Rattle.crossing_sweep.specs.StripInput.{StripInput, IsStripInput, segments_in}
 use Rattle.crossing_sweep.specs.Status.{IsStretchOf}
 use Rattle.crossing_sweep.specs.Queue.{IsAlong, GoesOn}
 use Rattle.crossing_sweep.specs.Step.{AreStretches}
@@ -26,7 +26,7 @@ use Rattle.crossing_sweep.specs.UnitStretches.{UnitsAreStretches}
 abbrev is_up_to : Point → WholePoint → Bool
 is_up_to q v = not (is_lt (point_cmp q (whole v)))
 
-module _ (input : Input) (valid : IsInput input) where
+module _ (input : StripInput) (valid : IsStripInput input) where
   -- an end of a unit is one of a proper segment
   record IsInRange (v : WholePoint) : Type 0 where
     pub x : InRange v.x

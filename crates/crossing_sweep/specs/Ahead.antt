@@ -1,18 +1,20 @@
 -- The places that a sweep has found ahead.
-use Rattle.std.specs.Prelude.{◌≡◌, ℕ, pos, ◌≤◌, ◌<ℤ◌, ◌⊎◌, ◌||◌, Bool, false, IsTrue, List, [], ◌∷◌, map, length, drop, All, AllPairs, Any, Contains}
+use Rattle.std.specs.Prelude.{◌≡◌, ℕ, pos, ◌+◌, ◌-◌, ◌≤◌, ◌<ℤ◌, ◌⊎◌, ◌||◌, Bool, false, IsTrue, List, [], ◌∷◌, map, length, drop, All, AllPairs, Any, Contains}
+use Rattle.std.specs.List.{range_with_len}
 use Rattle.std.specs.Ordering.{is_lt, match_ordering}
 use Rattle.std.specs.declared.cmp.Ordering.TheVariants.{Less, Equal}
-use Rattle.overlay_terms.specs.Plane.{Point, same_place}
-use Rattle.overlay_terms.specs.Tiles.{Input, is_end, is_on_border}
+use Rattle.overlay_terms.specs.Plane.{Point, Segment, same_place}
+use Rattle.overlay_terms.specs.Tiles.{is_end, is_on_border}
 use Rattle.exact_point.specs.Place.{place, hpoint_cmp}
 use Rattle.exact_point.specs.PlaceOf.{place_of}
 use Rattle.exact_point.specs.PointName.{HasPlace, IsPlaceOf}
-use Rattle.arrange.specs.Arrangement.{segments_in, is_in_closed_column}
 use Rattle.arrange.specs.NamedPlaces.{named_cmp}
 use Rattle.arrange.specs.declared.named_place.NamedPlace.{NamedPlace}
+use Rattle.crossing_sweep.specs.StripInput.{StripInput, segments_in, is_in_closed_strip, Span}
 use Rattle.crossing_sweep.specs.Beginning.{AreKnown}
 use Rattle.exact_point.specs.declared.point.HPoint.{HPoint}
 use Rattle.exact_point.specs.declared.point_name.PointName.{PointName}
+use Rattle.exact_point.specs.declared.point_name.PointName.TheVariants.{Vertex, Border}
 
 -- the places alone
 abbrev pub points_of : List (HPoint × PointName) → List Point
@@ -43,27 +45,34 @@ abbrev pub is_first_before : List (HPoint × PointName) → HPoint → Bool
 is_first_before [] at = false
 is_first_before (e ∷ es) at = is_lt (hpoint_cmp e.0 at)
 
+-- the names that the known places on a segment may have: its own ends, and where the borders of a strip cut it, those between its columns too
+abbrev pub cut_names : Segment → Span → List PointName
+cut_names s strip = map (λ (k : ℕ). Border s k) (range_with_len strip.first (strip.last + 2 - strip.first))
+
+abbrev pub own_names : Segment → Span → List PointName
+own_names s strip = Vertex s.left ∷ Vertex s.right ∷ cut_names s strip
+
 -- a place has been added: it is there, and so is what was there; and nothing else has come
 pub record HasAdded (old : List (HPoint × PointName)) (at : HPoint) (name : PointName) (new : List (HPoint × PointName)) : Type 0 where
   pub kept : (e : HPoint × PointName) → Contains old e → Contains new e
   pub there : Any (λ e. IsTrue (same_place (place at) (place e.0))) new
   pub only : (e : HPoint × PointName) → Contains new e → Contains old e ⊎ ((at, name) ≡ e)
 
--- a place is known under one of some names, which stands for it, and it lies in the closed column
-pub record IsOffered (column : ℕ) (names : List PointName) (e : HPoint × PointName) : Type 0 where
+-- a place is known under one of some names, which stands for it, and it lies in the closed strip
+pub record IsOffered (strip : Span) (names : List PointName) (e : HPoint × PointName) : Type 0 where
   pub named : HasPlace e.1
   pub told : place e.0 ≡ place_of e.1
   pub stands : IsPlaceOf e.1 (place e.0)
-  pub in_column : IsTrue (is_in_closed_column column (place e.0))
+  pub in_strip : IsTrue (is_in_closed_strip strip (place e.0))
   pub offered : Contains names e.1
 
--- the places in a closed column for which some names stand
-pub record AreOffered (column : ℕ) (names : List PointName) (found : List (HPoint × PointName)) : Type 0 where
-  pub sound : All (IsOffered column names) found
-  pub complete : (name : PointName) (p : Point) → Contains names name → pos 0 <ℤ p.w → IsPlaceOf name p → IsTrue (is_in_closed_column column p) → Any (λ e. IsTrue (same_place p (place e.0))) found
+-- the places in a closed strip for which some names stand
+pub record AreOffered (strip : Span) (names : List PointName) (found : List (HPoint × PointName)) : Type 0 where
+  pub sound : All (IsOffered strip names) found
+  pub complete : (name : PointName) (p : Point) → Contains names name → pos 0 <ℤ p.w → IsPlaceOf name p → IsTrue (is_in_closed_strip strip p) → Any (λ e. IsTrue (same_place p (place e.0))) found
 
--- the places that are known before a pass over the column of an input, by their names
-pub record AreKnownPlaces (input : Input) (found : List (HPoint × PointName)) : Type 0 where
-  pub points : AreKnown (segments_in input) input.column (points_of found)
+-- the places that are known before a pass over the strip of an input, by their names
+pub record AreKnownPlaces (input : StripInput) (found : List (HPoint × PointName)) : Type 0 where
+  pub points : AreKnown (segments_in input) input.strip (points_of found)
   pub named : All (λ e. HasPlace e.1 × (place e.0 ≡ place_of e.1)) found
   pub fixed : All (λ e. IsTrue (is_end (segments_in input) (place e.0) || is_on_border (segments_in input) (place e.0))) found

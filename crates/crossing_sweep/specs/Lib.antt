@@ -1,3 +1,4 @@
+pub mod StripInput
 pub mod Leaning
 pub mod Status
 pub mod NextNode
@@ -25,4 +26,6 @@ pub mod Testing
 pub mod Stepping
 pub mod PassState
 pub mod Crossed
+pub mod StripCrossed
+pub mod UnderWay
 pub mod Amid

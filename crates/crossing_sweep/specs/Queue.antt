@@ -6,6 +6,7 @@ use Rattle.overlay_terms.specs.Column.{border}
 use Rattle.overlay_terms.specs.Tiles.{is_end, is_on_border, is_node}
 use Rattle.overlay_terms.specs.TileLaws.{IsProper}
 use Rattle.exact_point.specs.Crossing.{IsCrossingOf}
+use Rattle.crossing_sweep.specs.StripInput.{Span}
 use Rattle.crossing_sweep.specs.Leaning.{IsSteep, IsSmall}
 use Rattle.crossing_sweep.specs.Status.{IsStretchOf, AreOrderedAfter}
 use Rattle.crossing_sweep.specs.NextNode.{IsNextNode}
@@ -29,38 +30,38 @@ pub record IsStatusAt (n : ℤ) (segments : List Segment) (q : Point) (status : 
   pub ordered : AreOrderedAfter n q status
   pub covered : (t : Segment) → Contains segments t → GoesOn t q → Any (IsAlong t) status
 
--- a place is not right of a column's right border
-abbrev pub IsUpTo : ℕ → Point → Type 0
-IsUpTo column p = p.x ≤ℤ (border (column + 1) *ℤ p.w)
+-- a place is not right of a strip's right border
+abbrev pub IsUpTo : Span → Point → Type 0
+IsUpTo strip p = p.x ≤ℤ (border (strip.last + 1) *ℤ p.w)
 
 -- one of some places is that of p
 abbrev pub IsQueued : List Point → Point → Type 0
 IsQueued keys p = Any (λ z. IsTrue (same_place p z)) keys
 
--- the places found ahead of a place: all ends and border places after it that are not right of the column, and where neighbours
+-- the places found ahead of a place: all ends and border places after it that are not right of the strip, and where neighbours
 -- of the status cross
-pub record IsQueue (segments : List Segment) (column : ℕ) (q : Point) (status : List Segment) (keys : List Point) : Type 0 where
-  pub fixed : (p : Point) → pos 0 <ℤ p.w → IsTrue (is_end segments p || is_on_border segments p) → point_cmp q p ≡ Less → IsUpTo column p → IsQueued keys p
+pub record IsQueue (segments : List Segment) (strip : Span) (q : Point) (status : List Segment) (keys : List Point) : Type 0 where
+  pub fixed : (p : Point) → pos 0 <ℤ p.w → IsTrue (is_end segments p || is_on_border segments p) → point_cmp q p ≡ Less → IsUpTo strip p → IsQueued keys p
   pub seams : (i : ℕ) (d : Segment) (p : Point) → i + 1 < length status → pos 0 <ℤ p.w → IsCrossingOf (get_or status i d) (get_or status (i + 1) d) p
-      → point_cmp q p ≡ Less → IsUpTo column p → IsQueued keys p
+      → point_cmp q p ≡ Less → IsUpTo strip p → IsQueued keys p
 
--- so the next node is among them, unless it lies right of the column
+-- so the next node is among them, unless it lies right of the strip
 abbrev pub NextIsQueued : Type 0
 NextIsQueued =
-    (n : ℤ) (segments : List Segment) (column : ℕ) (q r : Point) (status : List Segment) (keys : List Point) → IsSteep n → All IsProper segments →
-    IsStatusAt n segments q status → IsQueue segments column q status keys → IsNextNode segments q r → IsUpTo column r → IsQueued keys r
+    (n : ℤ) (segments : List Segment) (strip : Span) (q r : Point) (status : List Segment) (keys : List Point) → IsSteep n → All IsProper segments →
+    IsStatusAt n segments q status → IsQueue segments strip q status keys → IsNextNode segments q r → IsUpTo strip r → IsQueued keys r
 
--- a place that is a node after another, not right of the column, and not after any of some places
-pub record IsFirstOf (segments : List Segment) (column : ℕ) (q r : Point) (keys : List Point) : Type 0 where
+-- a place that is a node after another, not right of the strip, and not after any of some places
+pub record IsFirstOf (segments : List Segment) (strip : Span) (q r : Point) (keys : List Point) : Type 0 where
   pub small : IsSmall r
   pub node : IsTrue (is_node segments r)
   pub after : point_cmp q r ≡ Less
-  pub up_to : IsUpTo column r
+  pub up_to : IsUpTo strip r
   pub positive : All (λ z. pos 0 <ℤ z.w) keys
   pub least : All (λ z. point_cmp z r ≡ Less → ⊥) keys
 
 -- and the first of them is the next node
 abbrev pub FirstIsNext : Type 0
 FirstIsNext =
-    (n : ℤ) (segments : List Segment) (column : ℕ) (q r : Point) (status : List Segment) (keys : List Point) → IsSteep n → All IsProper segments →
-    IsStatusAt n segments q status → IsQueue segments column q status keys → IsFirstOf segments column q r keys → IsNextNode segments q r
+    (n : ℤ) (segments : List Segment) (strip : Span) (q r : Point) (status : List Segment) (keys : List Point) → IsSteep n → All IsProper segments →
+    IsStatusAt n segments q status → IsQueue segments strip q status keys → IsFirstOf segments strip q r keys → IsNextNode segments q r

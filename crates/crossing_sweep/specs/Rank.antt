@@ -1,4 +1,4 @@
--- Whole numbers that tell the order of places.
+-- Whole numbers that give the order of places.
 use Rattle.std.specs.Prelude.{◌≡◌, ℤ, pos, ◌^◌, ◌+ℤ◌, ◌*ℤ◌, ◌≤ℤ◌, ◌<ℤ◌, ◌⊎◌}
 use Rattle.overlay_terms.specs.Plane.{Point, InRange}
 

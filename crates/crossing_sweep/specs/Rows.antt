@@ -6,13 +6,13 @@ use Rattle.std.specs.Ordering.{nat_cmp, ordering_then}
 use Rattle.std.specs.declared.cmp.Ordering.{Ordering}
 use Rattle.std.specs.declared.cmp.Ordering.TheVariants.{Less}
 use Rattle.overlay_terms.specs.Plane.{Point, Segment, point_cmp, same_place, is_on}
-use Rattle.overlay_terms.specs.Column.{border, is_in_column}
+use Rattle.overlay_terms.specs.Column.{border}
 use Rattle.overlay_terms.specs.Layers.{layers_max}
 use Rattle.overlay_terms.specs.Trees.{Steps, steps_value, mask_bits}
-use Rattle.overlay_terms.specs.Tiles.{Input, is_node, IsBoundary}
-use Rattle.arrange.specs.Arrangement.{segments_in}
+use Rattle.overlay_terms.specs.Tiles.{is_node}
 use Rattle.arrange.specs.declared.unit.Unit as units
 use Rattle.tile_laws.specs.JustRight.{under_bits, up_to_bits}
+use Rattle.crossing_sweep.specs.StripInput.{StripInput, IsStripBoundary, is_in_strip, segments_in, Span}
 use Rattle.crossing_sweep.specs.Leaning.{lean, lean_segment, IsSmall}
 use Rattle.crossing_sweep.specs.Sides.{lean_marked, IsNodal}
 use Rattle.crossing_sweep.specs.Queue.{IsUpTo, IsQueued}
@@ -22,15 +22,15 @@ use Rattle.crossing_sweep.specs.declared.member.Member.{Member}
 use Rattle.crossing_sweep.specs.declared.row.Row.{Row}
 
 -- ---- places passed
--- the places of all nodes of a closed column up to a place, in order
-pub record ArePassed (segments : List Segment) (column : ℕ) (q : Point) (passed : List Point) : Type 0 where
+-- the places of all nodes of a closed strip up to a place, in order
+pub record ArePassed (segments : List Segment) (strip : Span) (q : Point) (passed : List Point) : Type 0 where
   pub ordered : AllPairs (λ a b. point_cmp a b ≡ Less) passed
   pub small : All IsSmall passed
   pub nodes : All (λ z. IsTrue (is_node segments z)) passed
-  pub from : All (λ z. (border column *ℤ z.w) ≤ℤ z.x) passed
-  pub within : All (IsUpTo column) passed
+  pub from : All (λ z. (border strip.first *ℤ z.w) ≤ℤ z.x) passed
+  pub within : All (IsUpTo strip) passed
   pub up_to : All (λ z. point_cmp q z ≡ Less → ⊥) passed
-  pub complete : (p : Point) → pos 0 <ℤ p.w → IsTrue (is_node segments p) → (border column *ℤ p.w) ≤ℤ p.x → IsUpTo column p → (point_cmp q p ≡ Less → ⊥) → IsQueued passed p
+  pub complete : (p : Point) → pos 0 <ℤ p.w → IsTrue (is_node segments p) → (border strip.first *ℤ p.w) ≤ℤ p.x → IsUpTo strip p → (point_cmp q p ≡ Less → ⊥) → IsQueued passed p
 
 -- the place with a number among those passed
 abbrev pub place_at : List Point → ℕ → Point
@@ -46,28 +46,28 @@ abbrev pub HasBits : ℕ → (ℕ → Bool) → Type 0
 HasBits mask bits = (k : ℕ) → k < layers_max → mask_bits mask k ≡ bits k
 
 -- what lies under a unit just after a place
-abbrev pub under_unit : ℤ → Input → Segment → Point → ℕ → Bool
+abbrev pub under_unit : ℤ → StripInput → Segment → Point → ℕ → Bool
 under_unit n input u p = under_bits (lean_marked n input.marked) (lean_segment n u) (lean n p)
 
 -- what lies up to it
-abbrev pub up_to_unit : ℤ → Input → Segment → Point → ℕ → Bool
+abbrev pub up_to_unit : ℤ → StripInput → Segment → Point → ℕ → Bool
 up_to_unit n input u p = up_to_bits (lean_marked n input.marked) (lean_segment n u) (lean n p)
 
 -- whether the steps differ under a unit and over it just after a place
-abbrev pub sides_differ : ℤ → Input → Segment → Point → Bool
+abbrev pub sides_differ : ℤ → StripInput → Segment → Point → Bool
 sides_differ n input u p = is_one_of (steps_value input.steps (under_unit n input u p)) (steps_value input.steps (up_to_unit n input u p))
 
--- what a member carries after a place q from the place p on its unit where it begins. In the column, p is the last node on the unit, the
--- mask is what lies up to it just after p, and it differs where the steps do there; on the column's right border it begins no piece
--- of the column
-pub record IsCarriedFrom (n : ℤ) (input : Input) (p q : Point) (m : Member) : Type 0 where
+-- what a member carries after a place q from the place p on its unit where it begins. In the strip, p is the last node on the unit, the
+-- mask is what lies up to it just after p, and it differs where the steps do there; on the strip's right border it begins no piece
+-- of the strip
+pub record IsCarriedFrom (n : ℤ) (input : StripInput) (p q : Point) (m : Member) : Type 0 where
   pub on : IsTrue (is_on (seg_of m) p)
-  pub last : IsTrue (is_in_column input.column p) → IsLastOn input (seg_of m) p q
-  pub over : IsTrue (is_in_column input.column p) → HasBits m.over (up_to_unit n input (seg_of m) p)
-  pub differs : m.differs ≡ (is_in_column input.column p && sides_differ n input (seg_of m) p)
+  pub last : IsTrue (is_in_strip input.strip p) → IsLastOn input (seg_of m) p q
+  pub over : IsTrue (is_in_strip input.strip p) → HasBits m.over (up_to_unit n input (seg_of m) p)
+  pub differs : m.differs ≡ (is_in_strip input.strip p && sides_differ n input (seg_of m) p)
 
 -- so it is with a member that begins at one of the places passed
-pub record IsCarried (n : ℤ) (input : Input) (passed : List Point) (q : Point) (m : Member) : Type 0 where
+pub record IsCarried (n : ℤ) (input : StripInput) (passed : List Point) (q : Point) (m : Member) : Type 0 where
   pub known : m.begin < length passed
   pub carried : IsCarriedFrom n input (place_at passed m.begin) q m
 
@@ -76,19 +76,19 @@ pub record IsCarried (n : ℤ) (input : Input) (passed : List Point) (q : Point)
 abbrev pub row_ends : List Point → Row → Point × Point
 row_ends passed row = (place_at passed row.first, place_at passed row.last)
 
--- a row is a piece of the boundary in the column between two of the places passed, both on its support
-pub record IsRow (input : Input) (passed : List Point) (row : Row) : Type 0 where
+-- a row is a piece of the boundary in the strip between two of the places passed, both on its support
+pub record IsRow (input : StripInput) (passed : List Point) (row : Row) : Type 0 where
   pub from_known : row.first < length passed
   pub to_known : row.last < length passed
   pub from_on : IsTrue (is_on row.support (place_at passed row.first))
   pub to_on : IsTrue (is_on row.support (place_at passed row.last))
-  pub boundary : IsBoundary input.marked input.steps input.column (place_at passed row.first) (place_at passed row.last)
+  pub boundary : IsStripBoundary input.marked input.steps input.strip (place_at passed row.first) (place_at passed row.last)
 
--- the rows of a pass that has come to a place: the pieces of the boundary in the column that end there or before it, each once
-pub record AreRows (input : Input) (passed : List Point) (q : Point) (rows : List Row) : Type 0 where
+-- the rows of a pass that has come to a place: the pieces of the boundary in the strip that end there or before it, each once
+pub record AreRows (input : StripInput) (passed : List Point) (q : Point) (rows : List Row) : Type 0 where
   pub sound : All (IsRow input passed) rows
   pub once : AllPairs (λ a b. a.first ≡ b.first → a.last ≡ b.last → ⊥) rows
-  pub complete : (p r : Point) → IsBoundary input.marked input.steps input.column p r → (point_cmp q r ≡ Less → ⊥)
+  pub complete : (p r : Point) → IsStripBoundary input.marked input.steps input.strip p r → (point_cmp q r ≡ Less → ⊥)
       → Any (λ row. IsTrue (same_place p (place_at passed row.first) && same_place r (place_at passed row.last))) rows
 
 -- how many of some rows end before the last of so many nodes
@@ -126,7 +126,7 @@ mask_over under (m ∷ ms) = mask_over m.over ms
 abbrev pub HasValue : Steps → ℕ → Bool → Type 0
 HasValue steps mask value = (bits : ℕ → Bool) → HasBits mask bits → value ≡ steps_value steps bits
 
--- a member begins at the node with a number, within the column or not, over what a mask says: its own mask changes that, and it differs where the
+-- a member begins at the node with a number, within the strip or not, over what a mask says: its own mask changes that, and it differs where the
 -- steps do
 pub record IsBegun (steps : Steps) (under : ℕ) (begin : ℕ) (within : Bool) (m : Member) : Type 0 where
   pub begins : m.begin ≡ begin
@@ -139,15 +139,15 @@ AreBegun steps under begin within [] = Unit {0}
 AreBegun steps under begin within (m ∷ ms) = IsBegun steps under begin within m × AreBegun steps m.over begin within ms
 
 -- at a node r after the places passed, the pieces of some members begin, each with its mask over those of the members under the node
-pub record BeginAt (input : Input) (units : List units.Unit) (r : Point) (passed : List Point) (under stay : List Member) (end : ℕ) : Type 0 where
+pub record BeginAt (input : StripInput) (units : List units.Unit) (r : Point) (passed : List Point) (under stay : List Member) (end : ℕ) : Type 0 where
   pub number : end ≡ length passed
   pub nodal : IsNodal r
   pub among : All (λ m. Contains units m.unit) stay
-  pub begun : AreBegun input.steps (mask_over 0 under) end (is_in_column input.column r) stay
+  pub begun : AreBegun input.steps (mask_over 0 under) end (is_in_strip input.strip r) stay
 
 -- ---- the whole
 -- what a pass has when it has come to a place: the places passed, what the entered members carry, and the rows
-pub record Carries (n : ℤ) (input : Input) (q : Point) (passed : List Point) (entered : List Member) (rows : List Row) : Type 0 where
-  pub passes : ArePassed (segments_in input) input.column q passed
+pub record Carries (n : ℤ) (input : StripInput) (q : Point) (passed : List Point) (entered : List Member) (rows : List Row) : Type 0 where
+  pub passes : ArePassed (segments_in input) input.strip q passed
   pub members : All (IsCarried n input passed q) entered
   pub are_rows : AreRows input passed q rows

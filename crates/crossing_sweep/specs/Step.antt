@@ -5,6 +5,7 @@ use Rattle.overlay_terms.specs.Plane.{Point, Segment, whole, point_cmp, height_o
 use Rattle.overlay_terms.specs.Tiles.{is_node}
 use Rattle.overlay_terms.specs.TileLaws.{IsProper}
 use Rattle.exact_point.specs.Crossing.{IsCrossingOf}
+use Rattle.crossing_sweep.specs.StripInput.{Span}
 use Rattle.crossing_sweep.specs.Leaning.{IsSteep}
 use Rattle.crossing_sweep.specs.Status.{IsStretchOf, AreTurned}
 use Rattle.crossing_sweep.specs.NextNode.{IsNextNode}
@@ -45,14 +46,14 @@ StatusGoesOn =
 
 -- the places found ahead after a step: those that were known and come after the node, and where neighbours cross that the step has
 -- made such: where the members under the node meet the next ones, and where those over it begin
-pub record IsGrown (column : ℕ) (r : Point) (under stay over : List Segment) (keys new : List Point) : Type 0 where
+pub record IsGrown (strip : Span) (r : Point) (under stay over : List Segment) (keys new : List Point) : Type 0 where
   pub kept : (p : Point) → pos 0 <ℤ p.w → IsQueued keys p → point_cmp r p ≡ Less → IsQueued new p
   pub tested : (i : ℕ) (d : Segment) (p : Point) → (i + 1 ≡ length under) ⊎ (i + 1 ≡ length (under ++ stay)) → i + 1 < length (under ++ stay ++ over) → pos 0 <ℤ p.w
-      → IsCrossingOf (get_or (under ++ stay ++ over) i d) (get_or (under ++ stay ++ over) (i + 1) d) p → point_cmp r p ≡ Less → IsUpTo column p → IsQueued new p
+      → IsCrossingOf (get_or (under ++ stay ++ over) i d) (get_or (under ++ stay ++ over) (i + 1) d) p → point_cmp r p ≡ Less → IsUpTo strip p → IsQueued new p
 
 -- so two tests of neighbours at a node keep the places found ahead complete
 abbrev pub QueueGoesOn : Type 0
 QueueGoesOn =
-    (segments : List Segment) (column : ℕ) (q r : Point) (under bundle over stay : List Segment) (keys new : List Point) → pos 0 <ℤ q.w →
-    IsQueue segments column q (under ++ bundle ++ over) keys → IsNextNode segments q r → AreTurned segments r stay → IsGrown column r under stay over keys new →
-    IsQueue segments column r (under ++ stay ++ over) new
+    (segments : List Segment) (strip : Span) (q r : Point) (under bundle over stay : List Segment) (keys new : List Point) → pos 0 <ℤ q.w →
+    IsQueue segments strip q (under ++ bundle ++ over) keys → IsNextNode segments q r → AreTurned segments r stay → IsGrown strip r under stay over keys new →
+    IsQueue segments strip r (under ++ stay ++ over) new

@@ -1,4 +1,4 @@
--- What a test of neighbours finds: where two segments cross after a place, in a closed column.
+-- What a test of neighbours finds: where two segments cross after a place, in a closed strip.
 use Rattle.std.specs.Prelude.{◌≡◌, ℕ, pos, ◌+◌, ◌≤◌, ◌<◌, ◌++◌, [], ◌∷◌, ◌<ℤ◌, ◌⊎◌, Bool, true, false, IsTrue, List, length, get_or, All, Contains}
 use Rattle.std.specs.declared.cmp.Ordering.TheVariants.{Less}
 use Rattle.overlay_terms.specs.Plane.{Point, Segment, point_cmp}
@@ -8,47 +8,47 @@ use Rattle.exact_point.specs.PlaceOf.{place_of}
 use Rattle.exact_point.specs.PointName.{HasPlace}
 use Rattle.exact_point.specs.declared.point.HPoint.{HPoint}
 use Rattle.exact_point.specs.declared.point_name.PointName.{PointName}
-use Rattle.arrange.specs.Arrangement.{is_in_closed_column}
+use Rattle.crossing_sweep.specs.StripInput.{is_in_closed_strip, Span}
 use Rattle.crossing_sweep.specs.Queue.{IsQueued}
 use Rattle.crossing_sweep.specs.Ahead.{points_of}
 use Rattle.crossing_sweep.specs.declared.search.Search.{Search}
 
--- two segments cross at a known place, after r and in the closed column; its name stands for it
-pub record IsFound (column : ℕ) (r : Point) (a b : Segment) (e : HPoint × PointName) : Type 0 where
+-- two segments cross at a known place, after r and in the closed strip; its name stands for it
+pub record IsFound (strip : Span) (r : Point) (a b : Segment) (e : HPoint × PointName) : Type 0 where
   pub crossing : IsCrossingOf a b (place e.0)
   pub after : point_cmp r (place e.0) ≡ Less
-  pub in_column : IsTrue (is_in_closed_column column (place e.0))
+  pub in_strip : IsTrue (is_in_closed_strip strip (place e.0))
   pub named : HasPlace e.1
   pub told : place e.0 ≡ place_of e.1
 
--- two segments have been tested: what was known is known, where they cross after r in the closed column is known, and nothing else has come
-pub record AreTested (column : ℕ) (r : Point) (a b : Segment) (old new : List (HPoint × PointName)) : Type 0 where
+-- two segments have been tested: what was known is known, where they cross after r in the closed strip is known, and nothing else has come
+pub record AreTested (strip : Span) (r : Point) (a b : Segment) (old new : List (HPoint × PointName)) : Type 0 where
   pub kept : (e : HPoint × PointName) → Contains old e → Contains new e
-  pub found : (p : Point) → pos 0 <ℤ p.w → IsCrossingOf a b p → point_cmp r p ≡ Less → IsTrue (is_in_closed_column column p) → IsQueued (points_of new) p
-  pub only : (e : HPoint × PointName) → Contains new e → Contains old e ⊎ IsFound column r a b e
+  pub found : (p : Point) → pos 0 <ℤ p.w → IsCrossingOf a b p → point_cmp r p ≡ Less → IsTrue (is_in_closed_strip strip p) → IsQueued (points_of new) p
+  pub only : (e : HPoint × PointName) → Contains new e → Contains old e ⊎ IsFound strip r a b e
 
 -- a place that a test of two neighbours of a status has found; where the tests are listed, theirs is
-pub record IsFoundIn (column : ℕ) (r : Point) (status : List Segment) (listed : Bool) (tests : List (Segment × Segment)) (e : HPoint × PointName) : Type 0 where
+pub record IsFoundIn (strip : Span) (r : Point) (status : List Segment) (listed : Bool) (tests : List (Segment × Segment)) (e : HPoint × PointName) : Type 0 where
   pub lower : Segment
   pub upper : Segment
   pub lower_among : Contains status lower
   pub upper_among : Contains status upper
-  pub found : IsFound column r lower upper e
+  pub found : IsFound strip r lower upper e
   pub told : listed ≡ true → Contains tests (lower, upper)
 
--- the seams at which a step tests, of which the members under the node and those that stay there make two: on the right border of the column none
+-- the seams at which a step tests, of which the members under the node and those that stay there make two: on the right border of the strip none
 abbrev pub seams_at : Bool → ℕ → ℕ → List ℕ
 seams_at true low high = low ∷ high ∷ []
 seams_at false low high = []
 
 -- the neighbours at some seams of a status have been tested: at a seam the members under it end. What was known is known, where neighbours
--- at a seam cross after r in the closed column is known, and nothing else has come; at most one test a seam is listed, of members, and none where no list is kept
-pub record AreSeamsTested (column : ℕ) (r : Point) (status : List Segment) (seams : List ℕ) (old new : Search) : Type 0 where
+-- at a seam cross after r in the closed strip is known, and nothing else has come; at most one test a seam is listed, of members, and none where no list is kept
+pub record AreSeamsTested (strip : Span) (r : Point) (status : List Segment) (seams : List ℕ) (old new : Search) : Type 0 where
   pub listed : new.listed ≡ old.listed
   pub kept : (e : HPoint × PointName) → Contains old.ahead e → Contains new.ahead e
   pub found : (i : ℕ) (d : Segment) (p : Point) → Contains seams (i + 1) → i + 1 < length status → pos 0 <ℤ p.w → IsCrossingOf (get_or status i d) (get_or status (i + 1) d) p
-      → point_cmp r p ≡ Less → IsTrue (is_in_closed_column column p) → IsQueued (points_of new.ahead) p
-  pub only : (e : HPoint × PointName) → Contains new.ahead e → Contains old.ahead e ⊎ IsFoundIn column r status old.listed new.tests.items e
+      → point_cmp r p ≡ Less → IsTrue (is_in_closed_strip strip p) → IsQueued (points_of new.ahead) p
+  pub only : (e : HPoint × PointName) → Contains new.ahead e → Contains old.ahead e ⊎ IsFoundIn strip r status old.listed new.tests.items e
   pub more : List (Segment × Segment)
   pub tests : new.tests.items ≡ old.tests.items ++ more
   pub few : length more ≤ length seams

@@ -14,8 +14,8 @@ use std::alloc::{AllocError, Global};
 use std::collections::BTreeMap;
 use std::marker::Model;
 
-/// Places in their order, each once, under one of its names. Known places stand in one sorted list, the first `taken`
-/// of which are out; those found since stand in a tree, and none of them is a known one still in the list.
+/// Places in their order, each once, under one of its names. Known places are in one sorted list, the first `taken`
+/// of which are out; those found since are in a tree, and none of them is a known one still in the list.
 #[derive(Drop)]
 pub(crate) struct Ahead {
     known: Vec<NamedPlace>,

@@ -1,26 +1,26 @@
-//! The places of a column that are known before a pass over it: ends of segments and border places.
+//! The places of a strip that are known before a pass over it: ends of segments and border places.
 ghost use Rattle.std.specs.Prelude.{◌≡◌, ◌++◌, [], ◌∷◌, List, map, AllPairs, IfOk, OnOk};
 ghost use Rattle.std.specs.declared.cmp.Ordering.TheVariants.{Less};
 ghost use Rattle.exact_point.specs.declared.point_name.PointName.{PointName};
 ghost use Rattle.overlay_terms.specs.Plane.{whole};
-ghost use Rattle.arrange.specs.Arrangement.{is_in_closed_column};
-ghost use Rattle.arrange.specs.NamedPlaces.{own_names, named_cmp};
-ghost use Rattle.crossing_sweep.specs.Ahead.{AreKnownPlaces, AreOffered, known_entry};
+ghost use Rattle.arrange.specs.NamedPlaces.{named_cmp};
+ghost use Rattle.crossing_sweep.specs.StripInput.{is_in_closed_strip};
+ghost use Rattle.crossing_sweep.specs.Ahead.{AreKnownPlaces, AreOffered, cut_names, own_names, known_entry};
 ghost use Rattle.crossing_sweep.specs.RankedPlace.{named_of, ranked_entry};
 
 use crate::ahead::Ahead;
+use crate::pass_input::PassInput;
 use crate::rank::rank;
 use crate::ranked_place::RankedPlace;
-use arrange::TileInput;
-use arrange::closed_column::is_within;
+use crate::strip::Strip;
 use arrange::named_place::NamedPlace;
 use exact_point::PointName;
-use plane_base::{Column, Pt, Seg};
+use plane_base::{Pt, Seg};
 use std::alloc::{AllocError, Global};
 
-/// The ends of an input's segments, and where the borders of the column cut them, in the closed
-/// column.
-pub(crate) fn known_places(alloc: Global, input: &TileInput) -> Result<Ahead, AllocError>
+/// The ends of an input's segments, and where the borders of the strip cut them, in the closed
+/// strip.
+pub(crate) fn known_places(alloc: Global, input: &PassInput) -> Result<Ahead, AllocError>
     ensures { IfOk result (λ ahead. AreKnownPlaces input.now ahead) }
 {
     let places = places_in_order(alloc, input)?;
@@ -28,14 +28,14 @@ pub(crate) fn known_places(alloc: Global, input: &TileInput) -> Result<Ahead, Al
 }
 
 /// These places in their order, each once: a place of several segments under one of its names.
-fn places_in_order(alloc: Global, input: &TileInput) -> Result<Vec<NamedPlace>, AllocError>
+fn places_in_order(alloc: Global, input: &PassInput) -> Result<Vec<NamedPlace>, AllocError>
     ensures known { IfOk result (λ places. AreKnownPlaces input.now (map known_entry places.items)) }
     ensures in_order { IfOk result (λ places. AllPairs (λ a b. named_cmp a b ≡ Less) places.items) }
 {
-    // Mostly two of each segment: it is cut by both borders, or ends within and is cut by one.
+    // Mostly two of each segment and column: it is cut by both borders, or ends within and is cut by one.
     let mut places = Vec::with_capacity(alloc, 2 * input.marked().len())?;
     for m in input.marked() {
-        offer_own(&mut places, &m.seg, input.column())?;
+        offer_own(&mut places, &m.seg, input.strip())?;
     }
     // A place is large: what is moved to and fro is where it stands.
     let mut order = references(alloc, &places)?;
@@ -73,43 +73,54 @@ fn named(alloc: Global, places: &[&RankedPlace]) -> Result<Vec<NamedPlace>, Allo
     Ok(list)
 }
 
-/// Offers the ends of a segment and where the column's borders cut it.
-fn offer_own(places: &mut Vec<RankedPlace>, seg: &Seg, column: Column) -> Result<(), AllocError>
-    ensures { OnOk result ((names : List PointName) → AreOffered column names (map ranked_entry places.old.items) → AreOffered column (names ++ own_names seg.now column) (map ranked_entry places.new.items)) }
+/// Offers the ends of a segment and where the strip's borders cut it.
+fn offer_own(places: &mut Vec<RankedPlace>, seg: &Seg, strip: Strip) -> Result<(), AllocError>
+    ensures { OnOk result ((names : List PointName) → AreOffered strip names (map ranked_entry places.old.items) → AreOffered strip (names ++ own_names seg.now strip) (map ranked_entry places.new.items)) }
 {
-    offer_end(places, seg.left(), column)?;
-    offer_end(places, seg.right(), column)?;
-    offer(places, PointName::Border(*seg, column.number()), column)?;
-    offer(places, PointName::Border(*seg, column.number() + 1), column)?;
+    offer_end(places, seg.left(), strip)?;
+    offer_end(places, seg.right(), strip)?;
+    offer_cuts(places, seg, strip)?;
     Ok(())
 }
 
-/// Adds an end of a segment, if it lies in the closed column. Most do not, and no exact place is made of these.
-fn offer_end(places: &mut Vec<RankedPlace>, vertex: Pt, column: Column) -> Result<(), AllocError>
-    ensures { OnOk result ((names : List PointName) → AreOffered column names (map ranked_entry places.old.items) → AreOffered column (names ++ PointName.Vertex vertex ∷ []) (map ranked_entry places.new.items)) }
+/// Adds the places where the strip's borders cut a segment, those between its columns too.
+fn offer_cuts(places: &mut Vec<RankedPlace>, seg: &Seg, strip: Strip) -> Result<(), AllocError>
+    ensures { OnOk result ((names : List PointName) → AreOffered strip names (map ranked_entry places.old.items) → AreOffered strip (names ++ cut_names seg.now strip) (map ranked_entry places.new.items)) }
 {
-    if !is_end_within(column, vertex) {
-        return Ok(());
+    let first = strip.first().number();
+    let end = strip.last().number() + 2;
+    for number in first..end {
+        offer(places, PointName::Border(*seg, number), strip)?;
     }
-    offer(places, PointName::Vertex(vertex), column)
+    Ok(())
 }
 
-/// Whether a whole point lies from a column's left border to its right border.
+/// Adds an end of a segment, if it lies in the closed strip. Most do not, and no exact place is made of these.
+fn offer_end(places: &mut Vec<RankedPlace>, vertex: Pt, strip: Strip) -> Result<(), AllocError>
+    ensures { OnOk result ((names : List PointName) → AreOffered strip names (map ranked_entry places.old.items) → AreOffered strip (names ++ PointName.Vertex vertex ∷ []) (map ranked_entry places.new.items)) }
+{
+    if !is_end_within(strip, vertex) {
+        return Ok(());
+    }
+    offer(places, PointName::Vertex(vertex), strip)
+}
+
+/// Whether a whole point lies from a strip's left border to its right border.
 #[tactic(auto, using(crate::proofs::KnownEnds::whole_within))]
-fn is_end_within(column: Column, vertex: Pt) -> bool
-    ensures { result ≡ is_in_closed_column column (whole vertex) }
+fn is_end_within(strip: Strip, vertex: Pt) -> bool
+    ensures { result ≡ is_in_closed_strip strip (whole vertex) }
 {
     let x = vertex.x();
     // Eager, so that one equation says all: neither side costs more than a comparison.
-    (column.border() <= x) & (x <= column.end())
+    (strip.border() <= x) & (x <= strip.end())
 }
 
-/// Adds the place that a name stands for, if it lies in the closed column.
-fn offer(places: &mut Vec<RankedPlace>, name: PointName, column: Column) -> Result<(), AllocError>
-    ensures { OnOk result ((names : List PointName) → AreOffered column names (map ranked_entry places.old.items) → AreOffered column (names ++ name ∷ []) (map ranked_entry places.new.items)) }
+/// Adds the place that a name stands for, if it lies in the closed strip.
+fn offer(places: &mut Vec<RankedPlace>, name: PointName, strip: Strip) -> Result<(), AllocError>
+    ensures { OnOk result ((names : List PointName) → AreOffered strip names (map ranked_entry places.old.items) → AreOffered strip (names ++ name ∷ []) (map ranked_entry places.new.items)) }
 {
     if let Some(at) = name.point() {
-        if is_within(column, &at) {
+        if strip.holds_closed(&at) {
             places.push(RankedPlace {
                 name,
                 rank: rank(&at),

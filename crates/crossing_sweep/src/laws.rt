@@ -1,4 +1,4 @@
-//! Laws that a pass stands on: each function does nothing, and its contract is the law.
+//! Laws that a pass rests on: each function does nothing, and its contract is the law.
 
 pub mod last_node;
 pub mod leaning;

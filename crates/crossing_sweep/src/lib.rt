@@ -1,4 +1,4 @@
-//! Crossings found from neighbours alone: what the sweep over the units of a column stands on.
+//! Crossings found from neighbours alone: what the sweep over the units of a strip of columns rests on.
 #![tactic(auto)]
 
 mod ahead;
@@ -9,6 +9,7 @@ mod member;
 mod members_after;
 mod node_name;
 mod pass;
+mod pass_input;
 mod progress;
 mod rank;
 mod ranked_place;
@@ -16,8 +17,11 @@ mod row;
 mod search;
 mod start;
 mod starts;
+mod strip;
 mod values;
 
 pub use node_name::{NodeName, name_of};
-pub use pass::{Crossed, cross};
+pub use pass::{Crossed, cross, cross_strip};
+pub use pass_input::PassInput;
 pub use row::Row;
+pub use strip::Strip;

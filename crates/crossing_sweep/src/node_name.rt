@@ -17,7 +17,7 @@ pub fn name_of(names: &[NodeName], number: usize) -> PointName
     requires named { IsNamed names.now number }
     ensures { result ≡ name_at names.now number }
 {
-    // Where each node has its name here, it stands under its own number.
+    // Where each node has its name here, it is found under its own number.
     if number < names.len() && names[number].number == number {
         return names[number].name;
     }

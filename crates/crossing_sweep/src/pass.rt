@@ -1,7 +1,8 @@
-//! One pass over a column from node to node.
+//! One pass over a strip of columns from node to node.
 ghost use Rattle.std.specs.Prelude.{◌≡◌, ◌<◌, ◌≤◌, ◌+◌, ℕ, ◌⊎◌, ◌++◌, [], ◌∷◌, true, false, length, All, IfOk, OnOk};
 ghost use Rattle.crossing_sweep.specs.Amid.{IsPassing};
 ghost use Rattle.crossing_sweep.specs.Crossed.{IsCrossed};
+ghost use Rattle.crossing_sweep.specs.StripCrossed.{IsStripCrossed};
 ghost use Rattle.crossing_sweep.specs.Rows.{count_settled};
 ghost use Rattle.crossing_sweep.specs.PassState.{nodes_max};
 ghost use Rattle.crossing_sweep.specs.Values.{AreValues};
@@ -9,6 +10,7 @@ ghost use Rattle.crossing_sweep.specs.Values.{AreValues};
 use crate::known_places::known_places;
 use crate::member::Member;
 use crate::node_name::NodeName;
+use crate::pass_input::PassInput;
 use crate::progress::Progress;
 use crate::row::{Row, sort};
 use crate::search::Search;
@@ -20,7 +22,7 @@ use plane_base::Seg;
 use std::alloc::{AllocError, Global};
 use std::marker::Model;
 
-/// What a pass over a column has found.
+/// What a pass over a strip has found.
 #[derive(Debug, Drop)]
 pub struct Crossed {
     /// The pieces of the boundary, by their left ends, then by their right ends; where they are more
@@ -34,10 +36,10 @@ pub struct Crossed {
     pub tests: Vec<(Seg, Seg)>,
 }
 
-/// A pass over the column of an input that has come to some place.
+/// A pass over the strip of an input that has come to some place.
 #[derive(Drop)]
 pub(crate) struct Pass<'a> {
-    input: &'a TileInput,
+    input: &'a PassInput<'a>,
     progress: Progress,
 }
 
@@ -66,6 +68,21 @@ pub fn cross(
 ) -> Result<Crossed, AllocError>
     ensures { IfOk result (λ found. IsCrossed input.now cap listed found) }
 {
+    let strip_input = PassInput::of_column(input);
+    let found = cross_strip(alloc, &strip_input, cap, listed)?;
+    Ok(found)
+}
+
+/// The boundary of a strip's input, found by one pass that stops after more than so many pieces in all. The pieces that
+/// begin in one of its columns stand together, and are that column's tile.
+pub fn cross_strip(
+    alloc: Global,
+    input: &PassInput,
+    cap: usize,
+    listed: bool,
+) -> Result<Crossed, AllocError>
+    ensures { IfOk result (λ found. IsStripCrossed input.now cap listed found) }
+{
     let pass = Pass::new(alloc, input, listed)?;
     let pass = pass.run(alloc, cap)?;
     Ok(pass.into_crossed())
@@ -73,13 +90,13 @@ pub fn cross(
 
 impl<'a> Pass<'a> {
     /// A pass that is to begin.
-    fn new(alloc: Global, input: &'a TileInput, listed: bool) -> Result<Pass<'a>, AllocError>
+    fn new(alloc: Global, input: &'a PassInput<'a>, listed: bool) -> Result<Pass<'a>, AllocError>
         ensures input { IfOk result (λ pass. pass.input ≡ input.now) }
         ensures listed { IfOk result (λ pass. pass.listed ≡ listed) }
         ensures settled { IfOk result (λ pass. pass.settled ≡ 0) }
     {
         // An input has closed rings: the pass rests on that.
-        let _ = input.column();
+        let _ = input.strip();
         let starts = starts(alloc, input)?;
         let ahead = known_places(alloc, input)?;
         let status = Vec::with_capacity(alloc, starts.len())?;
@@ -102,7 +119,7 @@ impl<'a> Pass<'a> {
         Ok(Pass { input, progress })
     }
 
-    /// Goes from node to node to the end of the column, or until there are more rows than a cap.
+    /// Goes from node to node to the end of the strip, or until there are more rows than a cap.
     fn run(self, alloc: Global, cap: usize) -> Result<Pass<'a>, AllocError>
         ensures input { IfOk result (λ pass. pass.input ≡ self.entry.input) }
         ensures listed { IfOk result (λ pass. pass.listed ≡ self.entry.listed) }
@@ -123,7 +140,7 @@ impl<'a> Pass<'a> {
 
     /// What it has found, where it has come to the end, or has more rows than a cap.
     fn into_crossed(self) -> Crossed
-        ensures { (cap : ℕ) → (self.entry.ahead ≡ 0) ⊎ (cap < self.entry.rows) → self.entry.settled ≤ cap → IsCrossed self.entry.input cap self.entry.listed result }
+        ensures { (cap : ℕ) → (self.entry.ahead ≡ 0) ⊎ (cap < self.entry.rows) → self.entry.settled ≤ cap → IsStripCrossed self.entry.input cap self.entry.listed result }
     {
         let Progress {
             search,
@@ -155,7 +172,7 @@ fn is_under_way(progress: &Progress, cap: usize) -> bool
 /// go on.
 fn go_on(
     alloc: Global,
-    input: &TileInput,
+    input: &PassInput,
     values: &[bool],
     stay: &mut Vec<Member>,
     progress: &mut Progress,

@@ -1,8 +1,8 @@
-//! What a pass over a column has, and one step of it: crossings are found from neighbours alone, and
+//! What a pass over a strip has, and one step of it: crossings are found from neighbours alone, and
 //! the boundary is carried along.
 ghost use Rattle.std.specs.Prelude.{◌≡◌, ◌≤◌, ◌++◌, ◌⊎◌, true, false, length, take, drop, All, Contains, IfOk, OnOk};
-ghost use Rattle.overlay_terms.specs.Column.{is_in_column};
 ghost use Rattle.exact_point.specs.Place.{place};
+ghost use Rattle.crossing_sweep.specs.StripInput.{is_in_strip};
 ghost use Rattle.crossing_sweep.specs.Stepping.{IsStepped};
 ghost use Rattle.crossing_sweep.specs.Amid.{IsClosedAt};
 ghost use Rattle.crossing_sweep.specs.Values.{AreValues};
@@ -11,14 +11,14 @@ use crate::bundle::bundle_at;
 use crate::member::Member;
 use crate::members_after::{count_entering, turned};
 use crate::node_name::NodeName;
+use crate::pass_input::PassInput;
 use crate::row::{Row, close, label, mask_over};
 use crate::search::Search;
 use crate::start::Start;
-use arrange::TileInput;
-use exact_point::{HPoint, is_in};
+use exact_point::HPoint;
 use std::alloc::{AllocError, Global};
 
-/// What a pass over a column has when it has come to some place.
+/// What a pass over a strip has when it has come to some place.
 #[derive(Drop)]
 pub(crate) struct Progress {
     pub starts: Vec<Start>,
@@ -35,13 +35,13 @@ pub(crate) struct Progress {
 }
 
 impl Progress {
-    /// Passes a node: the pieces of the members that hold it are closed. In the column these give way to
+    /// Passes a node: the pieces of the members that hold it are closed. In the strip these give way to
     /// those that go on or enter there, which a list is lent for, and the new neighbours are tested; on its
     /// right border, where no piece of it begins, nothing else is done. The list has the members that begin.
     pub(crate) fn step(
         &mut self,
         alloc: Global,
-        input: &TileInput,
+        input: &PassInput,
         values: &[bool],
         stay: &mut Vec<Member>,
         at: &HPoint,
@@ -50,13 +50,13 @@ impl Progress {
         requires few { self.old.entered ≤ length self.old.starts.items }
         requires known { AreValues input.now.steps values.now }
         ensures few { OnOk result (self.new.entered ≤ length self.new.starts.items) }
-        ensures stepped { OnOk result (is_in_column input.now.column (place at.now) ≡ true →
+        ensures stepped { OnOk result (is_in_strip input.now.strip (place at.now) ≡ true →
             IsStepped input.now at.now begin self.old.status.items self.new.status.items
             (drop self.old.entered self.old.starts.items) (drop self.new.entered self.new.starts.items)
             self.old.search self.new.search self.old.rows.items self.new.rows.items) }
-        ensures closed { OnOk result (is_in_column input.now.column (place at.now) ≡ false →
+        ensures closed { OnOk result (is_in_strip input.now.strip (place at.now) ≡ false →
             IsClosedAt at.now begin self.old.status.items self.new.status.items self.old.rows.items self.new.rows.items) }
-        ensures searched { OnOk result (is_in_column input.now.column (place at.now) ≡ false → self.new.search ≡ self.old.search) }
+        ensures searched { OnOk result (is_in_strip input.now.strip (place at.now) ≡ false → self.new.search ≡ self.old.search) }
         ensures names { self.new.names ≡ self.old.names }
         ensures nodes { self.new.nodes ≡ self.old.nodes }
         ensures begun { OnOk result (All (λ m. m.begin ≡ begin) stay.new.items) }
@@ -64,7 +64,7 @@ impl Progress {
     {
         let (low, high) = bundle_at(&self.status, at, self.hint);
         close(&mut self.rows, &self.status[low..high], begin)?;
-        let within = is_in(input.column(), at);
+        let within = input.strip().holds(at);
         if !within {
             stay.clear();
             self.hint = high;
@@ -78,7 +78,7 @@ impl Progress {
         let top = low + stay.len();
         replace(alloc, &mut self.status, low, high, stay)?;
         self.search
-            .test_new(input.column(), at, &self.status, low, top)?;
+            .test_new(input.strip(), at, &self.status, low, top)?;
         self.entered += entered;
         self.hint = top;
         Ok(())
@@ -86,7 +86,7 @@ impl Progress {
 }
 
 /// Puts members in the place of those of a range. Mostly as many come as go, or one comes, or one goes:
-/// for these the others are moved where they stand, and no memory is taken but for the status.
+/// for these the others are moved in place, and no memory is taken but for the status.
 fn replace(
     alloc: Global,
     status: &mut Vec<Member>,

@@ -1,4 +1,4 @@
-//! Whole numbers that tell the order of most places.
+//! Whole numbers that give the order of most places.
 ghost use Rattle.std.specs.Prelude.{◌≡◌, ◌^◌, ◌*◌, ◌≤◌, ◌+ℤ◌, ◌*ℤ◌, ◌≤ℤ◌, pos, neg_ℤ, unsigned_abs};
 ghost use Rattle.std.specs.Ordering.{int_eq};
 ghost use Rattle.overlay_terms.specs.Plane.{InRange, coordinate_max, denominator_max};
@@ -11,7 +11,7 @@ use plane_base::COORD_MAX;
 use std::cmp::Ordering;
 
 /// The rank of a place: a place with a lower one comes before it. Those with a whole x, as on the borders of a
-/// column, are told apart by y, too.
+/// column, are ordered by y, too.
 pub(crate) fn rank(p: &HPoint) -> i64
     ensures { ∥ IsRank result (place p.now) ∥₁ }
 {

@@ -4,12 +4,12 @@ ghost use Rattle.crossing_sweep.specs.Rows.{mask_over as highest_mask, row_to as
 ghost use Rattle.crossing_sweep.specs.Values.{AreValues};
 
 use crate::member::Member;
+use crate::pass_input::PassInput;
 use crate::values::value_over;
-use arrange::TileInput;
 use plane_base::Seg;
 use std::alloc::AllocError;
 
-/// A piece whose sides differ, by the numbers of its ends among the nodes of the closed column.
+/// A piece whose sides differ, by the numbers of its ends among the nodes of the closed strip.
 #[derive(Clone, Copy, Debug)]
 pub struct Row {
     pub support: Seg,
@@ -52,7 +52,7 @@ pub(crate) fn mask_over(members: &[Member]) -> u32
 
 /// Begins the pieces of a bundle at a place: each stands on what holds over the one below it.
 pub(crate) fn label(
-    input: &TileInput,
+    input: &PassInput,
     values: &[bool],
     stay: &mut [Member],
     under: u32,
@@ -73,7 +73,7 @@ pub(crate) fn label(
 /// Begins a member's piece over what a mask says, where the value of the expression there is known, and
 /// says the value over the member.
 fn begin_over(
-    input: &TileInput,
+    input: &PassInput,
     values: &[bool],
     member: &mut Member,
     mask: u32,

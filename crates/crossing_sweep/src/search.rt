@@ -3,15 +3,15 @@ ghost use Rattle.std.specs.Prelude.{◌≡◌, ◌≤◌, ◌&&◌, ◌++◌, []
 ghost use Rattle.std.specs.Ordering.{is_lt};
 ghost use Rattle.overlay_terms.specs.Plane.{point_cmp};
 ghost use Rattle.exact_point.specs.Place.{place};
-ghost use Rattle.arrange.specs.Arrangement.{is_in_closed_column};
+ghost use Rattle.crossing_sweep.specs.StripInput.{is_in_closed_strip};
 ghost use Rattle.crossing_sweep.specs.Member.{segs_of};
 ghost use Rattle.crossing_sweep.specs.Testing.{AreTested, AreSeamsTested, seams_at};
 
 use crate::ahead::Ahead;
 use crate::member::Member;
-use arrange::closed_column::is_within;
+use crate::strip::Strip;
 use exact_point::{HPoint, PointName, cross_of};
-use plane_base::{Column, Seg};
+use plane_base::Seg;
 use std::alloc::AllocError;
 
 /// The places that a pass has found ahead, and the pairs of neighbours that it has tested, if they
@@ -41,12 +41,12 @@ impl Search {
     /// there are two.
     pub(crate) fn test_at(
         &mut self,
-        column: Column,
+        strip: Strip,
         at: &HPoint,
         status: &[Member],
         seam: usize,
     ) -> Result<(), AllocError>
-        ensures { OnOk result (AreSeamsTested column (place at.now) (segs_of status.now) (seam ∷ []) self.old self.new) }
+        ensures { OnOk result (AreSeamsTested strip (place at.now) (segs_of status.now) (seam ∷ []) self.old self.new) }
     {
         if seam == 0 {
             return Ok(());
@@ -57,54 +57,54 @@ impl Search {
         let lower = status[seam - 1].unit.seg;
         let upper = status[seam].unit.seg;
         self.list(lower, upper)?;
-        test_pair(&mut self.ahead, column, at, &lower, &upper)?;
+        test_pair(&mut self.ahead, strip, at, &lower, &upper)?;
         Ok(())
     }
 
-    /// Tests the neighbours at the two seams of a node in the column, which may be one.
+    /// Tests the neighbours at the two seams of a node in the strip, which may be one.
     pub(crate) fn test_new(
         &mut self,
-        column: Column,
+        strip: Strip,
         at: &HPoint,
         status: &[Member],
         low: usize,
         high: usize,
     ) -> Result<(), AllocError>
         requires in_order { low ≤ high }
-        ensures { OnOk result (AreSeamsTested column (place at.now) (segs_of status.now) (seams_at true low high) self.old self.new) }
+        ensures { OnOk result (AreSeamsTested strip (place at.now) (segs_of status.now) (seams_at true low high) self.old self.new) }
     {
-        self.test_at(column, at, status, low)?;
+        self.test_at(strip, at, status, low)?;
         if low < high {
-            self.test_at(column, at, status, high)?;
+            self.test_at(strip, at, status, high)?;
         }
         Ok(())
     }
 }
 
-/// Tests two neighbours: where they cross after a place, in the closed column, that place is found.
+/// Tests two neighbours: where they cross after a place, in the closed strip, that place is found.
 pub(crate) fn test_pair(
     ahead: &mut Ahead,
-    column: Column,
+    strip: Strip,
     at: &HPoint,
     lower: &Seg,
     upper: &Seg,
 ) -> Result<(), AllocError>
-    ensures { OnOk result (AreTested column (place at.now) lower.now upper.now ahead.old ahead.new) }
+    ensures { OnOk result (AreTested strip (place at.now) lower.now upper.now ahead.old ahead.new) }
 {
     if let Some(crossing) = cross_of(lower, upper) {
-        if is_ahead(column, at, &crossing) {
+        if is_ahead(strip, at, &crossing) {
             ahead.add(crossing, PointName::Cross(*lower, *upper))?;
         }
     }
     Ok(())
 }
 
-/// Whether a place comes after another, in a closed column.
-fn is_ahead(column: Column, at: &HPoint, other: &HPoint) -> bool
-    ensures { result ≡ (is_lt (point_cmp (place at.now) (place other.now)) && is_in_closed_column column (place other.now)) }
+/// Whether a place comes after another, in a closed strip.
+fn is_ahead(strip: Strip, at: &HPoint, other: &HPoint) -> bool
+    ensures { result ≡ (is_lt (point_cmp (place at.now) (place other.now)) && is_in_closed_strip strip (place other.now)) }
 {
-    // A place beyond the borders is told by two products, the order of two places by up to four.
-    if !is_within(column, other) {
+    // A place beyond the borders is found by two products, the order of two places by up to four.
+    if !strip.holds_closed(other) {
         return false;
     }
     *at < *other

@@ -1,4 +1,4 @@
-//! Units with the places where a pass over a column meets them first.
+//! Units with the places where a pass over a strip meets them first.
 ghost use Rattle.std.specs.Prelude.{◌≡◌};
 ghost use Rattle.std.specs.declared.cmp.Ordering.TheVariants.{Less};
 ghost use Rattle.overlay_terms.specs.Plane.{whole_cmp};
@@ -10,7 +10,7 @@ use arrange::unit::Unit;
 use exact_point::{HPoint, direction_cmp};
 use std::cmp::Ordering;
 
-/// A unit and the first place of a closed column on it, with its rank. The order is by that place, then by
+/// A unit and the first place of a closed strip on it, with its rank. The order is by that place, then by
 /// direction, the vertical one first.
 #[derive(Clone, Copy, Debug)]
 pub(crate) struct Start {

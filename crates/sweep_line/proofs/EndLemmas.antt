@@ -26,7 +26,7 @@ not_less : (a b : ℤ) → int_lt a b ≡ false → b ≤ℤ a
 not_less a b h = grind (arith, ints)
 
 -- ---- the order
--- right ends that do not stand right of a point, from one on
+-- right ends that are not right of a point, from one on
 pub right_before : (q : Point) (v u : HPoint) → pos 0 <ℤ q.w → lies_right (place v) u ≡ false → lies_right q u ≡ true → lies_right q v ≡ true
 right_before q v u hq order right =
     true_lt (q.x *ℤ (place v).w) ((place v).x *ℤ q.w)
@@ -59,7 +59,7 @@ all_right q ends v hq ordered last right j d l = by (order_of j (length ends - 1
   by (equal m) = ap (λ n. lies_right q (get_or ends n d)) m ∙ ap (λ u. lies_right q u) at_last ∙ right
   by (behind m) = absurd (omega (arith, l, m))
 
--- those that lie right of a point stand first
+-- those that lie right of a point come first
 pub right_first : (q : Point) (ends : List HPoint) → pos 0 <ℤ q.w → AreLeftmostLast ends → IsPartitionedBy (lies_right q) ends
 right_first q ends hq ordered j k d le m right = by (order_of j k) where
   by : Order j k → lies_right q (get_or ends j d) ≡ true
@@ -67,7 +67,7 @@ right_first q ends hq ordered j k d le m right = by (order_of j k) where
   by (equal l) = ap (λ n. lies_right q (get_or ends n d)) l ∙ right
   by (behind l) = absurd (omega (arith, le, l))
 
--- one more, put in behind those that lie right of it
+-- one more, put in after those that lie right of it
 pub one_more_end : (ends : List HPoint) (k : ℕ) (v : HPoint) → AreLeftmostLast ends → IsPartitionPoint (λ u. lies_right (place v) u ≡ true) (λ u. lies_right (place v) u ≡ false) ends k → AreLeftmostLast (insert ends k v)
 one_more_end ends k v ordered point =
     pairs_insert (λ u t. lies_right (place u) t ≡ false) k v ends ordered

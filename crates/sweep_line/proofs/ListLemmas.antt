@@ -23,7 +23,7 @@ module _ {X : Type 0} where
       let i_in : i < k = omega (arith, l, long) in
       subst P (sym (get_or-take k xs i d i_in)) (within i d (omega arith) i_in)
 
-  -- a member stands among the first, where the rest has another property
+  -- a member is among the first, where the rest has another property
   pub among_first : (P : X → Type 0) (k : ℕ) (xs : List X) → k ≤ length xs → AllWithin P xs k (length xs) → (x : X) → Contains xs x → (P x → ⊥) → Contains (take k xs) x
   among_first P k xs h within x (i, l, at) out = by (order_of i k)
     where
@@ -44,7 +44,7 @@ module _ {X : Type 0} where
   pub all_insert : (P : X → Type 0) (k : ℕ) (x : X) (xs : List X) → P x → All P xs → All P (take k xs ++ x ∷ drop k xs)
   all_insert P k x xs h all = All-append P (take k xs) (x ∷ drop k xs) (All-take P k xs all) (All-cons P x (drop k xs) h (All-drop P k xs all))
 
-  -- pairs with one element more: what is before it, and what is behind
+  -- pairs with one element more: what is before it, and what is after
   pub pairs_insert : (R : X → X → Type 0) (k : ℕ) (x : X) (xs : List X) → AllPairs R xs → AllWithin (λ a. R a x) xs 0 k → AllWithin (λ b. R x b) xs k (length xs) → AllPairs R (take k xs ++ x ∷ drop k xs)
   pairs_insert R zero x xs pairs before behind = AllPairs-cons R x xs (λ j d l. behind j d (omega arith) l) pairs
   pairs_insert R (suc k) x [] pairs before behind = AllPairs-cons R x [] (λ j d l. absurd (omega (arith, l))) pairs
@@ -72,7 +72,7 @@ module _ {X : Type 0} where
       next : Contains (take k zs ++ x ∷ drop k zs) x → Contains (z ∷ (take k zs ++ x ∷ drop k zs)) x
       next (j, m, there) = (suc j, omega (arith, m), there)
 
--- the image of what stands at a place
+-- the image of what is at a place
 pub image_at : {X Y : Type 0} (f : X → Y) (xs : List X) (k : ℕ) (e : Y) → k < length xs → (x : X) × (get_or xs k x ≡ x) × (get_or (map f xs) k e ≡ f x)
 image_at f [] k e l = absurd (omega (arith, l))
 image_at f (x ∷ xs) zero e l = (x, refl, refl)

@@ -138,7 +138,7 @@ module _ (input : Input) (pieces : List Elementary) (i : ℕ) (e : Elementary) (
   ordered_there : AllPairs (λ a b. is_under a.support b.support q ≡ true) on
   ordered_there j k d l m = still_ordered j k d l m q hq later (going_at j d (omega (arith, l, m))) (going_at k d m)
 
-  -- ---- what passes under the place stands first
+  -- ---- what passes under the place comes first
   module _ (test : Segment → Bool) (is_test : IsTestFor input e test) where
     passed_at : (j : ℕ) (d : StatusEntry) → j < length on → is_passed q e.support (get_or on j d) ≡ test (get_or on j d).support
     passed_at j d l = is_test.passed (get_or on j d).support (entries_over j d l)

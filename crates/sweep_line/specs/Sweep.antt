@@ -37,7 +37,7 @@ pub record IsSwept (input : Input) (done : List Elementary) (q : Point) (status 
   pub members : (p : Elementary) → Contains done p → (q.x *ℤ (place_of p.to).w) <ℤ ((place_of p.to).x *ℤ q.w) → Any (λ e. IsEntryOf input p e) status
   pub ordered : AllPairs (StandsUnder q) status
 
--- the status after some pieces, wherever the sweep stands
+-- the status after some pieces, wherever the sweep is
 abbrev pub IsStatus : Input → List Elementary → List StatusEntry → Type 0
 IsStatus input done status = (q : Point) × IsSwept input done q status
 

@@ -20,7 +20,7 @@ pub record Ranks {X : Type 0} (P : X → Type 0) (same : X → X → Bool) (less
   pub alike_right : (x y z : X) → P x → P y → P z → IsTrue (same x y) → less z x → less z y
 
 module _ {X : Type 0} where
-  -- some element is the first, or stands in the rest
+  -- some element is the first, or is in the rest
   pub any_cases : (Q : X → Type 0) (x : X) (xs : List X) → Any Q (x ∷ xs) → Q x ⊎ Any Q xs
   any_cases Q x xs (zero, y, l, e, h) = inl (subst Q (sym e) h)
   any_cases Q x xs (suc k, y, l, e, h) = inr (k, y, omega (arith, l), e, h)
@@ -29,7 +29,7 @@ module _ {X : Type 0} where
   pub none_of_any : (Q : X → Type 0) → Any Q [] → ⊥
   none_of_any Q a = omega (arith, a.2)
 
-  -- what stands at one number of two lists that are the same pair by pair
+  -- what is at one number of two lists that are the same pair by pair
   pub alike_at : (same : X → X → Bool) (xs ys : List X) → pointwise same xs ys ≡ true → (i : ℕ) (d e : X) → i < length xs → IsTrue (same (get_or xs i d) (get_or ys i e))
   alike_at same [] ys h i d e l = absurd (omega (arith, l))
   alike_at same (x ∷ xs) [] h i d e l = absurd (false≢true h)

@@ -1,4 +1,4 @@
--- Whether two points are the ends of a piece of the boundary can be told by the candidates for nodes.
+-- Whether two points are the ends of a piece of the boundary can be decided by the candidates for nodes.
 use Rattle.std.specs.Prelude.{◌≡◌, ℕ, pos, ◌<ℤ◌, ◌⊎◌, Bool, true, false, not, ◌&&◌, IsTrue, List, map, All, Contains}
 use Rattle.std.specs.List.{list_any}
 use Rattle.std.specs.Ordering.{is_lt}
@@ -90,7 +90,7 @@ module _ (segments : List Segment) (proper : All IsProper segments) where
       (node_on_test segments s r (record { positive = piece.to_positive; on_segment = piece.to_on; node = piece.to_node })))
       (and_from (is_lt (point_cmp p r)) (not (list_any (is_between p r s) (candidates segments s))) (ap is_lt piece.in_order) (not_from_false (list_any (is_between p r s) (candidates segments s)) (none_passes p r piece))))
 
-  -- so it can be told whether two points are the ends of a piece
+  -- so it can be decided whether two points are the ends of a piece
   pub decide_piece : (p r : Point) → IsPiece segments p r ⊎ (IsPiece segments p r → ⊥)
   decide_piece p r = by (told (is_piece p r)) where
     by : Told (is_piece p r) → IsPiece segments p r ⊎ (IsPiece segments p r → ⊥)

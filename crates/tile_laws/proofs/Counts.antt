@@ -74,7 +74,7 @@ module _ {X : Type 0} (f : X → Bool) where
       omega arith
 
   module _ (R : X → X → Type 0) (alone : (a b : X) → f a ≡ true → f b ≡ true → R a b → ⊥) where
-    -- what stands after one that passes does not pass
+    -- what comes after one that passes does not pass
     others_out : (a b : X) → f a ≡ true → R a b → f b ≡ false
     others_out a b e r = outside (f b) refl
       where

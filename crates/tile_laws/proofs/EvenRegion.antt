@@ -1,4 +1,4 @@
--- A list in which each member stands an even number of times: any test holds of an even number.
+-- A list in which each member is there an even number of times: any test holds of an even number.
 use Rattle.std.proofs.Common.{◌≡◌, ℕ, ◌≤◌, zero, suc, arith, ap, sym, ◌∙◌, refl, Bool, true, false, not, ◌&&◌, List, [], ◌∷◌, length}
 use Rattle.std.proofs.Math.Bool.{and-true}
 use Rattle.overlay_terms.proofs.Tests.{same_behind}
@@ -13,7 +13,7 @@ abbrev pub odd : {X : Type 0} → (X → Bool) → List X → Bool
 odd p [] = false
 odd p (x ∷ xs) = differ (p x) (odd p xs)
 
--- a member more, unless told otherwise
+-- a member more, unless it is another
 abbrev pub push_if : {X : Type 0} → Bool → X → List X → List X
 push_if true x xs = xs
 push_if false x xs = x ∷ xs
@@ -93,7 +93,7 @@ shorter same v (x ∷ xs) = by_test (same v x) (shorter same v xs)
     by_test true h = omega arith
     by_test false h = omega arith
 
--- a test that doesn't tell two same members apart
+-- a test that answers alike for two same members
 abbrev pub Respects : {X : Type 0} → (X → X → Bool) → (X → Bool) → Type 0
 Respects {X} same p = (x y : X) → same x y ≡ true → p y ≡ p x
 
@@ -114,7 +114,7 @@ others same p v xs r h =
 without_first : {X : Type 0} → (same : X → X → Bool) (v : X) (xs : List X) (n : ℕ) → same v v ≡ true → length xs ≤ n → length (without same v (v ∷ xs)) ≤ n
 without_first same v xs n e h = omega (arith, ap (λ b. length (push_if b v (without same v xs))) e, shorter same v xs)
 
--- where each member stands an even number of times, any test holds of an even number
+-- where each member is there an even number of times, any test holds of an even number
 even_by : {X : Type 0} → (same : X → X → Bool) (p : X → Bool) (n : ℕ) (xs : List X)
     → ((x : X) → same x x ≡ true) → ((u : X) → Respects same (same u)) → Respects same p
     → length xs ≤ n → ((v : X) → odd (same v) xs ≡ false) → odd p xs ≡ false
@@ -160,7 +160,7 @@ even_if_so : {X : Type 0} → (e : X → Bool) (r : Bool) (xs : List X) → (r �
 even_if_so e true xs h = odd_all e xs ∙ h refl
 even_if_so e false xs h = odd_none e xs
 
--- it is enough that each member that passes stands there an even number of times
+-- it is enough that each member that passes is there an even number of times
 pub even_within : {X : Type 0} → (same : X → X → Bool) (p : X → Bool) (xs : List X)
     → ((x : X) → same x x ≡ true) → ((u : X) → Respects same (same u)) → Respects same p
     → ((v : X) → p v ≡ true → odd (same v) xs ≡ false) → odd p xs ≡ false

@@ -1,4 +1,4 @@
--- What lies over an upright piece is told by the segments under its middle that reach it from the left.
+-- What lies over an upright piece is given by the segments under its middle that reach it from the left.
 use Rattle.std.specs.Prelude.{◌≡◌, ℤ, pos, ◌+◌, get_or, ◌-ℤ◌, ◌*ℤ◌, ◌<ℤ◌, ◌≤ℤ◌, int_le, int_lt, Bool, true, false, ◌&&◌, ◌||◌, IsTrue, List, Contains}
 use Rattle.std.specs.Ordering.{int_eq}
 use Rattle.std.specs.declared.cmp.Ordering.TheVariants.{Less}

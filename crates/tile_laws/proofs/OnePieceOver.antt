@@ -48,7 +48,7 @@ module _ (segments : List Segment) (q : Point) (hq : pos 0 <ℤ q.w) where
 
   module _ (p r u v : Point) (a : IsPiece segments p r) (b : IsPiece segments u v) (over_a : IsOver p r q) (over_b : IsOver u v q)
       (same_line : (z : Point) → height_over b.support z ≡ pos 0 → height_over a.support z ≡ pos 0) where
-    -- the other's begin is not behind this one's: it would be a node between its ends
+    -- the other's begin is not after this one's: it would be a node between its ends
     begin_not_after : point_cmp p u ≡ Less → ⊥
     begin_not_after l =
         let m : point_cmp u r ≡ Less = crosses p r u v b.from_positive a.to_positive over_a over_b in

@@ -1,4 +1,4 @@
--- A ray to the left tells the parity of a base layer at a point off its edges: below and left of the point, both tests differ by the ends there.
+-- A ray to the left gives the parity of a base layer at a point off its edges: below and left of the point, both tests differ by the ends there.
 use Rattle.std.specs.Prelude.{◌≡◌, ℕ, zero, suc, ℤ, pos, ◌<◌, ◌%◌, ◌==◌, ◌-ℤ◌, ◌*ℤ◌, ◌<ℤ◌, ◌≤ℤ◌, int_le, int_lt, Bool, true, false, not, ◌&&◌, ◌||◌, List, [], ◌∷◌, map, get_or, length, All, Contains}
 use Rattle.std.specs.List.{list_any}
 use Rattle.std.proofs.Common.{inl, inr, refl, ap, sym, subst, ◌∙◌, arith}

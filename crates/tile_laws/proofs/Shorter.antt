@@ -6,7 +6,7 @@ use Rattle.tile_laws.proofs.AlikeLists.{Covers, Ranks, any_cases, none_of_any, r
 use Rattle.overlay_terms.proofs.Pairs.{pairs_head, pairs_rest}
 
 module _ {X : Type 0} (P : X → Type 0) (same : X → X → Bool) (less : X → X → Type 0) (ranks : Ranks P same less) where
-  -- where the first element is like one behind the first of the other list, so are all
+  -- where the first element is like one after the first of the other list, so are all
   covered_behind : (x y v : X) (xs ys : List X) → P x → P y → All P xs → P v → All (less x) xs → less y v → IsTrue (same x v) → Any (λ z. IsTrue (same x z)) ys → Covers same (x ∷ xs) (y ∷ ys) → Covers same (x ∷ xs) ys
   covered_behind x y v xs ys hx hy all hv above far e here covers i d l = by_place i d l
     where

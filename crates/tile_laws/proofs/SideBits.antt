@@ -13,7 +13,7 @@ use Rattle.tile_laws.proofs.EvenRegion.{differ, odd, odd_same}
 use Rattle.tile_laws.proofs.SideCount.{odd_count, odd_differ, odd_agree}
 
 -- ---- lists
--- each member's image stands among the images
+-- each member's image is among the images
 pub all_in_map : {X Y : Type 0} → (f : X → Y) (xs : List X) → All (λ x. Contains (map f xs) (f x)) xs
 all_in_map f [] = All-nil (λ x. Contains (map f []) (f x))
 all_in_map f (x ∷ xs) =

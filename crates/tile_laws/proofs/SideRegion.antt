@@ -25,7 +25,7 @@ alike f a b h =
 one_itself : (e : WholePoint) → is_one e e ≡ true
 one_itself e = and_from (int_eq e.x e.x) (int_eq e.y e.y) ((Decides-int_eq e.x e.x).1 refl) ((Decides-int_eq e.y e.y).1 refl)
 
--- no test on whole points tells two that are one apart
+-- no test on whole points separates two that are one
 respects : (f : WholePoint → Bool) → Respects is_one f
 respects f a b h = alike f b a h
 

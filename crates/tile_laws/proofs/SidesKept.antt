@@ -52,7 +52,7 @@ abbrev IsFit : List Segment → Segment → Type 0
 IsFit xs t = Contains xs t × Forward (width t) (rise t)
 
 module _ (input : Input) (p r : Point) (piece : IsPiece (segments_in input) p r) (is_input : IsInput input) (p_in : IsTrue (is_in_column input.column p)) (ordered : Left p r) where
-  -- each segment stands in the list and leads forward
+  -- each segment is in the list and leads forward
   all_fit : All (λ m. IsFit (segments_in input) m.segment) input.marked
   all_fit i d h = (all_in_map (λ m. m.segment) input.marked i d h, leads (get_or input.marked i d).segment (is_input.proper i d h).first)
 

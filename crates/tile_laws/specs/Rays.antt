@@ -1,4 +1,4 @@
--- Two laws of counting: a ray to the left tells the same parity as one down, and what lies over an upright piece.
+-- Two laws of counting: a ray to the left gives the same parity as one down, and what lies over an upright piece.
 use Rattle.std.specs.Prelude.{◌≡◌, ℕ, pos, ◌%◌, ◌==◌, ◌<ℤ◌, ◌*ℤ◌, int_le, int_lt, Bool, false, ◌&&◌, ◌||◌, IsTrue, List, map, count_by, All}
 use Rattle.overlay_terms.specs.Plane.{WholePoint, Point, Segment, segments_of, height_over, is_inside}
 use Rattle.overlay_terms.specs.Column.{is_in_column}

@@ -2,7 +2,7 @@
 
 ghost use Rattle.tile_laws.specs.Rays.{LeftSide, RayLaw};
 
-/// Off the edges of a base layer, a horizontal ray to the left tells the same parity as one down.
+/// Off the edges of a base layer, a horizontal ray to the left gives the same parity as one down.
 pub fn ray_law()
     ensures { RayLaw }
 {}

@@ -7,7 +7,7 @@ pub fn last_node_stays()
     ensures { LastNodeStays }
 {}
 
-/// What holds a node of the column has it for its last one.
+/// What holds a node of the strip has it for its last one.
 pub fn last_node_is_new()
     ensures { LastNodeIsNew }
 {}

@@ -15,7 +15,7 @@ pub fn first_is_next()
     ensures { FirstIsNext }
 {}
 
-/// At the left border of a column the next node is known from the stretches that have entered alone.
+/// At the left border of a strip the next node is known from the stretches that have entered alone.
 pub fn next_is_queued_at_border()
     ensures { NextIsQueuedAtBorder }
 {}

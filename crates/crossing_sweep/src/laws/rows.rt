@@ -1,6 +1,7 @@
 //! Laws of what a pass carries along: each function does nothing, and its contract is the law.
 
 ghost use Rattle.crossing_sweep.specs.RowLaws.{NodesAreFew, RowsAreSome, RowsBegin, RowsEnd, RowsGoOn, RowsInOrder, RowsTellOversize, UnitChangesMasks};
+ghost use Rattle.crossing_sweep.specs.StripCrossed.{StripParts};
 
 /// Just after a place, what lies up to a unit is what lies under it, changed by the layers over the unit.
 pub fn unit_changes_masks()
@@ -23,17 +24,17 @@ pub fn rows_in_order()
     ensures { RowsInOrder }
 {}
 
-/// Wherever a pass stands, its rows are some of the tile's pieces.
+/// Wherever a pass is, its rows are some of the tile's pieces.
 pub fn rows_are_some()
     ensures { RowsAreSome }
 {}
 
-/// Where they are more than a cap, the tile has too many, wherever the pass stands.
+/// Where they are more than a cap, the tile has too many, wherever the pass is.
 pub fn rows_tell_oversize()
     ensures { RowsTellOversize }
 {}
 
-/// Where no place is found ahead, the rows are the tile, and all nodes of the closed column are passed.
+/// Where no place is found ahead, the rows are the tile, and all nodes of the closed strip are passed.
 pub fn rows_end()
     ensures { RowsEnd }
 {}
@@ -42,4 +43,9 @@ pub fn rows_end()
 /// each segment and border.
 pub fn nodes_are_few()
     ensures { NodesAreFew }
+{}
+
+/// The pieces of the tile of a strip's column are those of the strip's that begin there, in their order.
+pub fn strip_parts()
+    ensures { StripParts }
 {}

@@ -5,8 +5,8 @@ ghost use Rattle.crossing_sweep.specs.Kept.{MasksAreKept};
 ghost use Rattle.crossing_sweep.specs.Masks.{MasksStepUp};
 ghost use Rattle.crossing_sweep.specs.Sides.{SidesAreCarried};
 
-/// The sides of a piece that begins in the column, upright or not, are what lies under its line and
-/// up to it just after each place of the column that it passes.
+/// The sides of a piece that begins in the strip, upright or not, are what lies under its line and
+/// up to it just after each place of the strip that it passes.
 pub fn sides_are_carried()
     ensures { SidesAreCarried }
 {}

@@ -47,7 +47,7 @@ pub enum Call {
 
 /// What a worker or a session waits for.
 pub enum WaitFor {
-    /// A tile, which is built: its column is told.
+    /// A tile, which is built: its column is reported.
     Tile,
     /// The tiles of a layer.
     Built(&'static str),
@@ -72,7 +72,7 @@ pub enum Row {
     Calls(Call, Answer),
     /// A batch of the second session, and its answer.
     SubmitsAll(&'static [Change], Result<u64, BatchFault>),
-    /// A tile is taken, and finished behind the last row: whether it is kept then.
+    /// A tile is taken, and finished after the last row: whether it is kept then.
     Builds(bool),
     /// A tile is asked for and given back: whether there is one.
     GivesBack(bool),
@@ -101,7 +101,7 @@ fn open_history<J>(alloc: Global) -> (LogWord<J>, SeenLog, Version)
     (head, seen_log, version)
 }
 
-/// Plays lists of rows in a book that was just opened. The tiles that are taken in a list are finished behind it.
+/// Plays lists of rows in a book that was just opened. The tiles that are taken in a list are finished after it.
 /// The book ends with the version of this number.
 pub fn play<R: Threads + Wait + Clock + Abort + Sync>(
     rt: &R,
@@ -185,7 +185,7 @@ fn play_rows<J: BookName + Send + Sync, R: Threads + Wait + Clock + Abort + Sync
     }
 }
 
-/// Plays a row. It tells of a tile that is to be finished, and whether that is kept.
+/// Plays a row. It reports a tile that is to be finished, and whether that is kept.
 fn play_row<J: BookName + Send + Sync, R: Threads + Wait + Clock + Abort + Sync>(
     rt: &R,
     alloc: Global,
@@ -367,7 +367,7 @@ pub fn news<J: BookName, R: Wait>(rt: &R, shared: &Shared<J, &R>, reporter: &mut
     }
 }
 
-/// The answer of a call that tells a number.
+/// The answer of a call that returns a number.
 fn told(done: Result<u64, BookFault>) -> Answer {
     Ok(Some(done?))
 }

@@ -34,7 +34,7 @@ impl Edition {
         Edition { version }
     }
 
-    /// The version behind these changes, one after another.
+    /// The version after these changes, one after another.
     pub fn behind(rt: &impl Abort, alloc: Global, changes: &[Change]) -> Edition {
         let mut edition = Edition::new(Version::empty(alloc));
         for change in changes {
@@ -107,7 +107,7 @@ impl Edition {
         self.finish(rt, alloc, name, tile).expect(rt, "kept")
     }
 
-    /// The durable number behind a report.
+    /// The durable number after a report.
     pub fn durable_to(&self, rt: &impl Abort, alloc: Global, number: u64) -> u64 {
         let reported = self.version.durable_to(alloc, number);
         reported.expect(rt, "memory").durable()

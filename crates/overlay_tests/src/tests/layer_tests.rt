@@ -36,7 +36,7 @@ fn check_values(rt: &impl Abort, steps: &StepList, wants: &[bool; 4]) {
     }
 }
 
-/// The squares A and B, I = A & B, and J = I ^ A behind a base layer C that nothing names.
+/// The squares A and B, I = A & B, and J = I ^ A after a base layer C that nothing names.
 fn five_layers(rt: &impl Abort, alloc: Global) -> Layers {
     let three = layers_of(rt, alloc, SQUARE, SHIFTED, "A & B");
     let four = with_base(rt, alloc, three, "C", SQUARE);

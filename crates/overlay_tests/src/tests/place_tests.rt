@@ -62,7 +62,7 @@ const CROSSINGS: &[(Ends, Ends, Option<Place>)] = &[
     ((0, 0, 4, 4), (4, 4, 8, 8), None),
     ((0, 0, 0, 4), (0, 4, 0, 8), None),
     ((0, 0, 4, 4), (0, 0, 4, 4), None),
-    // their lines meet just behind an end
+    // their lines meet just after an end
     ((0, 0, 10, 0), (11, -1, 11, 1), None),
     ((0, 0, 10, 0), (5, 1, 5, 9), None),
     ((0, 0, 3, 1), (1, 1, 1, 3), None),

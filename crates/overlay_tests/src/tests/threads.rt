@@ -40,8 +40,8 @@ pub enum Work {
     ClosesLate,
 }
 
-/// Does a work, and tells the numbers of its versions, each above the one before. What asks for a tile tells its column,
-/// where there is one; what builds a tile tells nothing, and neither does what closes the book.
+/// Does a work, and returns the numbers of its versions, each above the one before. What asks for a tile returns its column,
+/// where there is one; what builds a tile returns nothing, and neither does what closes the book.
 fn carry_out<J: BookName, R: Wait + Clock + Abort>(
     rt: &R,
     alloc: Global,
@@ -97,7 +97,7 @@ fn carry_out<J: BookName, R: Wait + Clock + Abort>(
     Ok(list)
 }
 
-/// Submits a command, and tells the number of its version.
+/// Submits a command, and returns the number of its version.
 fn submit<J: BookName, R: Wait>(
     rt: &R,
     alloc: Global,
@@ -111,7 +111,7 @@ fn submit<J: BookName, R: Wait>(
     shared.submit(rt, alloc, me, change)
 }
 
-/// Takes a tile and builds it, which is to be kept, and tells its column. None comes where there is none, at closing.
+/// Takes a tile and builds it, which is to be kept, and returns its column. None comes where there is none, at closing.
 fn ask<J: BookName, R: Wait + Abort>(rt: &R, alloc: Global, shared: &Shared<J, &R>) -> Option<u64> {
     let job = take(rt, alloc, shared)?;
     let column = u64::from(job.input().column().number());
@@ -185,7 +185,7 @@ pub fn news_beside<J: BookName + Send + Sync, R: Threads + Wait + Clock + Abort 
     told
 }
 
-/// What two sessions do in threads of their own, and the numbers that each tells.
+/// What two sessions do in threads of their own, and the numbers that each returns.
 // Where there is no memory for a thread, the second works first and then the first.
 pub fn beside<J: BookName + Send + Sync, R: Threads + Wait + Clock + Abort + Sync>(
     rt: &R,
@@ -249,7 +249,7 @@ fn late<J: BookName, R: Wait + Clock + Abort>(
     answer(rt, alloc, shared, reporter, other, asked)
 }
 
-/// Reports the number of each version that the reporter is given, until the book closes, and tells the last one.
+/// Reports the number of each version that the reporter is given, until the book closes, and returns the last one.
 fn report_all<J: BookName, R: Wait + Abort>(
     rt: &R,
     alloc: Global,
@@ -273,7 +273,7 @@ fn report_all<J: BookName, R: Wait + Abort>(
     unreachable!()
 }
 
-/// Asserts that two lists of 1,500 numbers have the 3,000 behind one between them, and so each once.
+/// Asserts that two lists of 1,500 numbers have the 3,000 after one between them, and so each once.
 fn share_all<R: Abort>(rt: &R, from: u64, first: &[u64], second: &[u64]) {
     assert!(rt; first.len() == 1500);
     assert!(rt; second.len() == 1500);
@@ -301,7 +301,7 @@ fn beside_until_closing<J: BookName + Send + Sync, R: Threads + Wait + Clock + A
 }
 
 /// Submits one command 1,500 times in each of two threads, while the reporter reports in a third, and closes the book.
-/// It tells the number of the last version, and the last one that was reported.
+/// It returns the number of the last version, and the last one that was reported.
 // Where there is no memory for a thread, the reporter comes last.
 pub fn submit_beside<J: BookName + Send + Sync, R: Threads + Wait + Clock + Abort + Sync>(
     rt: &R,

@@ -24,6 +24,6 @@ returns-then-is_among c =
 pub returns : goal.returns
 returns c = c.in_ok-add_along.ensures (map (λ (m : MarkedSeg). m.seg) c.args.earlier.now)
 
--- found by search alone: it stands here so that a wrong body is refused without working out what to write
+-- found by search alone: it is written here so that a wrong body is refused without working out what to write
 pub add_along-requires-clause-along : goal.add_along-requires-clause-along
 add_along-requires-clause-along c = search rules

@@ -1,8 +1,8 @@
 use Rattle.std.proofs.Common.{◌≤◌, List, length, map, sym, ◌∙◌, subst, arith}
 use Rattle.std.specs.Prelude.{slice_range}
-use Rattle.std.specs.List.Sorted.{IsPermutation}
 use Rattle.std.proofs.lemmas.List.Sorted.{IsPermutation-sym}
 use Rattle.overlay_terms.specs.Layers.{Marked}
+use Rattle.arrange.specs.Marked.{marked_of}
 use Rattle.arrange.specs.LineEnds.{AreOnOneLine}
 use Rattle.arrange.specs.Lines.{line_marked}
 use Rattle.arrange.specs.AddedUnits.{HasAddedUnits}
@@ -38,7 +38,6 @@ pub returns : goal.returns
 returns c =
     let lines : List LineSeg = c.in_ok-lines.lines.items in
     let full : length lines ≤ c.loop-start.start = omega arith in
-    let moved : IsPermutation c.args.input.now.marked (map line_marked lines) =
-    subst (λ (ms : List Marked). IsPermutation ms (map line_marked lines)) c.marked.ensures.value c.in_ok-lines.ensures.moved in
-    units_permuted (map line_marked lines) c.args.input.now.marked c.loop-start.list.items (IsPermutation-sym c.args.input.now.marked (map line_marked lines) moved) c.marked.ensures.valid.proper
+    let marked : List Marked = map marked_of c.args.marked.now in
+    units_permuted (map line_marked lines) marked c.loop-start.list.items (IsPermutation-sym marked (map line_marked lines) c.in_ok-lines.ensures.moved) c.requires.proper
     (have_all_lines lines c.loop-start.start c.loop-start.list.items full c.loop-start.invariant)

@@ -7,8 +7,8 @@ use Rattle.crossing_sweep.proofs.known_places.is_end_within.Goals as goal
 
 pub returns : goal.returns
 returns c =
-    let k = c.args.column in
+    let k = c.args.strip in
     let x : to_z w64 (of_z w64 c.x-x.result) ≡ c.args.vertex.x = whole_is c.x-x.ensures.in_range c.x-x.ensures.value in
-    let left : to_z w64 (of_z w64 c.border.result) ≡ border k = whole_is c.border.ensures.in_range c.border.ensures.value in
-    let right : to_z w64 (of_z w64 c.end.result) ≡ border (k + 1) = search rules in
+    let left : to_z w64 (of_z w64 c.border.result) ≡ border k.first = whole_is c.border.ensures.in_range c.border.ensures.value in
+    let right : to_z w64 (of_z w64 c.end.result) ≡ border (k.last + 1) = search rules in
     rw (x, left, right) (whole_within k c.args.vertex)

@@ -3,5 +3,5 @@ use Rattle.crossing_sweep.proofs.known_places.offer_own.Goals as goal
 
 pub returns : goal.returns
 returns c = λ names h.
-    simp (append_assoc, c.left.ensures.value, c.right.ensures.value, c.number.ensures.value, c.number-2.ensures.value) at
-    (c.in_ok-offer-2.ensures _ (c.in_ok-offer.ensures _ (c.in_ok-offer_end-2.ensures _ (c.in_ok-offer_end.ensures names h))))
+    simp (append_assoc, c.left.ensures.value, c.right.ensures.value) at
+    (c.in_ok-offer_cuts.ensures _ (c.in_ok-offer_end-2.ensures _ (c.in_ok-offer_end.ensures names h)))

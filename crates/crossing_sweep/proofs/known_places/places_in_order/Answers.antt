@@ -9,10 +9,10 @@ use Rattle.overlay_terms.specs.Layers as terms
 use Rattle.exact_point.specs.declared.point.HPoint.{HPoint}
 use Rattle.exact_point.specs.declared.point_name.PointName.{PointName}
 use Rattle.arrange.specs.Marked.{marked_of}
-use Rattle.arrange.specs.NamedPlaces.{own_names}
 use Rattle.arrange.specs.declared.marked_seg.MarkedSeg.{MarkedSeg}
+use Rattle.crossing_sweep.specs.StripInput.{Span}
 use Rattle.crossing_sweep.specs.declared.ranked_place.RankedPlace.{RankedPlace}
-use Rattle.crossing_sweep.specs.Ahead.{AreOffered, AreKnownPlaces}
+use Rattle.crossing_sweep.specs.Ahead.{own_names, AreOffered, AreKnownPlaces}
 use Rattle.crossing_sweep.specs.RankedPlace.{ranked_entry, named_of, same_ranked}
 use Rattle.crossing_sweep.proofs.KnownLemmas.{own_more, known_places}
 use Rattle.crossing_sweep.proofs.PlacesInOrder.{in_order, offered_once, same_entries, named_in_order}
@@ -20,18 +20,18 @@ use Rattle.crossing_sweep.proofs.known_places.places_in_order.Goals as goal
 
 pub loop-m-preserved : goal.loop-m-preserved
 loop-m-preserved c =
-    let k : ℕ = c.args.input.now.column in
+    let k : Span = c.args.input.now.strip in
     let items : List MarkedSeg = c.marked-m-items.result.now in
     let i : ℕ = c.loop-m.m-index in
     let names : List PointName = flat_map (λ s. own_names s k) (map (λ (m : MarkedSeg). m.seg) (take i items)) in
     let new : List RankedPlace = c.offer_own.new.places.items in
-    let Step : ℕ → Type 0 = λ j. (names : List PointName) → AreOffered j names (map ranked_entry c.loop-m.places.items) → AreOffered j (names ++ own_names c.m-item.result.seg j) (map ranked_entry new) in
-    let step : Step k = subst Step c.column.ensures.value c.in_ok-offer_own.ensures in
+    let Step : Span → Type 0 = λ j. (names : List PointName) → AreOffered j names (map ranked_entry c.loop-m.places.items) → AreOffered j (names ++ own_names c.m-item.result.seg j) (map ranked_entry new) in
+    let step : Step k = subst Step c.strip.ensures.value c.in_ok-offer_own.ensures in
     subst (λ (names : List PointName). AreOffered k names (map ranked_entry new)) (own_more k items i c.m-item.result c.loop-m-test.true c.m-item.is) (step names c.loop-m.invariant)
 
 pub returns-clause-known : goal.returns-clause-known
 returns-clause-known c =
-    let k : ℕ = c.args.input.now.column in
+    let k : Span = c.args.input.now.strip in
     let items : List MarkedSeg = c.marked-m-items.result.now in
     let whole_list : map (λ (m : MarkedSeg). m.seg) (take c.loop-m.m-index items) ≡ map (λ (m : terms.Marked). m.segment) c.args.input.now.marked =
     ap (map (λ (m : MarkedSeg). m.seg)) (take_all c.loop-m.m-index items c.loop-m-test.false)
@@ -53,4 +53,4 @@ pub returns-clause-in_order : goal.returns-clause-in_order
 returns-clause-in_order c =
     let now : Bor RankedPlace → RankedPlace = λ z. z.now in
     named_in_order now c.dedup.new.self.items c.in_ok-list.list.items (c.in_ok-list.ensures ∙ ap (map (λ z. named_of (now z))) c.deref-2.ensures.value)
-    (in_order now c.args.input.now.column [] c.in_ok-order.order.items c.sort_unstable.new.self.items c.dedup.new.self.items c.sort_unstable.ensures.permutation c.sort_unstable.ensures.sorted (dedup_is (λ a b. same_ranked (now a) (now b)) c.sort_unstable.new.self.items c.dedup.new.self.items c.dedup.ensures.filtered))
+    (in_order now c.args.input.now.strip [] c.in_ok-order.order.items c.sort_unstable.new.self.items c.dedup.new.self.items c.sort_unstable.ensures.permutation c.sort_unstable.ensures.sorted (dedup_is (λ a b. same_ranked (now a) (now b)) c.sort_unstable.new.self.items c.dedup.new.self.items c.dedup.ensures.filtered))

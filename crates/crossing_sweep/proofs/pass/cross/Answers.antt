@@ -1,13 +1,10 @@
-use Rattle.std.proofs.Common.{Bool, ◌≤◌, subst, ◌∙◌, arith}
-use Rattle.overlay_terms.specs.Tiles.{Input}
-use Rattle.crossing_sweep.specs.Crossed.{IsCrossed}
+use Rattle.std.proofs.Common.{subst}
+use Rattle.crossing_sweep.specs.StripInput.{StripInput}
+use Rattle.crossing_sweep.specs.StripCrossed.{IsStripCrossed}
+use Rattle.crossing_sweep.proofs.ColumnFound.{column_found}
 use Rattle.crossing_sweep.proofs.pass.cross.Goals as goal
 
 pub returns : goal.returns
 returns c =
-    let input = c.in_ok-pass-2.ensures.input ∙ c.in_ok-pass.ensures.input in
-    let few : c.in_ok-pass.pass.settled ≤ c.args.cap = omega (arith, c.in_ok-pass.ensures.settled) in
-    let listed = c.in_ok-pass-2.ensures.listed ∙ c.in_ok-pass.ensures.listed in
-    subst (λ (i : Input). IsCrossed i c.args.cap c.args.listed c.into_crossed.result) input
-    (subst (λ (b : Bool). IsCrossed c.in_ok-pass-2.pass.input c.args.cap b c.into_crossed.result) listed
-    (c.into_crossed.ensures c.args.cap c.in_ok-pass-2.ensures.ended (c.in_ok-pass-2.ensures.settled few)))
+    column_found c.args.input.now c.args.cap c.args.listed c.in_ok-found.found.rows.items c.in_ok-found.found.names.items c.in_ok-found.found.nodes c.in_ok-found.found.tests.items c.of_column-strip_input.ensures.valid
+    (subst (λ (i : StripInput). IsStripCrossed i c.args.cap c.args.listed c.in_ok-found.found) c.of_column-strip_input.ensures.value c.in_ok-found.ensures)

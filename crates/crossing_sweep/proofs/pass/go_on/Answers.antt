@@ -3,13 +3,13 @@ use Rattle.std.specs.Prelude.{All, Contains, filter}
 use Rattle.std.proofs.lemmas.Nat.{mul-le}
 use Rattle.std.proofs.Math.ListN.{length-append}
 use Rattle.overlay_terms.proofs.Lists.{contains_first}
-use Rattle.overlay_terms.specs.Column.{is_in_column, column_count}
-use Rattle.overlay_terms.specs.Tiles.{Input}
 use Rattle.exact_point.specs.Place.{place}
 use Rattle.exact_point.specs.declared.point.HPoint.{HPoint}
 use Rattle.exact_point.specs.declared.point_name.PointName.{PointName}
+use Rattle.overlay_terms.specs.Column.{column_count}
 use Rattle.arrange.specs.Marked.{segments_max}
-use Rattle.crossing_sweep.specs.Crossed.{IsUnderWay}
+use Rattle.crossing_sweep.specs.StripInput.{StripInput, is_in_strip}
+use Rattle.crossing_sweep.specs.UnderWay.{IsUnderWay}
 use Rattle.crossing_sweep.specs.Amid.{PassesUnder, begins_within}
 use Rattle.crossing_sweep.specs.Rows.{count_settled}
 use Rattle.crossing_sweep.specs.declared.progress.Progress.{Progress}
@@ -34,7 +34,7 @@ returns-in_default-clause-passing c =
     let same : progress.search.ahead ≡ c.take_first.new.self = c.in_default.ensures.none refl ∙ sym (c.in_default.ensures.left refl) in
     let amid = c.requires.passing.amid in
     let names : List PointName = c.requires.passing.names in
-    let input : Input = c.args.input.now in
+    let input : StripInput = c.args.input.now in
     let rest : List Start = drop progress.entered progress.starts.items in
     record {
       names = names;
@@ -49,8 +49,8 @@ returns-in_default-clause-passing c =
         full_is = amid.full_is;
         gone_under = subst (λ (l : List (HPoint × PointName)). All (PassesUnder l) amid.gone) same amid.gone_under;
         some_under = subst (λ (l : List (HPoint × PointName)). All (PassesUnder l) amid.some) same amid.some_under;
-        same_status = subst (λ (l : List (HPoint × PointName)). (z : HPoint × PointName) → Contains l z → is_in_column input.column (place z.0) ≡ true → progress.status.items ≡ filter (begins_within input names) amid.full) same amid.same_status;
-        to_come = subst (λ (l : List (HPoint × PointName)). (z : HPoint × PointName) → Contains l z → is_in_column input.column (place z.0) ≡ true → amid.all_coming ≡ rest) same amid.to_come;
+        same_status = subst (λ (l : List (HPoint × PointName)). (z : HPoint × PointName) → Contains l z → is_in_strip input.strip (place z.0) ≡ true → progress.status.items ≡ filter (begins_within input names) amid.full) same amid.same_status;
+        to_come = subst (λ (l : List (HPoint × PointName)). (z : HPoint × PointName) → Contains l z → is_in_strip input.strip (place z.0) ≡ true → amid.all_coming ≡ rest) same amid.to_come;
       };
       known = c.requires.passing.known;
       counted = c.requires.passing.counted;
@@ -71,7 +71,7 @@ overflow_add-progress c =
 pub returns-clause-passing : goal.returns-clause-passing
 returns-clause-passing c =
     let progress : Progress = c.args.progress.now in
-    let input : Input = c.args.input.now in
+    let input : StripInput = c.args.input.now in
     let after : Progress = c.step.new.self in
     let coming : List Start = drop progress.entered progress.starts.items in
     let rest : List Start = drop after.entered after.starts.items in

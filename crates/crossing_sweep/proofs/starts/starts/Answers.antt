@@ -1,11 +1,14 @@
-use Rattle.std.proofs.Common.{◌≡◌, ℕ, List, take, filter, subst, sym, ap, ◌∙◌, refl, rules, arith, to_z, of_z, Bool, true, false}
+use Rattle.std.proofs.Common.{◌≡◌, List, take, filter, subst, sym, ap, ◌∙◌, refl, rules, arith, to_z, of_z, Bool, true, false}
 use Rattle.std.specs.Int.{w64}
 use Rattle.std.proofs.lemmas.Int.{ints, to_z-of_z}
 use Rattle.std.specs.Prelude.{All}
 use Rattle.std.proofs.lemmas.List.{take_all}
 use Rattle.std.proofs.lemmas.List.Elements.{All-push}
 use Rattle.exact_point.specs.Place.{place}
+use Rattle.overlay_terms.specs.Layers.{Marked}
+use Rattle.arrange.specs.Units.{AreUnits}
 use Rattle.arrange.specs.declared.unit.Unit.{Unit}
+use Rattle.crossing_sweep.specs.StripInput.{Span}
 use Rattle.crossing_sweep.specs.Passing.{IsEntry}
 use Rattle.crossing_sweep.specs.Rank.{IsRank}
 use Rattle.crossing_sweep.specs.Start.{is_met}
@@ -21,24 +24,24 @@ invariant_of-push c =
 
 pub loop-unit-preserved : goal.loop-unit-preserved
 loop-unit-preserved c =
-    let k : ℕ = c.args.input.now.column in
+    let k : Span = c.args.input.now.strip in
     let p : Unit → Bool = λ u. is_met k u.seg in
     let items : List Unit = c.deref-unit-items.result.now in
     let x : Unit = c.unit-item.result in
     let IsMetAt : Start → Type 0 = λ s. IsEntry k s.unit.seg (place s.at) in
     elim c.if-is_met.branch [
       | then-is_met+in_ok-push w ↦
-          let passes : p x ≡ true = ap (λ (j : ℕ). is_met j x.seg) (sym c.column.ensures.value) ∙ sym c.is_met.ensures ∙ w.if-is_met.true in
+          let passes : p x ≡ true = ap (λ (j : Span). is_met j x.seg) (sym c.strip.ensures.value) ∙ sym c.is_met.ensures ∙ w.if-is_met.true in
           let pushed = ap (λ l. l.items) w.list-is ∙ w.in_ok-push.ensures.items in
           let entry : IsEntry k x.seg (place w.first_place-at.result) =
-          subst (λ (j : ℕ). IsEntry j x.seg (place w.first_place-at.result)) w.column-then-is_met.ensures.value w.first_place-at.ensures in
+          subst (λ (j : Span). IsEntry j x.seg (place w.first_place-at.result)) w.strip-then-is_met.ensures.value w.first_place-at.ensures in
           record {
             units = grown p items c.loop-unit.unit-index x c.loop-unit-test.true c.unit-item.is c.loop-unit.list.items c.if-is_met.list.items _ c.loop-unit.invariant.units passes refl pushed;
             entries = subst (λ (ss : List Start). All IsMetAt ss) (sym pushed) (All-push IsMetAt c.loop-unit.list.items _ c.loop-unit.invariant.entries entry);
           }
       | else-is_met w ↦
           let same : c.if-is_met.list.items ≡ c.loop-unit.list.items = search rules in
-          let fails : p x ≡ false = ap (λ (j : ℕ). is_met j x.seg) (sym c.column.ensures.value) ∙ sym c.is_met.ensures ∙ w.if-is_met.false in
+          let fails : p x ≡ false = ap (λ (j : Span). is_met j x.seg) (sym c.strip.ensures.value) ∙ sym c.is_met.ensures ∙ w.if-is_met.false in
           record {
             units = left_out p items c.loop-unit.unit-index x c.loop-unit-test.true c.unit-item.is c.loop-unit.list.items c.if-is_met.list.items c.loop-unit.invariant.units fails same;
             entries = subst (λ (ss : List Start). All IsMetAt ss) (sym same) c.loop-unit.invariant.entries;
@@ -47,8 +50,8 @@ loop-unit-preserved c =
 
 pub returns : goal.returns
 returns c =
-    let p : Unit → Bool = λ u. is_met c.args.input.now.column u.seg in
+    let p : Unit → Bool = λ u. is_met c.args.input.now.strip u.seg in
     let items : List Unit = c.deref-unit-items.result.now in
     let whole_list : take c.loop-unit.unit-index items ≡ c.in_ok-units.units.items = take_all c.loop-unit.unit-index items c.loop-unit-test.false ∙ c.deref-unit-items.ensures.value in
-    starts_from c.args.input.now c.in_ok-units.units.items c.in_ok-units.ensures c.loop-unit.list.items c.sort_unstable.new.self.items (c.loop-unit.invariant.units ∙ ap (filter p) whole_list) c.loop-unit.invariant.entries
+    starts_from c.args.input.now c.in_ok-units.units.items (subst (λ (ms : List Marked). AreUnits ms c.in_ok-units.units.items) c.marked.ensures.value c.in_ok-units.ensures) c.loop-unit.list.items c.sort_unstable.new.self.items (c.loop-unit.invariant.units ∙ ap (filter p) whole_list) c.loop-unit.invariant.entries
     c.sort_unstable.ensures.permutation c.sort_unstable.ensures.sorted

@@ -5,8 +5,8 @@ use Rattle.std.specs.Prelude.{All, filter}
 use Rattle.std.specs.List.{slice_range}
 use Rattle.std.specs.List.Sorted.{IsPermutation}
 use Rattle.overlay_terms.specs.Plane.{Point}
-use Rattle.overlay_terms.specs.Column.{is_in_column}
 use Rattle.exact_point.specs.Place.{place, same_hpoint}
+use Rattle.crossing_sweep.specs.StripInput.{is_in_strip, Span}
 use Rattle.crossing_sweep.specs.Status.{SidesFallAlong}
 use Rattle.crossing_sweep.specs.Step.{IsSplitAt}
 use Rattle.crossing_sweep.specs.Member.{units_of, segs_of}
@@ -48,7 +48,7 @@ returns-clause-stepped c = λ inside.
     let entered : ℕ = c.count_entering-entered.result in
     let onward : drop entered (drop self.entered self.starts.items) ≡ drop (self.entered + entered) self.starts.items = drop-drop entered self.entered self.starts.items in
     let r : Point = place c.args.at.now in
-    let k : ℕ = c.args.input.now.column in
+    let k : Span = c.args.input.now.strip in
     let ms : List Member = self.status.items in
     let after : List Member = c.replace.new.status.items in
     let turned : List Member = c.turned.new.stay.items in
@@ -66,11 +66,11 @@ returns-clause-stepped c = λ inside.
     let few = subst (λ (xs : List Member). high ≤ length xs) c.deref.ensures.value c.bundle_at-low.ensures.few in
     let labelled : units_of stay ≡ units_of turned = search rules in
     let under : c.mask_over-under.result ≡ mask_over 0 (take low ms) = search rules in
-    let begun : Begun (mask_over 0 (take low ms)) (is_in_column k r) = subst (Begun (mask_over 0 (take low ms))) (sym inside) (subst (λ m. Begun m true) under c.label.ensures.begun) in
-    let tested : AreSeamsTested k r (segs_of after) (seams_at (is_in_column k r) low (low + len)) self.search c.test_new.new.self =
+    let begun : Begun (mask_over 0 (take low ms)) (is_in_strip k r) = subst (Begun (mask_over 0 (take low ms))) (sym inside) (subst (λ m. Begun m true) under c.label.ensures.begun) in
+    let tested : AreSeamsTested k r (segs_of after) (seams_at (is_in_strip k r) low (low + len)) self.search c.test_new.new.self =
     subst (λ b. AreSeamsTested k r (segs_of after) (seams_at b low (low + len)) self.search c.test_new.new.self) (sym inside)
-    (subst (λ j. AreSeamsTested j r (segs_of after) (seams_at true low (low + len)) self.search c.test_new.new.self) c.column-2.ensures.value
-    (subst (λ (xs : List Member). AreSeamsTested c.column-2.result r (segs_of xs) (seams_at true low (low + len)) self.search c.test_new.new.self) c.deref-7.ensures.value c.in_ok-test_new.ensures)) in
+    (subst (λ j. AreSeamsTested j r (segs_of after) (seams_at true low (low + len)) self.search c.test_new.new.self) c.strip-2.ensures.value
+    (subst (λ (xs : List Member). AreSeamsTested c.strip-2.result r (segs_of xs) (seams_at true low (low + len)) self.search c.test_new.new.self) c.deref-7.ensures.value c.in_ok-test_new.ensures)) in
     let size : c.turned.new.stay.len ≡ length stay = search rules in
     let whole : take c.turned.new.stay.len (stay ++ drop (length stay) turned) ≡ stay = ap (λ j. take j (stay ++ drop (length stay) turned)) size ∙ take-append_seam stay (drop (length stay) turned) in
     let put = c.in_ok-replace.ensures ∙ ap (λ (xs : List Member). take low ms ++ xs ++ drop high ms) (c.deref-6.ensures.value ∙ whole) in

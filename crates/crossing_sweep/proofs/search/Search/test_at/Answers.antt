@@ -21,7 +21,7 @@ returns c =
     let inside : j + 1 < length ms = omega (arith, c.if-seam-eq0.false, c.if-status-seam.false) in
     let inside_segs : j + 1 < length (segs_of ms) = omega (arith, length-map ms seg_of, inside) in
     let first : j < length ms = omega (arith, inside) in
-    subst (λ k. AreSeamsTested c.args.column r (segs_of ms) (k ∷ []) c.args.self.now new) whole
-    (one_seam c.args.column r (segs_of ms) j inside_segs (get_or ms j a).unit.seg (get_or ms c.args.seam b).unit.seg (λ d. get_or-map seg_of ms j a d first)
+    subst (λ k. AreSeamsTested c.args.strip r (segs_of ms) (k ∷ []) c.args.self.now new) whole
+    (one_seam c.args.strip r (segs_of ms) j inside_segs (get_or ms j a).unit.seg (get_or ms c.args.seam b).unit.seg (λ d. get_or-map seg_of ms j a d first)
     (λ d. get_or-map seg_of ms (j + 1) b d inside ∙ ap (λ k. (get_or ms k b).unit.seg) whole) c.args.self.now c.list.new.self new c.list.ensures.ahead c.list.ensures.listed c.in_ok-list.ensures.told
     c.in_ok-list.ensures.untold refl refl c.in_ok-test_pair.ensures)

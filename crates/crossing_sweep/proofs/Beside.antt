@@ -168,6 +168,6 @@ module _ (n : ℤ) (hn : pos 0 <ℤ n) (xs : List Segment) (p r : Point) (piece 
       no_right = λ after before level. no_end t.right (or_right (same_place (whole t.right) (whole t.left)) (same_place (whole t.right) (whole t.right)) (same_self (whole t.right))) beside.right_near after before level;
     }
 
-    -- so the four signs are even, whether the piece stands upright or not
+    -- so the four signs are even, whether the piece is upright or not
     pub signs : (u v : Point) → pos 0 <ℤ u.w → pos 0 <ℤ v.w → AtMost (lean n p) u → Left u v → Left v (lean n r) → strip_parity s' t' u v ≡ false
     signs u v hu hv begin later end = slanted_even s' t' (lean n p) (lean n r) u v stretch apart beside.fit.wide hu hv begin later end

@@ -1,0 +1,98 @@
+//! Strips of neighbouring columns.
+ghost use Rattle.std.specs.Prelude.{◌≡◌, ◌+◌, ◌≤◌, ◌*ℤ◌, int_le};
+ghost use Rattle.overlay_terms.specs.Column.{border};
+ghost use Rattle.overlay_terms.specs.Plane.{InRange};
+ghost use Rattle.exact_point.specs.Place.{place};
+ghost use Rattle.crossing_sweep.specs.StripInput.{is_in_strip, is_in_closed_strip};
+
+use exact_point::{HPoint, border_side, end_side};
+use plane_base::Column;
+use std::marker::Model;
+
+/// Neighbouring columns, from the first to the last one, both included.
+#[derive(Clone, Copy, Debug)]
+pub struct Strip {
+    first: Column,
+    last: Column,
+}
+
+impl Model for Strip {
+    ghost use Rattle.std.specs.Prelude.{◌≤◌};
+    ghost use Rattle.crossing_sweep.specs.StripInput.{Span};
+
+    ghost Value = { Span };
+
+    ghost view = { λ s. record { first = s.first; last = s.last } };
+
+    ghost invariant = { λ s. s.first ≤ s.last };
+
+    ghost inverse = { λ s. record { first = s.first; last = s.last } };
+}
+
+impl Strip {
+    /// The columns from one to another, which is not left of it.
+    pub fn new(first: Column, last: Column) -> Strip
+        requires { first ≤ last }
+        ensures { result ≡ record { first = first; last = last } }
+    {
+        Strip { first, last }
+    }
+
+    /// The first column.
+    pub fn first(self) -> Column
+        ensures value { result ≡ self.first }
+        ensures in_order { self.first ≤ self.last }
+    {
+        self.first
+    }
+
+    /// The last column.
+    pub fn last(self) -> Column
+        ensures value { result ≡ self.last }
+        ensures in_order { self.first ≤ self.last }
+    {
+        self.last
+    }
+
+    /// The least x of the strip.
+    pub(crate) fn border(self) -> i64
+        ensures value { result ≡ border self.first }
+        ensures in_range { InRange result }
+    {
+        self.first.border()
+    }
+
+    /// The x where the strip ends, which is no longer in it.
+    pub(crate) fn end(self) -> i64
+        ensures { result ≡ border (self.last + 1) }
+    {
+        self.last.end()
+    }
+
+    /// Whether a point lies in the strip: at its left border or right of it, and left of its right border.
+    pub(crate) fn holds(self, p: &HPoint) -> bool
+        ensures { result ≡ is_in_strip self (place p.now) }
+    {
+        if border_side(self.first, p).is_lt() {
+            return false;
+        }
+        end_side(self.last, p).is_lt()
+    }
+
+    /// Whether a point lies from the strip's left border to its right border.
+    pub(crate) fn holds_closed(self, p: &HPoint) -> bool
+        ensures { result ≡ is_in_closed_strip self (place p.now) }
+    {
+        let from_left = border_side(self.first(), p);
+        let to_right = is_up_to(self.last(), p);
+        // Eager, so that one equation says all: both sides are known by then.
+        from_left.is_ge() & to_right
+    }
+}
+
+/// Whether a point lies left of a column's right border or on it.
+fn is_up_to(column: Column, p: &HPoint) -> bool
+    ensures { result ≡ int_le p.now.x (border (column + 1) *ℤ p.now.w) }
+{
+    end_side(column, p).is_le()
+}
