@@ -9,7 +9,7 @@ use Rattle.overlay_terms.specs.HistoryLaws.{IsWithCommands}
 use Rattle.overlay_terms.proofs.HistoryFolds.{newest_has_commands}
 use Rattle.line_laws.specs.Deciding.{Decided, decided}
 
--- the batches in entries, and in more behind them
+-- the batches in entries, and in more after them
 pub accepted_more : (xs ys : List Entry) → accepted_in (xs ++ ys) ≡ accepted_in xs ++ accepted_in ys
 accepted_more xs ys =
     ap (map (λ (c : ℕ × Batch). c.1)) (filter_map-append (λ (entry : Entry). command_of entry.event) xs ys)
@@ -23,7 +23,7 @@ pub count_more : (before after : History) (more : List Entry) → GoesOnBy befor
 count_more before after more on =
     ap count on ∙ ap length (accepted_more before.entries more) ∙ length-append (accepted_in before.entries) (accepted_in more)
 
--- the last version of entries, and of more behind them
+-- the last version of entries, and of more after them
 last_more : (version : Version) (xs ys : List Entry) → last_version version (xs ++ ys) ≡ last_version (last_version version xs) ys
 last_more version [] ys = refl
 last_more version (x ∷ xs) ys = last_more x.version xs ys

@@ -105,7 +105,7 @@ module _ (before after : History) (part : Turn) (made : List Batch) (reply : Lis
         how.only
         ∙ sym (ap (λ (o : Option BatchRefusal). made_if o commands) (ap (λ (d : Decided). batch_refusal_at d.number d.layers commands) (sym then_there) ∙ there.accepted_there))
 
-    -- a number is told, and no fault
+    -- a number is reported, and no fault
     ok_inside : (n : ℕ) → is_from_outside (ok_line n) ≡ false
     ok_inside n = refl
 

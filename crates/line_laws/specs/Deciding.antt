@@ -34,7 +34,7 @@ AreAnswered stored session seen [] = Unit {0}
 AreAnswered stored session seen (one ∷ more) =
     IsTurn stored session seen one.turn one.after one.made one.reply × AreAnswered stored session one.after more
 
--- a run of turns, as a transcript tells it: the turns, the history that they led to, the batches that were made, and the
+-- a run of turns, as a transcript has it: the turns, the history that they led to, the batches that were made, and the
 -- replies
 pub record Run : Type 0 where
   pub turns : List Turn
@@ -45,7 +45,7 @@ pub record Run : Type 0 where
 abbrev pub IsRun : BookStore → ℕ → History → Run → Type 0
 IsRun stored session seen run = IsTranscript stored session seen run.turns run.after run.made run.replies
 
--- the same, told turn by turn
+-- the same, turn by turn
 pub record AreTurnsOf (stored : BookStore) (session : ℕ) (seen : History) (run : Run) : Type 0 where
   pub all : List Answered
   pub told : AreAnswered stored session seen all
@@ -54,13 +54,13 @@ pub record AreTurnsOf (stored : BookStore) (session : ℕ) (seen : History) (run
   pub same_made : made_by all ≡ run.made
   pub same_replies : flat_map (λ (one : Answered). one.reply) all ≡ run.replies
 
--- each transcript is told turn by turn
+-- each transcript goes turn by turn
 abbrev pub TranscriptsHaveTurns : BookStore → Type 0
 TranscriptsHaveTurns stored =
     (session : ℕ) (seen : History) (run : Run) →
     IsRun stored session seen run → AreTurnsOf stored session seen run
 
--- whether a reply refuses a turn for what neither lines nor layers decide: memory ran out, the book closes or is behind
+-- whether a reply refuses a turn for what neither lines nor layers decide: memory ran out, the book closes or is not as far
 abbrev pub is_from_outside : List ℕ → Bool
 is_from_outside reply =
     bytes_eq reply (error_line OutOfMemory) || (bytes_eq reply (error_line Closing) || bytes_eq reply (error_line Gone))
@@ -80,7 +80,7 @@ pub record Decided : Type 0 where
 abbrev pub decided : Version → Decided
 decided version = record { number = version.number; layers = version.layers }
 
--- the same of the newest version behind each turn
+-- the same of the newest version after each turn
 abbrev pub decided_by : List Answered → List Decided
 decided_by all = map (λ (one : Answered). decided (newest one.after)) all
 
@@ -88,7 +88,7 @@ decided_by all = map (λ (one : Answered). decided (newest one.after)) all
 abbrev pub outside_of : List Answered → List Bool
 outside_of all = map (λ (one : Answered). is_from_outside one.reply) all
 
--- two runs go alike: the versions behind their turns have the same numbers and layers, and the same batches were made
+-- two runs go alike: the versions after their turns have the same numbers and layers, and the same batches were made
 pub record GoAlike (all others : List Answered) : Type 0 where
   pub versions : decided_by all ≡ decided_by others
   pub batches : map (λ (one : Answered). one.made) all ≡ map (λ (one : Answered). one.made) others

@@ -6,7 +6,7 @@ ghost use Rattle.line_laws.specs.Deciding.{LinesDecide, TranscriptsHaveTurns};
 
 use std::marker::Brand;
 
-/// Of which history the transcripts of a law may tell the durable number. A call that passes `Brand` picks it.
+/// Of which history the transcripts of a law may report the durable number. A call that passes `Brand` picks it.
 pub trait Tells {
     ghost use Rattle.overlay_terms.specs.Histories.{History};
 
@@ -20,12 +20,12 @@ impl Tells for Brand {
 
 /// Where no one else's command was accepted meanwhile, the number and the layers of the version after each line or batch,
 /// and what was made, are fixed by the version that was seen before, by the lines, and by which of them were refused
-/// because memory ran out, the book closed or was behind.
+/// because memory ran out, the book closed or was not as far.
 pub fn lines_decide<A: Tells, B: Tells>()
     ensures { (there other_there : Bool) → LinesDecide (store_by A.told there) (store_by B.told other_there) }
 {}
 
-/// Each transcript is told turn by turn: one for each line, and for each batch with its lines.
+/// Each transcript goes turn by turn: one for each line, and for each batch with its lines.
 pub fn transcripts_have_turns<A: Tells>()
     ensures { (there : Bool) → TranscriptsHaveTurns (store_by A.told there) }
 {}

@@ -1,4 +1,4 @@
--- Each test of a coordinate tells the one range.
+-- Each test of a coordinate accepts the one range.
 use Rattle.std.specs.Prelude.{◌≡◌, ℤ, pos, neg_ℤ, int_le, unsigned_abs, ◌&&◌, true}
 use Rattle.std.proofs.Common.{arith}
 use Rattle.std.proofs.lemmas.Bool.{and_parts, and_from, le-leb, leb-true}
@@ -9,7 +9,7 @@ use Rattle.overlay_terms.proofs.InputNumbers.{le_true, true_le}
 use Rattle.store_terms.specs.BaseRecord as record_form
 use Rattle.range_laws.specs.Ranges.{OneRange, TellsRange, AsksInRange}
 
--- two comparisons tell it
+-- two comparisons decide it
 says : (z : ℤ) → (int_le (neg_ℤ (pos coordinate_max)) z && int_le z (pos coordinate_max)) ≡ true → InRange z
 says z h =
     let parts = and_parts (int_le (neg_ℤ (pos coordinate_max)) z) (int_le z (pos coordinate_max)) h in

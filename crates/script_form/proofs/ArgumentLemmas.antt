@@ -1,4 +1,4 @@
--- How an argument of each kind is read: exactly where it stands, with what stands behind it.
+-- How an argument of each kind is read: exactly where it is, with what comes after it.
 use Rattle.std.proofs.Common.{◌≡◌, ℕ, ℤ, pos, ◌==◌, Bool, true, false, not, ◌&&◌, List, [], ◌∷◌, ◌++◌, refl, sym, ap, ◌∙◌, inl, inr, arith, Option, Some, None}
 use Rattle.std.specs.List.{list_all, take_while}
 use Rattle.std.proofs.lemmas.Bool.{and_parts, not-true, cond-true, cond-false, eqb-true}
@@ -9,7 +9,7 @@ use Rattle.script_form.specs.Requests.{Kind, a_word, a_number, a_number_or_one, 
 use Rattle.script_form.specs.Shapes.{AreSome, IsNext, IsNextNumber, IsArgument}
 use Rattle.script_form.proofs.Fronts.{either, parts, front_passes, rest_fails, some_is, skip_front, take_front, begins_some, some_bytes, not_empty}
 
--- what is true of a value and of what stands behind it, if they were found
+-- what is true of a value and of what comes after it, if they were found
 abbrev pub Tells : {A : Type 0} → (A → List ℕ → Type 0) → Option (A × List ℕ) → Type 0
 Tells is None = Unit {0}
 Tells is (Some (value, behind)) = is value behind
@@ -19,7 +19,7 @@ weaker : {A : Type 0} (P Q : A → List ℕ → Type 0) → ((value : A) (behind
 weaker P Q more None tells = tt
 weaker P Q more (Some (value, behind)) tells = more value behind tells
 
--- ==== What is found stands there
+-- ==== What is found is there
 
 pub front_tells : (test : ℕ → Bool) (bytes : List ℕ) → Tells (λ front behind. IsNext test front behind bytes) (front_at test bytes)
 front_tells test bytes =
@@ -86,7 +86,7 @@ argument_tells a_text bytes =
       refl,
     ))
 
--- ==== What stands there is found
+-- ==== What is there is found
 
 word_apart : (b : ℕ) → is_word_byte b ≡ true → is_gap b ≡ false
 word_apart b on = not-true (is_gap b) on

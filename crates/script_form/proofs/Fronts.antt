@@ -1,4 +1,4 @@
--- Fronts of bytes that pass a test, and what stands behind them.
+-- Fronts of bytes that pass a test, and what comes after them.
 use Rattle.std.proofs.Common.{◌≡◌, ℕ, suc, ◌+◌, ◌<◌, ◌==◌, Bool, true, false, cond, List, [], ◌∷◌, ◌++◌, length, take, drop, refl, sym, ap, subst, ◌∙◌, inl, inr, arith}
 use Rattle.std.specs.List.{list_all, prefix_len, take_while}
 use Rattle.std.proofs.Math.Seq.{drop-append_seam, take-append_seam}

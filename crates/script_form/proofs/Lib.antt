@@ -5,7 +5,7 @@ pub mod Texts
 pub mod ReadLemmas
 pub mod TranscriptLemmas
 pub mod TurnLemmas
-pub mod GatheringLemmas
+pub mod OpenBatchLemmas
 pub mod Fronts
 pub mod ArgumentLemmas
 pub mod LineLaws

@@ -32,7 +32,7 @@ request_of-cut line =
       | inr long ↦ request_of-long (take line_room line) (omega arith) ∙ sym (request_of-long line (omega arith))
     ]
 
--- the same behind which a CR is dropped, as a line feed ends it
+-- the same after which a CR is dropped, as a line feed ends it
 pub request_of-cut_ended : (line : List ℕ) → request_of (without_cr (take line_room line)) ≡ request_of (without_cr line)
 request_of-cut_ended line =
     elim (same_or_long line) as (λ _. request_of (without_cr (take line_room line)) ≡ request_of (without_cr line)) [
@@ -43,7 +43,7 @@ request_of-cut_ended line =
           request_of-long (without_cr (take line_room line)) (omega arith) ∙ sym (request_of-long (without_cr line) (omega arith))
     ]
 
--- a byte behind a line that was cut off, and behind the line
+-- a byte after a line that was cut off, and after the line
 pub take-push : (n : ℕ) (xs : List ℕ) (b : ℕ) → take n (take n xs ++ b ∷ []) ≡ take n (xs ++ b ∷ [])
 take-push zero xs b = refl
 take-push (suc n) [] b = refl

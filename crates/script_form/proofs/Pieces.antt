@@ -60,7 +60,7 @@ pieces_of-feed (b ∷ bytes) =
       | false ↦ ap (onto_first b) more ∙ onto_first-feed b (pieces_of bytes) (pieces_of-has_first bytes)
     ]
 
--- the pieces with a byte behind the last
+-- the pieces with a byte after the last
 longer : List (List ℕ) → ℕ → List (List ℕ)
 longer ps b = front_of ps ++ (last_of ps ++ b ∷ []) ∷ []
 
@@ -99,7 +99,7 @@ longer-last : (ps : List (List ℕ)) (b : ℕ) → last_of (longer ps b) ≡ las
 unfolding longer
 longer-last ps b = last_of-push (front_of ps) (last_of ps ++ b ∷ [])
 
--- a line feed ends the line that stood behind the one before
+-- a line feed ends the line that came after the one before
 pub ended_lines-feed : (bytes : List ℕ) → ended_lines (bytes ++ 10 ∷ []) ≡ ended_lines bytes ++ without_cr (unended bytes) ∷ []
 ended_lines-feed bytes =
     ap (map without_cr) (ap front_of (pieces_of-feed bytes) ∙ front_of-push (pieces_of bytes) [] ∙ pieces_of-with_last bytes)

@@ -1,4 +1,4 @@
--- What the texts of a line are refused by, behind a name.
+-- What the texts of a line are refused by, after a name.
 use Rattle.std.proofs.Common.{◌≡◌, ℕ, IsTrue, List, refl, ap, ◌⊎◌, inl, inr}
 use Rattle.layer_expr.specs.Name.{is_name}
 use Rattle.layer_expr.specs.declared.fault.ExprFault.{ExprFault}
@@ -12,7 +12,7 @@ use Rattle.script_form.specs.Fault.{code_of}
 use Rattle.script_form.specs.Replies.{error_line}
 use Rattle.script_form.specs.Reading.{IsMemory, IsPutRefused, IsDefineRefused}
 
--- a text that is refused behind a name
+-- a text that is refused after a name
 pub put_text_refused : (name text : List ℕ) (wrong : WktFault) → IsTrue (is_name name) → (wrong ≡ wkt_fault.OutOfMemory) ⊎ wkt.IsRefusedBy text wrong → IsMemory name (Wkt wrong) ⊎ IsPutRefused name text (Wkt wrong)
 put_text_refused name text wrong named refused =
     elim refused [ inl memory ↦ inl (named, ap (λ w. error_line (Wkt w)) memory, ap (λ w. code_of (Wkt w)) memory) | inr by ↦ inr (inr (named, wrong, by, refl)) ]

@@ -16,7 +16,7 @@ waiting-append : (waiting : Option Waiting) (requests more : List Request)
 waiting-append waiting [] more = refl
 waiting-append waiting (request ∷ requests) more = waiting-append (waiting_after waiting request) requests more
 
--- the turns of lines stay, whatever comes behind them
+-- the turns of lines stay, whatever comes after them
 pub turns_of-more : (lines more : List (List ℕ)) → turns_of (lines ++ more) ≡ turns_of lines ++ turns_from (waiting_behind lines) (map request_of more)
 turns_of-more lines more = ap (turns_from None) (map-append request_of lines more) ∙ turns-append None (map request_of lines) (map request_of more)
 

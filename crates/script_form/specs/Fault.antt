@@ -34,7 +34,7 @@ code_of ReadLimit = 47
 code_of Read = common.code_of faults.Read
 code_of Write = common.code_of faults.Write
 
--- the text that is printed behind the number
+-- the text that is printed after the number
 abbrev pub text_of : CommandFault → List ℕ
 text_of (Wkt fault) = wkt.text_of fault
 text_of (Expression fault) = expr.text_of fault
@@ -55,7 +55,7 @@ text_of ReadLimit = codes "read limit"
 text_of Read = common.text_of faults.Read
 text_of Write = common.text_of faults.Write
 
--- the fault of a picture, as a reply tells it
+-- the fault of a picture, as a reply says it
 abbrev pub of_grid : GridFault → CommandFault
 of_grid picture.GridSize = GridSize
 of_grid (picture.Layer fault) = Version (Layer fault)

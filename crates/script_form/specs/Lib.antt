@@ -9,5 +9,5 @@ pub mod Turns
 pub mod Transcript
 pub mod Reading
 pub mod BatchLines
-pub mod Gathering
+pub mod OpenBatch
 pub mod Shapes

@@ -10,7 +10,7 @@ line_max = 65536
 unfoldable pub script_max : ℕ
 script_max = 16777216
 
--- as many bytes of a line, a CR with them, as tell whether it is too long
+-- as many bytes of a line, a CR with them, as show whether it is too long
 unfoldable pub line_room : ℕ
 line_room = line_max + 2
 
@@ -19,7 +19,7 @@ abbrev pub onto_first : ℕ → List (List ℕ) → List (List ℕ)
 onto_first b [] = (b ∷ []) ∷ []
 onto_first b (piece ∷ pieces) = (b ∷ piece) ∷ pieces
 
--- what stands between line feeds: one piece more than there are line feeds
+-- what is between line feeds: one piece more than there are line feeds
 abbrev pub pieces_of : List ℕ → List (List ℕ)
 pieces_of [] = [] ∷ []
 pieces_of (b ∷ bs) = if b == 10 then [] ∷ pieces_of bs else onto_first b (pieces_of bs)
@@ -59,11 +59,11 @@ without_cr (b ∷ c ∷ bs) = b ∷ without_cr (c ∷ bs)
 abbrev pub ended_lines : List ℕ → List (List ℕ)
 ended_lines bytes = map without_cr (front_of (pieces_of bytes))
 
--- what stands behind the last line feed
+-- what comes after the last line feed
 abbrev pub unended : List ℕ → List ℕ
 unended bytes = last_of (pieces_of bytes)
 
--- the last line, where bytes stand behind the last line feed
+-- the last line, where bytes come after the last line feed
 abbrev pub last_line : List ℕ → List (List ℕ)
 last_line [] = []
 last_line (b ∷ bs) = (b ∷ bs) ∷ []

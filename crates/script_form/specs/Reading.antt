@@ -14,7 +14,7 @@ use Rattle.script_form.specs.declared.fault.CommandFault.TheVariants.{Wkt, Expre
 use Rattle.script_form.specs.Fault.{code_of}
 use Rattle.script_form.specs.Replies.{error_line}
 
--- memory ran out behind a name that is one, wherever it was asked for: the fault is told as that one
+-- memory ran out after a name that is one, wherever it was asked for: that fault is reported
 abbrev pub IsMemory : List ℕ → CommandFault → Type 0
 IsMemory name fault = IsTrue (is_name name) × (error_line fault ≡ error_line OutOfMemory) × (code_of fault ≡ 40)
 

@@ -27,7 +27,7 @@ pub data Request : Type 0 where
 -- ==== The table
 
 -- a kind of argument: a word; a number; a number that is 1 where it is left out; a name that may end at a `=`; the `=` and the
--- text behind it; a text. A text runs to the end of the line
+-- text after it; a text. A text runs to the end of the line
 pub data Kind : Type 0 where
   a_word : Kind
   a_number : Kind
@@ -77,7 +77,7 @@ forms =
 
 -- ==== The reading
 
--- an argument in front of bytes, if one stands there, and what stands behind it
+-- an argument in front of bytes, if one is there, and what comes after it
 abbrev pub argument_at : (kind : Kind) → List ℕ → Option (Value kind × List ℕ)
 argument_at a_word bytes = word_at bytes
 argument_at a_number bytes = number_at bytes
@@ -86,7 +86,7 @@ argument_at a_left_side bytes = left_side_at bytes
 argument_at a_right_side bytes = right_side_at bytes
 argument_at a_text bytes = text_at bytes
 
--- what is asked for behind an argument, if it stands there
+-- what is asked for after an argument, if it is there
 abbrev pub and_then : {A : Type 0} → Option (A × List ℕ) → (A → List ℕ → Option Request) → Option Request
 and_then None next = None
 and_then (Some (value, behind)) next = next value behind
@@ -105,7 +105,7 @@ abbrev pub asked_by : Option Arguments → List ℕ → Option Request
 asked_by None bytes = None
 asked_by (Some arguments) bytes = asked_in arguments bytes
 
--- what a line asks for by its first word and what stands behind it
+-- what a line asks for by its first word and what comes after it
 abbrev pub asked_of : List ℕ → Option Request
 asked_of line = and_then (word_at line) (λ name behind. asked_by (arguments_of forms name) behind)
 

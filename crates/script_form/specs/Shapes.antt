@@ -23,7 +23,7 @@ pub record AreSome (test : ℕ → Bool) (bytes : List ℕ) : Type 0 where
   pub some : 0 < length bytes
   pub alone : IsTrue (list_all test bytes)
 
--- perhaps gaps, then bytes that pass a test, and behind them none that does
+-- perhaps gaps, then bytes that pass a test, and after them none that does
 pub record IsNext (test : ℕ → Bool) (front behind bytes : List ℕ) : Type 0 where
   pub gaps : List ℕ
   pub bytes_are : bytes ≡ gaps ++ (front ++ behind)
@@ -54,7 +54,7 @@ pub record IsText (text bytes : List ℕ) : Type 0 where
   pub some : 0 < length text
   pub begins_at_once : begins is_gap text ≡ false
 
--- bytes are an argument of a kind, and what stands behind it
+-- bytes are an argument of a kind, and what comes after it
 abbrev pub IsArgument : (kind : Kind) → Value kind → List ℕ → List ℕ → Type 0
 IsArgument a_word value behind bytes = IsNext is_word_byte value behind bytes
 IsArgument a_number value behind bytes = IsNextNumber value behind bytes

@@ -38,7 +38,7 @@ use Rattle.script_form.specs.Requests.{Request, nothing, too_long, malformed, pu
 use Rattle.script_form.specs.Turns.{Turn, alone, together, cut_off}
 use Rattle.script_form.specs.Replies.{ok_line, error_line, refused_line, location_line, built_line, durable_line, verdict_line}
 
--- what is known of the store of a book: whether there is one, and of which history the durable number may be told
+-- what is known of the store of a book: whether there is one, and of which history the durable number may be reported
 pub record BookStore : Type 1 where
   pub there : Bool
   pub told : History → Type 0
@@ -55,7 +55,7 @@ pub record IsRefused (fault : CommandFault) (made : List Batch) (reply : List �
 abbrev pub IsClosing : List Batch → List ℕ → Type 0
 IsClosing made reply = IsRefused Closing made reply
 
--- the book is behind what was seen, or cannot show a version
+-- the book has not reached what was seen, or cannot show a version
 abbrev pub IsGone : List Batch → List ℕ → Type 0
 IsGone made reply = IsRefused Gone made reply
 
@@ -67,7 +67,7 @@ pub record IsAcceptedBy (session : ℕ) (before : History) (commands : Batch) (a
   pub only : made ≡ commands ∷ []
   pub told : reply ≡ ok_line version.number
 
--- a command: refused by the first reason that applies at the newest version, or accepted; or the book closes, or is behind
+-- a command: refused by the first reason that applies at the newest version, or accepted; or the book closes, or is not as far
 abbrev pub IsSubmitted : ℕ → History → Command → History → List Batch → List ℕ → Type 0
 IsSubmitted session before command after made reply =
     IsClosing made reply
@@ -86,7 +86,7 @@ IsRefusedBatch (at place refusal) made reply = IsRefusedAt place (Version (Layer
 IsRefusedBatch (whole refusal) made reply = IsRefused (Version (Layer (fault_of refusal))) made reply
 
 -- a batch of commands: refused by the first reason that applies at the newest version, or accepted; or the book closes, or
--- is behind
+-- has not reached what was seen
 abbrev pub IsSubmittedAll : ℕ → History → Batch → History → List Batch → List ℕ → Type 0
 IsSubmittedAll session before commands after made reply =
     IsClosing made reply
@@ -114,7 +114,7 @@ abbrev pub asked_column : ℤ → Option ℕ
 asked_column (pos k) = column_numbered k
 asked_column (negsuc k) = None
 
--- where a point lies: the place that is told is the right one
+-- where a point lies: the place that is reported is the right one
 pub record IsLocated (version : versions.Version) (name : List ℕ) (query : Point) (made : List Batch) (reply : List ℕ) : Type 0 where
   pub nothing_made : made ≡ []
   pub place : Location
@@ -157,7 +157,7 @@ abbrev pub IsOfStore : CommandFault → Type 0
 IsOfStore fault =
     (fault ≡ Device) ⊎ (fault ≡ Full) ⊎ (fault ≡ StoreFailed) ⊎ (fault ≡ SequenceLimit) ⊎ (fault ≡ OutOfMemory) ⊎ (fault ≡ Closing)
 
--- the version that had been seen is durable, and the reply is the durable number, which may be told
+-- the version that had been seen is durable, and the reply is the durable number, which may be reported
 pub record IsDurableTold (stored : BookStore) (asked : ℕ) (after : History) (made : List Batch) (reply : List ℕ) : Type 0 where
   pub nothing_made : made ≡ []
   pub reached : asked ≤ (newest after).durable

@@ -47,7 +47,7 @@ with_line waiting request = record { size = waiting.size; came = waiting.came ++
 abbrev pub is_whole : Waiting → Bool
 is_whole waiting = length waiting.came == waiting.size
 
--- the batch that waits behind a line
+-- the batch that waits after a line
 abbrev pub waiting_after : Option Waiting → Request → Option Waiting
 waiting_after None request = begun_by request
 waiting_after (Some waiting) request =
@@ -71,7 +71,7 @@ abbrev pub turns_from : Option Waiting → List Request → List Turn
 turns_from waiting [] = []
 turns_from waiting (request ∷ requests) = ended_by waiting request ++ turns_from (waiting_after waiting request) requests
 
--- the batch that waits behind lines
+-- the batch that waits after lines
 abbrev pub waiting_behind : List (List ℕ) → Option Waiting
 waiting_behind lines = fold waiting_after None (map request_of lines)
 

@@ -48,19 +48,19 @@ number_of (b ∷ bs) =
 
 -- ==== In front of bytes
 
--- bytes in front, if there are some, and what stands behind them
+-- bytes in front, if there are some, and what comes after them
 abbrev pub some_front : List ℕ → List ℕ → Option (List ℕ × List ℕ)
 some_front front behind = if is_empty front then None else Some (front, behind)
 
--- behind gaps, all bytes up to the first that fails a test
+-- after gaps, all bytes up to the first that fails a test
 abbrev pub front_at : (ℕ → Bool) → List ℕ → Option (List ℕ × List ℕ)
 front_at test bytes = some_front (take_while test (skip_while is_gap bytes)) (skip_while test (skip_while is_gap bytes))
 
--- the next word, and what stands after it
+-- the next word, and what comes after it
 abbrev pub word_at : List ℕ → Option (List ℕ × List ℕ)
 word_at bytes = front_at is_word_byte bytes
 
--- what stands before the sign `=` of a definition, and what stands after it
+-- what comes before the sign `=` of a definition, and what comes after it
 abbrev pub left_side_at : List ℕ → Option (List ℕ × List ℕ)
 left_side_at bytes = front_at is_name_side bytes
 
@@ -68,12 +68,12 @@ abbrev pub with_behind : Option ℤ → List ℕ → Option (ℤ × List ℕ)
 with_behind None behind = None
 with_behind (Some n) behind = Some (n, behind)
 
--- the number that digits spell, and what stands after them
+-- the number that digits spell, and what comes after them
 abbrev pub number_in : Option (List ℕ × List ℕ) → Option (ℤ × List ℕ)
 number_in None = None
 number_in (Some (digits, behind)) = with_behind (number_of digits) behind
 
--- the next word as a number, and what stands after it
+-- the next word as a number, and what comes after it
 abbrev pub number_at : List ℕ → Option (ℤ × List ℕ)
 number_at bytes = number_in (word_at bytes)
 
@@ -81,12 +81,12 @@ number_at bytes = number_in (word_at bytes)
 abbrev pub number_or_one_at : List ℕ → Option (ℤ × List ℕ)
 number_or_one_at bytes = if list_all is_gap bytes then Some (pos 1, []) else number_at bytes
 
--- behind the `=` and the white space behind it
+-- after the `=` and the white space that follows it
 abbrev pub behind_sign : List ℕ → Option (List ℕ × List ℕ)
 behind_sign [] = None
 behind_sign (b ∷ bs) = if b == 61 then Some (skip_while is_blank bs, []) else None
 
--- what stands after the sign `=`, to the end of the line
+-- what comes after the sign `=`, to the end of the line
 abbrev pub right_side_at : List ℕ → Option (List ℕ × List ℕ)
 right_side_at bytes = behind_sign (skip_while is_gap bytes)
 

@@ -1,4 +1,4 @@
-//! The arguments of a command, taken one after another from what stands behind its word.
+//! The arguments of a command, taken one after another from what comes after its word.
 ghost use Rattle.std.specs.Prelude.{◌≡◌, IfNone, IfSome, Some, None};
 ghost use Rattle.std.specs.List.{list_all};
 ghost use Rattle.script_form.specs.Lines.{is_gap};
@@ -46,7 +46,7 @@ impl<'a> Rest<'a> {
         number_of(self.word()?)
     }
 
-    /// A number, which is 1 where none stands.
+    /// A number, which is 1 where none comes.
     pub fn number_or_one(&mut self) -> Option<i64>
         ensures none { IfNone result (number_or_one_at self.old.0.now ≡ None) }
         ensures some { IfSome result (λ number. number_or_one_at self.old.0.now ≡ Some (number, self.new.0.now)) }
@@ -58,7 +58,7 @@ impl<'a> Rest<'a> {
         self.number()
     }
 
-    /// The text behind a `=`, to the end of the line.
+    /// The text after a `=`, to the end of the line.
     pub fn right_side(&mut self) -> Option<&'a [u8]>
         ensures none { IfNone result (right_side_at self.old.0.now ≡ None) }
         ensures some { IfSome result (λ text. right_side_at self.old.0.now ≡ Some (text.now, self.new.0.now)) }
@@ -85,7 +85,7 @@ impl<'a> Rest<'a> {
         Some(text)
     }
 
-    /// Whether nothing more stands.
+    /// Whether nothing more comes.
     pub fn is_over(&self) -> bool
         ensures { result ≡ list_all is_gap self.now.0.now }
     {

@@ -36,7 +36,7 @@ pub enum CommandFault {
     LineTooLong,
     /// The book closes.
     Closing,
-    /// The book is behind what the session has seen, or cannot show a version.
+    /// The book has not reached what the session has seen, or cannot show a version.
     Gone,
     GridSize,
     NoStore,

@@ -7,7 +7,7 @@ use crate::fault::CommandFault;
 use fault_texts::{CommonFault, FaultText};
 use overlay_grid::GridFault;
 
-/// The text of a fault, as a reply says it behind the fault's code.
+/// The text of a fault, as a reply says it after the fault's code.
 pub fn fault_text(fault: CommandFault) -> FaultText
     ensures text { shown result ≡ text_of fault }
     ensures brief { IsBrief result }

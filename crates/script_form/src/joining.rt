@@ -4,12 +4,12 @@ ghost use Rattle.overlay_terms.specs.Batches.{IsSized};
 ghost use Rattle.layer_book.specs.Command.{command};
 ghost use Rattle.script_form.specs.BatchLines.{IsCommandOf, IsNoCommand};
 ghost use Rattle.script_form.specs.Fault.{code_of};
-ghost use Rattle.script_form.specs.Gathering.{IsOpen, Joins, ReadsAll, ReadsBehind, ReadsNext, unread};
+ghost use Rattle.script_form.specs.OpenBatch.{IsOpen, Joins, ReadsAll, ReadsBehind, ReadsNext, unread};
 ghost use Rattle.script_form.specs.Requests.{batch, request};
 ghost use Rattle.script_form.specs.Turns.{asked_size, begun_by, size_within};
 
 use crate::fault::CommandFault;
-use crate::gathering::{Gathering, LinesFault};
+use crate::open_batch::{LinesFault, OpenBatch};
 use crate::reading::{read_define, read_put, read_remove};
 use crate::request::Request;
 use layer_book::batch::{BATCH_MAX, Batch};
@@ -18,19 +18,19 @@ use std::alloc::Global;
 
 /// What a line of a batch makes of it.
 pub(crate) enum Joined {
-    Waits(Gathering),
+    Waits(OpenBatch),
     /// All lines came.
     Whole(Result<Batch, LinesFault>),
 }
 
-impl Gathering {
+impl OpenBatch {
     /// A batch of so many lines, if a batch may have so many. The room for its commands is had now. Where there is
     /// none, it waits for its lines all the same.
-    pub(crate) fn new(alloc: Global, size: i64) -> Option<Gathering>
+    pub(crate) fn new(alloc: Global, size: i64) -> Option<OpenBatch>
         ensures { IsOpen (begun_by (batch size)) result }
     {
         match batch_size(size) {
-            Some(size) => Some(Gathering {
+            Some(size) => Some(OpenBatch {
                 size,
                 came: 0,
                 read: room(alloc),
@@ -48,7 +48,7 @@ impl Gathering {
         if came == self.size {
             return Joined::Whole(as_batch(read));
         }
-        Joined::Waits(Gathering {
+        Joined::Waits(OpenBatch {
             size: self.size,
             came,
             read,

@@ -4,13 +4,13 @@
 mod arguments;
 pub mod fault;
 mod fault_text;
-pub mod gathering;
 mod joining;
 pub mod laws;
 pub mod line_buffer;
 pub mod line_reply;
 pub mod line_turn;
 mod number;
+pub mod open_batch;
 pub mod reading;
 pub mod reply_writer;
 pub mod request;
@@ -19,10 +19,10 @@ pub mod session_end;
 mod words;
 
 pub use fault::CommandFault;
-pub use gathering::{Gathering, LinesFault};
 pub use line_buffer::LineBuffer;
 pub use line_reply::LineReply;
 pub use line_turn::{LineTurn, take_line};
+pub use open_batch::{LinesFault, OpenBatch};
 pub use reading::{read_define, read_name, read_put, read_remove};
 pub use reply_writer::{write_reply, write_text};
 pub use request::{LINE_MAX, Request, request_of};

@@ -9,7 +9,7 @@ use std::marker::Model;
 /// The longest line, a CR, and one byte more.
 const LINE_ROOM: usize = LINE_MAX + 2;
 
-/// The bytes behind the last line feed, in room that is had once. A line that is too long is cut off
+/// The bytes after the last line feed, in room that is had once. A line that is too long is cut off
 /// where no further byte can make it another line.
 #[derive(Debug, Drop)]
 pub struct LineBuffer {
@@ -40,7 +40,7 @@ impl LineBuffer {
         })
     }
 
-    /// Puts a byte behind the line, where it can make a difference.
+    /// Puts a byte at the end of the line, where it can make a difference.
     pub fn push(&mut self, byte: u8)
         ensures { self.new ≡ take line_room (self.old ++ byte ∷ []) }
     {

@@ -105,7 +105,7 @@ fn location_text(place: Place) -> &'static [u8]
     }
 }
 
-/// The line that tells a fault.
+/// The line that reports a fault.
 fn error_text(fault: CommandFault) -> ArrayString<128>
     ensures { result.bytes ≡ error_line fault }
 {
@@ -114,7 +114,7 @@ fn error_text(fault: CommandFault) -> ArrayString<128>
     line
 }
 
-/// The line that tells a fault of a line of a batch.
+/// The line that reports a fault of a line of a batch.
 fn refused_text(place: u32, fault: CommandFault) -> ArrayString<128>
     ensures { result.bytes ≡ refused_line place fault }
 {
@@ -127,7 +127,7 @@ fn refused_text(place: u32, fault: CommandFault) -> ArrayString<128>
     line
 }
 
-/// Puts the line that tells a fault behind what stands before it, if that is short.
+/// Appends the line that reports a fault to what comes before it, if that is short.
 fn push_error(line: &mut ArrayString<128>, fault: CommandFault)
     requires room { array_string_len line.old ≤ 30 }
     ensures { line.new.bytes ≡ line.old.bytes ++ error_line fault }
@@ -140,7 +140,7 @@ fn push_error(line: &mut ArrayString<128>, fault: CommandFault)
     line.push_str("\n");
 }
 
-/// Puts the text of a fault behind a line that has room for it.
+/// Appends the text of a fault to a line that has room for it.
 fn push_text(line: &mut ArrayString<128>, text: FaultText)
     requires room { array_string_len line.old ≤ 60 }
     requires brief { IsBrief text }

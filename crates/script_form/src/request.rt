@@ -23,7 +23,7 @@ pub enum Request<'a> {
     Remove(&'a [u8]),
     /// A name, and x, y and w of a point.
     Locate(&'a [u8], i64, i64, i64),
-    /// A name, x and y of a grid's first point, its step, and how many points stand in a row and in a column.
+    /// A name, x and y of a grid's first point, its step, and how many points are in a row and in a column.
     Grid(&'a [u8], i64, i64, i64, i64, i64),
     ListLayers,
     /// A name and the number of a column.
@@ -74,7 +74,7 @@ fn asked_of(line: &[u8]) -> Option<Request<'_>>
     asked_by(word, rest)
 }
 
-/// What the command with this word asks for by what stands behind it: the table of commands.
+/// What the command with this word asks for by what comes after it: the table of commands.
 fn asked_by<'a>(word: &[u8], mut rest: Rest<'a>) -> Option<Request<'a>>
     ensures { option_map request result ≡ asked_by (arguments_of forms word.now) rest.entry.0.now }
 {
@@ -123,7 +123,7 @@ fn is_word(word: &[u8], command: &[u8]) -> bool
     word == command
 }
 
-/// The request, if nothing more stands.
+/// The request, if nothing more comes.
 fn ended<'a>(asked: Request<'a>, rest: Rest<'a>) -> Option<Request<'a>>
     ensures { option_map request result ≡ asked_in (ends (request asked.entry)) rest.entry.0.now }
 {

@@ -8,7 +8,7 @@ use std::io::Read;
 /// The most bytes of a script.
 pub const SCRIPT_MAX: usize = 16_777_216;
 
-/// Reads into the front of the chunk, at most up to the byte behind the longest script, of so many bytes. A read of
+/// Reads into the front of the chunk, at most up to the byte after the longest script, of so many bytes. A read of
 /// no byte is the end.
 pub fn read_chunk<R: Read>(
     reader: &mut R,

@@ -20,7 +20,7 @@ fn is_word_byte(byte: u8) -> bool
     !is_gap(byte)
 }
 
-/// Whether the byte may stand in a name before a `=`.
+/// Whether the byte may be in a name before a `=`.
 fn is_name_side(byte: u8) -> bool
     ensures { result ≡ is_name_side byte }
 {
@@ -43,7 +43,7 @@ fn blank_count(text: &[u8]) -> usize
     text.iter().take_while(|b| is_blank(**b)).count()
 }
 
-/// How many bytes stand before the first gap.
+/// How many bytes come before the first gap.
 fn word_size(bytes: &[u8]) -> usize
     ensures value { result ≡ prefix_len is_word_byte bytes.now }
     ensures within { result ≤ length bytes.now }
@@ -51,7 +51,7 @@ fn word_size(bytes: &[u8]) -> usize
     bytes.iter().take_while(|b| is_word_byte(**b)).count()
 }
 
-/// How many bytes stand before the first gap or `=`.
+/// How many bytes come before the first gap or `=`.
 fn name_size(bytes: &[u8]) -> usize
     ensures value { result ≡ prefix_len is_name_side bytes.now }
     ensures within { result ≤ length bytes.now }
@@ -73,7 +73,7 @@ pub fn behind_blanks(text: &[u8]) -> &[u8]
     &text[blank_count(text)..]
 }
 
-/// What stands before the first gap, and what stands from it on.
+/// What comes before the first gap, and what follows from it on.
 pub fn split_word(bytes: &[u8]) -> (&[u8], &[u8])
     ensures word { result.0.now ≡ take_while is_word_byte bytes.now }
     ensures rest { result.1.now ≡ skip_while is_word_byte bytes.now }
@@ -81,7 +81,7 @@ pub fn split_word(bytes: &[u8]) -> (&[u8], &[u8])
     bytes.split_at(word_size(bytes))
 }
 
-/// What stands before the first gap or `=`, and what stands from it on.
+/// What comes before the first gap or `=`, and what follows from it on.
 pub fn split_name(bytes: &[u8]) -> (&[u8], &[u8])
     ensures name { result.0.now ≡ take_while is_name_side bytes.now }
     ensures rest { result.1.now ≡ skip_while is_name_side bytes.now }

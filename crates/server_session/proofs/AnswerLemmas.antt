@@ -38,11 +38,11 @@ use Rattle.script_form.specs.Replies.{ok_line, error_line, refused_line, locatio
 use Rattle.script_form.specs.Requests.{Request, request, put_text, define_text, remove_name, locate, grid, list_layers, request_of}
 use Rattle.script_form.specs.Transcript.{BookStore, IsRefused, IsRefusedBatch, IsSubmitted, IsSubmittedAll, IsAnswered, IsOutOfMemory, IsTold, Drawn, WithName}
 use Rattle.script_form.specs.Turns.{Turn, alone, together}
-use Rattle.script_form.specs.Gathering.{AreRead, TakesLine}
+use Rattle.script_form.specs.OpenBatch.{AreRead, TakesLine}
 use Rattle.script_form.specs.declared.request.Request as code
-use Rattle.script_form.specs.declared.gathering.Gathering.{Gathering}
-use Rattle.script_form.specs.declared.gathering.LinesFault.{LinesFault}
-use Rattle.script_form.specs.declared.gathering.LinesFault.TheVariants.{Unread, OutOfMemory as NoMemory}
+use Rattle.script_form.specs.declared.open_batch.OpenBatch.{OpenBatch}
+use Rattle.script_form.specs.declared.open_batch.LinesFault.{LinesFault}
+use Rattle.script_form.specs.declared.open_batch.LinesFault.TheVariants.{Unread, OutOfMemory as NoMemory}
 use Rattle.script_form.specs.declared.line_turn.LineTurn.TheVariants.{Waits, Alone, Whole}
 use Rattle.server_session.specs.Answering.{Answers, AnswersAll, IsAnswerToAll, Submits, SubmitsAll}
 use Rattle.server_session.specs.Fault.{fault_told, lines_told}
@@ -67,7 +67,7 @@ pub answers_there : (stored : BookStore) (me : Known) (request : Request) (reply
     → IsOutOfMemory request [] reply ⊎ IsAnswered stored me.session (seen me) request (seen me) [] reply → Answers stored me request me reply
 answers_there stored me request reply answered = answers_so me me (stays_self me) refl stored request reply answered
 
--- a fault, and a fault that is told as another
+-- a fault, and a fault that is reported as another
 pub refused_so : (fault : CommandFault) → IsRefused fault [] (error_line fault)
 refused_so fault = record { nothing_made = refl; told = refl }
 
@@ -417,7 +417,7 @@ module _ (was now : Known) (stays : Stays was now) (made : now.made ≡ was.made
 -- ==== Lines
 
 -- a line that belongs to a batch, or begins one, has no reply
-pub takes_waiting : (stored : BookStore) (me : Known) (old new : Option Gathering) (line : List ℕ) → TakesLine old (request_of line) new Waits → TakesTurn stored me old line me new []
+pub takes_waiting : (stored : BookStore) (me : Known) (old new : Option OpenBatch) (line : List ℕ) → TakesLine old (request_of line) new Waits → TakesTurn stored me old line me new []
 takes_waiting stored me old new line taken = record {
   stays = stays_self me;
   taken = λ waiting there.
@@ -426,7 +426,7 @@ takes_waiting stored me old new line taken = record {
 }
 
 -- a line alone is answered as what it asks for
-pub takes_alone : (stored : BookStore) (was now : Known) (old new : Option Gathering) (line : List ℕ) (asked : code.Request) (reply : List ℕ)
+pub takes_alone : (stored : BookStore) (was now : Known) (old new : Option OpenBatch) (line : List ℕ) (asked : code.Request) (reply : List ℕ)
     → TakesLine old (request_of line) new (Alone asked) → Answers stored was (request asked) now reply → TakesTurn stored was old line now new reply
 takes_alone stored was now old new line asked reply taken answers = record {
   stays = answers.stays;
@@ -441,7 +441,7 @@ takes_alone stored was now old new line asked reply taken answers = record {
 }
 
 -- the last line of a batch is answered as all of its lines
-pub takes_whole : (stored : BookStore) (was now : Known) (old new : Option Gathering) (line : List ℕ) (read : Result Batch LinesFault) (reply : List ℕ)
+pub takes_whole : (stored : BookStore) (was now : Known) (old new : Option OpenBatch) (line : List ℕ) (read : Result Batch LinesFault) (reply : List ℕ)
     → TakesLine old (request_of line) new (Whole read) → AnswersAll was read now reply → TakesTurn stored was old line now new reply
 takes_whole stored was now old new line read reply taken answers = record {
   stays = answers.stays;

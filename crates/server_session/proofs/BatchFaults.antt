@@ -31,7 +31,7 @@ fault_numbered code =
     (cond (code == 43) Closing
     (cond (code == 44) Gone OutOfMemory))))))))
 
--- the bytes that tell why a batch is refused
+-- the bytes that say why a batch is refused
 abbrev pub batch_told : BatchFault → List ℕ
 batch_told (At place code) = refused_line place (fault_numbered code)
 batch_told (Whole code) = error_line (fault_numbered code)

@@ -1,4 +1,4 @@
--- How a session ends, from where it stands.
+-- How a session ends, from where it is.
 use Rattle.std.proofs.Common.{◌≡◌, ℕ, zero, suc, ◌+◌, ◌-◌, ◌≤◌, min, ◌⊎◌, inl, inr, Bool, true, false, Option, Result, Ok, Err, OnOk, OnErr, List, [], ◌∷◌, ◌++◌, length, take, refl, sym, ap, ◌∙◌, subst, append-nil, arith}
 use Rattle.std.proofs.lemmas.List.{take_all, take-take, length-take, length-append}
 use Rattle.std.proofs.lemmas.Bool.{cases_lt, false≢true, true≢false}
@@ -16,21 +16,21 @@ use Rattle.script_form.specs.Writing.{IsCutShort}
 use Rattle.script_form.proofs.LongLines.{take-nil}
 use Rattle.server_session.specs.Loop.{EndsBy, Finishes}
 use Rattle.server_session.specs.Session.{IsSharedRun, IsPastLimit, IsReadFault, IsCutOff, EndsSo, IsSessionWithin, Stays}
-use Rattle.server_session.specs.Talk.{HasTaken, turns_ended, turns_at_end, AnswersTurns, AnswersInPart}
-use Rattle.server_session.specs.declared.talk.Talk.{Talk}
+use Rattle.server_session.specs.SessionState.{HasTaken, turns_ended, turns_at_end, AnswersTurns, AnswersInPart}
+use Rattle.server_session.specs.declared.session_state.SessionState.{SessionState}
 use Rattle.server_session.proofs.Runs.{run-none, run-join, cut_behind}
 use Rattle.server_session.proofs.Steps.{turns_ended-behind, turns_at_end-behind}
 use Rattle.script_form.specs.Transcript.{BookStore}
 
--- a session under way: what it took and wrote, and where it stands, a byte too many left out
-pub record IsUnderWay (most : ℕ) (stored : BookStore) (was : Known) (input left output all : Option (List ℕ)) (count : ℕ) (talk : Talk) (now : Known) : Type 0 where
+-- a session under way: what it took and wrote, and where it is, a byte too many left out
+pub record IsUnderWay (most : ℕ) (stored : BookStore) (was : Known) (input left output all : Option (List ℕ)) (count : ℕ) (state : SessionState) (now : Known) : Type 0 where
   pub taken : List ℕ
   pub as_many : length taken ≡ count
   pub reads : Consumes input left taken
   pub written : List ℕ
   pub writes : Appends output all written
   pub told : IsSharedRun stored was (turns_of (ended_lines (take most taken))) now written
-  pub stands : HasTaken talk (take most taken)
+  pub stands : HasTaken state (take most taken)
 
 -- the front of a script that is not too long is the whole of it
 in_limit : (most : ℕ) (taken : List ℕ) → length taken ≤ most → take most taken ≡ taken
@@ -58,10 +58,10 @@ cut_further stored was old new taken bytes replies written stays run cut =
     subst (λ (ts : List Turn). IsCutOff stored was new ts (replies ++ written)) (sym (turns_ended-behind taken bytes)) (cut_behind stored was old new _ _ replies written stays run cut)
 
 -- at the end of the script
-pub ends-finished : (most : ℕ) (stored : BookStore) (was : Known) (end : SessionEnd) (input left left_after output mid all : Option (List ℕ)) (count : ℕ) (talk : Talk) (old new : Known)
-    → IsUnderWay most stored was input left output mid count talk old → Stays was old → count ≤ most → Consumes left left_after [] → IsAtEnd left_after
-    → Finishes stored end talk old new mid all → IsSessionWithin most stored end was new input left_after output all
-ends-finished most stored was End input left left_after output mid all count talk old new way stays within reads at_end finishes =
+pub ends-finished : (most : ℕ) (stored : BookStore) (was : Known) (end : SessionEnd) (input left left_after output mid all : Option (List ℕ)) (count : ℕ) (state : SessionState) (old new : Known)
+    → IsUnderWay most stored was input left output mid count state old → Stays was old → count ≤ most → Consumes left left_after [] → IsAtEnd left_after
+    → Finishes stored end state old new mid all → IsSessionWithin most stored end was new input left_after output all
+ends-finished most stored was End input left left_after output mid all count state old new way stays within reads at_end finishes =
     let answers = finishes (take most way.taken) way.stands in
     let short = subst (λ n. n ≤ most) (sym way.as_many) within in
     record {
@@ -76,7 +76,7 @@ ends-finished most stored was End input left left_after output mid all count tal
             (to_end stored was old new (take most way.taken) way.written answers.replies stays way.told answers.told);
       };
     }
-ends-finished most stored was (Failed code) input left left_after output mid all count talk old new way stays within reads at_end finishes =
+ends-finished most stored was (Failed code) input left left_after output mid all count state old new way stays within reads at_end finishes =
     let (is, part) = finishes (take most way.taken) way.stands in
     let short = subst (λ n. n ≤ most) (sym way.as_many) within in
     record {
@@ -103,10 +103,10 @@ fault_line (Failed code) number line mid all (inl (is, appended)) = inl (ap Fail
 fault_line (Failed code) number line mid all (inr (is, front, short, appended)) = inr (ap Failed is, (front, short, appended))
 
 -- a read failed
-pub ends-at_read : (most : ℕ) (stored : BookStore) (was : Known) (end : SessionEnd) (input left left_after output mid all : Option (List ℕ)) (count : ℕ) (talk : Talk) (now : Known) (text : List ℕ)
-    → IsUnderWay most stored was input left output mid count talk now → count ≤ most → Keeps left left_after → text ≡ error_line Read → EndsBy end 48 text mid all
+pub ends-at_read : (most : ℕ) (stored : BookStore) (was : Known) (end : SessionEnd) (input left left_after output mid all : Option (List ℕ)) (count : ℕ) (state : SessionState) (now : Known) (text : List ℕ)
+    → IsUnderWay most stored was input left output mid count state now → count ≤ most → Keeps left left_after → text ≡ error_line Read → EndsBy end 48 text mid all
     → IsSessionWithin most stored end was now input left_after output all
-ends-at_read most stored was end input left left_after output mid all count talk now text way within kept is ends =
+ends-at_read most stored was end input left left_after output mid all count state now text way within kept is ends =
     let short = subst (λ n. n ≤ most) (sym way.as_many) within in
     let told = subst (λ t. IsSharedRun stored was (turns_of (ended_lines t)) now way.written) (in_limit most way.taken short) way.told in
     let reads = Consumes-kept input left left_after way.taken way.reads kept in
@@ -131,10 +131,10 @@ ends-at_read most stored was end input left left_after output mid all count talk
       }
 
 -- a byte too many was read
-pub ends-past_limit : (most : ℕ) (stored : BookStore) (was : Known) (end : SessionEnd) (input left output mid all : Option (List ℕ)) (count : ℕ) (talk : Talk) (now : Known) (text : List ℕ)
-    → IsUnderWay most stored was input left output mid count talk now → count ≡ most + 1 → text ≡ error_line ReadLimit → EndsBy end 47 text mid all
+pub ends-past_limit : (most : ℕ) (stored : BookStore) (was : Known) (end : SessionEnd) (input left output mid all : Option (List ℕ)) (count : ℕ) (state : SessionState) (now : Known) (text : List ℕ)
+    → IsUnderWay most stored was input left output mid count state now → count ≡ most + 1 → text ≡ error_line ReadLimit → EndsBy end 47 text mid all
     → IsSessionWithin most stored end was now input left output all
-ends-past_limit most stored was end input left output mid all count talk now text way past is ends =
+ends-past_limit most stored was end input left output mid all count state now text way past is ends =
     by_line (fault_line end 47 text mid all ends) (λ line. record { one_more = way.as_many ∙ past; replies = way.written; told = way.told; fault = refl }) where
       by_line : ((end ≡ Failed 47) × Appends mid all text) ⊎ ((end ≡ Failed 49) × ((front : List ℕ) × IsCutShort text front × Appends mid all front))
           → ((line : List ℕ) → IsPastLimit most stored was now way.taken line (way.written ++ line)) → IsSessionWithin most stored end was now input left output all
@@ -179,12 +179,12 @@ let_in most taken chunk count allowed short is =
     ∙ sym (take_of_append most taken (take count chunk) short)
 
 -- bytes are read and taken
-pub goes_on : (most : ℕ) (stored : BookStore) (was : Known) (input left left_after output mid all : Option (List ℕ)) (count more allowed : ℕ) (chunk : List ℕ) (talk talk_then : Talk) (old new : Known)
-    → IsUnderWay most stored was input left output mid count talk old → Stays was old → count ≤ most → more ≤ length chunk → allowed ≡ min more (most - count)
-    → Consumes left left_after (take more chunk) → ((taken : List ℕ) → HasTaken talk taken → HasTaken talk_then (taken ++ take allowed chunk))
-    → ((taken : List ℕ) → HasTaken talk taken → AnswersTurns stored old (turns_ended taken (take allowed chunk)) new mid all)
-    → IsUnderWay most stored was input left_after output all (count + more) talk_then new
-goes_on most stored was input left left_after output mid all count more allowed chunk talk talk_then old new way stays within room is reads takes answers =
+pub goes_on : (most : ℕ) (stored : BookStore) (was : Known) (input left left_after output mid all : Option (List ℕ)) (count more allowed : ℕ) (chunk : List ℕ) (state state_then : SessionState) (old new : Known)
+    → IsUnderWay most stored was input left output mid count state old → Stays was old → count ≤ most → more ≤ length chunk → allowed ≡ min more (most - count)
+    → Consumes left left_after (take more chunk) → ((taken : List ℕ) → HasTaken state taken → HasTaken state_then (taken ++ take allowed chunk))
+    → ((taken : List ℕ) → HasTaken state taken → AnswersTurns stored old (turns_ended taken (take allowed chunk)) new mid all)
+    → IsUnderWay most stored was input left_after output all (count + more) state_then new
+goes_on most stored was input left left_after output mid all count more allowed chunk state state_then old new way stays within room is reads takes answers =
     let short = subst (λ n. n ≤ most) (sym way.as_many) within in
     let answered = answers (take most way.taken) way.stands in
     let bytes : take most way.taken ++ take allowed chunk ≡ take most (way.taken ++ take more chunk) =
@@ -197,15 +197,15 @@ goes_on most stored was input left left_after output mid all count more allowed 
       writes = Appends-trans output mid all way.written answered.replies way.writes answered.appended;
       told = subst (λ t. IsSharedRun stored was (turns_of (ended_lines t)) new (way.written ++ answered.replies)) bytes
           (further stored was old new (take most way.taken) (take allowed chunk) way.written answered.replies stays way.told answered.told);
-      stands = subst (HasTaken talk_then) bytes (takes (take most way.taken) way.stands);
+      stands = subst (HasTaken state_then) bytes (takes (take most way.taken) way.stands);
     }
 
 -- bytes are read, and a write failed
-pub ends-stopped : (most : ℕ) (stored : BookStore) (was : Known) (input left left_after output mid all : Option (List ℕ)) (count more allowed : ℕ) (chunk : List ℕ) (talk : Talk) (old new : Known)
-    → IsUnderWay most stored was input left output mid count talk old → Stays was old → count ≤ most → allowed ≡ min more (most - count)
-    → Consumes left left_after (take more chunk) → ((taken : List ℕ) → HasTaken talk taken → AnswersInPart stored old (turns_ended taken (take allowed chunk)) new mid all)
+pub ends-stopped : (most : ℕ) (stored : BookStore) (was : Known) (input left left_after output mid all : Option (List ℕ)) (count more allowed : ℕ) (chunk : List ℕ) (state : SessionState) (old new : Known)
+    → IsUnderWay most stored was input left output mid count state old → Stays was old → count ≤ most → allowed ≡ min more (most - count)
+    → Consumes left left_after (take more chunk) → ((taken : List ℕ) → HasTaken state taken → AnswersInPart stored old (turns_ended taken (take allowed chunk)) new mid all)
     → IsSessionWithin most stored (Failed 49) was new input left_after output all
-ends-stopped most stored was input left left_after output mid all count more allowed chunk talk old new way stays within is reads stops =
+ends-stopped most stored was input left left_after output mid all count more allowed chunk state old new way stays within is reads stops =
     let short = subst (λ n. n ≤ most) (sym way.as_many) within in
     let part = stops (take most way.taken) way.stands in
     record {
@@ -222,15 +222,15 @@ ends-stopped most stored was input left left_after output mid all count more all
     }
 
 -- a session begins with nothing taken and nothing written
-pub begins : (most : ℕ) (stored : BookStore) (was : Known) (input output : Option (List ℕ)) (talk : Talk) → HasTaken talk [] → IsUnderWay most stored was input input output output 0 talk was
-begins most stored was input output talk begun = record {
+pub begins : (most : ℕ) (stored : BookStore) (was : Known) (input output : Option (List ℕ)) (state : SessionState) → HasTaken state [] → IsUnderWay most stored was input input output output 0 state was
+begins most stored was input output state begun = record {
   taken = [];
   as_many = refl;
   reads = Consumes-nil input;
   written = [];
   writes = Appends-nil output;
   told = subst (λ t. IsSharedRun stored was (turns_of (ended_lines t)) was []) (sym (take-nil most)) (run-none stored was);
-  stands = subst (HasTaken talk) (sym (take-nil most)) begun;
+  stands = subst (HasTaken state) (sym (take-nil most)) begun;
 }
 
 -- a session that finds no memory for itself

@@ -4,15 +4,15 @@ use Rattle.std.proofs.lemmas.List.{length-append}
 use Rattle.std.proofs.KnownBytes.{Appends-nil, Appends-trans}
 use Rattle.overlay_terms.specs.Batches.{Batch}
 use Rattle.book_history.specs.Known.{Known, seen}
-use Rattle.script_form.specs.declared.gathering.Gathering.{Gathering}
-use Rattle.script_form.specs.Gathering.{IsOpen}
+use Rattle.script_form.specs.declared.open_batch.OpenBatch.{OpenBatch}
+use Rattle.script_form.specs.OpenBatch.{IsOpen}
 use Rattle.script_form.specs.Requests.{Request, request_of}
 use Rattle.script_form.specs.Transcript.{BookStore, IsTurn, IsTranscript}
 use Rattle.script_form.specs.Turns.{Turn, Waiting, alone, together, begun_by, unless_begun, ended_by, is_nothing, is_whole, waiting_after, with_line}
 use Rattle.script_form.specs.Writing.{IsCutShort}
 use Rattle.script_form.proofs.TranscriptLemmas.{transcript-one, transcript-join}
 use Rattle.server_session.specs.Session.{IsSharedRun, IsCutOff, Stays}
-use Rattle.server_session.specs.Talk.{AnswersTurns, AnswersInPart}
+use Rattle.server_session.specs.SessionState.{AnswersTurns, AnswersInPart}
 use Rattle.server_session.specs.Turn.{TakesTurn}
 use Rattle.server_session.proofs.Turns.{stays_self, stays_trans}
 
@@ -26,7 +26,7 @@ pub run-one : (stored : BookStore) (was now : Known) (turn : Turn) (made : List 
 run-one stored was now turn made reply taken only =
     record { made = made; told = transcript-one stored was.session (seen was) turn (seen now) made reply taken; only = only }
 
--- a run, and a run behind it
+-- a run, and a run after it
 pub run-join : (stored : BookStore) (was mid now : Known) (turns more : List Turn) (replies rest : List ℕ) → Stays was mid
     → IsSharedRun stored was turns mid replies → IsSharedRun stored mid more now rest → IsSharedRun stored was (turns ++ more) now (replies ++ rest)
 run-join stored was mid now turns more replies rest stays run next = record {
@@ -37,7 +37,7 @@ run-join stored was mid now turns more replies rest stays run next = record {
 }
 
 -- a line is taken as any other that asks for the same
-pub takes_turn-same : (stored : BookStore) (line other : List ℕ) → request_of line ≡ request_of other → (was now : Known) (before after : Option Gathering) (reply : List ℕ)
+pub takes_turn-same : (stored : BookStore) (line other : List ℕ) → request_of line ≡ request_of other → (was now : Known) (before after : Option OpenBatch) (reply : List ℕ)
     → TakesTurn stored was before line now after reply → TakesTurn stored was before other now after reply
 takes_turn-same stored line other same was now before after reply takes = record {
   stays = takes.stays;
@@ -88,7 +88,7 @@ cut_one stored was now turns reply front (inr (turn, one)) run short = record {
   written_is = refl;
 }
 
--- turns that are answered, and turns behind them on the way through which a write failed
+-- turns that are answered, and turns after them on the way through which a write failed
 pub cut_behind : (stored : BookStore) (was mid now : Known) (turns more : List Turn) (replies written : List ℕ) → Stays was mid → IsSharedRun stored was turns mid replies
     → IsCutOff stored mid now more written → IsCutOff stored was now (turns ++ more) (replies ++ written)
 cut_behind stored was mid now turns more replies written stays run cut = record {

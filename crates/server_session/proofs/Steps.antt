@@ -6,8 +6,8 @@ use Rattle.std.proofs.lemmas.List.{length-take}
 use Rattle.std.specs.Io.KnownBytes.{Appends}
 use Rattle.book_history.specs.Known.{Known}
 use Rattle.script_form.specs.declared.fault.CommandFault.TheVariants.{CommandSyntax}
-use Rattle.script_form.specs.declared.gathering.Gathering.{Gathering}
-use Rattle.script_form.specs.Gathering.{IsOpen}
+use Rattle.script_form.specs.declared.open_batch.OpenBatch.{OpenBatch}
+use Rattle.script_form.specs.OpenBatch.{IsOpen}
 use Rattle.script_form.specs.Lines.{line_room, without_cr, ended_lines, unended, last_line, whole_lines}
 use Rattle.script_form.specs.Replies.{error_line}
 use Rattle.script_form.specs.Requests.{request_of}
@@ -18,9 +18,9 @@ use Rattle.script_form.proofs.Pieces.{ended_lines-feed, ended_lines-byte, ended_
 use Rattle.script_form.proofs.TurnLemmas.{turns_of-more, turns_of-push, waiting_behind-push}
 use Rattle.server_session.specs.Loop.{AnswersLine, EndsBatch}
 use Rattle.server_session.specs.Session.{IsSharedRun, Stays}
-use Rattle.server_session.specs.Talk.{HasTaken, turns_ended, turns_at_end, AnswersTurns, AnswersInPart}
+use Rattle.server_session.specs.SessionState.{HasTaken, turns_ended, turns_at_end, AnswersTurns, AnswersInPart}
 use Rattle.server_session.specs.Turn.{IsLineTaken, TakesTurn}
-use Rattle.server_session.specs.declared.talk.Talk.{Talk}
+use Rattle.server_session.specs.declared.session_state.SessionState.{SessionState}
 use Rattle.server_session.proofs.Runs.{run-one, takes_turn-same, ended_one, cut_one, answers_none, answers_join, answers_as, stops_behind, stops_before, stops_as}
 use Rattle.server_session.proofs.Turns.{stays_self}
 use Rattle.script_form.specs.Transcript.{BookStore}
@@ -33,7 +33,7 @@ behind_front xs ys zs is = ap (drop (length xs)) is ∙ drop-append_seam xs ys
 turns_ended-are : (taken bytes : List ℕ) (turns : List Turn) → turns_of (ended_lines (taken ++ bytes)) ≡ turns_of (ended_lines taken) ++ turns → turns_ended taken bytes ≡ turns
 turns_ended-are taken bytes turns is = behind_front (turns_of (ended_lines taken)) turns (turns_of (ended_lines (taken ++ bytes))) is
 
--- they come behind those that were ended, which stay
+-- they come after those that were ended, which stay
 pub turns_ended-behind : (taken bytes : List ℕ) → turns_of (ended_lines (taken ++ bytes)) ≡ turns_of (ended_lines taken) ++ turns_ended taken bytes
 turns_ended-behind taken bytes =
     let on = ended_lines-more taken bytes in
@@ -100,14 +100,14 @@ turns_at_end-last taken some =
 -- ==== A byte
 
 -- one that ends no line
-pub takes_other : (old new : Talk) (b : ℕ) → b ≢ 10 → new.line ≡ take line_room (old.line ++ b ∷ []) → new.waiting ≡ old.waiting
+pub takes_other : (old new : SessionState) (b : ℕ) → b ≢ 10 → new.line ≡ take line_room (old.line ++ b ∷ []) → new.waiting ≡ old.waiting
     → (taken : List ℕ) → HasTaken old taken → HasTaken new (taken ++ b ∷ [])
 takes_other old new b other is same taken has =
     let no_feed = ne_eqb b 10 other in
     record {
       line = is ∙ ap (λ l. take line_room (l ++ b ∷ [])) has.line ∙ take-push line_room (unended taken) b ∙ ap (take line_room) (sym (unended-byte taken b no_feed));
       waits = subst (λ (lines : List (List ℕ)). IsOpen (waiting_behind lines) new.waiting) (sym (ended_lines-byte taken b no_feed))
-          (subst (λ (o : Option Gathering). IsOpen (waiting_behind (ended_lines taken)) o) (sym same) has.waits);
+          (subst (λ (o : Option OpenBatch). IsOpen (waiting_behind (ended_lines taken)) o) (sym same) has.waits);
     }
 
 pub answers_other : (stored : BookStore) (me : Known) (b : ℕ) (output : Option (List ℕ)) → b ≢ 10 → (taken : List ℕ) → AnswersTurns stored me (turns_ended taken (b ∷ [])) me output output
@@ -115,7 +115,7 @@ answers_other stored me b output other taken =
     answers_as stored me me [] (turns_ended taken (b ∷ [])) output output (sym (turns_ended-byte taken b (ne_eqb b 10 other))) (answers_none stored me output)
 
 -- a line feed: the line that is kept ends the turn that the whole line ends
-module _ (stored : BookStore) (old : Talk) (was now : Known) (before after : Option Gathering) (ended reply : List ℕ) (same : before ≡ old.waiting) (is : ended ≡ without_cr old.line)
+module _ (stored : BookStore) (old : SessionState) (was now : Known) (before after : Option OpenBatch) (ended reply : List ℕ) (same : before ≡ old.waiting) (is : ended ≡ without_cr old.line)
     (takes : TakesTurn stored was before ended now after reply) (taken : List ℕ) (has : HasTaken old taken) where
   fed_line : IsLineTaken stored was (waiting_behind (ended_lines taken)) (without_cr (unended taken)) now after reply
   fed_line =
@@ -140,7 +140,7 @@ module _ (stored : BookStore) (old : Talk) (was now : Known) (before after : Opt
         appended = appended;
       })
 
-pub takes_feed : {A E : Type 0} (result : Result A E) (stored : BookStore) (old new : Talk) (was now : Known) (before : Option Gathering) (ended : List ℕ) (b : ℕ) (output all : Option (List ℕ))
+pub takes_feed : {A E : Type 0} (result : Result A E) (stored : BookStore) (old new : SessionState) (was now : Known) (before : Option OpenBatch) (ended : List ℕ) (b : ℕ) (output all : Option (List ℕ))
     → b ≡ 10 → new.line ≡ [] → before ≡ old.waiting → ended ≡ without_cr old.line → AnswersLine stored result was before ended now new.waiting output all
     → OnOk result ((taken : List ℕ) → HasTaken old taken → HasTaken new (taken ++ b ∷ []))
 takes_feed (Ok a) stored old new was now before ended b output all feed none same is (reply, takes, appended) = λ taken has.
@@ -150,7 +150,7 @@ takes_feed (Ok a) stored old new was now before ended b output all feed none sam
     })
 takes_feed (Err e) stored old new was now before ended b output all feed none same is answers = tt
 
-pub answers_feed : {A E : Type 0} (result : Result A E) (stored : BookStore) (old : Talk) (was now : Known) (before after : Option Gathering) (ended : List ℕ) (b : ℕ) (output all : Option (List ℕ))
+pub answers_feed : {A E : Type 0} (result : Result A E) (stored : BookStore) (old : SessionState) (was now : Known) (before after : Option OpenBatch) (ended : List ℕ) (b : ℕ) (output all : Option (List ℕ))
     → b ≡ 10 → before ≡ old.waiting → ended ≡ without_cr old.line → AnswersLine stored result was before ended now after output all
     → OnOk result ((taken : List ℕ) → HasTaken old taken → AnswersTurns stored was (turns_ended taken (b ∷ [])) now output all)
 answers_feed (Ok a) stored old was now before after ended b output all feed same is (reply, takes, appended) = λ taken has.
@@ -158,7 +158,7 @@ answers_feed (Ok a) stored old was now before after ended b output all feed same
     (fed_answers stored old was now before after ended reply same is takes taken has output all appended)
 answers_feed (Err e) stored old was now before after ended b output all feed same is answers = tt
 
-pub stops_feed : {A E : Type 0} (result : Result A E) (stored : BookStore) (old : Talk) (was now : Known) (before after : Option Gathering) (ended : List ℕ) (b : ℕ) (output all : Option (List ℕ))
+pub stops_feed : {A E : Type 0} (result : Result A E) (stored : BookStore) (old : SessionState) (was now : Known) (before after : Option OpenBatch) (ended : List ℕ) (b : ℕ) (output all : Option (List ℕ))
     → b ≡ 10 → before ≡ old.waiting → ended ≡ without_cr old.line → AnswersLine stored result was before ended now after output all
     → OnErr result ((taken : List ℕ) → HasTaken old taken → AnswersInPart stored was (turns_ended taken (b ∷ [])) now output all)
 stops_feed (Ok a) stored old was now before after ended b output all feed same is answers = tt
@@ -168,17 +168,17 @@ stops_feed (Err e) stored old was now before after ended b output all feed same 
 
 -- ==== Bytes, one after another
 
-pub takes_none : (talk : Talk) (taken : List ℕ) → HasTaken talk taken → HasTaken talk (taken ++ [])
-takes_none talk taken has = subst (HasTaken talk) (sym (append-nil taken)) has
+pub takes_none : (state : SessionState) (taken : List ℕ) → HasTaken state taken → HasTaken state (taken ++ [])
+takes_none state taken has = subst (HasTaken state) (sym (append-nil taken)) has
 
 pub answers_nothing : (stored : BookStore) (me : Known) (output : Option (List ℕ)) (taken : List ℕ) → AnswersTurns stored me (turns_ended taken []) me output output
 answers_nothing stored me output taken = answers_as stored me me [] (turns_ended taken []) output output (sym (turns_ended-nil taken)) (answers_none stored me output)
 
 -- bytes, and then more bytes
-module _ (stored : BookStore) (first mid : Talk) (was between now : Known) (xs ys zs : List ℕ) (output middle all : Option (List ℕ)) (joined : xs ++ ys ≡ zs) (stays : Stays was between)
+module _ (stored : BookStore) (first mid : SessionState) (was between now : Known) (xs ys zs : List ℕ) (output middle all : Option (List ℕ)) (joined : xs ++ ys ≡ zs) (stays : Stays was between)
     (takes : (taken : List ℕ) → HasTaken first taken → HasTaken mid (taken ++ xs))
     (answers : (taken : List ℕ) → HasTaken first taken → AnswersTurns stored was (turns_ended taken xs) between output middle) where
-  pub takes_more : (end : Talk) → ((taken : List ℕ) → HasTaken mid taken → HasTaken end (taken ++ ys)) → (taken : List ℕ) → HasTaken first taken → HasTaken end (taken ++ zs)
+  pub takes_more : (end : SessionState) → ((taken : List ℕ) → HasTaken mid taken → HasTaken end (taken ++ ys)) → (taken : List ℕ) → HasTaken first taken → HasTaken end (taken ++ zs)
   takes_more end next taken has = subst (HasTaken end) (append_assoc taken xs ys ∙ ap (λ bytes. taken ++ bytes) joined) (next (taken ++ xs) (takes taken has))
 
   pub answers_more : ((taken : List ℕ) → HasTaken mid taken → AnswersTurns stored between (turns_ended taken ys) now middle all)
@@ -194,7 +194,7 @@ module _ (stored : BookStore) (first mid : Talk) (was between now : Known) (xs y
       (stops_behind stored was between now (turns_ended taken xs) (turns_ended (taken ++ xs) ys) output middle all stays (answers taken has) (next (taken ++ xs) (takes taken has)))
 
 -- a failed write: the bytes that were not looked at any more make no difference
-pub stops_there : (stored : BookStore) (first mid : Talk) (was between now : Known) (xs ys rest all_bytes : List ℕ) (output middle all : Option (List ℕ)) → (xs ++ ys) ++ rest ≡ all_bytes → Stays was between
+pub stops_there : (stored : BookStore) (first mid : SessionState) (was between now : Known) (xs ys rest all_bytes : List ℕ) (output middle all : Option (List ℕ)) → (xs ++ ys) ++ rest ≡ all_bytes → Stays was between
     → ((taken : List ℕ) → HasTaken first taken → HasTaken mid (taken ++ xs)) → ((taken : List ℕ) → HasTaken first taken → AnswersTurns stored was (turns_ended taken xs) between output middle)
     → ((taken : List ℕ) → HasTaken mid taken → AnswersInPart stored between (turns_ended taken ys) now middle all)
     → (taken : List ℕ) → HasTaken first taken → AnswersInPart stored was (turns_ended taken all_bytes) now output all
@@ -210,10 +210,10 @@ cut_off_none : (waiting : Option Waiting) → IsOpen waiting None → cut_off_in
 cut_off_none None waits = refl
 cut_off_none (Some waiting) waits = absurd waits
 
-cut_off_run : (stored : BookStore) (me : Known) (waiting : Option Waiting) (gathering : Gathering) → IsOpen waiting (Some gathering)
+cut_off_run : (stored : BookStore) (me : Known) (waiting : Option Waiting) (open_batch : OpenBatch) → IsOpen waiting (Some open_batch)
     → IsSharedRun stored me (cut_off_in waiting) me (error_line CommandSyntax)
-cut_off_run stored me None gathering waits = absurd waits
-cut_off_run stored me (Some waiting) gathering waits =
+cut_off_run stored me None open_batch waits = absurd waits
+cut_off_run stored me (Some waiting) open_batch waits =
     run-one stored me me (cut_off waiting.came) [] (error_line CommandSyntax)
     (record { goes_on = (stays_self me).goes_on; answered = record { nothing_made = refl; told = refl } }) (sym (append-nil me.made))
 
@@ -221,24 +221,24 @@ cut_off_one : (waiting : Option Waiting) → (cut_off_in waiting ≡ []) ⊎ ((t
 cut_off_one None = inl refl
 cut_off_one (Some waiting) = inr (cut_off waiting.came, refl)
 
-pub ends_alone : (open_before : Option Gathering) (output : Option (List ℕ)) → is_some open_before ≡ false
+pub ends_alone : (open_before : Option OpenBatch) (output : Option (List ℕ)) → is_some open_before ≡ false
     → (stored : BookStore) (me : Known) (waiting : Option Waiting) → IsOpen waiting open_before → AnswersTurns stored me (cut_off_in waiting) me output output
 ends_alone None output none stored me waiting waits =
     answers_as stored me me [] (cut_off_in waiting) output output (sym (cut_off_none waiting waits)) (answers_none stored me output)
-ends_alone (Some gathering) output none stored me waiting waits = absurd (true≢false none)
+ends_alone (Some open_batch) output none stored me waiting waits = absurd (true≢false none)
 
-pub ends_refused : {A E : Type 0} (result : Result A E) (open_before : Option Gathering) (output all : Option (List ℕ)) → is_some open_before ≡ true
+pub ends_refused : {A E : Type 0} (result : Result A E) (open_before : Option OpenBatch) (output all : Option (List ℕ)) → is_some open_before ≡ true
     → Writes result output all (error_line CommandSyntax) → (stored : BookStore) → EndsBatch stored result open_before output all
 ends_refused result None output all some writes stored = absurd (false≢true some)
-ends_refused (Ok a) (Some gathering) output all some appended stored = λ me waiting waits.
-    record { replies = error_line CommandSyntax; told = cut_off_run stored me waiting gathering waits; appended = appended }
-ends_refused (Err e) (Some gathering) output all some (front, short, appended) stored = λ me waiting waits. record {
+ends_refused (Ok a) (Some open_batch) output all some appended stored = λ me waiting waits.
+    record { replies = error_line CommandSyntax; told = cut_off_run stored me waiting open_batch waits; appended = appended }
+ends_refused (Err e) (Some open_batch) output all some (front, short, appended) stored = λ me waiting waits. record {
   written = front;
-  cut = cut_one stored me me (cut_off_in waiting) (error_line CommandSyntax) front (cut_off_one waiting) (cut_off_run stored me waiting gathering waits) short;
+  cut = cut_one stored me me (cut_off_in waiting) (error_line CommandSyntax) front (cut_off_one waiting) (cut_off_run stored me waiting open_batch waits) short;
   appended = appended;
 }
 
--- nothing is kept where nothing stands behind the last line feed
+-- nothing is kept where nothing comes after the last line feed
 some_room : 0 < line_room
 unfolding line_room
 some_room = lit< tt
@@ -248,69 +248,69 @@ take_of_some n [] some none = refl
 take_of_some zero (b ∷ rest) some none = absurd (omega arith)
 take_of_some (suc n) (b ∷ rest) some none = absurd (omega arith)
 
-no_rest : (talk : Talk) (taken : List ℕ) → HasTaken talk taken → length talk.line ≡ 0 → unended taken ≡ []
-no_rest talk taken has none = take_of_some line_room (unended taken) some_room (sym (ap length has.line) ∙ none)
+no_rest : (state : SessionState) (taken : List ℕ) → HasTaken state taken → length state.line ≡ 0 → unended taken ≡ []
+no_rest state taken has none = take_of_some line_room (unended taken) some_room (sym (ap length has.line) ∙ none)
 
-some_rest : (talk : Talk) (taken : List ℕ) → HasTaken talk taken → 0 < length talk.line → 0 < length (unended taken)
-some_rest talk taken has some = omega (arith, ap length has.line, length-take line_room (unended taken))
+some_rest : (state : SessionState) (taken : List ℕ) → HasTaken state taken → 0 < length state.line → 0 < length (unended taken)
+some_rest state taken has some = omega (arith, ap length has.line, length-take line_room (unended taken))
 
--- the script ends behind a line feed
-module _ {A E : Type 0} (stored : BookStore) (talk : Talk) (me : Known) (before : Option Gathering) (output all : Option (List ℕ)) (same : before ≡ talk.waiting) (none : length talk.line ≡ 0) where
-  pub answers_empty : (result : Result A E) → EndsBatch stored result before output all → OnOk result ((taken : List ℕ) → HasTaken talk taken → AnswersTurns stored me (turns_at_end taken) me output all)
+-- the script ends after a line feed
+module _ {A E : Type 0} (stored : BookStore) (state : SessionState) (me : Known) (before : Option OpenBatch) (output all : Option (List ℕ)) (same : before ≡ state.waiting) (none : length state.line ≡ 0) where
+  pub answers_empty : (result : Result A E) → EndsBatch stored result before output all → OnOk result ((taken : List ℕ) → HasTaken state taken → AnswersTurns stored me (turns_at_end taken) me output all)
   answers_empty (Ok a) ends = λ taken has.
-      answers_as stored me me _ (turns_at_end taken) output all (sym (turns_at_end-empty taken (no_rest talk taken has none)))
+      answers_as stored me me _ (turns_at_end taken) output all (sym (turns_at_end-empty taken (no_rest state taken has none)))
       (ends me (waiting_behind (ended_lines taken)) (subst (IsOpen (waiting_behind (ended_lines taken))) (sym same) has.waits))
   answers_empty (Err e) ends = tt
 
-  pub stops_empty : (result : Result A E) → EndsBatch stored result before output all → OnErr result ((taken : List ℕ) → HasTaken talk taken → AnswersInPart stored me (turns_at_end taken) me output all)
+  pub stops_empty : (result : Result A E) → EndsBatch stored result before output all → OnErr result ((taken : List ℕ) → HasTaken state taken → AnswersInPart stored me (turns_at_end taken) me output all)
   stops_empty (Ok a) ends = tt
   stops_empty (Err e) ends = λ taken has.
-      stops_as stored me me _ (turns_at_end taken) output all (sym (turns_at_end-empty taken (no_rest talk taken has none)))
+      stops_as stored me me _ (turns_at_end taken) output all (sym (turns_at_end-empty taken (no_rest state taken has none)))
       (ends me (waiting_behind (ended_lines taken)) (subst (IsOpen (waiting_behind (ended_lines taken))) (sym same) has.waits))
 
 -- a last line
-module _ (stored : BookStore) (talk : Talk) (was now : Known) (before after : Option Gathering) (bytes reply : List ℕ) (same : before ≡ talk.waiting) (is : bytes ≡ talk.line) (some : 0 < length talk.line)
-    (takes : TakesTurn stored was before bytes now after reply) (taken : List ℕ) (has : HasTaken talk taken) where
+module _ (stored : BookStore) (state : SessionState) (was now : Known) (before after : Option OpenBatch) (bytes reply : List ℕ) (same : before ≡ state.waiting) (is : bytes ≡ state.line) (some : 0 < length state.line)
+    (takes : TakesTurn stored was before bytes now after reply) (taken : List ℕ) (has : HasTaken state taken) where
   last_taken : IsLineTaken stored was (waiting_behind (ended_lines taken)) (unended taken) now after reply
   last_taken =
       let whole = takes_turn-same stored bytes (unended taken) (ap request_of (is ∙ has.line) ∙ request_of-cut (unended taken)) was now before after reply takes in
       whole.taken (waiting_behind (ended_lines taken)) (subst (IsOpen (waiting_behind (ended_lines taken))) (sym same) has.waits)
 
   last_turns : ended_by (waiting_behind (ended_lines taken)) (request_of (unended taken)) ++ cut_off_in (waiting_after (waiting_behind (ended_lines taken)) (request_of (unended taken))) ≡ turns_at_end taken
-  last_turns = sym (turns_at_end-last taken (some_rest talk taken has some))
+  last_turns = sym (turns_at_end-last taken (some_rest state taken has some))
 
   last_answers : (output all : Option (List ℕ)) → Appends output all reply → AnswersTurns stored was (ended_by (waiting_behind (ended_lines taken)) (request_of (unended taken))) now output all
   last_answers output all appended = record { replies = reply; told = last_taken.answered; appended = appended }
 
-pub answers_last : {A E : Type 0} (result : Result A E) (stored : BookStore) (talk : Talk) (was now : Known) (before after : Option Gathering) (bytes : List ℕ) (output middle all : Option (List ℕ))
-    → before ≡ talk.waiting → bytes ≡ talk.line → 0 < length talk.line → ((reply : List ℕ) × TakesTurn stored was before bytes now after reply × Appends output middle reply)
-    → EndsBatch stored result after middle all → OnOk result ((taken : List ℕ) → HasTaken talk taken → AnswersTurns stored was (turns_at_end taken) now output all)
-answers_last (Ok a) stored talk was now before after bytes output middle all same is some (reply, takes, appended) ends = λ taken has.
-    answers_as stored was now _ (turns_at_end taken) output all (last_turns stored talk was now before after bytes reply same is some takes taken has)
-    (answers_join stored was now now _ _ output middle all takes.stays (last_answers stored talk was now before after bytes reply same is some takes taken has output middle appended)
-    (ends now _ (last_taken stored talk was now before after bytes reply same is some takes taken has).waits))
-answers_last (Err e) stored talk was now before after bytes output middle all same is some told ends = tt
+pub answers_last : {A E : Type 0} (result : Result A E) (stored : BookStore) (state : SessionState) (was now : Known) (before after : Option OpenBatch) (bytes : List ℕ) (output middle all : Option (List ℕ))
+    → before ≡ state.waiting → bytes ≡ state.line → 0 < length state.line → ((reply : List ℕ) × TakesTurn stored was before bytes now after reply × Appends output middle reply)
+    → EndsBatch stored result after middle all → OnOk result ((taken : List ℕ) → HasTaken state taken → AnswersTurns stored was (turns_at_end taken) now output all)
+answers_last (Ok a) stored state was now before after bytes output middle all same is some (reply, takes, appended) ends = λ taken has.
+    answers_as stored was now _ (turns_at_end taken) output all (last_turns stored state was now before after bytes reply same is some takes taken has)
+    (answers_join stored was now now _ _ output middle all takes.stays (last_answers stored state was now before after bytes reply same is some takes taken has output middle appended)
+    (ends now _ (last_taken stored state was now before after bytes reply same is some takes taken has).waits))
+answers_last (Err e) stored state was now before after bytes output middle all same is some told ends = tt
 
-pub stops_last : {A E : Type 0} (result : Result A E) (stored : BookStore) (talk : Talk) (was now : Known) (before after : Option Gathering) (bytes : List ℕ) (output middle all : Option (List ℕ))
-    → before ≡ talk.waiting → bytes ≡ talk.line → 0 < length talk.line → ((reply : List ℕ) × TakesTurn stored was before bytes now after reply × Appends output middle reply)
-    → EndsBatch stored result after middle all → OnErr result ((taken : List ℕ) → HasTaken talk taken → AnswersInPart stored was (turns_at_end taken) now output all)
-stops_last (Ok a) stored talk was now before after bytes output middle all same is some told ends = tt
-stops_last (Err e) stored talk was now before after bytes output middle all same is some (reply, takes, appended) ends = λ taken has.
-    stops_as stored was now _ (turns_at_end taken) output all (last_turns stored talk was now before after bytes reply same is some takes taken has)
-    (stops_behind stored was now now _ _ output middle all takes.stays (last_answers stored talk was now before after bytes reply same is some takes taken has output middle appended)
-    (ends now _ (last_taken stored talk was now before after bytes reply same is some takes taken has).waits))
+pub stops_last : {A E : Type 0} (result : Result A E) (stored : BookStore) (state : SessionState) (was now : Known) (before after : Option OpenBatch) (bytes : List ℕ) (output middle all : Option (List ℕ))
+    → before ≡ state.waiting → bytes ≡ state.line → 0 < length state.line → ((reply : List ℕ) × TakesTurn stored was before bytes now after reply × Appends output middle reply)
+    → EndsBatch stored result after middle all → OnErr result ((taken : List ℕ) → HasTaken state taken → AnswersInPart stored was (turns_at_end taken) now output all)
+stops_last (Ok a) stored state was now before after bytes output middle all same is some told ends = tt
+stops_last (Err e) stored state was now before after bytes output middle all same is some (reply, takes, appended) ends = λ taken has.
+    stops_as stored was now _ (turns_at_end taken) output all (last_turns stored state was now before after bytes reply same is some takes taken has)
+    (stops_behind stored was now now _ _ output middle all takes.stays (last_answers stored state was now before after bytes reply same is some takes taken has output middle appended)
+    (ends now _ (last_taken stored state was now before after bytes reply same is some takes taken has).waits))
 
 -- a last line whose reply was cut short
-pub stops_at_last : (stored : BookStore) (talk : Talk) (was now : Known) (before after : Option Gathering) (bytes : List ℕ) (output all : Option (List ℕ))
-    → before ≡ talk.waiting → bytes ≡ talk.line → 0 < length talk.line
+pub stops_at_last : (stored : BookStore) (state : SessionState) (was now : Known) (before after : Option OpenBatch) (bytes : List ℕ) (output all : Option (List ℕ))
+    → before ≡ state.waiting → bytes ≡ state.line → 0 < length state.line
     → ((reply : List ℕ) × TakesTurn stored was before bytes now after reply × ((front : List ℕ) × IsCutShort reply front × Appends output all front))
-    → (taken : List ℕ) → HasTaken talk taken → AnswersInPart stored was (turns_at_end taken) now output all
-stops_at_last stored talk was now before after bytes output all same is some (reply, takes, (front, short, appended)) taken has =
-    stops_as stored was now _ (turns_at_end taken) output all (last_turns stored talk was now before after bytes reply same is some takes taken has)
+    → (taken : List ℕ) → HasTaken state taken → AnswersInPart stored was (turns_at_end taken) now output all
+stops_at_last stored state was now before after bytes output all same is some (reply, takes, (front, short, appended)) taken has =
+    stops_as stored was now _ (turns_at_end taken) output all (last_turns stored state was now before after bytes reply same is some takes taken has)
     (stops_before stored was now _ _ output all (record {
       written = front;
       cut = cut_one stored was now _ reply front (ended_one (waiting_behind (ended_lines taken)) (request_of (unended taken)))
-          (last_taken stored talk was now before after bytes reply same is some takes taken has).answered short;
+          (last_taken stored state was now before after bytes reply same is some takes taken has).answered short;
       appended = appended;
     }))
 

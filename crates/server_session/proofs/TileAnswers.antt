@@ -178,7 +178,7 @@ sync_refused stored was now result fault is on same refused only without told sa
     (answers_so was now (waited_stays was now on same) same.2 stored sync (error_line (fault_told fault))
     (sync_refused_so stored.told stored.there was now fault refused (λ e. only (is ∙ ap Err e)) (λ none. subst (λ (r : Result ℕ BookFault). IsErrAnd r P) is (without none))))
 
--- a book that tells a durable number has a store
+-- a book that reports a durable number has a store
 has_one : (there : Bool) (result : Result ℕ BookFault) (number : ℕ) → result ≡ Ok number
     → (there ≡ false → IsErrAnd result (λ f. (f ≡ book.NoStore) ⊎ (f ≡ book.Gone))) → IsTrue there
 has_one true result number is without = refl

@@ -6,15 +6,15 @@ use Rattle.book_history.specs.Known.{Known, seen}
 use Rattle.script_form.specs.declared.fault.CommandFault.{CommandFault}
 use Rattle.script_form.specs.declared.fault.CommandFault.TheVariants.{OutOfMemory}
 use Rattle.script_form.specs.declared.line_reply.LineReply.{LineReply}
-use Rattle.script_form.specs.declared.gathering.LinesFault.{LinesFault}
-use Rattle.script_form.specs.Gathering.{AreRead}
+use Rattle.script_form.specs.declared.open_batch.LinesFault.{LinesFault}
+use Rattle.script_form.specs.OpenBatch.{AreRead}
 use Rattle.script_form.specs.Replies.{error_line}
 use Rattle.script_form.specs.LineReply.{reply_text}
 use Rattle.script_form.specs.Requests.{Request}
 use Rattle.script_form.specs.Transcript.{BookStore, IsRefused, IsSubmitted, IsSubmittedAll, IsAnswered, IsBatchAnswered, IsOutOfMemory}
 use Rattle.server_session.specs.Session.{Stays}
 
--- the bytes that tell a reply or a fault
+-- the bytes that say a reply or a fault
 abbrev pub result_text : Result LineReply CommandFault → List ℕ
 result_text (Ok reply) = reply_text reply
 result_text (Err fault) = error_line fault

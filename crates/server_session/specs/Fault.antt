@@ -1,4 +1,4 @@
--- How a session tells what the book refuses.
+-- How a session reports what the book refuses.
 use Rattle.std.specs.Prelude.{◌≡◌, ◌⊎◌, ℕ, List}
 use Rattle.overlay_terms.specs.Commands.{Refusal}
 use Rattle.layer_book.specs.Fault.{fault_of}
@@ -8,8 +8,8 @@ use Rattle.book_history.specs.declared.fault.BookFault.TheVariants as book
 use Rattle.book_history.specs.declared.fault.ToldFault.{ToldFault}
 use Rattle.book_history.specs.declared.fault.ToldFault.TheVariants as store
 use Rattle.script_form.specs.declared.fault.CommandFault.{CommandFault}
-use Rattle.script_form.specs.declared.gathering.LinesFault.{LinesFault}
-use Rattle.script_form.specs.declared.gathering.LinesFault.TheVariants as lines
+use Rattle.script_form.specs.declared.open_batch.LinesFault.{LinesFault}
+use Rattle.script_form.specs.declared.open_batch.LinesFault.TheVariants as lines
 use Rattle.script_form.specs.Fault.{code_of}
 use Rattle.script_form.specs.Replies.{error_line, refused_line}
 use Rattle.script_form.specs.declared.fault.CommandFault.TheVariants.{Version, Device, Full, StoreFailed, SequenceLimit, OutOfMemory, Closing, Gone, NoStore}
@@ -28,7 +28,7 @@ fault_told book.Gone = Gone
 fault_told book.NoStore = NoStore
 fault_told (book.Store fault) = store_told fault
 
--- a fault by which a batch is refused: a refusal of the definitions, or the book closes, or is behind, or memory ran out
+-- a fault by which a batch is refused: a refusal of the definitions, or the book closes, or is not as far, or memory ran out
 abbrev pub IsBatchFault : CommandFault → Type 0
 IsBatchFault fault =
     ((reason : Refusal) × (fault ≡ Version (Layer (fault_of reason)))) ⊎ (fault ≡ Closing) ⊎ (fault ≡ Gone) ⊎ (fault ≡ OutOfMemory)
@@ -42,7 +42,7 @@ pub record IsNumbered (code : ℕ) (fault : CommandFault) : Type 0 where
 abbrev pub IsBatchNumber : ℕ → Type 0
 IsBatchNumber code = (fault : CommandFault) × IsNumbered code fault
 
--- the bytes that tell why the lines of a batch are not read as commands
+-- the bytes that say why the lines of a batch are not read as commands
 abbrev pub lines_told : LinesFault → List ℕ
 lines_told (lines.Unread place fault) = refused_line place fault
 lines_told lines.OutOfMemory = error_line OutOfMemory

@@ -3,5 +3,5 @@ pub mod Stores
 pub mod Fault
 pub mod Turn
 pub mod Answering
-pub mod Talk
+pub mod SessionState
 pub mod Loop

@@ -1,20 +1,20 @@
--- The words of the steps on the way through a script. What a session promises is told in `Session` and `Talk`, without them.
+-- The words of the steps on the way through a script. What a session promises is in `Session` and `SessionState`, without them.
 use Rattle.std.specs.Prelude.{◌≡◌, ℕ, ◌⊎◌, Bool, List, Option, Result, MatchResult}
 use Rattle.std.specs.Io.KnownBytes.{Appends}
 use Rattle.book_history.specs.Known.{Known}
 use Rattle.script_form.specs.declared.session_end.SessionEnd.{SessionEnd}
 use Rattle.script_form.specs.declared.session_end.SessionEnd.TheVariants.{End, Failed}
-use Rattle.script_form.specs.declared.gathering.Gathering.{Gathering}
-use Rattle.script_form.specs.Gathering.{IsOpen}
+use Rattle.script_form.specs.declared.open_batch.OpenBatch.{OpenBatch}
+use Rattle.script_form.specs.OpenBatch.{IsOpen}
 use Rattle.script_form.specs.Turns.{Turn, Waiting, cut_off_in}
 use Rattle.script_form.specs.Writing.{IsCutShort, Writes}
-use Rattle.server_session.specs.Talk.{HasTaken, turns_at_end, AnswersTurns, AnswersInPart}
+use Rattle.server_session.specs.SessionState.{HasTaken, turns_at_end, AnswersTurns, AnswersInPart}
 use Rattle.server_session.specs.Turn.{TakesTurn}
-use Rattle.server_session.specs.declared.talk.Talk.{Talk}
+use Rattle.server_session.specs.declared.session_state.SessionState.{SessionState}
 use Rattle.script_form.specs.Transcript.{BookStore}
 
 -- a line is taken, and the reply of the turn that it ends is written
-abbrev pub AnswersLine : {A E : Type 0} → BookStore → Result A E → Known → Option Gathering → List ℕ → Known → Option Gathering → Option (List ℕ) → Option (List ℕ) → Type 0
+abbrev pub AnswersLine : {A E : Type 0} → BookStore → Result A E → Known → Option OpenBatch → List ℕ → Known → Option OpenBatch → Option (List ℕ) → Option (List ℕ) → Type 0
 AnswersLine stored result was before line now after output all =
     (reply : List ℕ) × TakesTurn stored was before line now after reply × Writes result output all reply
 
@@ -23,8 +23,8 @@ abbrev pub AnswersOrFails : {A E : Type 0} → BookStore → Result A E → Know
 AnswersOrFails stored result was turns now output all =
     MatchResult result (λ _. AnswersTurns stored was turns now output all) (λ _. AnswersInPart stored was turns now output all)
 
--- behind the last line: a batch that waits is cut off
-abbrev pub EndsBatch : {A E : Type 0} → BookStore → Result A E → Option Gathering → Option (List ℕ) → Option (List ℕ) → Type 0
+-- after the last line: a batch that waits is cut off
+abbrev pub EndsBatch : {A E : Type 0} → BookStore → Result A E → Option OpenBatch → Option (List ℕ) → Option (List ℕ) → Type 0
 EndsBatch stored result open_before output all =
     (me : Known) (waiting : Option Waiting) → IsOpen waiting open_before → AnswersOrFails stored result me (cut_off_in waiting) me output all
 
@@ -34,11 +34,11 @@ EndsWith stored End was turns now output all = AnswersTurns stored was turns now
 EndsWith stored (Failed code) was turns now output all = (code ≡ 49) × AnswersInPart stored was turns now output all
 
 -- the end of the script, whatever was taken of it
-abbrev pub Finishes : BookStore → SessionEnd → Talk → Known → Known → Option (List ℕ) → Option (List ℕ) → Type 0
-Finishes stored end talk was now output all =
-    (taken : List ℕ) → HasTaken talk taken → EndsWith stored end was (turns_at_end taken) now output all
+abbrev pub Finishes : BookStore → SessionEnd → SessionState → Known → Known → Option (List ℕ) → Option (List ℕ) → Type 0
+Finishes stored end state was now output all =
+    (taken : List ℕ) → HasTaken state taken → EndsWith stored end was (turns_at_end taken) now output all
 
--- how a session ends behind a fault's line
+-- how a session ends after a fault's line
 abbrev pub EndsBy : SessionEnd → ℕ → List ℕ → Option (List ℕ) → Option (List ℕ) → Type 0
 EndsBy End number line output all = ⊥
 EndsBy (Failed code) number line output all =

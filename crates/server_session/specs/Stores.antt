@@ -5,7 +5,7 @@ use Rattle.book_history.specs.Logs.{history_of}
 use Rattle.book_lock.specs.Telling.{IsToldIn}
 use Rattle.script_form.specs.Transcript.{BookStore, store_by}
 
--- the number that a history tells durable is that of its first version, or was stored of a beginning of its log
+-- the number that a history reports durable is that of its first version, or was stored of a beginning of its log
 abbrev pub IsToldOf : (List Entry → ℕ → Type 0) → History → Type 0
 IsToldOf stored history = (log : List Entry) × (history_of log ≡ history) × IsToldIn stored log
 

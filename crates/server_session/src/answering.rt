@@ -21,7 +21,7 @@ use layer_book::fault::LayerFault;
 use overlay_grid::{GridSpec, grid};
 use plane_base::Column;
 use script_form::{
-    CommandFault, Gathering, LineReply, LineTurn, Request, read_define, read_name, read_put,
+    CommandFault, LineReply, LineTurn, OpenBatch, Request, read_define, read_name, read_put,
     read_remove, take_line,
 };
 use std::alloc::Global;
@@ -34,13 +34,13 @@ use version_core::Answers;
 use versions::{Version, VersionFault};
 
 /// What a line makes of the book, of the session and of the batch that waits for lines, and the reply to the turn that
-/// it ends. A line that is too long may be handed in cut off behind its first 65,537 bytes.
+/// it ends. A line that is too long may be handed in cut off after its first 65,537 bytes.
 pub fn answer<J: BookName, S: Wait + Drop, Q: Wait + Threads + Sync>(
     rt: &Q,
     alloc: Global,
     shared: &Shared<J, S>,
     me: &mut Session,
-    waiting: &mut Option<Gathering>,
+    waiting: &mut Option<OpenBatch>,
     line: &[u8],
 ) -> LineReply
     requires { me.old.book ≡ J.book }

@@ -1,4 +1,4 @@
-//! What the book refuses, as a reply tells it.
+//! What the book refuses, as a reply says it.
 ghost use Rattle.std.specs.Prelude.{◌≡◌};
 ghost use Rattle.server_session.specs.Fault.{fault_told, store_told, IsBatchNumber, IsNumbered};
 
@@ -7,7 +7,7 @@ use script_form::CommandFault;
 use version_book::fault::{BookFault, ToldFault};
 use versions::VersionFault;
 
-/// The fault as a reply tells it.
+/// The fault as a reply says it.
 pub(crate) fn command_fault(fault: BookFault) -> CommandFault
     ensures { result ≡ fault_told fault }
 {

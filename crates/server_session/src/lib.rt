@@ -6,7 +6,7 @@ pub mod answering;
 mod answering_all;
 mod fault;
 pub mod session;
-pub mod talk;
+pub mod session_state;
 
 pub use session::{session_run, session_run_within};
-pub use talk::Talk;
+pub use session_state::SessionState;

@@ -5,10 +5,10 @@ ghost use Rattle.book_history.specs.Known.{seen};
 ghost use Rattle.version_book.specs.Store.{has_store};
 ghost use Rattle.server_session.specs.Stores.{store_of};
 ghost use Rattle.server_session.specs.Session.{IsSharedSession, IsSessionWithin, Stays};
-ghost use Rattle.server_session.specs.Talk.{has_ended, HasTaken};
+ghost use Rattle.server_session.specs.SessionState.{has_ended, HasTaken};
 ghost use Rattle.server_session.specs.Loop.{Finishes, EndsBy};
 
-use crate::talk::Talk;
+use crate::session_state::SessionState;
 use script_form::{SCRIPT_MAX, SessionEnd, read_chunk, write_text};
 use std::alloc::{AllocError, Global};
 use std::io::{Read, Write};
@@ -36,7 +36,7 @@ pub fn session_run<J: BookName, S: Wait + Drop, Q: Wait + Threads + Sync, R: Rea
     ensures run { IsSharedSession (store_of J.stored (has_store shared.now)) result me.old me.new (R.remaining reader.old)
         (R.remaining reader.new) (W.contents writer.old) (W.contents writer.new) }
     ensures goes_on { BeginsWith (seen me.new) (seen me.old) }
-    // Each version of which it tells is one of a history.
+    // Each version that it reports is one of a history.
     ensures history { IsHistory (seen me.new) }
     ensures same { (me.new.book ≡ me.old.book) × (me.new.session ≡ me.old.session) }
 {
@@ -58,19 +58,19 @@ pub fn session_run_within<J: BookName, S: Wait + Drop, Q: Wait + Threads + Sync,
     ensures run { IsSessionWithin most (store_of J.stored (has_store shared.now)) result me.old me.new (R.remaining reader.old)
         (R.remaining reader.new) (W.contents writer.old) (W.contents writer.new) }
     ensures goes_on { BeginsWith (seen me.new) (seen me.old) }
-    // Each version of which it tells is one of a history.
+    // Each version that it reports is one of a history.
     ensures history { IsHistory (seen me.new) }
     ensures same { (me.new.book ≡ me.old.book) × (me.new.session ≡ me.old.session) }
 {
     match rooms(alloc) {
-        Ok((mut talk, mut chunk)) => {
+        Ok((mut state, mut chunk)) => {
             let end = run(
                 rt,
                 alloc,
                 shared,
                 me,
                 most,
-                &mut talk,
+                &mut state,
                 chunk.as_mut_slice(),
                 reader,
                 writer,
@@ -87,14 +87,14 @@ pub fn session_run_within<J: BookName, S: Wait + Drop, Q: Wait + Threads + Sync,
 }
 
 /// A session that begins, and room for what a read brings.
-fn rooms(alloc: Global) -> Result<(Talk, Vec<u8>), AllocError>
+fn rooms(alloc: Global) -> Result<(SessionState, Vec<u8>), AllocError>
     ensures begun { IfOk result (λ rooms. HasTaken rooms.0 []) }
     ensures going { IfOk result (λ rooms. has_ended rooms.0 ≡ false) }
     ensures chunk { IfOk result (λ rooms. length rooms.1.items ≡ CHUNK) }
 {
-    let talk = Talk::new(alloc)?;
+    let state = SessionState::new(alloc)?;
     let chunk = vec![in alloc; 0; CHUNK]?;
-    Ok((talk, chunk))
+    Ok((state, chunk))
 }
 
 fn run<J: BookName, S: Wait + Drop, Q: Wait + Threads + Sync, R: Read, W: Write>(
@@ -103,14 +103,14 @@ fn run<J: BookName, S: Wait + Drop, Q: Wait + Threads + Sync, R: Read, W: Write>
     shared: &Shared<J, S>,
     me: &mut Session,
     most: usize,
-    talk: &mut Talk,
+    state: &mut SessionState,
     chunk: &mut [u8],
     reader: &mut R,
     writer: &mut W,
 ) -> SessionEnd
     requires book { me.old.book ≡ J.book }
-    requires begun { HasTaken talk.old [] }
-    requires going { has_ended talk.old ≡ false }
+    requires begun { HasTaken state.old [] }
+    requires going { has_ended state.old ≡ false }
     requires room { 0 < length chunk.old }
     requires countable { most < 2 ^ 63 }
     ensures run { IsSessionWithin most (store_of J.stored (has_store shared.now)) result me.old me.new (R.remaining reader.old)
@@ -121,11 +121,11 @@ fn run<J: BookName, S: Wait + Drop, Q: Wait + Threads + Sync, R: Read, W: Write>
     while taken <= most {
         let count = match read_chunk(reader, chunk, taken, most) {
             Err(_) => return end_by(48, b"error 48 read\n", writer),
-            Ok(0) => return finish(rt, alloc, shared, me, talk, writer),
+            Ok(0) => return finish(rt, alloc, shared, me, state, writer),
             Ok(count) => count,
         };
         let allowed = count.min(most - taken);
-        let told = talk.take(rt, alloc, shared, me, &chunk[..allowed], writer);
+        let told = state.take(rt, alloc, shared, me, &chunk[..allowed], writer);
         if told.is_err() {
             return SessionEnd::Failed(49);
         }
@@ -140,16 +140,16 @@ fn finish<J: BookName, S: Wait + Drop, Q: Wait + Threads + Sync, W: Write>(
     alloc: Global,
     shared: &Shared<J, S>,
     me: &mut Session,
-    talk: &mut Talk,
+    state: &mut SessionState,
     writer: &mut W,
 ) -> SessionEnd
     requires book { me.old.book ≡ J.book }
-    requires going { has_ended talk.old ≡ false }
-    ensures finishes { Finishes (store_of J.stored (has_store shared.now)) result talk.old me.old me.new (W.contents writer.old)
+    requires going { has_ended state.old ≡ false }
+    ensures finishes { Finishes (store_of J.stored (has_store shared.now)) result state.old me.old me.new (W.contents writer.old)
         (W.contents writer.new) }
     ensures stays { Stays me.old me.new }
 {
-    match talk.finish(rt, alloc, shared, me, writer) {
+    match state.finish(rt, alloc, shared, me, writer) {
         Ok(()) => SessionEnd::End,
         Err(_) => SessionEnd::Failed(49),
     }

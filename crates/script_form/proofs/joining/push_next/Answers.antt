@@ -1,7 +1,7 @@
 use Rattle.std.proofs.Common.{sym, ◌∙◌}
 use Rattle.std.proofs.lemmas.List.{length-map}
 use Rattle.layer_book.specs.Command.{command}
-use Rattle.script_form.proofs.GatheringLemmas.{pushed, refused}
+use Rattle.script_form.proofs.OpenBatchLemmas.{pushed, refused}
 use Rattle.script_form.proofs.joining.push_next.Goals as goal
 
 pub returns-in-Ok-push-clause-reads : goal.returns-in-Ok-push-clause-reads

@@ -1,4 +1,4 @@
-use Rattle.script_form.proofs.GatheringLemmas.{put_unread}
+use Rattle.script_form.proofs.OpenBatchLemmas.{put_unread}
 use Rattle.script_form.proofs.joining.read_command.Goals as goal
 
 pub returns-in-Put-clause-refused : goal.returns-in-Put-clause-refused

@@ -1,6 +1,6 @@
 use Rattle.std.proofs.Common.{subst}
-use Rattle.script_form.specs.Gathering.{AreReadSoFar}
-use Rattle.script_form.proofs.GatheringLemmas.{unread-on}
+use Rattle.script_form.specs.OpenBatch.{AreReadSoFar}
+use Rattle.script_form.proofs.OpenBatchLemmas.{unread-on}
 use Rattle.script_form.proofs.joining.read_next.Goals as goal
 
 pub returns-in-Ok-clause-reads : goal.returns-in-Ok-clause-reads

@@ -1,5 +1,5 @@
 use Rattle.std.proofs.Common.{sym, ◌∙◌}
-use Rattle.script_form.proofs.GatheringLemmas.{taken_whole}
+use Rattle.script_form.proofs.OpenBatchLemmas.{taken_whole}
 use Rattle.script_form.proofs.line_turn.go_on.Goals as goal
 
 pub returns-in-Whole : goal.returns-in-Whole

@@ -3,7 +3,7 @@ use Rattle.std.proofs.Common.{◌≡◌, ◌+◌, ◌-◌, ◌≤◌, false, len
 use Rattle.version_book.specs.Store.{has_store}
 use Rattle.server_session.specs.Session.{Stays}
 use Rattle.server_session.specs.Stores.{store_of}
-use Rattle.server_session.specs.Talk.{has_ended}
+use Rattle.server_session.specs.SessionState.{has_ended}
 use Rattle.server_session.proofs.Endings.{IsUnderWay}
 use Rattle.server_session.proofs.session.run.Given as goal
 
@@ -11,9 +11,9 @@ abbrev pub invariant-loop-taken : goal.invariant-loop-taken
 invariant-loop-taken g l = record {
   limited : l.taken ≤ l.most + 1;
   room : length l.chunk ≡ length l.initial.chunk;
-  going : has_ended l.talk ≡ false;
+  going : has_ended l.state ≡ false;
   stays : Stays l.initial.me l.me;
-  way : IsUnderWay l.most (store_of g.J.BookName.stored (has_store l.shared)) l.initial.me (g.R.Read.remaining l.initial.reader) (g.R.Read.remaining l.reader) (g.W.Write.contents l.initial.writer) (g.W.Write.contents l.writer) l.taken l.talk l.me;
+  way : IsUnderWay l.most (store_of g.J.BookName.stored (has_store l.shared)) l.initial.me (g.R.Read.remaining l.initial.reader) (g.R.Read.remaining l.reader) (g.W.Write.contents l.initial.writer) (g.W.Write.contents l.writer) l.taken l.state l.me;
 }
 
 abbrev pub decreases-loop-taken : goal.decreases-loop-taken

@@ -4,7 +4,7 @@ use Rattle.std.proofs.lemmas.List.{take_all, length_push, take-append-le}
 use Rattle.script_form.specs.Lines.{line_room}
 use Rattle.script_form.proofs.line_buffer.LineBuffer.push.Goals as goal
 
--- a byte behind bytes that have room
+-- a byte after bytes that have room
 pushed : (n : ℕ) (items now new : List ℕ) (b : ℕ) (ok : Bool) → new ≡ cond ok (items ++ b ∷ []) items → ok ≡ true → items ≡ now
     → length now + 1 ≤ n → new ≡ take n (now ++ b ∷ [])
 pushed n items now new b ok e is same room =

@@ -1,8 +1,8 @@
 use Rattle.std.proofs.Common.{refl, ap, ◌∙◌, w64}
 use Rattle.std.proofs.lemmas.Int.{to_z-of_z}
 use Rattle.script_form.specs.Turns.{asked_size}
-use Rattle.script_form.proofs.GatheringLemmas.{begun, none_read}
-use Rattle.script_form.proofs.gathering.Gathering.new.Goals as goal
+use Rattle.script_form.proofs.OpenBatchLemmas.{begun, none_read}
+use Rattle.script_form.proofs.open_batch.OpenBatch.new.Goals as goal
 
 pub returns-in-Some : goal.returns-in-Some
 returns-in-Some c =

@@ -2,24 +2,24 @@
 use Rattle.std.specs.Prelude.{◌≡◌, ℕ, Bool, List, ◌++◌, take, drop, length, Option}
 use Rattle.std.specs.Io.KnownBytes.{Appends}
 use Rattle.book_history.specs.Known.{Known}
-use Rattle.script_form.specs.Gathering.{IsOpen}
+use Rattle.script_form.specs.OpenBatch.{IsOpen}
 use Rattle.script_form.specs.Lines.{line_room, ended_lines, unended, whole_lines}
 use Rattle.script_form.specs.Turns.{Turn, turns_of, all_turns_of, waiting_behind}
 use Rattle.server_session.specs.Session.{IsSharedRun, IsCutOff}
-use Rattle.server_session.specs.declared.talk.Talk.{Talk}
+use Rattle.server_session.specs.declared.session_state.SessionState.{SessionState}
 use Rattle.script_form.specs.Transcript.{BookStore}
 
 -- whether its script ended, or a write failed
-abbrev pub has_ended : Talk → Bool
-has_ended talk = talk.ended
+abbrev pub has_ended : SessionState → Bool
+has_ended state = state.ended
 
--- it has taken these bytes of its script: it keeps what stands behind the last line feed, as far as that tells what the line is,
+-- it has taken these bytes of its script: it keeps what comes after the last line feed, as far as that shows what the line is,
 -- and the batch that waits
-pub record HasTaken (talk : Talk) (taken : List ℕ) : Type 0 where
-  pub line : talk.line ≡ take line_room (unended taken)
-  pub waits : IsOpen (waiting_behind (ended_lines taken)) talk.waiting
+pub record HasTaken (state : SessionState) (taken : List ℕ) : Type 0 where
+  pub line : state.line ≡ take line_room (unended taken)
+  pub waits : IsOpen (waiting_behind (ended_lines taken)) state.waiting
 
--- the turns that bytes end, which come behind others: those that were not ended before
+-- the turns that bytes end, which come after others: those that were not ended before
 abbrev pub turns_ended : List ℕ → List ℕ → List Turn
 turns_ended taken bytes = drop (length (turns_of (ended_lines taken))) (turns_of (ended_lines (taken ++ bytes)))
 

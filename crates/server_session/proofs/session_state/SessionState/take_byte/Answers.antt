@@ -1,7 +1,7 @@
 use Rattle.std.proofs.Common.{refl}
 use Rattle.server_session.proofs.Steps.{takes_other, answers_other, takes_feed, answers_feed, stops_feed}
 use Rattle.server_session.proofs.Turns.{stays_self}
-use Rattle.server_session.proofs.talk.Talk.take_byte.Goals as goal
+use Rattle.server_session.proofs.session_state.SessionState.take_byte.Goals as goal
 
 pub returns-then-byte-ne10-clause-takes : goal.returns-then-byte-ne10-clause-takes
 returns-then-byte-ne10-clause-takes g c = takes_other _ _ _ c.if-byte-ne10.true c.push.ensures refl

@@ -3,8 +3,8 @@ use Rattle.std.proofs.Common.{◌≡◌, ℕ, false, List, ◌++◌, take}
 use Rattle.version_book.specs.Store.{has_store}
 use Rattle.server_session.specs.Session.{Stays}
 use Rattle.server_session.specs.Stores.{store_of}
-use Rattle.server_session.specs.Talk.{has_ended, HasTaken, turns_ended, AnswersTurns}
-use Rattle.server_session.proofs.talk.Talk.answer_bytes.Given as goal
+use Rattle.server_session.specs.SessionState.{has_ended, HasTaken, turns_ended, AnswersTurns}
+use Rattle.server_session.proofs.session_state.SessionState.answer_bytes.Given as goal
 
 abbrev pub invariant-loop-byte : goal.invariant-loop-byte
 invariant-loop-byte g l = record {

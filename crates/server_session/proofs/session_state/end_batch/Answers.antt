@@ -1,6 +1,6 @@
 use Rattle.server_session.specs.Stores.{store_of}
 use Rattle.server_session.proofs.Steps.{ends_alone, ends_refused}
-use Rattle.server_session.proofs.talk.end_batch.Goals as goal
+use Rattle.server_session.proofs.session_state.end_batch.Goals as goal
 
 pub returns-then-is_none-clause-ends : goal.returns-then-is_none-clause-ends
 returns-then-is_none-clause-ends g c there = ends_alone _ _ c.if-is_none.ensures (store_of g.J.BookName.stored there)

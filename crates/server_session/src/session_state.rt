@@ -5,11 +5,11 @@ ghost use Rattle.book_history.specs.Known.{seen};
 ghost use Rattle.version_book.specs.Store.{has_store};
 ghost use Rattle.server_session.specs.Stores.{store_of};
 ghost use Rattle.server_session.specs.Session.{Stays};
-ghost use Rattle.server_session.specs.Talk.{has_ended, HasTaken, turns_ended, turns_at_end, AnswersTurns, AnswersInPart};
+ghost use Rattle.server_session.specs.SessionState.{has_ended, HasTaken, turns_ended, turns_at_end, AnswersTurns, AnswersInPart};
 ghost use Rattle.server_session.specs.Loop.{AnswersLine, EndsBatch};
 
 use crate::answering::answer;
-use script_form::{CommandFault, Gathering, LineBuffer, LineReply, write_reply};
+use script_form::{CommandFault, LineBuffer, LineReply, OpenBatch, write_reply};
 use std::alloc::{AllocError, Global};
 use std::io::Write;
 use std::sync::Wait;
@@ -21,20 +21,20 @@ use version_book::shared::Shared;
 /// A session on its way: the line that is being read, and the batch that waits for lines. The turns that ended are
 /// answered, in whatever portions their bytes came. The end of its script ends it, and so does a write that fails.
 #[derive(Debug, Drop)]
-pub struct Talk {
+pub struct SessionState {
     line: LineBuffer,
-    waiting: Option<Gathering>,
+    waiting: Option<OpenBatch>,
     ended: bool,
 }
 
-impl Talk {
+impl SessionState {
     /// A session that has taken nothing. The room for its lines is had now.
-    pub fn new(alloc: Global) -> Result<Talk, AllocError>
-        ensures begun { IfOk result (λ talk. HasTaken talk []) }
-        ensures going { IfOk result (λ talk. has_ended talk ≡ false) }
+    pub fn new(alloc: Global) -> Result<SessionState, AllocError>
+        ensures begun { IfOk result (λ state. HasTaken state []) }
+        ensures going { IfOk result (λ state. has_ended state ≡ false) }
     {
         let line = LineBuffer::new(alloc)?;
-        Ok(Talk {
+        Ok(SessionState {
             line,
             waiting: None,
             ended: false,
@@ -48,7 +48,7 @@ impl Talk {
         self.ended
     }
 
-    /// Takes more bytes of the script, and answers each turn that they end before it looks at the bytes behind it.
+    /// Takes more bytes of the script, and answers each turn that they end before it looks at the bytes after it.
     pub fn take<J: BookName, S: Wait + Drop, Q: Wait + Threads + Sync, W: Write>(
         &mut self,
         rt: &Q,
@@ -68,7 +68,7 @@ impl Talk {
         ensures fault { IfErr result (λ fault. fault ≡ CommandFault.Write) }
         ensures ended { has_ended self.new ≡ is_err result }
         ensures stays { Stays me.old me.new }
-        // Each version of which a reply tells is one of a history.
+        // Each version that a reply reports is one of a history.
         ensures history { IsHistory (seen me.new) }
     {
         let told = self.answer_bytes(rt, alloc, shared, me, bytes, writer);
@@ -197,7 +197,7 @@ fn answer_line<J: BookName, S: Wait + Drop, Q: Wait + Threads + Sync, W: Write>(
     alloc: Global,
     shared: &Shared<J, S>,
     me: &mut Session,
-    waiting: &mut Option<Gathering>,
+    waiting: &mut Option<OpenBatch>,
     line: &[u8],
     writer: &mut W,
 ) -> Result<(), CommandFault>
@@ -210,9 +210,9 @@ fn answer_line<J: BookName, S: Wait + Drop, Q: Wait + Threads + Sync, W: Write>(
     write_reply(writer, &reply)
 }
 
-/// Behind the last line: refuses a batch that waits.
+/// After the last line: refuses a batch that waits.
 fn end_batch<J: BookName, W: Write>(
-    waiting: &Option<Gathering>,
+    waiting: &Option<OpenBatch>,
     writer: &mut W,
 ) -> Result<(), CommandFault>
     ensures ends { (there : Bool) → EndsBatch (store_of J.stored there) result waiting.now (W.contents writer.old) (W.contents writer.new) }

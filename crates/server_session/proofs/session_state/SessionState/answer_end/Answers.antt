@@ -1,7 +1,7 @@
 use Rattle.std.proofs.Common.{length, ap, sym, arith}
 use Rattle.std.proofs.lemmas.Bool.{eqb-true, eqb-false}
 use Rattle.server_session.proofs.Steps.{answers_empty, stops_empty, answers_last, stops_last, stops_at_last, at_err}
-use Rattle.server_session.proofs.talk.Talk.answer_end.Goals as goal
+use Rattle.server_session.proofs.session_state.SessionState.answer_end.Goals as goal
 
 pub returns-then-is_empty-clause-answers : goal.returns-then-is_empty-clause-answers
 returns-then-is_empty-clause-answers g c =

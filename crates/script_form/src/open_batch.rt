@@ -13,9 +13,9 @@ pub enum LinesFault {
     OutOfMemory,
 }
 
-/// A batch that waits for lines. Those that came are read at once, and none behind the first that is no command.
+/// A batch that waits for lines. Those that came are read at once, and none after the first that is no command.
 #[derive(Debug, Drop)]
-pub struct Gathering {
+pub struct OpenBatch {
     pub(crate) size: u32,
     pub(crate) came: u32,
     pub(crate) read: Result<Vec<Command>, LinesFault>,

@@ -1,6 +1,6 @@
 use Rattle.std.proofs.Common.{[], ◌∷◌, ◌++◌}
-use Rattle.script_form.proofs.GatheringLemmas.{all_came, more_to_come, counts_on}
-use Rattle.script_form.proofs.gathering.Gathering.join.Goals as goal
+use Rattle.script_form.proofs.OpenBatchLemmas.{all_came, more_to_come, counts_on}
+use Rattle.script_form.proofs.open_batch.OpenBatch.join.Goals as goal
 
 pub returns-then-came-self : goal.returns-then-came-self
 returns-then-came-self c = λ waiting is. (

@@ -7,12 +7,12 @@ use Rattle.overlay_terms.specs.Batches.{Batch}
 use Rattle.layer_book.specs.Command.{command}
 use Rattle.layer_book.specs.declared.command.Command as code
 use Rattle.script_form.specs.declared.fault.CommandFault.{CommandFault}
-use Rattle.script_form.specs.declared.gathering.Gathering.{Gathering}
-use Rattle.script_form.specs.declared.gathering.LinesFault.{LinesFault}
-use Rattle.script_form.specs.declared.gathering.LinesFault.TheVariants.{Unread, OutOfMemory}
+use Rattle.script_form.specs.declared.open_batch.OpenBatch.{OpenBatch}
+use Rattle.script_form.specs.declared.open_batch.LinesFault.{LinesFault}
+use Rattle.script_form.specs.declared.open_batch.LinesFault.TheVariants.{Unread, OutOfMemory}
 use Rattle.script_form.specs.declared.line_turn.LineTurn.TheVariants.{Whole}
 use Rattle.script_form.specs.Fault.{code_of}
-use Rattle.script_form.specs.Gathering.{AreUnread, AreRead, AreReadSoFar, IsGathering, IsOpen, IsLineGathered, unread}
+use Rattle.script_form.specs.OpenBatch.{AreUnread, AreRead, AreReadSoFar, IsOpenBatch, IsOpen, IsLineGathered, unread}
 use Rattle.script_form.specs.Reading.{IsMemory, IsPutRefused}
 use Rattle.script_form.specs.Turns.{Waiting, asked_size, of_size, is_nothing, is_whole, with_line}
 use Rattle.script_form.specs.BatchLines.{IsCommandOf, IsNoCommand, AreCommandsOf, IsFirstUnread}
@@ -47,7 +47,7 @@ unread-push requests commands request place fault read at why = record {
   why = why;
 }
 
--- whatever comes behind the first line that is none
+-- whatever comes after the first line that is none
 pub unread-more : (requests : List Request) (request : Request) (place : ℕ) (fault : CommandFault)
     → IsFirstUnread requests place fault → IsFirstUnread (requests ++ request ∷ []) place fault
 unread-more requests request place fault first = record {
@@ -61,7 +61,7 @@ unread-more requests request place fault first = record {
   why = first.why;
 }
 
--- a line more is read, behind commands
+-- a line more is read, after commands
 pub pushed : (requests : List Request) (items new : List code.Command) (change : code.Command) (asked : Request)
     → new ≡ items ++ change ∷ [] → AreCommandsOf requests (map command items) → IsCommandOf asked (command change) → AreCommandsOf (requests ++ asked ∷ []) (map command new)
 pushed requests items new change asked is read one =
@@ -93,10 +93,10 @@ none_read (Ok commands) none err = subst (λ (items : List code.Command). AreCom
 none_read (Err fault) none err = subst (AreUnread []) (sym err) tt
 
 -- a batch begins
-pub begun : (asked : ℤ) (size : ℕ) (o : Option ℕ) (gathering : Gathering) → o ≡ Some size → o ≡ asked_size asked → gathering.size ≡ size → gathering.came ≡ 0
-    → AreReadSoFar [] gathering.read → IsOpen (of_size (asked_size asked)) (Some gathering)
-begun asked size o gathering is value sized none read =
-    subst (λ (found : Option ℕ). IsOpen (of_size found) (Some gathering)) (sym is ∙ value) (record { same_size = sized; as_many = none; read = read })
+pub begun : (asked : ℤ) (size : ℕ) (o : Option ℕ) (open_batch : OpenBatch) → o ≡ Some size → o ≡ asked_size asked → open_batch.size ≡ size → open_batch.came ≡ 0
+    → AreReadSoFar [] open_batch.read → IsOpen (of_size (asked_size asked)) (Some open_batch)
+begun asked size o open_batch is value sized none read =
+    subst (λ (found : Option ℕ). IsOpen (of_size found) (Some open_batch)) (sym is ∙ value) (record { same_size = sized; as_many = none; read = read })
 
 -- the fault of a PUT
 pub put_unread : {A : Type 0} (name text : List ℕ) (result : Result A CommandFault) → IfErr result (λ fault. IsMemory name fault ⊎ IsPutRefused name text fault)
@@ -106,22 +106,22 @@ put_unread name text (Err fault) (inl memory) = inl memory.2
 put_unread name text (Err fault) (inr by) = inr by
 
 -- whether all lines came, by the counts of the code
-module _ (waiting : Waiting) (asked : Request) (gathering : Gathering) (is : IsGathering waiting gathering) where
-  one_more : length (waiting.came ++ asked ∷ []) ≡ gathering.came + 1
+module _ (waiting : Waiting) (asked : Request) (open_batch : OpenBatch) (is : IsOpenBatch waiting open_batch) where
+  one_more : length (waiting.came ++ asked ∷ []) ≡ open_batch.came + 1
   one_more = omega (arith, length-append waiting.came (asked ∷ []), is.as_many)
 
-  pub all_came : gathering.came + 1 ≡ gathering.size → is_whole (with_line waiting asked) ≡ true
+  pub all_came : open_batch.came + 1 ≡ open_batch.size → is_whole (with_line waiting asked) ≡ true
   all_came last = eq-eqb (length (waiting.came ++ asked ∷ [])) waiting.size (one_more ∙ last ∙ is.same_size)
 
-  pub more_to_come : (gathering.came + 1 ≡ gathering.size → ⊥) → is_whole (with_line waiting asked) ≡ false
+  pub more_to_come : (open_batch.came + 1 ≡ open_batch.size → ⊥) → is_whole (with_line waiting asked) ≡ false
   more_to_come more = ne_eqb (length (waiting.came ++ asked ∷ [])) waiting.size (λ all. more (sym one_more ∙ all ∙ sym is.same_size))
 
-  pub counts_on : gathering.came + 1 ≡ length (waiting.came ++ asked ∷ [])
+  pub counts_on : open_batch.came + 1 ≡ length (waiting.came ++ asked ∷ [])
   counts_on = sym one_more
 
 -- the last line of a batch
-pub taken_whole : (waiting : Option Waiting) (old : Gathering) (asked : Request) (read : Result Batch LinesFault) → is_nothing asked ≡ false → IsOpen waiting (Some old)
-    → ((w : Waiting) → IsGathering w old → (is_whole (with_line w asked) ≡ true) × AreRead (w.came ++ asked ∷ []) read) → IsLineGathered waiting asked None (Whole read)
+pub taken_whole : (waiting : Option Waiting) (old : OpenBatch) (asked : Request) (read : Result Batch LinesFault) → is_nothing asked ≡ false → IsOpen waiting (Some old)
+    → ((w : Waiting) → IsOpenBatch w old → (is_whole (with_line w asked) ≡ true) × AreRead (w.came ++ asked ∷ []) read) → IsLineGathered waiting asked None (Whole read)
 taken_whole None old asked read some there joined = absurd there
 taken_whole (Some waiting) old asked read some there joined =
     let all = joined waiting there in

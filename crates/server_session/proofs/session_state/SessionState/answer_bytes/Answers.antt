@@ -2,7 +2,7 @@ use Rattle.std.proofs.Common.{◌+◌, ◌++◌, take, drop, sym, ap, ◌∙◌,
 use Rattle.std.proofs.lemmas.List.{take_more}
 use Rattle.server_session.proofs.Steps.{takes_none, answers_nothing, takes_more, answers_more, stops_there, at_err}
 use Rattle.server_session.proofs.Turns.{stays_self, stays_trans}
-use Rattle.server_session.proofs.talk.Talk.answer_bytes.Goals as goal
+use Rattle.server_session.proofs.session_state.SessionState.answer_bytes.Goals as goal
 
 pub loop-byte-init : goal.loop-byte-init
 loop-byte-init g c = record {

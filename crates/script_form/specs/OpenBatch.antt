@@ -7,11 +7,11 @@ use Rattle.script_form.specs.declared.fault.CommandFault.{CommandFault}
 use Rattle.script_form.specs.BatchLines.{AreCommandsOf, IsFirstUnread}
 use Rattle.script_form.specs.Requests.{Request, request}
 use Rattle.script_form.specs.Turns.{Turn, alone, together, Waiting, with_line, is_whole, waiting_after, ended_by}
-use Rattle.script_form.specs.declared.gathering.Gathering.{Gathering}
+use Rattle.script_form.specs.declared.open_batch.OpenBatch.{OpenBatch}
 use Rattle.script_form.specs.declared.joining.Joined.{Joined}
 use Rattle.script_form.specs.declared.joining.Joined.TheVariants as joined
-use Rattle.script_form.specs.declared.gathering.LinesFault.{LinesFault}
-use Rattle.script_form.specs.declared.gathering.LinesFault.TheVariants.{Unread, OutOfMemory}
+use Rattle.script_form.specs.declared.open_batch.LinesFault.{LinesFault}
+use Rattle.script_form.specs.declared.open_batch.LinesFault.TheVariants.{Unread, OutOfMemory}
 use Rattle.script_form.specs.declared.line_turn.LineTurn.{LineTurn}
 use Rattle.script_form.specs.declared.line_turn.LineTurn.TheVariants.{Waits, Alone, Whole}
 
@@ -31,17 +31,17 @@ AreReadSoFar requests (Ok commands) = AreCommandsOf requests (map command comman
 AreReadSoFar requests (Err fault) = AreUnread requests fault
 
 -- the code's batch is this one
-pub record IsGathering (waiting : Waiting) (gathering : Gathering) : Type 0 where
-  pub same_size : gathering.size ≡ waiting.size
-  pub as_many : gathering.came ≡ length waiting.came
-  pub read : AreReadSoFar waiting.came gathering.read
+pub record IsOpenBatch (waiting : Waiting) (open_batch : OpenBatch) : Type 0 where
+  pub same_size : open_batch.size ≡ waiting.size
+  pub as_many : open_batch.came ≡ length waiting.came
+  pub read : AreReadSoFar waiting.came open_batch.read
 
 -- the code's batch is the one that waits, if one does
-abbrev pub IsOpen : Option Waiting → Option Gathering → Type 0
+abbrev pub IsOpen : Option Waiting → Option OpenBatch → Type 0
 IsOpen None None = Unit {0}
-IsOpen None (Some gathering) = ⊥
+IsOpen None (Some open_batch) = ⊥
 IsOpen (Some waiting) None = ⊥
-IsOpen (Some waiting) (Some gathering) = IsGathering waiting gathering
+IsOpen (Some waiting) (Some open_batch) = IsOpenBatch waiting open_batch
 
 -- the turn that a line ended, if it ended one
 abbrev pub IsEnded : List Turn → LineTurn → Type 0
@@ -50,27 +50,27 @@ IsEnded turns (Alone asked) = turns ≡ alone (request asked) ∷ []
 IsEnded turns (Whole read) = (requests : List Request) × (turns ≡ together requests ∷ []) × AreRead requests read
 
 -- a line is taken: which batch waits then, and which turn ended
-pub record IsLineGathered (waiting : Option Waiting) (asked : Request) (new : Option Gathering) (turn : LineTurn) : Type 0 where
+pub record IsLineGathered (waiting : Option Waiting) (asked : Request) (new : Option OpenBatch) (turn : LineTurn) : Type 0 where
   pub open_then : IsOpen (waiting_after waiting asked) new
   pub ended : IsEnded (ended_by waiting asked) turn
 
-abbrev pub TakesLine : Option Gathering → Request → Option Gathering → LineTurn → Type 0
+abbrev pub TakesLine : Option OpenBatch → Request → Option OpenBatch → LineTurn → Type 0
 TakesLine old asked new turn = (waiting : Option Waiting) → IsOpen waiting old → IsLineGathered waiting asked new turn
 
 -- what a line of a batch makes of it: the batch with this line waits for more, or all of its lines came
 abbrev pub IsJoined : Waiting → Joined → Type 0
-IsJoined waiting (joined.Waits gathering) = (is_whole waiting ≡ false) × IsGathering waiting gathering
+IsJoined waiting (joined.Waits open_batch) = (is_whole waiting ≡ false) × IsOpenBatch waiting open_batch
 IsJoined waiting (joined.Whole read) = (is_whole waiting ≡ true) × AreRead waiting.came read
 
-abbrev pub Joins : Gathering → Request → Joined → Type 0
-Joins old asked result = (waiting : Waiting) → IsGathering waiting old → IsJoined (with_line waiting asked) result
+abbrev pub Joins : OpenBatch → Request → Joined → Type 0
+Joins old asked result = (waiting : Waiting) → IsOpenBatch waiting old → IsJoined (with_line waiting asked) result
 
 -- one line more is read
 abbrev pub ReadsNext : {Y Z : Type 0} → Result (Vec Command Y) LinesFault → Request → Result (Vec Command Z) LinesFault → Type 0
 ReadsNext read asked result =
     (requests : List Request) → AreReadSoFar requests read → AreReadSoFar (requests ++ asked ∷ []) result
 
--- one line more is read behind commands
+-- one line more is read after commands
 abbrev pub ReadsBehind : {Z : Type 0} → Batch → Request → Result (Vec Command Z) LinesFault → Type 0
 ReadsBehind commands asked result =
     (requests : List Request) → AreCommandsOf requests commands → AreReadSoFar (requests ++ asked ∷ []) result
