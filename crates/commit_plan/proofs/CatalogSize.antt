@@ -14,11 +14,11 @@ use Rattle.store_terms.specs.declared.root.RecordExtent.{RecordExtent}
 use Rattle.store_terms.specs.Fields.{number, counted}
 use Rattle.store_terms.specs.Choices.{optional}
 use Rattle.store_terms.specs.Catalog.{Listed, extent, listed, catalog}
-use Rattle.record_writing.specs.Listing as has_columns
-use Rattle.record_writing.specs.Listing.{entry_of as listed_code, entries_of, records_of, IsListable}
-use Rattle.record_writing.specs.declared.catalog.Listed as code
-use Rattle.record_writing.specs.declared.catalog.Records.{Records}
-use Rattle.record_writing.specs.declared.catalog.Records.TheVariants.{Base, Derived}
+use Rattle.store_terms.specs.Listing as has_columns
+use Rattle.store_terms.specs.Listing.{entry_of as listed_code, entries_of, records_of, IsListable}
+use Rattle.store_terms.specs.declared.catalog.Listed as code
+use Rattle.store_terms.specs.declared.catalog.Records.{Records}
+use Rattle.store_terms.specs.declared.catalog.Records.TheVariants.{Base, Derived}
 use Rattle.commit_plan.specs.Filed.{Record, extent_of, FiledLayer, a_base, a_definition, listed_of, SpellTiles, SpellLayer, SpellLayers}
 use Rattle.commit_plan.specs.Staying.{LiveContent}
 use Rattle.commit_plan.specs.Sizes.{entry_size, catalog_size}

@@ -104,7 +104,7 @@ module _ (x : Kept) (given : List runs.Extent) (limit : ℕ) (layers : List File
     plans = subst (λ (ws : List Write). Plans x y ws) (sym c.plan) (plans x y ws b is_plan);
   }
 
--- the writes of records with their catalog, and the body behind them
+-- the writes of records with their catalog, and the body after them
 pub laid_out : (live : LiveContent) (given : List runs.Extent) (limit : ℕ) (layers : List FiledLayer) (held : Held) (sizes : List ℕ) (listing : List Listed) (catalog : Filed) (b : Write) (body : ℕ) (ws : List Write)
     (places : List runs.Extent) (root : Root) (plan : List Write) → HaveRuns given limit (flat_map filed_of layers ++ catalog ∷ []) places → IsPlanned given limit sizes places → AreWritesOf (flat_map filed_of layers ++ catalog ∷ []) ws
     → Spell live layers listing held → root.is_old ≡ false → catalog_of_record false catalog.bytes ≡ Some listing → root.catalog ≡ catalog.extent → b.at ≡ body → b.bytes.items ≡ body_text root → plan ≡ ws ++ b ∷ []
@@ -128,7 +128,7 @@ laid_out live given limit layers held sizes listing catalog b body ws places roo
   spells = spelled;
 }
 
--- a draft with the catalog behind the records of layers, each of which has its run
+-- a draft with the catalog after the records of layers, each of which has its run
 pub with_catalog : (old new : Drafted) (layers : List FiledLayer) (catalog : Filed) → new ≡ with_filed old (catalog ∷ []) → old.filed ≡ flat_map filed_of layers → ArePlaced new
     → (places : List runs.Extent) × HaveRuns old.given old.limit (flat_map filed_of layers ++ catalog ∷ []) places
 with_catalog old new layers catalog is filed placed =

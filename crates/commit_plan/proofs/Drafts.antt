@@ -74,7 +74,7 @@ no_run live room fs n draft none = record {
 
 -- ---- drafts with some records more
 
--- some records more, and some more behind them
+-- some records more, and some more after them
 pub filed_twice : (old mid new : Drafted) (fs gs : List Filed) → mid ≡ with_filed old fs → new ≡ with_filed mid gs → new ≡ with_filed old (fs ++ gs)
 filed_twice old mid new fs gs first second =
     second ∙ ap (λ (d : Drafted). with_filed d gs) first ∙ ap (λ (l : List Filed). record { given = old.given; limit = old.limit; filed = l }) (append_assoc old.filed fs gs)
@@ -87,11 +87,11 @@ nothing_more d = ap (λ (l : List Filed). record { given = d.given; limit = d.li
 pub sizes_with : (old new : Drafted) (fs : List Filed) → new ≡ with_filed old fs → sizes_in new ≡ sizes_in old ++ lengths_of fs
 sizes_with old new fs is = ap sizes_in is ∙ lengths_with old.filed fs
 
--- numbers behind others, and some more behind them
+-- numbers after others, and some more after them
 pub joined : (xs mid all ns ms : List ℕ) → mid ≡ xs ++ ns → all ≡ mid ++ ms → all ≡ xs ++ (ns ++ ms)
 joined xs mid all ns ms first second = second ∙ ap (λ (l : List ℕ). l ++ ms) first ∙ append_assoc xs ns ms
 
--- where a record finds no run, others behind it change nothing
+-- where a record finds no run, others after it change nothing
 pub no_run_more : (d : Drafted) (ns more : List ℕ) → HasNoRunFor d ns → HasNoRunFor d (ns ++ more)
 no_run_more d ns more full = record {
   before = full.before;

@@ -16,7 +16,7 @@ use Rattle.exact_point.specs.declared.point_name.PointName.{PointName}
 use Rattle.exact_point.specs.declared.point_name.PointName.TheVariants.{Vertex, Cross, Border}
 use Rattle.commit_plan.specs.Same.{same_tree, same_rings, same_content, same_point_name, same_numbers, same_ends, same_tile, SameIsEqual}
 
--- two tests of one thing tell the same
+-- two tests of one thing say the same
 pub same_tests : {P : Type 0} (r t : Bool) → Decides r P → Decides t P → r ≡ t
 same_tests true true d e = refl
 same_tests true false d e = absurd (false≢true (e.1 (d.0 refl)))

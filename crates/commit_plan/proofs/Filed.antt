@@ -25,7 +25,7 @@ use Rattle.commit_plan.specs.Staying.{LiveContent, kept_content, layer_named}
 use Rattle.commit_plan.proofs.Stays.{OwnSpells, StayReads, stay_reads}
 use Rattle.commit_plan.specs.Filed.{Filed, Record, fresh, stays, extent_of, fresh_of, FiledLayer, a_base, a_definition, listed_of, filed_tiles, filed_of, SpellsContent, SaysLayer, SaysTile, SpellTiles, SpellLayer, SpellLayers, IsWriteOf, AreWritesOf, FilingMakes}
 
--- the bytes of a record stand at its place
+-- the bytes of a record are at its place
 pub record IsFiled (file : List ℕ) (f : Filed) : Type 0 where
   pub placed : is_placed file f.extent ≡ true
   pub bytes : bytes_of file f.extent ≡ f.bytes

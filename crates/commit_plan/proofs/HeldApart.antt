@@ -71,7 +71,7 @@ abbrev pub Among : RecordExtent → List RecordExtent → Type 0
 Among e [] = ⊥
 Among e (f ∷ fs) = (e ≡ f) ⊎ Among e fs
 
--- one stands before another among some
+-- one comes before another among some
 abbrev pub Before : RecordExtent → RecordExtent → List RecordExtent → Type 0
 Before e f [] = ⊥
 Before e f (g ∷ gs) = ((e ≡ g) × Among f gs) ⊎ Before e f gs
@@ -113,7 +113,7 @@ both_beside e f (g ∷ gs) apart before near also =
     both_beside_by e f g gs (is_near g) refl apart near also
     (λ rest there. both_beside e f gs rest there near also) before
 
--- ---- lists one behind another
+-- ---- lists one after another
 
 pub among_front : (e : RecordExtent) (xs ys : List RecordExtent) → Among e xs → Among e (xs ++ ys)
 among_front e [] ys among = absurd among

@@ -17,7 +17,7 @@ use Rattle.commit_plan.specs.Filed.{Filed, extents_of_filed, IsWriteOf, AreWrite
 use Rattle.root_reading.specs.RootRuns.{AreRunsOf, IsMapOf}
 use Rattle.root_reading.proofs.Rooms.{AreFreeOf}
 
--- a run behind the slots that is free
+-- a run after the slots that is free
 pub record IsNew (given : List runs.Extent) (r : runs.Extent) : Type 0 where
   pub behind : 2 ≤ r.block
   pub free : IsUnused given r.block r.blocks
@@ -168,7 +168,7 @@ all_beside (e ∷ es) [] apart are = absurd are
 all_beside (e ∷ es) (r ∷ rs) apart are =
     (beside_all e r es rs are.0 are.1 apart.0 are.2, all_beside es rs apart.1 are.2)
 
--- what holds of a list and of one behind it
+-- what holds of a list and of one after it
 last_of : (P : RecordExtent → Type 0) (es : List RecordExtent) (c : RecordExtent) → AllByRecursion P (es ++ c ∷ []) → P c
 last_of P [] c all = all.0
 last_of P (e ∷ es) c all = last_of P es c all.1
@@ -196,6 +196,6 @@ all_apart_is [] all = refl
 all_apart_is (e ∷ es) all =
     and_from (is_apart_from e es) (all_apart es) (apart_from_is e es all.0) (all_apart_is es all.1)
 
--- where the last of some extents stands first, no two have a block in common either
+-- where the last of some extents comes first, no two have a block in common either
 pub last_first : (es : List RecordExtent) (c : RecordExtent) → AllBeside (es ++ c ∷ []) → all_apart (c ∷ es) ≡ true
 last_first es c all = all_apart_is (c ∷ es) (beside_last es c all, beside_front es c all)

@@ -4,9 +4,9 @@ use Rattle.std.specs.List.{AllByRecursion}
 use Rattle.store_terms.proofs.BodyLemmas.{body_again, length-body_text}
 use Rattle.disk_model.specs.Disk.{part, Holds, Torn}
 use Rattle.disk_model.proofs.Ranges.{Apart, part_kept, part_written, part_written_front}
-use Rattle.store_terms.specs.Roots.{body_text, body_in}
+use Rattle.store_terms.specs.Roots.{body_size, body_read, body_text, body_in}
 use Rattle.commit_plan.specs.declared.write.Write.{Write}
-use Rattle.store_terms.specs.StandsFor.{body_at}
+use Rattle.store_terms.specs.StandsFor.{body_at, slots_end}
 use Rattle.commit_plan.specs.Kept.{Kept, extents_in, other, Shut, Ready}
 use Rattle.commit_plan.specs.Planning.{Leads, Spare, Plans}
 use Rattle.commit_plan.specs.Planning.{IsWritten, IsOff, AreWrittenApart, AllApart, IsPlan}
@@ -27,16 +27,16 @@ off_spares x w old new off shut torn =
     }
 
 -- nor does the body behind the shut gate touch it
-pub body_spares : (x : Kept) (old new : List ℕ) → Shut x old → Torn (body_at (other x.root)) 48 old new → Shut x new
+pub body_spares : (x : Kept) (old new : List ℕ) → Shut x old → Torn (body_at (other x.root)) body_size old new → Shut x new
 body_spares x old new shut torn =
     let long = shut.live.named.long in
     record {
-      live = live_kept old new (body_at (other x.root)) 48 torn x
+      live = live_kept old new (body_at (other x.root)) body_size torn x
           (⊎_elim (λ zero. inr (omega (arith, zero))) (λ one. inl (omega (arith, one))) (own_is x.root))
           (⊎_elim (λ zero. inr (omega (arith, zero))) (λ one. inl (omega (arith, one))) (own_is x.root))
-          (low_apart old (body_at (other x.root)) 48 (extents_in x) (omega arith) shut.live.named.placed) shut.live;
+          (low_apart old (body_at (other x.root)) body_size (extents_in x) (omega arith) shut.live.named.placed) shut.live;
       closed = λ is. shut.closed
-          (sym (gate_kept old new (body_at (other x.root)) 48 torn (other x.root) (omega arith) long
+          (sym (gate_kept old new (body_at (other x.root)) body_size torn (other x.root) (omega arith) long
           (inr (omega arith))) ∙ is);
     }
 
@@ -47,7 +47,7 @@ put_kept w old new at n apart put torn = record {
   bytes = part_kept old new at n w.at (length w.bytes.items) torn put.within apart ∙ put.bytes;
 }
 
-puts_kept : (x : Kept) (ws : List Write) (old new : List ℕ) (at n : ℕ) → at + n ≤ 8192 → AllByRecursion (IsOff x) ws
+puts_kept : (x : Kept) (ws : List Write) (old new : List ℕ) (at n : ℕ) → at + n ≤ slots_end → AllByRecursion (IsOff x) ws
     → AllByRecursion (IsWritten old) ws → Torn at n old new → AllByRecursion (IsWritten new) ws
 puts_kept x [] old new at n low off puts torn = tt
 puts_kept x (w ∷ ws) old new at n low off puts torn = (
@@ -91,24 +91,24 @@ keeps_nothing [] = tt
 keeps_nothing (w ∷ ws) = ((λ old new here torn. tt), keeps_nothing ws)
 
 module _ (x y : Kept) (ws : List Write) (b : Write) (plan : IsPlan x y ws b) where
-  size : length b.bytes.items ≡ 48
+  size : length b.bytes.items ≡ body_size
   size = ap length plan.spelled ∙ length-body_text y.root
 
   ready : (mid new : List ℕ) → Shut x mid → AllByRecursion (IsWritten mid) ws → Torn b.at (length b.bytes.items) mid new
       → Holds new b.at b.bytes.items → Ready x y new
   ready mid new shut puts torn held =
       let o = body_at (other x.root) in
-      let torn_48 : Torn (body_at (other x.root)) 48 mid new =
+      let torn_body : Torn (body_at (other x.root)) body_size mid new =
       subst (λ (n : ℕ). Torn (body_at (other x.root)) n mid new) size
       (subst (λ (n : ℕ). Torn n (length b.bytes.items) mid new) plan.there torn) in
       let held_there : Holds new (body_at (other x.root)) (body_text y.root) =
       subst (Holds new (body_at (other x.root))) plan.spelled
       (subst (λ (n : ℕ). Holds new n b.bytes.items) plan.there held) in
-      let shut_new = body_spares x mid new shut torn_48 in
-      let puts_new = puts_kept x ws mid new (body_at (other x.root)) 48 (omega arith) plan.off puts torn_48 in
+      let shut_new = body_spares x mid new shut torn_body in
+      let puts_new = puts_kept x ws mid new (body_at (other x.root)) body_size (omega arith) plan.off puts torn_body in
       let made = plan.makes new shut_new puts_new in
-      let spelt : part new (body_at (other x.root)) 40 ≡ take 40 (body_text y.root) =
-      part_written_front new (body_at (other x.root)) 40 (body_text y.root) (omega arith) held_there in
+      let spelt : part new (body_at (other x.root)) body_read ≡ take body_read (body_text y.root) =
+      part_written_front new (body_at (other x.root)) body_read (body_text y.root) (omega arith) held_there in
       record {
         live = shut_new.live;
         named = record {

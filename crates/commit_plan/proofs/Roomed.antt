@@ -7,8 +7,8 @@ use Rattle.extent_map.specs.Taken.{taken_of}
 use Rattle.commit_plan.specs.declared.room.Room.{Room}
 use Rattle.layer_tiles.specs.Table.{tiles_in, Tabled}
 use Rattle.store_terms.specs.Catalog.{catalog}
-use Rattle.record_writing.specs.Listing.{entries_of, IsListable}
-use Rattle.record_writing.specs.declared.catalog.Listed as code
+use Rattle.store_terms.specs.Listing.{entries_of, IsListable}
+use Rattle.store_terms.specs.declared.catalog.Listed as code
 use Rattle.commit_plan.specs.Staying.{LiveContent}
 use Rattle.commit_plan.specs.Drafted.{Drafted, begun_in, sizes_in, with_filed}
 use Rattle.commit_plan.specs.Filed.{Filed}

@@ -34,10 +34,10 @@ use Rattle.store_terms.specs.Choices.{optional}
 use Rattle.store_terms.specs.Fields.{number, counted}
 use Rattle.store_terms.specs.declared.root.RecordExtent.{RecordExtent}
 use Rattle.store_terms.proofs.BaseLemmas.{few_rings}
-use Rattle.record_writing.specs.Listing.{spelled_records, records_of, HasColumns, entry_of, entries_of, IsListable}
-use Rattle.record_writing.specs.declared.catalog.Listed as code
-use Rattle.record_writing.specs.declared.catalog.Records.{Records}
-use Rattle.record_writing.specs.declared.catalog.Records.TheVariants.{Base, Derived}
+use Rattle.store_terms.specs.Listing.{spelled_records, records_of, HasColumns, entry_of, entries_of, IsListable}
+use Rattle.store_terms.specs.declared.catalog.Listed as code
+use Rattle.store_terms.specs.declared.catalog.Records.{Records}
+use Rattle.store_terms.specs.declared.catalog.Records.TheVariants.{Base, Derived}
 use Rattle.record_writing.specs.Tiles.{named_by}
 use Rattle.root_reading.proofs.RecordLengths.{few_steps, expression_length}
 use Rattle.commit_plan.proofs.CatalogSize.{extent_long, name_long}

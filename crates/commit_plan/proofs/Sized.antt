@@ -17,7 +17,7 @@ use Rattle.commit_plan.specs.Staying.{LiveContent, layer_stays, tile_stays}
 use Rattle.commit_plan.specs.Sizes.{own_record, tile_size, if_new, own_sizes, tile_sizes, row_sizes, layer_sizes, sizes_of_layers}
 use Rattle.commit_plan.proofs.Drafts.{no_run_more}
 
--- numbers behind which there are none
+-- numbers after which there are none
 pub none_behind : (ns ms : List ℕ) → ms ≡ [] → ns ≡ ns ++ ms
 none_behind ns ms none = sym (ap (λ (l : List ℕ). ns ++ l) none ∙ append-nil ns)
 
@@ -82,7 +82,7 @@ module _ (live : LiveContent) where
 
   -- ---- layers
 
-  -- those of the layers up to one, of that one, and of those behind it
+  -- those of the layers up to one, of that one, and of those after it
   layers_there : (layers : List Layer) (rows : List (List (Option Named))) (i : ℕ) (layer : Layer) (row : List (Option Named)) → slice_get layers i ≡ Some layer → slice_get rows i ≡ Some row
       → sizes_of_layers live layers rows
       ≡ (sizes_of_layers live (take i layers) (take i rows) ++ layer_sizes live layer row) ++ sizes_of_layers live (drop (suc i) layers) (drop (suc i) rows)
@@ -120,7 +120,7 @@ module _ (live : LiveContent) where
     by_layers (l ∷ ls) [] = ap (λ (ns : List ℕ). own_sizes live l ++ ns) (without_rows ls)
     by_layers (l ∷ ls) (r ∷ rs) = ap (λ (ns : List ℕ). layer_sizes live l r ++ ns) (by_layers ls rs)
 
-  -- where the records of a layer find no run, the layers find none, whatever stands behind it
+  -- where the records of a layer find no run, the layers find none, whatever comes after it
   pub layers_full : (d : Drafted) (layers : List Layer) (rows : List (List (Option Named))) (i : ℕ) (layer : Layer) (row : List (Option Named)) → slice_get layers i ≡ Some layer → slice_get rows i ≡ Some row
       → HasNoRunFor d (sizes_of_layers live (take i layers) (take i rows) ++ layer_sizes live layer row) → HasNoRunFor d (sizes_of_layers live layers rows)
   layers_full d layers rows i layer row is has full =

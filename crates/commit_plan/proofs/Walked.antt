@@ -1,4 +1,4 @@
--- Records of layers and of their rows of tiles, one behind another.
+-- Records of layers and of their rows of tiles, one after another.
 use Rattle.std.proofs.Common.{◌≡◌, inl, inr, ℕ, ◌+◌, ◌<◌, zero, suc, false, true, List, [], ◌∷◌, ◌++◌, length, take, replicate, slice_get, get_or, Option, Some, None, refl, sym, ◌∙◌, ap, subst, add-one, add-zero, append_assoc, arith}
 use Rattle.std.specs.List.{flat_map}
 use Rattle.std.specs.Option.{option_map}

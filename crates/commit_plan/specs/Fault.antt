@@ -5,8 +5,8 @@ use Rattle.extent_map.specs.declared.fault.ExtentFault.TheVariants as extents
 use Rattle.store_terms.specs.declared.damage.Damage.TheVariants as damage
 use Rattle.fault_texts.specs.CommonFault as common
 use Rattle.fault_texts.specs.declared.common_fault.CommonFault.TheVariants as faults
-use Rattle.record_writing.specs.Fault as records
-use Rattle.record_writing.specs.declared.fault.RecordFault.TheVariants as failed
+use Rattle.record_reading.specs.Fault as records
+use Rattle.record_reading.specs.declared.fault.RecordFault.TheVariants as failed
 use Rattle.root_reading.specs.declared.load_fault.LoadFault.{LoadFault}
 use Rattle.root_reading.specs.declared.load_fault.LoadFault.TheVariants as loads
 use Rattle.commit_plan.specs.declared.fault.StoreFault.{StoreFault}
@@ -34,7 +34,7 @@ code_of Failed = common.code_of faults.StoreFailed
 code_of SequenceLimit = common.code_of faults.SequenceLimit
 code_of OutOfMemory = common.code_of faults.OutOfMemory
 
--- the text that is printed behind the number
+-- the text that is printed after the number
 abbrev pub text_of : StoreFault → List ℕ
 text_of Device = common.text_of faults.Device
 text_of Full = common.text_of faults.Full

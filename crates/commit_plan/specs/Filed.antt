@@ -24,7 +24,7 @@ pub record Filed : Type 0 where
   pub extent : RecordExtent
   pub bytes : List ℕ
 
--- what is known of a record that has its place: it lies behind the slots, at a block of 32 bits, and its extent says how many bytes it has
+-- what is known of a record that has its place: it lies after the slots, at a block of 32 bits, and its extent says how many bytes it has
 pub record HasPlace (f : Filed) : Type 0 where
   pub behind : 2 ≤ f.extent.block
   pub low : f.extent.block < 2 ^ 32
@@ -110,7 +110,7 @@ module _ (live : LiveContent) where
       (layer : Layer) × (rest : List Layer) × (own : List Finished) × (more : List Finished) × (layers ≡ layer ∷ rest)
       × (tiles ≡ own ++ more) × SpellLayer l layer own × SpellLayers ls rest more
 
--- the write of a record: whole blocks, the record in front and zeros behind it
+-- the write of a record: whole blocks, the record in front and zeros after it
 pub record IsWriteOf (f : Filed) (w : Write) : Type 0 where
   pub behind : 2 ≤ f.extent.block
   pub there : w.at ≡ block_size * f.extent.block
@@ -136,7 +136,7 @@ pub record Files (x y : Kept) (layers : List FiledLayer) (listing : Filed) : Typ
   pub lists : y.listing ≡ map listed_of layers
   pub apart : all_apart (y.root.catalog ∷ extents_listed (map listed_of layers)) ≡ true
 
--- where what is written is put, and x still stands, the file holds what the root of y names
+-- where what is written is put, and the file still stands for x, it holds what the root of y names
 abbrev pub FilingMakes : Type 0
 FilingMakes =
     (x y : Kept) (layers : List FiledLayer) (listing : Filed) (ws : List Write) (file : List ℕ) → Shut x file

@@ -57,12 +57,12 @@ pub record Rest (x : Kept) (file : List ℕ) : Type 0 where
   pub live : Live x file
   pub harmless : Harmless (other x.root) x.root file
 
--- the other gate is shut, so behind it, and in free blocks, anything may stand
+-- the other gate is shut, so behind it, and in free blocks, there may be anything
 pub record Shut (x : Kept) (file : List ℕ) : Type 0 where
   pub live : Live x file
   pub closed : gate file (other x.root) ≢ open_gate
 
--- as a store stands between commits; at the last sequence there is no commit more
+-- as a store is between commits; at the last sequence there is no commit more
 abbrev pub Calm : Kept → List ℕ → Type 0
 Calm x file = Rest x file ⊎ (Shut x file × (sequence_max ≤ x.root.sequence))
 

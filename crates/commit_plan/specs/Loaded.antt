@@ -1,5 +1,5 @@
 -- What is read of a root, as what a file holds.
-use Rattle.record_writing.specs.Listing.{entries_of}
+use Rattle.store_terms.specs.Listing.{entries_of}
 use Rattle.store_terms.specs.Image.{Held}
 use Rattle.commit_plan.specs.Image.{table_held}
 use Rattle.commit_plan.specs.Kept.{Kept}

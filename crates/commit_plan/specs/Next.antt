@@ -29,7 +29,7 @@ pub record Spell (live : LiveContent) (layers : List FiledLayer) (listing : List
   pub small : x.number ≤ version_max
   pub listed : map listed_of layers ≡ listing
 
--- how the writes of a commit lie, whose records are to have these sizes, and whose root is of the present format: first each new record, layer by layer, in the lowest run that is free, in whole blocks of which the rest is zero; behind them the catalog that lists them, likewise; and last the body of the root, where it is to be put
+-- how the writes of a commit lie, whose records are to have these sizes, and whose root is of the present format: first each new record, layer by layer, in the lowest run that is free, in whole blocks of which the rest is zero; after them the catalog that lists them, likewise; and last the body of the root, where it is to be put
 pub record IsLaidOut (live : LiveContent) (given : List runs.Extent) (limit : ℕ) (held : Held) (sizes : List ℕ) (body : ℕ)
     (root : Root) (plan : List Write) : Type 0 where
   pub layers : List FiledLayer

@@ -28,12 +28,12 @@ pub record Plans (x y : Kept) (plan : List Write) : Type 0 where
   pub leads : (file : List ℕ) → Shut x file → Leads (Ready x y) plan file
   pub spares : Spare (Shut x) plan
 
--- the bytes of a write stand where it puts them
+-- the bytes of a write are where it puts them
 pub record IsWritten (file : List ℕ) (w : Write) : Type 0 where
   pub within : w.at + length w.bytes.items ≤ length file
   pub bytes : part file w.at (length w.bytes.items) ≡ w.bytes.items
 
--- a write behind the slots that touches no extent of a root
+-- a write after the slots that touches no extent of a root
 pub record IsOff (x : Kept) (w : Write) : Type 0 where
   pub behind : block_size * 2 ≤ w.at
   pub apart : AllByRecursion (λ e. Apart w.at (length w.bytes.items) (block_size * e.block) e.size) (extents_in x)

@@ -24,7 +24,7 @@ AreKnownIn live name row = (k : ℕ) (tile : Named) → get_or row k None ≡ So
 abbrev pub AreKnown : LiveContent → List Finished → Type 0
 AreKnown live tiles = (name : Name) (k : ℕ) (tile : Tile) → tile_at tiles name k ≡ Some tile → tile_at live.tiles name k ≡ Some tile
 
--- a record has its place, where it stays or behind those of a draft, and says what it has to
+-- a record has its place, where it stays or after those of a draft, and says what it has to
 pub record IsFiled (old : Drafted) (Says : Record → Type 0) (e : RecordExtent) (new : Drafted) : Type 0 where
   pub filed : Record
   pub extent : e ≡ extent_of filed
@@ -39,7 +39,7 @@ module _ (live : LiveContent) where
     pub draft : new ≡ with_filed old (filed_tiles (filed ∷ []))
     pub spelled : SpellTiles live name k (filed ∷ []) (row_tiles name k (places_in (tile ∷ [])))
 
-  -- the records of a layer's tiles have their places behind those of a draft
+  -- the records of a layer's tiles have their places after those of a draft
   pub record AreTilesFiled (old : Drafted) (name : Name) (tiles : List Finished) (es : List (Option RecordExtent)) (new : Drafted) : Type 0 where
     pub filed : List (Option Record)
     pub extents : es ≡ map (option_map extent_of) filed
@@ -53,7 +53,7 @@ module _ (live : LiveContent) where
     pub draft : new ≡ with_filed old (filed_of filed)
     pub spelled : SpellLayer live filed layer tiles
 
-  -- the same of layers one behind another
+  -- the same of layers one after another
   pub record AreLayersFiled (old : Drafted) (layers : List Layer) (tiles : List Finished) (ls : List Listed) (new : Drafted) : Type 0 where
     pub filed : List FiledLayer
     pub listed : map listed_of filed ≡ ls

@@ -1,8 +1,8 @@
-//! The writes of a commit behind its records: the catalog and the body.
+//! The writes of a commit after its records: the catalog and the body.
 ghost use Rattle.std.specs.Prelude.{◌≡◌, ◌⊎◌, ◌+◌, ◌^◌, ◌<◌, ◌++◌, ◌∷◌, [], ℕ, List, length, flat_map, All, IfOk, IfErr, IsErrOf};
 ghost use Rattle.overlay_terms.specs.Column.{column_count};
 ghost use Rattle.extent_map.specs.Taken.{limit_of};
-ghost use Rattle.record_writing.specs.Listing.{entries_of, IsListable};
+ghost use Rattle.store_terms.specs.Listing.{entries_of, IsListable};
 ghost use Rattle.store_terms.specs.Catalog.{catalog};
 ghost use Rattle.store_terms.specs.Places.{extents_listed};
 ghost use Rattle.store_terms.specs.Roots.{sequence_max};
@@ -23,10 +23,10 @@ use crate::image::Image;
 use crate::live_records::LiveRecords;
 use crate::next::Next;
 use crate::write::Write;
-use record_writing::catalog::Listed;
 use record_writing::catalog_writing::write_catalog;
 use record_writing::root_body::write_body;
 use std::alloc::Global;
+use store_terms::catalog::Listed;
 use store_terms::root::Root;
 
 /// Adds the catalog that lists the records of an image, and the body of the root that comes after one, where it is to be

@@ -7,7 +7,7 @@ ghost use Rattle.commit_plan.specs.declared.fault.StoreFault.TheVariants.{Device
 use disk_model::fault::DiskFault;
 use extent_map::fault::ExtentFault;
 use fault_texts::{CommonFault, FaultText};
-use record_writing::fault::RecordFault;
+use record_reading::fault::RecordFault;
 use root_reading::load_fault::LoadFault;
 use std::alloc::{AllocError, AllocFailed};
 use store_terms::damage::Damage;
@@ -48,7 +48,7 @@ impl StoreFault {
         }
     }
 
-    /// The text that is printed behind the number.
+    /// The text that is printed after the number.
     pub fn text(&self) -> FaultText
         ensures text { shown result ≡ text_of self.now }
         ensures brief { IsBrief result }

@@ -13,7 +13,7 @@ pub fn filing_makes()
     ensures { FilingMakes }
 {}
 
-/// The tests of equality tell of two contents, and of two tiles, whether they are equal.
+/// The tests of equality say of two contents, and of two tiles, whether they are equal.
 pub fn same_is_equal()
     ensures { SameIsEqual }
 {}

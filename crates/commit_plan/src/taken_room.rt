@@ -1,17 +1,17 @@
 //! The room that the records of a root take.
 ghost use Rattle.std.specs.Prelude.{IfOk};
 ghost use Rattle.extent_map.specs.Taken.{taken_of};
-ghost use Rattle.record_writing.specs.Listing.{entries_of};
+ghost use Rattle.store_terms.specs.Listing.{entries_of};
 ghost use Rattle.store_terms.specs.Places.{extents_listed};
 ghost use Rattle.commit_plan.specs.TakenRoom.{TakesRoom};
 ghost use Rattle.commit_plan.specs.Staying.{AreHeldApart};
 
 use crate::room::Room;
 use extent_map::fault::ExtentFault;
-use record_writing::catalog::Listed;
 use root_reading::load_fault::LoadFault;
 use root_reading::root_runs::runs_of;
 use std::alloc::Global;
+use store_terms::catalog::Listed;
 use store_terms::damage::Damage;
 use store_terms::root::RecordExtent;
 

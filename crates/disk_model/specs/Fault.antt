@@ -9,6 +9,6 @@ use Rattle.disk_model.specs.declared.fault.DiskFault.TheVariants.{Device}
 abbrev pub code_of : DiskFault → ℕ
 code_of Device = common.code_of faults.Device
 
--- the text that is printed behind the number
+-- the text that is printed after the number
 abbrev pub text_of : DiskFault → List ℕ
 text_of Device = common.text_of faults.Device

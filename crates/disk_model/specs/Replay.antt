@@ -9,7 +9,7 @@ pub record State : Type 0 where
   pub synced : List ℕ
   pub ranges : List (ℕ × ℕ)
 
--- the file with these bytes written over it, and zeros in a gap behind its end
+-- the file with these bytes written over it, and zeros in a gap after its end
 unfoldable pub over : List ℕ → ℕ → List ℕ → List ℕ
 over file at bytes = take at (file ++ replicate (at - length file) 0) ++ (bytes ++ drop (at + length bytes) file)
 

@@ -25,7 +25,7 @@ fn grow(file: &mut Vec<u8>, end: usize) -> Result<(), AllocError>
     Ok(())
 }
 
-/// Writes bytes over a file, and zeros into a gap behind its end. A refused growth leaves the file.
+/// Writes bytes over a file, and zeros into a gap after its end. A refused growth leaves the file.
 pub fn overwrite(file: &mut Vec<u8>, at: usize, bytes: &[u8]) -> Result<(), AllocError>
     ensures ok { OnOk result (file.new.items ≡ over file.old.items at bytes.now) }
     ensures err { OnErr result (file.new.items ≡ file.old.items) }

@@ -67,7 +67,7 @@ alike_insert given es place e alike = record {
 pub alike_self : (es : List Extent) → AreAlike es es
 alike_self es = record { there = λ start need free. free; back = λ start need free. free }
 
--- the last of what was given may stand first
+-- the last of what was given may come first
 pub alike_last : (given : List Extent) (e : Extent) (es : List Extent) → AreAlike (e ∷ given) es → AreAlike (given ++ e ∷ []) es
 alike_last given e es alike = record {
   there = λ start need free. alike.there start need ((all_back (IsApart start need) given (e ∷ []) free).0, all_front (IsApart start need) given (e ∷ []) free);
@@ -87,7 +87,7 @@ pub free_at : (es : List Extent) (i : ℕ) (e : Extent) (start need : ℕ) → i
 free_at es i e start need inside is free =
     (subst (λ (l : List Extent). IsUnused l start need) (split_at es i e inside is) (all_back (IsApart start need) (take i es) (drop i es) (subst (λ (l : List Extent). IsUnused l start need) (sym (take-append-drop i es)) free))).0
 
--- from an extent that begins behind on, all do
+-- from an extent that begins after a block on, all do
 pub behind_from : (es : List Extent) (i : ℕ) (e : Extent) (end : ℕ) → i < length es → e ≡ get_or es i e → Ascend es → end ≤ e.block → AllByRecursion (λ f. end ≤ f.block) (drop i es)
 behind_from es i e end inside is ascends behind =
     let here = split_at es i e inside is in
@@ -95,7 +95,7 @@ behind_from es i e end inside is ascends behind =
     subst (AllByRecursion (λ f. end ≤ f.block)) (sym here)
     (behind, all_wider (λ f. e.block + e.blocks ≤ f.block) (λ f. end ≤ f.block) (λ f later. omega (arith, behind, later)) (drop (i + 1) es) from.0)
 
--- nothing stands behind the last
+-- nothing comes after the last
 pub nothing_behind : {A : Type 0} (P : A → Type 0) (xs : List A) (n : ℕ) → length xs ≤ n → AllByRecursion P (drop n xs)
 nothing_behind P [] zero end = tt
 nothing_behind P [] (suc n) end = tt
@@ -115,7 +115,7 @@ all_by es i e block inside is ascends by =
     (all_wider (λ d. d.block + d.blocks ≤ e.block) (λ d. d.block + d.blocks ≤ block) (λ d h. omega (arith, h, by)) (take i es)
     (ends_before (take i es) e (drop (i + 1) es) (subst Ascend (sym around) ascends))) by
 
--- where an extent does not end by some block, none behind it does
+-- where an extent does not end by some block, none after it does
 pub none_by : (es : List Extent) (i : ℕ) (e : Extent) (block : ℕ) → i < length es → e ≡ get_or es i e → Ascend es → (e.block + e.blocks ≤ block → ⊥)
     → AllByRecursion (λ d. d.block + d.blocks ≤ block → ⊥) (drop i es)
 none_by es i e block inside is ascends past =

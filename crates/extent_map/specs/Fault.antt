@@ -11,7 +11,7 @@ code_of Full = common.code_of faults.Full
 code_of Overlap = 33
 code_of OutOfMemory = common.code_of faults.OutOfMemory
 
--- the text that is printed behind the number
+-- the text that is printed after the number
 abbrev pub text_of : ExtentFault → List ℕ
 text_of Full = common.text_of faults.Full
 text_of Overlap = codes "damaged 9"

@@ -11,7 +11,7 @@ pub record IsFirstFit (taken : List Extent) (limit need start : ℕ) : Type 0 wh
   pub free : IsUnused taken start need
   pub lowest : (s : ℕ) → 2 ≤ s → s < start → IsUnused taken s need → ⊥
 
--- so many free blocks stand nowhere from block 2 on and below the limit
+-- so many free blocks lie nowhere from block 2 on and below the limit
 abbrev pub NoFit : List Extent → ℕ → ℕ → Type 0
 NoFit taken limit need = (s : ℕ) → 2 ≤ s → s + need ≤ limit → IsUnused taken s need → ⊥
 

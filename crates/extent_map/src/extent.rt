@@ -1,7 +1,7 @@
 //! A run of blocks.
 ghost use Rattle.std.specs.Prelude.{◌≡◌, ◌+◌, ◌*◌, ◌^◌, ◌<◌, ◌≤◌, IsTrue, IfSome, IsSome, ◌↔◌};
 
-/// Blocks of a file one behind another: the number of the first, and how many they are. There is at least one.
+/// Blocks of a file one after another: the number of the first, and how many they are. There is at least one.
 #[derive(Clone, Copy, Debug, PartialEq, Eq)]
 pub struct Extent {
     pub block: u64,
@@ -23,7 +23,7 @@ impl Extent {
         Some(Extent { block, blocks })
     }
 
-    /// Whether all of these blocks stand before another extent's first.
+    /// Whether all of these blocks come before another extent's first.
     pub(crate) fn is_before(&self, other: &Extent) -> bool
         ensures { IsTrue result ↔ (self.now.block + self.now.blocks ≤ other.now.block) }
     {

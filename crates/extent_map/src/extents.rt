@@ -18,7 +18,7 @@ pub struct Extents {
     ghost ascending: { Ascend taken.items } by { Ascend-prop taken.items },
 }
 
-/// How many of the ascending extents stand before another. It halves what is left at each look.
+/// How many of the ascending extents come before another. It halves what is left at each look.
 fn count_before(taken: &[Extent], extent: &Extent) -> usize
     requires { Ascend taken.now }
     ensures within { result ≤ length taken.now }
@@ -38,7 +38,7 @@ fn count_before(taken: &[Extent], extent: &Extent) -> usize
     low
 }
 
-/// Where an extent stands among others, if it has no block in common with them.
+/// The place of an extent among others, if it has no block in common with them.
 fn place_of(taken: &[Extent], extent: &Extent) -> Option<usize>
     requires { Ascend taken.now }
     ensures some { IfSome result (λ place. IsGap taken.now place extent.now.block extent.now.blocks) }

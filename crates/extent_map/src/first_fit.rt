@@ -28,7 +28,7 @@ fn ends_by(start: u64, need: u64, bound: u64) -> bool
     need <= bound && start <= bound - need
 }
 
-/// The lowest start of so many free blocks, however far up, and the place among the ascending extents where they stand.
+/// The lowest start of so many free blocks, however far up, and their place among the ascending extents.
 fn lowest(taken: &[Extent], need: u64) -> (usize, u64)
     requires { Ascend taken.now }
     ensures gap { IsGap taken.now result.0 result.1 need }
@@ -49,7 +49,7 @@ fn lowest(taken: &[Extent], need: u64) -> (usize, u64)
     (taken.len(), start)
 }
 
-/// A run that is free, and the place among the ascending extents where it stands.
+/// A run that is free, and its place among the ascending extents.
 #[derive(Clone, Copy)]
 pub struct Fit {
     pub place: usize,

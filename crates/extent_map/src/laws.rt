@@ -1,7 +1,7 @@
 //! Laws over the definitions: each function does nothing, and its contract is the law.
 ghost use Rattle.extent_map.specs.FirstFit.{PlannedIsNotFull};
 
-/// A plan stands exactly where no length is left without a run: the two outcomes of `plan` exclude one another.
+/// There is a plan exactly where no length is left without a run: the two outcomes of `plan` exclude one another.
 pub fn planned_is_not_full()
     ensures { PlannedIsNotFull }
 {}

@@ -13,7 +13,7 @@ use Rattle.layer_expr.proofs.SpellingLemmas.{reads_back, read_is_expression}
 use Rattle.layer_expr.proofs.LawLemmas.{one_tree, never_both}
 use Rattle.layer_expr.specs.declared.fault.ExprFault.TheVariants.{ExprSyntax, ExprTooLong, BadName, OutOfMemory}
 use Rattle.store_terms.specs.DefinitionRecord.{definition_of_record}
-use Rattle.record_writing.specs.Answers.{Fails, failed_as}
+use Rattle.record_reading.specs.Answers.{Fails, failed_as}
 use Rattle.store_terms.proofs.RecordLemmas.{definition_is_its_text}
 
 none_unless : {A : Type 0} (o : Option A) → ((x : A) → o ≡ Some x → ⊥) → o ≡ None

@@ -4,9 +4,9 @@ use Rattle.store_terms.specs.declared.damage.Damage.{Damage}
 use Rattle.store_terms.specs.Fields.{read_many}
 use Rattle.store_terms.specs.Image.{or_fault}
 use Rattle.store_terms.proofs.Loops.{with_front, ends}
-use Rattle.record_writing.specs.declared.fault.ReadFault.{ReadFault}
-use Rattle.record_writing.specs.declared.fault.ReadFault.TheVariants as faults
-use Rattle.record_writing.specs.Answers.{Fails, told_as, Tells}
+use Rattle.record_reading.specs.declared.fault.ReadFault.{ReadFault}
+use Rattle.record_reading.specs.declared.fault.ReadFault.TheVariants as faults
+use Rattle.record_reading.specs.Answers.{Fails, told_as, Tells}
 
 pub fails : {A : Type 0} (read : List ℕ → Option (A × List ℕ)) (fault : ReadFault) (front : List A) (count i : ℕ)
     (bytes : List ℕ) (total : Option (List A × List ℕ)) → i < count → Fails fault (read bytes)
@@ -26,7 +26,7 @@ starts read front count bytes none =
     let all : count - 0 ≡ count = omega arith in
     behind_nothing front (read_many read (count - 0) bytes) none ∙ ap (λ (n : ℕ). read_many read n bytes) all
 
--- what gives no value tells its damage
+-- what gives no value reports its damage
 pub tells : {Y : Type 0} (damage : Damage) (fault : ReadFault) (read : Option Y) → Fails fault read
     → Tells (told_as damage fault) (or_fault damage read)
 tells damage faults.Memory read given = tt

@@ -29,7 +29,7 @@ regroup : (a b c : Bool) → (a && (b && c)) ≡ ((a && b) && c)
 regroup true b c = refl
 regroup false b c = refl
 
--- a piece behind others that rise from one
+-- a piece after others that rise from one
 rising_from_more : (a : NamedPiece) (xs : List NamedPiece) (b : NamedPiece)
     → is_rising_from (ends_of a) (map ends_of (xs ++ b ∷ []))
     ≡ (is_rising_from (ends_of a) (map ends_of xs) && is_next (get_or (a ∷ xs) (length xs) b) b)
@@ -43,7 +43,7 @@ four false i r n = refl
 four true i true n = refl
 four true i false n = and_false i
 
--- whether a piece stands behind the last of others
+-- whether a piece comes after the last of others
 abbrev follows : List NamedPiece → NamedPiece → Bool
 follows [] b = true
 follows (a ∷ xs) b = is_next (get_or (a ∷ xs) (length xs) b) b
@@ -85,7 +85,7 @@ module _ (k : ℕ) (all : List NamedPiece) (b : NamedPiece) where
       let n : length all - 1 - 1 ≡ length xs = omega (arith, ap length is, length_more (x ∷ xs) b) in
       at ∙ (λ i. get_or (is i) (n i) a) ∙ before_last x xs b a b
 
-  -- the last piece begins in the column: all stand if the others do, and it behind the one before it
+  -- the last piece begins in the column: all are in order if the others are, and it comes after the one before it
   pub behind : (xs : List NamedPiece) (p q a : NamedPiece) → all ≡ xs ++ b ∷ [] → 2 ≤ length all
       → p ≡ get_or all (length all - 1) p → begins k p ≡ true → q ≡ get_or all (length all - 1) q
       → a ≡ get_or all (length all - 1 - 1) a → are_in_order k all ≡ (are_in_order k xs && is_next a q)
@@ -95,7 +95,7 @@ module _ (k : ℕ) (all : List NamedPiece) (b : NamedPiece) where
       ∙ ap (λ (c : Bool). are_in_order k (x ∷ xs) && (c && follows (x ∷ xs) b)) (ap (begins k) (sym (is_last (x ∷ xs) p is here)) ∙ begins_there)
       ∙ (λ i. are_in_order k (x ∷ xs) && is_next (sym (is_before x xs a is near) i) (sym (is_last (x ∷ xs) q is there) i))
 
--- pieces that stand, and are few enough, have the form of a tile
+-- pieces that are in order, and few enough, have the form of a tile
 pub formed : (k n : ℕ) (named : List NamedPiece) (stand : Bool) → n ≡ length named → stand ≡ are_in_order k named
     → (nat_le n pieces_max && stand) ≡ is_formed (pieces (map ends_of named)) k
 formed k n named stand count said =

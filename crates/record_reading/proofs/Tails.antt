@@ -1,4 +1,4 @@
--- What stands behind some bytes, to their end.
+-- What comes after some bytes, to their end.
 use Rattle.std.proofs.Common.{◌≡◌, ℕ, ◌-◌, List, length, take, drop, arith, length-drop}
 use Rattle.std.proofs.lemmas.List.{take_all}
 

@@ -3,10 +3,10 @@ use Rattle.std.specs.Prelude.{◌≡◌, Option, Some, None, Result, Ok, Err}
 use Rattle.layer_expr.specs.declared.fault.ExprFault.{ExprFault}
 use Rattle.layer_expr.specs.declared.fault.ExprFault.TheVariants.{ExprSyntax, ExprTooLong, BadName, OutOfMemory}
 use Rattle.store_terms.specs.declared.damage.Damage.{Damage}
-use Rattle.record_writing.specs.declared.fault.ReadFault.{ReadFault}
-use Rattle.record_writing.specs.declared.fault.ReadFault.TheVariants as read_faults
-use Rattle.record_writing.specs.declared.fault.RecordFault.{RecordFault}
-use Rattle.record_writing.specs.declared.fault.RecordFault.TheVariants as record_faults
+use Rattle.record_reading.specs.declared.fault.ReadFault.{ReadFault}
+use Rattle.record_reading.specs.declared.fault.ReadFault.TheVariants as read_faults
+use Rattle.record_reading.specs.declared.fault.RecordFault.{RecordFault}
+use Rattle.record_reading.specs.declared.fault.RecordFault.TheVariants as record_faults
 
 -- reading gives no value, unless memory ran out
 abbrev pub Fails : {Y : Type 0} → ReadFault → Option Y → Type 0
@@ -30,12 +30,12 @@ abbrev pub told_as : Damage → ReadFault → RecordFault
 told_as damage read_faults.Memory = record_faults.OutOfMemory
 told_as damage read_faults.Form = record_faults.Damaged damage
 
--- the fault is the damage that reading tells, unless memory ran out
+-- the fault is the damage that reading reports, unless memory ran out
 abbrev pub Tells : {Y : Type 0} → RecordFault → Result Y Damage → Type 0
 Tells record_faults.OutOfMemory read = Unit {0}
 Tells (record_faults.Damaged damage) read = read ≡ Err damage
 
--- the value that reading gives, or the damage that it tells, unless memory ran out
+-- the value that reading gives, or the damage that it reports, unless memory ran out
 abbrev pub Reads : {X Y : Type 0} → (X → Y) → Result X RecordFault → Result Y Damage → Type 0
 Reads view (Ok x) read = read ≡ Ok (view x)
 Reads view (Err fault) read = Tells fault read

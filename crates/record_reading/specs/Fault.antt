@@ -3,8 +3,8 @@ use Rattle.std.specs.Prelude.{ℕ, List, ◌++◌, codes, decimal, Option, Some,
 use Rattle.store_terms.specs.Damage as damages
 use Rattle.fault_texts.specs.CommonFault as common
 use Rattle.fault_texts.specs.declared.common_fault.CommonFault.TheVariants as faults
-use Rattle.record_writing.specs.declared.fault.RecordFault.{RecordFault}
-use Rattle.record_writing.specs.declared.fault.RecordFault.TheVariants.{Damaged, OutOfMemory}
+use Rattle.record_reading.specs.declared.fault.RecordFault.{RecordFault}
+use Rattle.record_reading.specs.declared.fault.RecordFault.TheVariants.{Damaged, OutOfMemory}
 
 -- the number of a damage with this code, or of none: no store at all
 abbrev pub code_of_damage : Option ℕ → ℕ
@@ -20,7 +20,7 @@ abbrev pub text_of_damage : Option ℕ → List ℕ
 text_of_damage None = codes "not a store"
 text_of_damage (Some code) = codes "damaged " ++ decimal code
 
--- the text that is printed behind the number
+-- the text that is printed after the number
 abbrev pub text_of : RecordFault → List ℕ
 text_of (Damaged damage) = text_of_damage (damages.code_of damage)
 text_of OutOfMemory = common.text_of faults.OutOfMemory

@@ -1,2 +1,4 @@
+pub mod Fault
+pub mod Answers
 pub mod Added
 pub mod PieceOrder

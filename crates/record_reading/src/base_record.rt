@@ -1,6 +1,6 @@
 //! The records of base layers: how many rings, and for each how many points, and its points.
 ghost use Rattle.std.specs.Prelude.{IfOk, IfErr};
-ghost use Rattle.record_writing.specs.Answers.{Fails, Gives, Reads};
+ghost use Rattle.record_reading.specs.Answers.{Fails, Gives, Reads};
 ghost use Rattle.record_reading.specs.Added.{IsAdded};
 ghost use Rattle.store_terms.specs.Fields.{read_many};
 ghost use Rattle.store_terms.specs.BaseRecord.{whole_point, ring as spelled, base_of_record};
@@ -8,9 +8,9 @@ ghost use Rattle.store_terms.specs.Image.{or_fault};
 ghost use Rattle.store_terms.specs.declared.damage.Damage.TheVariants.{LayerForm};
 
 use crate::bytes::two_bytes_at;
+use crate::fault::{ReadFault, RecordFault};
 use crate::points::point_at;
 use plane_base::{BaseLayer, PlaneFault, Pt, Ring};
-use record_writing::fault::{ReadFault, RecordFault};
 use std::alloc::Global;
 use store_terms::damage::Damage;
 
@@ -40,7 +40,7 @@ fn base_in(alloc: Global, bytes: &[u8]) -> Result<BaseLayer, ReadFault>
     }
 }
 
-/// So many rings, one behind another, and what follows them.
+/// So many rings, one after another, and what follows them.
 fn rings_at(alloc: Global, count: u16, bytes: &[u8]) -> Result<(Vec<Ring>, &[u8]), ReadFault>
     ensures { Gives (λ x. (x.0.items, x.1.now)) result (read_many spelled.read count bytes.now) }
 {
@@ -62,7 +62,7 @@ fn ring_at(alloc: Global, bytes: &[u8]) -> Result<(Ring, &[u8]), ReadFault>
     Ok((Ring::new(points), rest))
 }
 
-/// So many points, one behind another, and what follows them.
+/// So many points, one after another, and what follows them.
 fn points_at(alloc: Global, count: u16, bytes: &[u8]) -> Result<(Vec<Pt>, &[u8]), ReadFault>
     ensures { Gives (λ x. (x.0.items, x.1.now)) result (read_many whole_point.read count bytes.now) }
 {

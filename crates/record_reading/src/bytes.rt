@@ -1,10 +1,10 @@
 //! Numbers at the front of some bytes.
 ghost use Rattle.std.specs.Prelude.{◌≡◌, ◌∷◌, IfOk};
-ghost use Rattle.record_writing.specs.Answers.{Gives};
+ghost use Rattle.record_reading.specs.Answers.{Gives};
 ghost use Rattle.store_terms.specs.Fields.{number};
 
+use crate::fault::ReadFault;
 use byteorder::{BigEndian, ByteOrder};
-use record_writing::fault::ReadFault;
 
 /// The first byte, and what follows it.
 pub(crate) fn byte_at(bytes: &[u8]) -> Result<(u8, &[u8]), ReadFault>

@@ -1,7 +1,7 @@
 //! The catalog is read: the layers in order, each with its name and where its records lie.
 ghost use Rattle.std.specs.Prelude.{◌≡◌, map, true, IfOk};
-ghost use Rattle.record_writing.specs.Answers.{Gives, Reads};
-ghost use Rattle.record_writing.specs.Listing.{entry_of, entries_of, records_of, spelled_records};
+ghost use Rattle.record_reading.specs.Answers.{Gives, Reads};
+ghost use Rattle.store_terms.specs.Listing.{entry_of, entries_of, records_of, spelled_records};
 ghost use Rattle.store_terms.specs.Fields.{number, read_many, counted, whole};
 ghost use Rattle.store_terms.specs.Choices.{optional};
 ghost use Rattle.store_terms.specs.Catalog as terms;
@@ -10,10 +10,10 @@ ghost use Rattle.store_terms.specs.Image.{or_fault};
 ghost use Rattle.store_terms.specs.declared.damage.Damage.TheVariants.{CatalogForm};
 
 use crate::bytes::{byte_at, eight_bytes_at, four_bytes_at, two_bytes_at};
+use crate::fault::{ReadFault, RecordFault};
 use plane_base::COLUMN_COUNT;
-use record_writing::catalog::{Listed, Records};
-use record_writing::fault::{ReadFault, RecordFault};
 use std::alloc::{AllocError, Global};
+use store_terms::catalog::{Listed, Records};
 use store_terms::damage::Damage;
 use store_terms::layout::OLD_COLUMN_COUNT;
 use store_terms::root::RecordExtent;
@@ -88,7 +88,7 @@ fn catalog_in(alloc: Global, columns: u8, bytes: &[u8]) -> Result<Vec<Listed>, R
     Ok(listing)
 }
 
-/// So many layers, one behind another, and what follows them.
+/// So many layers, one after another, and what follows them.
 fn listing_at(
     alloc: Global,
     columns: u8,
@@ -116,7 +116,7 @@ fn layer_at(alloc: Global, columns: u8, bytes: &[u8]) -> Result<(Listed, &[u8]),
     Ok((Listed { name, records }, rest))
 }
 
-/// The bytes of a name behind their number, and what follows them.
+/// The bytes of a name after their number, and what follows them.
 fn name_at(alloc: Global, bytes: &[u8]) -> Result<(Vec<u8>, &[u8]), ReadFault>
     ensures { Gives (λ x. (x.0.items, x.1.now)) result ((counted 1 (number 1)).read bytes.now) }
 {

@@ -1,13 +1,13 @@
 //! The records of derived layers: the text of the expression.
-ghost use Rattle.record_writing.specs.Answers.{Gives, Reads};
+ghost use Rattle.record_reading.specs.Answers.{Gives, Reads};
 ghost use Rattle.store_terms.specs.DefinitionRecord.{definition_of_record};
 ghost use Rattle.store_terms.specs.Image.{or_fault};
 ghost use Rattle.store_terms.specs.declared.damage.Damage.TheVariants.{LayerForm};
 
+use crate::fault::{ReadFault, RecordFault};
 use layer_expr::Expr;
 use layer_expr::reading::read_expr;
 use layer_expr::writing::write_expr;
-use record_writing::fault::{ReadFault, RecordFault};
 use std::alloc::Global;
 use store_terms::damage::Damage;
 

@@ -1,9 +1,9 @@
 //! Why a record is not read.
 ghost use Rattle.std.specs.Prelude.{◌≡◌};
 ghost use Rattle.fault_texts.specs.FaultText.{shown, IsBrief};
-ghost use Rattle.record_writing.specs.Answers.{failed_as, told_as};
-ghost use Rattle.record_writing.specs.Fault.{code_of, text_of};
-ghost use Rattle.record_writing.specs.declared.fault.ReadFault.TheVariants.{Memory};
+ghost use Rattle.record_reading.specs.Answers.{failed_as, told_as};
+ghost use Rattle.record_reading.specs.Fault.{code_of, text_of};
+ghost use Rattle.record_reading.specs.declared.fault.ReadFault.TheVariants.{Memory};
 
 use fault_texts::{CommonFault, FaultText};
 use layer_expr::fault::ExprFault;
@@ -42,7 +42,7 @@ impl RecordFault {
         }
     }
 
-    /// The text that is printed behind the number.
+    /// The text that is printed after the number.
     pub fn text(&self) -> FaultText
         ensures text { shown result ≡ text_of self.now }
         ensures brief { IsBrief result }

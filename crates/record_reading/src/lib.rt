@@ -1,10 +1,11 @@
-//! Records read, and the bodies of roots: what their bytes stand for.
+//! Records read, and the bodies of roots: what their bytes stand for, or why they are not read.
 #![tactic(auto)]
 
 pub mod base_record;
 mod bytes;
 pub mod catalog_record;
 pub mod definition_record;
+pub mod fault;
 mod piece_order;
 mod pieces;
 mod points;

@@ -1,4 +1,4 @@
-//! Whether pieces stand in a tile as they are read, one behind another.
+//! Whether pieces may be in a tile, as they are read one after another.
 ghost use Rattle.std.specs.Prelude.{◌≡◌, ◌≤◌, ◌++◌, ◌∷◌, [], ◌&&◌, List, length};
 ghost use Rattle.exact_point.specs.NamedPiece.{NamedPiece};
 ghost use Rattle.record_reading.specs.PieceOrder.{are_in_order};
@@ -6,7 +6,7 @@ ghost use Rattle.record_reading.specs.PieceOrder.{are_in_order};
 use plane_base::Column;
 use tile_build::Piece;
 
-/// Whether the last of some pieces begins in a column and stands behind the one before it. With the others it says
+/// Whether the last of some pieces begins in a column and comes after the one before it. With the others it says
 /// whether all do.
 pub(crate) fn is_last_placed(pieces: &[Piece], column: Column) -> bool
     requires { 1 ≤ length pieces.now }

@@ -1,22 +1,22 @@
 //! Pieces at the front of some bytes.
 ghost use Rattle.std.specs.Prelude.{◌≡◌, ◌↔◌, ℕ, List, Some, IfOk, IfErr, IsTrue};
 ghost use Rattle.tile_build.specs.Piece.{IsBetween};
-ghost use Rattle.record_writing.specs.Answers.{Fails, Gives};
+ghost use Rattle.record_reading.specs.Answers.{Fails, Gives};
 ghost use Rattle.record_reading.specs.Added.{IsAdded};
 ghost use Rattle.record_reading.specs.PieceOrder.{are_in_order};
 ghost use Rattle.store_terms.specs.Fields.{read_many};
 ghost use Rattle.store_terms.specs.TileRecord.{piece as spelled, point_name, segment};
 
+use crate::fault::ReadFault;
 use crate::piece_order::is_last_placed;
 use crate::segments::{crossing_in, point_name_at, segment_at, segment_in, vertex_in};
 use exact_point::PointName;
 use plane_base::{Column, Pt, Seg};
-use record_writing::fault::ReadFault;
 use std::alloc::Global;
 use tile_build::Piece;
 use tile_build::ends::{are_ends, are_whole_ends};
 
-/// So many pieces, one behind another, whether they begin in a column and rise, and what follows them. Each is asked
+/// So many pieces, one after another, whether they begin in a column and rise, and what follows them. Each is asked
 /// while it is at hand: to go over all of them again would take longer than to read them.
 pub(crate) fn pieces_at(
     alloc: Global,
@@ -82,7 +82,7 @@ fn push_any<'a>(pieces: &mut Vec<Piece>, bytes: &'a [u8]) -> Result<&'a [u8], Re
     }
 }
 
-/// The same behind its segment, whatever names its ends have.
+/// The same after its segment, whatever names its ends have.
 fn push_named<'a>(
     pieces: &mut Vec<Piece>,
     support: &Seg,
@@ -102,7 +102,7 @@ fn push_named<'a>(
     }
 }
 
-/// The same behind the name of its left end.
+/// The same after the name of its left end.
 fn push_from<'a>(
     pieces: &mut Vec<Piece>,
     support: &Seg,
@@ -131,7 +131,7 @@ fn push_from<'a>(
     }
 }
 
-/// The same behind the names of both ends.
+/// The same after the names of both ends.
 fn push_between(
     pieces: &mut Vec<Piece>,
     support: &Seg,

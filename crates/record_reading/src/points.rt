@@ -1,13 +1,13 @@
 //! Points at the front of some bytes.
 ghost use Rattle.std.specs.Prelude.{◌≡◌, ◌≤◌, ◌↔◌, length, drop};
 ghost use Rattle.overlay_terms.specs.Plane.{InRange};
-ghost use Rattle.record_writing.specs.Answers.{Gives};
+ghost use Rattle.record_reading.specs.Answers.{Gives};
 ghost use Rattle.record_reading.specs.Added.{before, number_in};
 ghost use Rattle.store_terms.specs.BaseRecord.{whole_point};
 
+use crate::fault::ReadFault;
 use byteorder::{BigEndian, ByteOrder};
 use plane_base::{COORD_MAX, Pt};
-use record_writing::fault::ReadFault;
 
 /// The point that eight bytes spell, and what follows them.
 pub(crate) fn point_at(bytes: &[u8]) -> Result<(Pt, &[u8]), ReadFault>

@@ -1,14 +1,14 @@
 //! The bodies of root slots are read.
 ghost use Rattle.std.specs.Prelude.{◌≡◌, ◌≤◌, length};
-ghost use Rattle.store_terms.specs.Roots.{body_in};
+ghost use Rattle.store_terms.specs.Roots.{body_in, body_read};
 
 use byteorder::{BigEndian, ByteOrder};
 use store_terms::layout::{MAGIC, OLD_FORMAT};
 use store_terms::root::{Body, RecordExtent, Root};
 
-/// What the first 40 bytes of a body say, whether it is ours or not.
+/// What the bytes of a body that are read say, whether it is ours or not.
 pub fn read_body(bytes: &[u8]) -> Body
-    requires { 40 ≤ length bytes.now }
+    requires { body_read ≤ length bytes.now }
     ensures { result ≡ body_in bytes.now }
 {
     let format = BigEndian::read_u32(&bytes[8..]);

@@ -3,17 +3,17 @@ ghost use Rattle.record_reading.specs.Added.{before};
 ghost use Rattle.std.specs.Prelude.{◌≡◌, ◌≤◌, ◌∷◌, length, drop, Some, None, IfSome, IsSome, if◌then◌else◌};
 ghost use Rattle.std.specs.Ordering.{is_lt};
 ghost use Rattle.overlay_terms.specs.Plane.{whole_cmp};
-ghost use Rattle.record_writing.specs.Answers.{Gives};
+ghost use Rattle.record_reading.specs.Answers.{Gives};
 ghost use Rattle.store_terms.specs.TileRecord.{segment, point_name};
 
 use crate::bytes::byte_at;
+use crate::fault::ReadFault;
 use crate::points::{point_at, point_in};
 use exact_point::PointName;
 use plane_base::{Pt, Seg};
-use record_writing::fault::ReadFault;
 
 /// The segment that 16 bytes spell, its left end first, and what follows them. In this file and in
-/// that of pieces a `match` stands for `?`, which the prover does not take with such pairs, and an arm
+/// that of pieces a `match` is in place of `?`, which the prover does not take with such pairs, and an arm
 /// names the pair: its parts by name would cost the prover several times as much.
 pub(crate) fn segment_at(bytes: &[u8]) -> Result<(Seg, &[u8]), ReadFault>
     ensures { Gives (λ x. (x.0, x.1.now)) result (segment.read bytes.now) }
@@ -96,7 +96,7 @@ pub(crate) fn point_name_at(bytes: &[u8]) -> Result<(PointName, &[u8]), ReadFaul
     }
 }
 
-/// The whole point that a name is of behind its kind, and what follows it.
+/// The whole point that a name is of after its kind, and what follows it.
 fn vertex_at(bytes: &[u8]) -> Result<(PointName, &[u8]), ReadFault>
     ensures { Gives (λ x. (x.0, x.1.now)) result (point_name.read (0 ∷ bytes.now)) }
 {
@@ -106,7 +106,7 @@ fn vertex_at(bytes: &[u8]) -> Result<(PointName, &[u8]), ReadFault>
     }
 }
 
-/// The crossing that a name is of behind its kind, and what follows it.
+/// The crossing that a name is of after its kind, and what follows it.
 fn crossing_at(bytes: &[u8]) -> Result<(PointName, &[u8]), ReadFault>
     ensures { Gives (λ x. (x.0, x.1.now)) result (point_name.read (1 ∷ bytes.now)) }
 {
@@ -119,7 +119,7 @@ fn crossing_at(bytes: &[u8]) -> Result<(PointName, &[u8]), ReadFault>
     }
 }
 
-/// The place at a border that a name is of behind its kind, and what follows it.
+/// The place at a border that a name is of after its kind, and what follows it.
 fn border_at(bytes: &[u8]) -> Result<(PointName, &[u8]), ReadFault>
     ensures { Gives (λ x. (x.0, x.1.now)) result (point_name.read (2 ∷ bytes.now)) }
 {

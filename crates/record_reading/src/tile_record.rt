@@ -1,7 +1,7 @@
 //! The records of finished tiles: the column, and the pieces by the names of their ends, or that they are too many.
 ghost use Rattle.std.specs.Prelude.{◌≡◌, IfOk};
 ghost use Rattle.overlay_terms.specs.Histories.{is_formed};
-ghost use Rattle.record_writing.specs.Answers.{Gives, Reads};
+ghost use Rattle.record_reading.specs.Answers.{Gives, Reads};
 ghost use Rattle.record_writing.specs.Tiles.{named_by, unsieved};
 ghost use Rattle.store_terms.specs.Image.{or_fault};
 ghost use Rattle.store_terms.specs.TileRecord.{tile_of_record};
@@ -9,9 +9,9 @@ ghost use Rattle.store_terms.specs.declared.damage.Damage.TheVariants.{TileForm}
 ghost use Rattle.tile_build.specs.Tile.{tile_of};
 
 use crate::bytes::{byte_at, four_bytes_at};
+use crate::fault::{ReadFault, RecordFault};
 use crate::pieces::pieces_at;
 use plane_base::Column;
-use record_writing::fault::{ReadFault, RecordFault};
 use std::alloc::Global;
 use store_terms::damage::Damage;
 use tile_build::{PIECES_MAX, Tile};

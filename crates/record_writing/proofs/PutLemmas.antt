@@ -55,7 +55,7 @@ module _ {A B C : Type 0} (f : Field A) (g : Field B) (h : Field C) (old mid new
   pub put_three : (z : C) → mid ≡ old ++ 2 ∷ [] → IsPut h z mid new → IsPut (one_of_three f g h) (inr (inr z)) old new
   put_three z tag put = record { fits = put.fits; spelled = joined old (2 ∷ []) (h.text z) mid new tag put.spelled }
 
--- ---- values one behind another
+-- ---- values one after another
 module _ {A : Type 0} (f : Field A) where
   pub put_nothing : (old : List ℕ) → ArePut f [] old old
   put_nothing old = record { fits = refl; spelled = sym (append-nil old) }
@@ -124,7 +124,7 @@ bytes_fit [] are = refl
 bytes_fit (b ∷ bs) are =
     and_from ((number 1).fits b) (list_all (number 1).fits bs) (lt-ltb b 256 (are 0)) (bytes_fit bs (λ k. are (suc k)))
 
--- bytes as they stand
+-- bytes as they are
 pub put_bytes : (bytes old new : List ℕ) → AreBytes bytes → new ≡ old ++ bytes → ArePut (number 1) bytes old new
 put_bytes bytes old new are is =
     record { fits = bytes_fit bytes are; spelled = is ∙ ap (λ (l : List ℕ). old ++ l) (sym (bytes_spelled bytes are)) }

@@ -1,6 +1,3 @@
-pub mod Answers
-pub mod Fault
-pub mod Listing
 pub mod Putting
 pub mod Stored
 pub mod Tiles

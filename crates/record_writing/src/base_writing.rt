@@ -20,7 +20,7 @@ pub fn write_base(alloc: Global, layer: &BaseLayer) -> Result<Vec<u8>, AllocErro
     Ok(out)
 }
 
-/// Writes a ring behind some bytes.
+/// Writes a ring after some bytes.
 fn put_ring(out: &mut Vec<u8>, ring: &Ring) -> Result<(), AllocError>
     requires { length ring.now < 2 ^ 16 }
     ensures { OnOk result (out.new.items ≡ out.old.items ++ spelled.text ring.now) }

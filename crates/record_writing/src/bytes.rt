@@ -1,4 +1,4 @@
-//! Numbers written behind some bytes.
+//! Numbers written after some bytes.
 ghost use Rattle.std.specs.Prelude.{◌≡◌, ◌++◌, true, OnOk};
 ghost use Rattle.byteorder.specs.Endian.{big_bytes};
 ghost use Rattle.overlay_terms.specs.Plane.{InRange};
@@ -10,7 +10,7 @@ use byteorder::{BigEndian, ByteOrder};
 use plane_base::Pt;
 use std::alloc::AllocError;
 
-/// Writes a number of two bytes behind some bytes.
+/// Writes a number of two bytes after some bytes.
 pub(crate) fn put_two_bytes(out: &mut Vec<u8>, n: u16) -> Result<(), AllocError>
     ensures { OnOk result (out.new.items ≡ out.old.items ++ big_bytes 2 n) }
 {
@@ -19,7 +19,7 @@ pub(crate) fn put_two_bytes(out: &mut Vec<u8>, n: u16) -> Result<(), AllocError>
     out.extend_from_slice(&bytes)
 }
 
-/// Writes a number of four bytes behind some bytes.
+/// Writes a number of four bytes after some bytes.
 pub(crate) fn put_four_bytes(out: &mut Vec<u8>, n: u32) -> Result<(), AllocError>
     ensures { OnOk result (IsPut (number 4) n out.old.items out.new.items) }
 {
@@ -29,7 +29,7 @@ pub(crate) fn put_four_bytes(out: &mut Vec<u8>, n: u32) -> Result<(), AllocError
     Ok(())
 }
 
-/// Writes a number of eight bytes behind some bytes.
+/// Writes a number of eight bytes after some bytes.
 pub(crate) fn put_eight_bytes(out: &mut Vec<u8>, n: u64) -> Result<(), AllocError>
     ensures { OnOk result (IsPut (number 8) n out.old.items out.new.items) }
 {
@@ -49,7 +49,7 @@ fn put_coordinate(out: &mut Vec<u8>, z: i64) -> Result<(), AllocError>
     out.extend_from_slice(&bytes)
 }
 
-/// Writes a point behind some bytes: x, then y.
+/// Writes a point after some bytes: x, then y.
 pub(crate) fn put_point(out: &mut Vec<u8>, point: Pt) -> Result<(), AllocError>
     ensures spelled { OnOk result (out.new.items ≡ out.old.items ++ whole_point.text point) }
     ensures fits { OnOk result (whole_point.fits point ≡ true) }

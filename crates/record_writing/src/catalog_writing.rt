@@ -1,15 +1,15 @@
 //! The catalog is written.
 ghost use Rattle.std.specs.Prelude.{false, ◌≡◌, ◌<◌, ◌^◌, length, Some, IfOk, OnOk, All};
 ghost use Rattle.overlay_terms.specs.Column.{column_count};
-ghost use Rattle.record_writing.specs.Listing.{entry_of, entries_of, records_of, spelled_records, HasColumns, IsListable};
+ghost use Rattle.store_terms.specs.Listing.{entry_of, entries_of, records_of, spelled_records, HasColumns, IsListable};
 ghost use Rattle.record_writing.specs.Putting.{IsPut};
 ghost use Rattle.store_terms.specs.Fields.{number, repeated, counted};
 ghost use Rattle.store_terms.specs.Choices.{optional};
 ghost use Rattle.store_terms.specs.Catalog.{catalog, extent as spelled, listed, catalog_of_record};
 
 use crate::bytes::{put_eight_bytes, put_four_bytes, put_two_bytes};
-use crate::catalog::{Listed, Records};
 use std::alloc::{AllocError, Global};
+use store_terms::catalog::{Listed, Records};
 use store_terms::root::RecordExtent;
 
 /// The record that lists some layers in order.
@@ -27,7 +27,7 @@ pub fn write_catalog(alloc: Global, listing: &[Listed]) -> Result<Vec<u8>, Alloc
     Ok(out)
 }
 
-/// Writes a layer behind some bytes: its name, then where its records lie.
+/// Writes a layer after some bytes: its name, then where its records lie.
 fn put_layer(out: &mut Vec<u8>, layer: &Listed) -> Result<(), AllocError>
     requires { IsListable layer.now }
     ensures { OnOk result (IsPut (listed column_count) (entry_of layer.now) out.old.items out.new.items) }
@@ -37,7 +37,7 @@ fn put_layer(out: &mut Vec<u8>, layer: &Listed) -> Result<(), AllocError>
     Ok(())
 }
 
-/// Writes the number of a name's bytes behind some bytes, and the bytes.
+/// Writes the number of a name's bytes after some bytes, and the bytes.
 fn put_layer_name(out: &mut Vec<u8>, name: &[u8]) -> Result<(), AllocError>
     requires { length name.now < 256 }
     ensures { OnOk result (IsPut (counted 1 (number 1)) name.now out.old.items out.new.items) }
@@ -66,7 +66,7 @@ fn put_records(out: &mut Vec<u8>, records: &Records) -> Result<(), AllocError>
     }
 }
 
-/// Writes a tile entry for each column behind some bytes.
+/// Writes a tile entry for each column after some bytes.
 fn put_tiles(out: &mut Vec<u8>, tiles: &[Option<RecordExtent>]) -> Result<(), AllocError>
     requires { length tiles.now ≡ column_count }
     ensures { OnOk result (IsPut (repeated column_count (optional spelled)) tiles.now out.old.items out.new.items) }

@@ -1,7 +1,7 @@
 //! Laws over what roots hold: each function does nothing, and its contract is the law.
 ghost use Rattle.record_writing.specs.Stored.{HeldIsImage, HeldIsStored};
 
-/// The tiles that a root holds may stand in an image, whatever the file.
+/// The tiles that a root holds may be in an image, whatever the file.
 pub fn held_is_stored()
     ensures { HeldIsStored }
 {}

@@ -1,12 +1,10 @@
-//! The bytes of records, catalogs and bodies of roots written, and the faults of their readers.
+//! The bytes of records, catalogs and bodies of roots written.
 #![tactic(auto)]
 
 pub mod base_writing;
 mod bytes;
-pub mod catalog;
 pub mod catalog_writing;
 pub mod definition_writing;
-pub mod fault;
 pub mod laws;
 mod piece_writing;
 pub mod root_body;

@@ -11,7 +11,7 @@ use plane_base::Seg;
 use std::alloc::AllocError;
 use tile_build::Piece;
 
-/// Writes the number of some pieces behind some bytes, and the pieces.
+/// Writes the number of some pieces after some bytes, and the pieces.
 pub(crate) fn put_pieces(out: &mut Vec<u8>, pieces: &[Piece]) -> Result<(), AllocError>
     requires { length pieces.now < 2 ^ 32 }
     ensures { OnOk result (IsPut (counted 4 spelled) pieces.now out.old.items out.new.items) }
@@ -44,7 +44,7 @@ fn known(piece: &Piece)
     let _ = known_name(&piece.to());
 }
 
-/// Says of a name that stands for a place that the test tells so.
+/// Says of a name that stands for a place that the test accepts it.
 fn known_name(name: &PointName)
     requires { HasPlace name.now }
     ensures { has_place name.now ≡ true }
@@ -53,7 +53,7 @@ fn known_name(name: &PointName)
     let _ = name.known_point();
 }
 
-/// Writes a segment behind some bytes.
+/// Writes a segment after some bytes.
 fn put_segment(out: &mut Vec<u8>, seg: Seg) -> Result<(), AllocError>
     ensures { OnOk result (IsPut segment seg out.old.items out.new.items) }
 {
@@ -62,7 +62,7 @@ fn put_segment(out: &mut Vec<u8>, seg: Seg) -> Result<(), AllocError>
     Ok(())
 }
 
-/// Writes the name of a place behind some bytes.
+/// Writes the name of a place after some bytes.
 fn put_point_name(out: &mut Vec<u8>, name: PointName) -> Result<(), AllocError>
     ensures { OnOk result (IsPut point_name name out.old.items out.new.items) }
 {

@@ -23,7 +23,7 @@ pub fn write_tile(alloc: Global, column: Column, tile: &Tile) -> Result<Vec<u8>,
     Ok(out)
 }
 
-/// Writes the number of a column and a tile of it behind some bytes.
+/// Writes the number of a column and a tile of it after some bytes.
 fn put_parts(out: &mut Vec<u8>, column: u8, tile: &Tile) -> Result<(), AllocError>
     requires { IsTrue (has_form (tile_of tile.now) column) }
     ensures { OnOk result (IsPut unsieved (named_by column tile.now) out.old.items out.new.items) }

@@ -1,4 +1,4 @@
--- The front of a record tells what all of it tells.
+-- The front of a record says what all of it says.
 use Rattle.std.proofs.Common.{◌≡◌, ◌⊎◌, inl, inr, ℕ, suc, ◌+◌, ◌*◌, ◌≤◌, true, List, take, drop, Option, Result, Ok, Err, Vec, Global, ap, ◌∙◌, sym, rules, arith, take_all, take-take, length-take}
 use Rattle.std.specs.Prelude.{IfOk, IfErr}
 use Rattle.std.proofs.lemmas.Bool.{cond-true}

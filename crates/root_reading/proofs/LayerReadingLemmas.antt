@@ -1,4 +1,4 @@
--- Tiles and layers that are read, one behind another: a layer with its tiles, and the loops over them.
+-- Tiles and layers that are read, one after another: a layer with its tiles, and the loops over them.
 use Rattle.std.proofs.Common.{◌≡◌, inl, inr, ℕ, ◌+◌, ◌<◌, List, [], ◌∷◌, ◌++◌, append_assoc, append-nil, length, drop, get_or, Option, Result, Ok, Err, refl, sym, ◌∙◌, ap, subst}
 use Rattle.std.proofs.lemmas.List.{at_drop_more}
 use Rattle.overlay_terms.specs.Plane.{WholePoint}
@@ -30,14 +30,14 @@ goes_on_twice : {A B C X : Type 0} (o : Result A Damage) (f : A → Result B Dam
 goes_on_twice (Ok x) f g more y is = goes_on (f x) g more y is
 goes_on_twice (Err damage) f g more y is = absurd (cc is)
 
--- tiles before those of a layer, which stand before those behind it
+-- tiles before those of a layer, which come before those after it
 joined : (front own after : List Finished) (behind : Result (List Layer × List Finished) Damage) → front ++ own ≡ after
     → then_layers front (behind >>= λ x. Ok (x.0, own ++ x.1)) ≡ then_layers after behind
 joined front own after (Ok x) is =
     ap (λ (fs : List Finished). Ok (x.0, fs)) (sym (append_assoc front own x.1) ∙ ap (λ (fs : List Finished). fs ++ x.1) is)
 joined front own after (Err damage) is = refl
 
--- the layers and tiles of a layer that is read, and of those behind it
+-- the layers and tiles of a layer that is read, and of those after it
 abbrev behind : List ℕ → List Listed → Result (List Layer × List Finished) Damage → Result (List Layer × List Finished) Damage
 behind file rest first = first >>= λ one. layers_of file one.0 rest >>= λ x. Ok (x.0, one.1 ++ x.1)
 

@@ -75,7 +75,7 @@ refuses_bound (Damaged damage) read more refuses = ap (λ r. r >>= more) refuses
 pub refuses_device : {A : Type 0} (fault : LoadFault) (read : Result A Damage) → fault ≡ Device → Refuses fault read
 refuses_device fault read is = subst (λ (f : LoadFault). Refuses f read) (sym is) tt
 
--- what was the size before some calls that only look is the size behind them
+-- what was the size before some calls that only look is the size after them
 pub size_stays : {D : Type 0} (g : Ghosts D) (old new : D) (size : ℕ) → g.is_honest new ↔ g.is_honest old
     → (g.is_honest old → Looks g old new) → (g.is_honest old → size ≡ length (g.seen old)) → g.is_honest new
     → size ≡ length (g.seen new)

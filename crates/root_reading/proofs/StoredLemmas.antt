@@ -1,4 +1,4 @@
--- What a layer or a tile more leaves of the place behind the tiles of a table.
+-- What a layer or a tile more leaves of the place after the tiles of a table.
 use Rattle.std.proofs.Common.{◌≡◌, inl, inr, ⊎_elim, ℕ, ◌+◌, ◌<◌, ◌&&◌, not, nat_lt, Bool, true, false, cond, List, [], ◌∷◌, ◌++◌, length, get_or, Ok, Err, refl, sym, ◌∙◌, ap, subst, arith}
 use Rattle.std.specs.Prelude.{bytes_eq, IsTrue}
 use Rattle.std.proofs.lemmas.Bool.{cases_Bool, and_parts, and_from, or_cases, or_parts, or_left, or_right, cond-true, cond-false}
@@ -78,7 +78,7 @@ pub longer_by : (known : List Layer) (name : Name) (content : Content) (layers :
     → with_layer known name content ≡ Ok layers → IsLonger known layers
 longer_by known name content layers is = (record { name = name; content = content }, sym (grown known name content layers is).1)
 
--- the tiles of a table stand before those of a derived layer behind its layers
+-- the tiles of a table come before those of a derived layer after its layers
 pub next_grows : (name : Name) (tree : Tree Name) (layers : List Layer) (table longer : Tabled) → IsLaid (laid table)
     → with_layer table.layers name (derived tree) ≡ Ok layers → longer.layers ≡ layers → tiles_in longer ≡ tiles_in table
     → IsNextTo longer name 0

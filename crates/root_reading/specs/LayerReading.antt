@@ -1,4 +1,4 @@
--- What opening reads of the records of a root, one behind another.
+-- What opening reads of the records of a root, one after another.
 use Rattle.std.specs.Prelude.{ℕ, suc, List, ◌++◌, take, Result, Ok}
 use Rattle.overlay_terms.specs.Plane.{WholePoint}
 use Rattle.overlay_terms.specs.Trees.{Tree}
@@ -24,7 +24,7 @@ rings_at file e = placed_bytes RecordPlace file e >>= λ bytes. or_fault LayerFo
 abbrev pub expression_at : List ℕ → RecordExtent → Result (Tree Name) Damage
 expression_at file e = placed_bytes RecordPlace file e >>= λ bytes. or_fault LayerForm (definition_of_record bytes)
 
--- the layers with one more behind them: an expression, from an extent
+-- the layers with one more after them: an expression, from an extent
 abbrev pub layers_with_derived : List ℕ → List Layer → Name → RecordExtent → Result (List Layer) Damage
 layers_with_derived file known name e =
     expression_at file e >>= λ expression. with_layer known name (derived expression)
@@ -33,7 +33,7 @@ layers_with_derived file known name e =
 abbrev pub tile_at : List ℕ → ℕ → RecordExtent → Result Tile Damage
 tile_at file k e = placed_bytes RecordPlace file e >>= λ bytes. or_fault TileForm (tile_of_record k bytes)
 
--- some tiles, and those that are read behind them
+-- some tiles, and those that are read after them
 abbrev pub then_tiles : List Finished → Result (List Finished) Damage → Result (List Finished) Damage
 then_tiles front read = read >>= λ tiles. Ok (front ++ tiles)
 

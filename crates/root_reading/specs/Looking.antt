@@ -4,8 +4,8 @@ use Rattle.disk_model.specs.declared.disk.Disk.{Ghosts}
 use Rattle.disk_model.specs.Disk.{Fewer, Failed}
 use Rattle.disk_model.specs.Moments.{LeavesOnly}
 use Rattle.store_terms.specs.declared.damage.Damage.{Damage}
-use Rattle.record_writing.specs.declared.fault.RecordFault.{RecordFault}
-use Rattle.record_writing.specs.declared.fault.RecordFault.TheVariants as record_faults
+use Rattle.record_reading.specs.declared.fault.RecordFault.{RecordFault}
+use Rattle.record_reading.specs.declared.fault.RecordFault.TheVariants as record_faults
 use Rattle.root_reading.specs.declared.load_fault.LoadFault.{LoadFault}
 use Rattle.root_reading.specs.declared.load_fault.LoadFault.TheVariants.{Device, Damaged, OutOfMemory}
 
@@ -14,7 +14,7 @@ abbrev pub told_as : RecordFault → LoadFault
 told_as (record_faults.Damaged damage) = Damaged damage
 told_as record_faults.OutOfMemory = OutOfMemory
 
--- the fault is the damage that reading tells, unless the device or memory failed
+-- the fault is the damage that reading reports, unless the device or memory failed
 abbrev pub Refuses : {Y : Type 0} → LoadFault → Result Y Damage → Type 0
 Refuses Device read = Unit {0}
 Refuses OutOfMemory read = Unit {0}
@@ -26,7 +26,7 @@ IsUndamaged Device = Unit {0}
 IsUndamaged OutOfMemory = Unit {0}
 IsUndamaged (Damaged damage) = ⊥
 
--- the value that reading gives, or the damage that it tells, unless the device or memory failed
+-- the value that reading gives, or the damage that it reports, unless the device or memory failed
 abbrev pub Gives : {X Y : Type 0} → (X → Y) → Result X LoadFault → Result Y Damage → Type 0
 Gives view (Ok x) read = read ≡ Ok (view x)
 Gives view (Err fault) read = Refuses fault read

@@ -5,8 +5,8 @@ ghost use Rattle.overlay_terms.specs.Layers.{base};
 ghost use Rattle.overlay_terms.specs.StoredTiles.{AreStored};
 ghost use Rattle.layer_tiles.specs.Filling.{IsLonger};
 ghost use Rattle.layer_tiles.specs.Table.{laid, tiles_in, IsLaid, Tabled};
-ghost use Rattle.record_writing.specs.Answers.{Reads};
-ghost use Rattle.record_writing.specs.Listing.{entry_of, entries_of};
+ghost use Rattle.record_reading.specs.Answers.{Reads};
+ghost use Rattle.store_terms.specs.Listing.{entry_of, entries_of};
 ghost use Rattle.store_terms.specs.Image.{layers_of, with_layer};
 ghost use Rattle.root_reading.specs.Looking.{Gives, Looks, Causes, OnlyLooks};
 ghost use Rattle.root_reading.specs.LayerReading.{layers_with_derived};
@@ -22,10 +22,10 @@ use layer_book::Layers;
 use layer_book::command::Command;
 use layer_tiles::Table;
 use plane_base::BaseLayer;
-use record_writing::catalog::{Listed, Records};
-use record_writing::fault::RecordFault;
+use record_reading::fault::RecordFault;
 use std::alloc::Global;
 use std::sync::Arc;
+use store_terms::catalog::{Listed, Records};
 use store_terms::root::RecordExtent;
 
 /// The layers with a base layer more, of these rings.

@@ -4,7 +4,7 @@ ghost use Rattle.root_reading.specs.Looking.{told_as};
 ghost use Rattle.root_reading.specs.declared.load_fault.LoadFault.TheVariants.{Device, Damaged, OutOfMemory};
 
 use disk_model::fault::DiskFault;
-use record_writing::fault::RecordFault;
+use record_reading::fault::RecordFault;
 use std::alloc::{AllocError, AllocFailed};
 use store_terms::damage::Damage;
 

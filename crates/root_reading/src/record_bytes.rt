@@ -12,7 +12,7 @@ use std::alloc::Global;
 use store_terms::damage::Damage;
 use store_terms::root::RecordExtent;
 
-/// Whether a record lies behind the slots in a file of so many blocks.
+/// Whether a record lies after the slots in a file of so many blocks.
 fn is_within(extent: RecordExtent, whole: u64) -> bool
     ensures { result ≡ (nat_le 2 extent.block && nat_le (extent.block + blocks extent.size) whole) }
 {

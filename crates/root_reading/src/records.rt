@@ -1,7 +1,7 @@
 //! The records that a root names, as the disk has them.
 ghost use Rattle.std.specs.Prelude.{◌↔◌, length, ◌≡◌};
-ghost use Rattle.record_writing.specs.Answers.{Reads};
-ghost use Rattle.record_writing.specs.Listing as listings;
+ghost use Rattle.record_reading.specs.Answers.{Reads};
+ghost use Rattle.store_terms.specs.Listing as listings;
 ghost use Rattle.store_terms.specs.Fields.{AreBytes};
 ghost use Rattle.store_terms.specs.Catalog.{catalog_of_record};
 ghost use Rattle.store_terms.specs.declared.damage.Damage.TheVariants.{CatalogForm};
@@ -18,9 +18,9 @@ use plane_base::BaseLayer;
 use record_reading::base_record::read_base;
 use record_reading::catalog_record::read_catalog;
 use record_reading::definition_record::read_definition;
-use record_writing::catalog::Listed;
-use record_writing::fault::RecordFault;
+use record_reading::fault::RecordFault;
 use std::alloc::Global;
+use store_terms::catalog::Listed;
 use store_terms::damage::Damage;
 use store_terms::root::{RecordExtent, Root};
 

@@ -1,14 +1,14 @@
 //! The blocks that the records of a root take.
 ghost use Rattle.std.specs.Prelude.{◌≡◌, ◌++◌, ◌∷◌, [], List, IfOk, OnOk};
-ghost use Rattle.record_writing.specs.Listing.{entries_of, records_of};
+ghost use Rattle.store_terms.specs.Listing.{entries_of, records_of};
 ghost use Rattle.store_terms.specs.Places.{blocks, some_extents, extents_of_records, extents_listed};
 ghost use Rattle.store_terms.specs.declared.root.RecordExtent as terms;
 ghost use Rattle.root_reading.specs.RootRuns.{IsNear, AreRunsFor};
 
 use extent_map::blocks_of;
 use extent_map::extent::Extent as Run;
-use record_writing::catalog::{Listed, Records};
 use std::alloc::{AllocError, Global};
+use store_terms::catalog::{Listed, Records};
 use store_terms::root::RecordExtent;
 
 /// The run of blocks of an extent; some run where its end is no number of 64 bits.

@@ -37,7 +37,7 @@ module _ {D : Type 0} (g : Ghosts D) (s : Commit D g) (new : D) (x y : Kept) (ru
     before = before;
   }
 
-  -- done or failed, a crash leaves one or the other, at each moment of the call and behind it
+  -- done or failed, a crash leaves one or the other, at each moment of the call and after it
   module _ (only_now : OnlyNow g) (time : Passes g s.disk new) where
     abbrev pub Survives : Type 0
     Survives = LeavesOnly g s.disk new (Either x y) × Leaves g new (Either x y)

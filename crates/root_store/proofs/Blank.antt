@@ -52,7 +52,7 @@ apart : (at n i : ℕ) → (i < at) ⊎ (at + n ≤ i) → Apart at n i 1
 apart at n i (inl below) = inr (omega arith)
 apart at n i (inr above) = inl above
 
--- bytes that stand apart from what is written
+-- bytes apart from what is written
 holds_kept : (old new : List ℕ) (at n from : ℕ) (bytes : List ℕ) → Torn at n old new → Apart at n from (length bytes)
     → Holds old from bytes → Holds new from bytes
 holds_kept old new at n from bytes torn apart held = record {

@@ -24,7 +24,7 @@ module _ {D : Type 0} (g : Ghosts D) where
   begun_before : (old : D) → Leaves g old (Begun g old)
   begun_before old c left = (c, left, torn_nothing c)
 
-  -- the write of the three blocks and the sync behind it
+  -- the write of the three blocks and the sync after it
   pub begins : (old mid new : D) (bytes : List ℕ) → length bytes ≡ 12288 → Now g old → Passes g old mid
       → OneStepOn (Torn 0 (length bytes)) (g.may_leave old) (g.may_leave mid) → Passes g mid new
       → Fewer (g.may_leave mid) (g.may_leave new) → LeavesOnly g old new (Begun g old)

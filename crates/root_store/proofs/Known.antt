@@ -97,7 +97,7 @@ module _ (file : List ℕ) where
     closed = λ is. absurd (∥∥₁_elim there (λ a b. absurd a) (λ s. s.closed is));
   }
 
-  -- the gate and the sequence tell which of the two it is
+  -- the gate and the sequence say which of the two it is
   pub calm_stable : (x : Kept) → IsStable (Calm x file)
   calm_stable x there = elim (cases_eq (gate file (other x.root)) 167) [
     | inl is_open ↦

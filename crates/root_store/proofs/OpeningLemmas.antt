@@ -8,7 +8,7 @@ use Rattle.disk_model.specs.Moments.{Leaves, LeavesOnly}
 use Rattle.disk_model.proofs.Runs.{joined, widened}
 use Rattle.store_terms.specs.declared.damage.Damage.{Damage}
 use Rattle.store_terms.specs.declared.root.Root.{Root}
-use Rattle.store_terms.specs.Roots.{sequence_max}
+use Rattle.store_terms.specs.Roots.{body_size, sequence_max}
 use Rattle.store_terms.specs.Image.{◌>>=◌, Held, held_of}
 use Rattle.store_terms.specs.StandsFor.{root_of, reading, body_at}
 use Rattle.root_store.specs.Finding.{has_shut_gate}
@@ -32,8 +32,8 @@ use Rattle.root_store.proofs.TakenLemmas.{root_found, other_shut, other_open, ot
 pub reading_root : (file : List ℕ) (r : Root) → root_of file ≡ Ok r → reading file ≡ held_of file r
 reading_root file r root = ap (λ (x : Result Root Damage). x >>= λ q. held_of file q) root
 
-module _ {D : Type 0} (g : Ghosts D) (old mid : D) (x : Loaded) (is_alone : Bool)
-    (was : Looks g old mid) (read : IsRead g old mid x is_alone)
+module _ {D : Type 0} (g : Ghosts D) (old mid : D) (x : Loaded) (is_shut : Bool)
+    (was : Looks g old mid) (read : IsRead g old mid x is_shut)
     (reads : reading (g.seen old) ≡ Ok (held_in x)) where
   kept : Kept
   kept = kept_in x
@@ -45,24 +45,24 @@ module _ {D : Type 0} (g : Ghosts D) (old mid : D) (x : Loaded) (is_alone : Bool
   opened : LeavesOnly g old mid (Opened g old)
   opened = widened g old mid (g.may_leave old) (Opened g old) (λ c left. inl left) was.run
 
-  shut : is_alone ≡ true → Shut (kept_in x) (g.seen old)
+  shut : is_shut ≡ true → Shut (kept_in x) (g.seen old)
   shut alone = record {
     live = live;
     closed =
-        other_shut (g.seen old) x.root (root_found (g.seen old) x.root read.root).taken (sym read.alone ∙ alone);
+        other_shut (g.seen old) x.root (root_found (g.seen old) x.root read.root).taken (sym read.shut_gate ∙ alone);
   }
 
-  pub shuts : is_alone ≡ true → Leaves g mid (Shut (kept_in x))
+  pub shuts : is_shut ≡ true → Leaves g mid (Shut (kept_in x))
   shuts alone = leaves_synced g mid (g.seen old) (Shut (kept_in x)) read.only (shut alone)
 
   -- no gate is shut
-  pub both_loads : is_alone ≡ false → Loads g old mid (Ok x)
+  pub both_loads : is_shut ≡ false → Loads g old mid (Ok x)
   both_loads alone =
       let rest : Rest (kept_in x) (g.seen old) =
       record {
         live = live;
         harmless =
-            other_harmless (g.seen old) x.root (root_found (g.seen old) x.root read.root) (sym read.alone ∙ alone);
+            other_harmless (g.seen old) x.root (root_found (g.seen old) x.root read.root) (sym read.shut_gate ∙ alone);
       } in
       record {
         honest = was.honest;
@@ -77,7 +77,7 @@ module _ {D : Type 0} (g : Ghosts D) (old mid : D) (x : Loaded) (is_alone : Bool
       }
 
   -- the last sequence
-  pub last_loads : is_alone ≡ true → sequence_max ≤ x.root.sequence → Loads g old mid (Ok x)
+  pub last_loads : is_shut ≡ true → sequence_max ≤ x.root.sequence → Loads g old mid (Ok x)
   last_loads alone last = record {
     honest = was.honest;
     gives = reads;
@@ -122,7 +122,7 @@ module _ {D : Type 0} (g : Ghosts D) (old mid : D) (x : Loaded) (is_alone : Bool
 
 -- a file of which one gate is shut, once the body behind it is written
 pub body_writes : (file now new : List ℕ) (r : Root) → root_of file ≡ Ok r → has_shut_gate file ≡ true → now ≡ file
-    → r.sequence < sequence_max → Torn (body_at (other r)) 48 now new → Writes file new
+    → r.sequence < sequence_max → Torn (body_at (other r)) body_size now new → Writes file new
 body_writes file now new r is alone same below torn =
     inr
     (record {
@@ -130,7 +130,7 @@ body_writes file now new r is alone same below torn =
       is = is;
       shut = other_shut file r (root_found file r is).taken alone;
       below = below;
-      torn = subst (λ (f : List ℕ). Torn (body_at (other r)) 48 f new) same torn;
+      torn = subst (λ (f : List ℕ). Torn (body_at (other r)) body_size f new) same torn;
     })
 
 -- a run of which two things are known
@@ -175,22 +175,22 @@ phases_read g old new settled = record {
 pub phases_healed : {D : Type 0} (g : Ghosts D) (old mid new : D) (x : Kept)
     → reading (g.seen old) ≡ Ok x.held → root_of (g.seen old) ≡ Ok x.root → has_shut_gate (g.seen old) ≡ true
     → x.root.sequence < sequence_max → IsSettled g old mid → g.calls new ≤ g.calls mid + 2
-    → LeavesOnly g mid new (Shut x) → LeavesOnly g mid new (Torn (body_at (other x.root)) 48 (g.seen old))
+    → LeavesOnly g mid new (Shut x) → LeavesOnly g mid new (Torn (body_at (other x.root)) body_size (g.seen old))
     → InPhases g old new
 phases_healed g old mid new x reads root alone below settled few run elsewhere = record {
   read = mid;
   settled = settled;
   last = few;
   after = joined g settled.synced mid new (StandsStill (g.seen old))
-      (λ file. Shut x file × Torn (body_at (other x.root)) 48 (g.seen old) file)
+      (λ file. Shut x file × Torn (body_at (other x.root)) body_size (g.seen old) file)
       (λ c made. (
         shut_stands x c made.0 ∙ sym reads,
         body_writes (g.seen old) (g.seen old) c x.root root alone refl below made.1,
       ))
-      (still_read g old mid settled) (both_left g mid new (Shut x) (Torn (body_at (other x.root)) 48 (g.seen old)) run elsewhere);
+      (still_read g old mid settled) (both_left g mid new (Shut x) (Torn (body_at (other x.root)) body_size (g.seen old)) run elsewhere);
 }
 
--- why opening ended early, as the store tells it
+-- why opening ended early, as the store reports it
 pub stops_told : {D : Type 0} (g : Ghosts D) (old new : D) (fault : LoadFault) (told : StoreFault)
     → told ≡ fault_told fault → Stops g old (fault ≡ Device) new → Stops g old (told ≡ stores.Device) new
 stops_told g old new fault told is (inl (failed, one, run)) = inl (is ∙ ap fault_told failed, one, run)
@@ -224,7 +224,7 @@ pub at_err : {X : Type 0} (P : Result X LoadFault → Type 0) (answer : Result X
 at_err P answer fault is holds =
     let p = err_from_is_err_and answer is in subst P (sym (p.1 ∙ ap Err p.2)) holds
 
--- a fault of another call, behind calls that did not fail
+-- a fault of another call, after calls that did not fail
 pub causes_from : (X : Type 0) (fault : LoadFault) (old mid new : ℕ) → mid ≡ old → Causes {X = X} (Err fault) mid new
     → Causes {X = Loaded} (Err fault) old new
 causes_from X Device old mid new same causes =
@@ -232,7 +232,7 @@ causes_from X Device old mid new same causes =
 causes_from X OutOfMemory old mid new same causes = causes ∙ same
 causes_from X (Damaged damage) old mid new same causes = causes ∙ same
 
--- want of memory, as the store tells it
+-- want of memory, as the store reports it
 pub memory_of : (fault : LoadFault) → fault_told fault ≡ stores.OutOfMemory → fault ≡ OutOfMemory
 memory_of Device is = absurd (cc is)
 memory_of OutOfMemory is = refl
@@ -249,7 +249,7 @@ unread_loads g old new fault refuses was = record {
   err = λ c left. inl (was.fewer c left);
 }
 
--- a fault, as the store tells it
+-- a fault, as the store reports it
 pub tells_of : (fault : LoadFault) (told : StoreFault) (read : Result Held Damage) → told ≡ fault_told fault
     → Refuses fault read → Tells told read
 tells_of fault told read is refuses = subst (λ (f : StoreFault). Tells f read) (sym is) (by_case fault read refuses)

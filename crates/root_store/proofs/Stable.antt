@@ -52,7 +52,7 @@ pub is_ok : {A E : Type 0} → Coded A → (r : Result A E) (x : A) → IsStable
 is_ok code (Ok a) x there = ap Ok (same code a x (∥∥₁_map there (λ is. ap (value_or a) is)))
 is_ok code (Err e) x there = absurd (∥∥₁_elim there (λ a b. absurd a) (λ is. absurd (cc is)))
 
--- ---- codes, by which two values are told apart
+-- ---- codes, by which two values are kept apart
 
 abbrev pub extent_code : Coded RecordExtent
 extent_code = code_by (ℕ × ℕ) (coded× coded_ℕ coded_ℕ) (λ e. (e.block, e.size)) (λ p. record { block = p.0; size = p.1 }) (λ _. refl)

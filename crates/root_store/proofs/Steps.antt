@@ -24,7 +24,7 @@ pub calm_rest : (x : Kept) (file : List ℕ) → x.root.sequence < sequence_max 
 calm_rest x file below (inl rest) = rest
 calm_rest x file below (inr last) = absurd (omega (arith, below, last.1))
 
--- behind a write that is changed the plan is as it was
+-- after a write that is changed the plan is as it was
 pub behind_set : (plan : List Write) (i : ℕ) (w : Write) → drop (i + 1) (slice_set plan i w) ≡ drop (i + 1) plan
 behind_set plan i w = drop-set-lt (i + 1) plan i w (omega arith)
 

@@ -192,6 +192,6 @@ other_open file r none = gate_of r.sequence (grind (arith, nat_tests)) (grind (a
     gate_of n first second =
         ⊎_elim (λ zero. ap (gate file) zero ∙ first) (λ one. ap (gate file) one ∙ second) (bit (n + 1))
 
--- and a root stands there that does no harm
+-- and a root is there that does no harm
 pub other_harmless : (file : List ℕ) (r : Root) → Found file r → has_shut_gate file ≡ false → Harmless (other r) r file
 other_harmless file r found none = ⊎_elim (λ shut. absurd (shut (other_open file r none))) (λ h. h) found.beside

@@ -65,7 +65,7 @@ module _ {D : Type 0} (g : Ghosts D) where
         IsUnderWay disk phase root next_root next_live writes (content_of root live) (content_of next_root next_live)
 
     -- what a store keeps: at rest its file stands for the content of the live root; while a commit is under way it goes
-    -- from that to the content of the next one; behind a failure, nothing
+    -- from that to the content of the next one; after a failure, nothing
     abbrev pub Keeps : Phase → Type 0
     Keeps Idle = IsAtRest disk Idle root live (content_of root live)
     Keeps Close = GoesOn Close

@@ -1,16 +1,21 @@
 -- A new file.
-use Rattle.std.specs.Prelude.{false, ◌≡◌, ◌⊎◌, ℕ, ◌+◌, ◌<◌, ◌≤◌, slice_index, List, [], ◌∷◌, length, ◌==◌, nat_lt, not, if◌then◌else◌, Option, Some, None}
+use Rattle.std.specs.Prelude.{false, ◌≡◌, ◌⊎◌, ℕ, ◌+◌, ◌*◌, ◌<◌, ◌≤◌, slice_index, List, [], ◌∷◌, length, ◌==◌, nat_lt, not, if◌then◌else◌, Option, Some, None}
 use Rattle.disk_model.specs.declared.disk.Disk.{Ghosts}
 use Rattle.disk_model.specs.Disk.{part, Holds, Torn}
 use Rattle.disk_model.specs.Moments.{Leaves, LeavesOnly}
 use Rattle.store_terms.specs.declared.root.Root.{Root}
-use Rattle.store_terms.specs.Roots.{body_text}
-use Rattle.store_terms.specs.StandsFor.{gate, open_gate, body_at}
+use Rattle.store_terms.specs.Places.{block_size}
+use Rattle.store_terms.specs.Roots.{body_size, body_text}
+use Rattle.store_terms.specs.StandsFor.{gate, open_gate, body_at, slots_end}
 use Rattle.commit_plan.specs.declared.fault.StoreFault.{StoreFault}
 use Rattle.commit_plan.specs.declared.fault.StoreFault.TheVariants.{Device, Full, Damaged, NotEmpty, Failed, SequenceLimit, OutOfMemory}
 use Rattle.commit_plan.specs.Kept.{Kept, Rest}
 
--- the root of a store that holds nothing, and the body that stands beside it
+-- how many blocks a new store has: its slots, and one for its catalog
+abbrev pub new_blocks : ℕ
+new_blocks = 3
+
+-- the root of a store that holds nothing, and the body beside it
 abbrev pub first_root : Root
 first_root = record { is_old = false; sequence = 0; version = 0; catalog = record { block = 2; size = 2 } }
 
@@ -25,20 +30,20 @@ nothing_kept = record {
 }
 
 -- a place in three blocks that is not the first gate's, and in no body and not in the catalog
-pub record IsUnused (i : ℕ) : Type 0 where
-  pub within : i < 12288
+pub record IsZeroPlace (i : ℕ) : Type 0 where
+  pub within : i < block_size * new_blocks
   pub gate : 0 < i
-  pub first : (i < 16) ⊎ (64 ≤ i)
-  pub second : (i < 4112) ⊎ (4160 ≤ i)
-  pub catalog : (i < 8192) ⊎ (8194 ≤ i)
+  pub first : (i < body_at 0) ⊎ (body_at 0 + body_size ≤ i)
+  pub second : (i < body_at 1) ⊎ (body_at 1 + body_size ≤ i)
+  pub catalog : (i < slots_end) ⊎ (slots_end + 2 ≤ i)
 
 -- three blocks with both bodies, each whole, and an empty catalog, and zeros elsewhere, whatever the first gate
 pub record IsBlank (file : List ℕ) : Type 0 where
-  pub size : length file ≡ 12288
+  pub size : length file ≡ block_size * new_blocks
   pub first : Holds file (body_at 0) (body_text first_root)
   pub second : Holds file (body_at 1) (body_text second_root)
-  pub catalog : part file 8192 2 ≡ 0 ∷ 0 ∷ []
-  pub unused : (i : ℕ) → IsUnused i → slice_index file i ≡ 0
+  pub catalog : part file slots_end 2 ≡ 0 ∷ 0 ∷ []
+  pub unused : (i : ℕ) → IsZeroPlace i → slice_index file i ≡ 0
 
 -- what is written first: both gates are shut
 pub record IsFirstWrite (file : List ℕ) : Type 0 where
@@ -54,7 +59,7 @@ pub record IsNewFile (file : List ℕ) : Type 0 where
 
 -- the first write, torn anywhere: what a crash might have left before, but for the three blocks
 abbrev pub Begun : {D : Type 0} → Ghosts D → D → List ℕ → Type 0
-Begun g old file = (was : List ℕ) × g.may_leave old was × Torn 0 12288 was file
+Begun g old file = (was : List ℕ) × g.may_leave old was × Torn 0 (block_size * new_blocks) was file
 
 -- a store is made in two phases: until the first sync has succeeded, a crash leaves what the first write has torn; that sync leaves three blocks whose gates are shut; from then on a crash leaves the same three blocks, whatever the first gate
 pub record MadeInPhases {D : Type 0} (g : Ghosts D) (old new : D) : Type 0 where
@@ -71,14 +76,14 @@ BlankIsAtRest = (file : List ℕ) → IsBlank file → gate file 0 ≡ open_gate
 -- why no store is made of a file: it is not empty, or there is no block for the catalog
 abbrev pub refusal_of_new : List ℕ → ℕ → Option StoreFault
 refusal_of_new file max_blocks =
-    if not (length file == 0) then Some NotEmpty else if nat_lt max_blocks 3 then Some Full else None
+    if not (length file == 0) then Some NotEmpty else if nat_lt max_blocks new_blocks then Some Full else None
 
--- what is known of the calls behind a refusal: the length alone was asked for, or the device failed in one of the five
+-- what is known of the calls after a refusal: the length alone was asked for, or the device failed in one of the five
 abbrev pub CallsBehind : StoreFault → ℕ → ℕ → Type 0
 CallsBehind Device old new = new ≤ old + 5
 CallsBehind fault old new = new ≡ old + 1
 
--- a fault tells the reason, unless the device failed; memory is asked for only where there is none
+-- a fault says the reason, unless the device failed; memory is asked for only where there is none
 abbrev pub IsToldBy : StoreFault → Option StoreFault → Type 0
 IsToldBy Device reason = Unit {0}
 IsToldBy OutOfMemory reason = reason ≡ None

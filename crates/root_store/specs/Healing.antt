@@ -6,7 +6,7 @@ use Rattle.disk_model.specs.Disk.{Holds, Torn}
 use Rattle.disk_model.specs.Moments.{Leaves, LeavesOnly}
 use Rattle.store_terms.specs.Places.{block_size}
 use Rattle.store_terms.specs.declared.root.Root.{Root}
-use Rattle.store_terms.specs.Roots.{body_text, ours, sequence_max}
+use Rattle.store_terms.specs.Roots.{body_size, body_text, ours, sequence_max}
 use Rattle.store_terms.specs.Image.{listing_of, held_of}
 use Rattle.store_terms.specs.StandsFor.{gate, open_gate, body, body_at}
 use Rattle.root_reading.specs.declared.load_fault.LoadFault.{LoadFault}
@@ -20,7 +20,7 @@ pub record IsTakenRoot (file : List ℕ) (r : Root) : Type 0 where
   pub bounded : r.sequence ≤ sequence_max
   pub numbered : r.version ≤ version_max
 
--- the root of a file: it is taken, and behind a gate of the other slot that is open stands one that does no harm
+-- the root of a file: it is taken, and behind a gate of the other slot that is open there is one that does no harm
 pub record Found (file : List ℕ) (r : Root) : Type 0 where
   pub taken : IsTakenRoot file r
   pub beside : (gate file (other r) ≢ open_gate) ⊎ Harmless (other r) r file
@@ -43,10 +43,10 @@ abbrev pub TwinHeals : Type 0
 TwinHeals =
     (x : Kept) (old new : List ℕ) → x.root.sequence < sequence_max → x.root.catalog.block < 2 ^ 64
     → x.root.catalog.size < 2 ^ 32 → Shut x old
-    → Torn (body_at (other x.root)) 48 old new → HoldsTwin x.root new → Rest x new
+    → Torn (body_at (other x.root)) body_size old new → HoldsTwin x.root new → Rest x new
 
 -- the completing write and its sync: a crash at any moment leaves what stands for x behind its one open gate, and in
--- the end whatever the other gate holds, behind which stands the body of the twin of x's root
+-- the end whatever the other gate holds, behind which is the body of the twin of x's root
 pub record Heals {D : Type 0} (g : Ghosts D) (old new : D) (result : Result (Unit {0}) LoadFault)
     (x : Kept) : Type 0 where
   pub honest : g.is_honest new

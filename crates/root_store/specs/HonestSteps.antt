@@ -4,6 +4,7 @@ use Rattle.disk_model.specs.declared.disk.Disk.{Ghosts}
 use Rattle.disk_model.specs.declared.fault.DiskFault.{DiskFault}
 use Rattle.disk_model.specs.Disk.{Torn, Only, Fewer, Elapses, Failed, CountsFailure}
 use Rattle.disk_model.specs.Moments.{Leaves, LeavesOnly}
+use Rattle.store_terms.specs.Roots.{body_size}
 use Rattle.store_terms.specs.StandsFor.{reading, body_at}
 use Rattle.store_terms.specs.declared.root.Root.{Root}
 use Rattle.root_reading.specs.declared.load_fault.LoadFault.{LoadFault}
@@ -25,12 +26,12 @@ module _ {D : Type 0} (g : Ghosts D) where
     -- one write and one sync
     pub calls : MatchResult result (λ _. g.calls new ≡ g.calls old + 2) (λ _. g.calls new ≤ g.calls old + 2)
     -- nothing else is written, at no moment of the call
-    pub torn : Torn (body_at (other root)) 48 (g.seen old) (g.seen new)
+    pub torn : Torn (body_at (other root)) body_size (g.seen old) (g.seen new)
     pub elsewhere : (file : List ℕ) → Only file (g.may_leave old)
-        → LeavesOnly g old new (Torn (body_at (other root)) 48 file)
+        → LeavesOnly g old new (Torn (body_at (other root)) body_size file)
     pub cause : Causes result (g.faults old) (g.faults new)
 
-  -- a file is read behind a first sync
+  -- a file is read after a first sync
   pub record ReadsHonestly (old new : D) (result : Result (Loaded × Bool) LoadFault) : Type 0 where
     pub gives : Gives (λ x. held_in x.0) result (reading (g.seen old))
     pub read : IfOk result (λ x. IsRead g old new x.0 x.1)

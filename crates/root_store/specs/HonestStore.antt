@@ -24,12 +24,12 @@ module _ {D : Type 0} (g : Ghosts D) where
     -- what stands for the same
     pub ok : IfOk result
         (λ x. (k : Kept) × (k.held ≡ image_held x.1) × StoreStandsFor g x.0 k × LeavesOnly g disk x.0.disk (Opened g disk))
-    -- so it does where the file is refused, and behind the call
+    -- so it does where the file is refused, and after the call
     pub err : IfErr result
         (λ refused. g.is_honest refused.disk × Leaves g refused.disk (Opened g disk)
         × LeavesOnly g disk refused.disk (Opened g disk))
     -- what might have been left before is left until the first sync has succeeded, and no longer; from then on the file
-    -- as it was seen, but for the body behind a shut gate; that sync is the first call, and behind the reads there are
+    -- as it was seen, but for the body behind a shut gate; that sync is the first call, and after the reads there are
     -- two at most
     pub phases : IfOk result (λ x. InPhases g disk x.0.disk)
     pub stops : IfErr result (λ refused. Stops g disk (refused.fault ≡ stores.Device) refused.disk)
@@ -38,17 +38,17 @@ module _ {D : Type 0} (g : Ghosts D) where
         (λ refused. Writes (g.seen disk) (g.seen refused.disk))
     -- where that gate was shut and a number is left, the body is the root's own under the next number, and synced
     pub completed : IfOk result (λ x. Leaves g x.0.disk (IsCompleted (g.seen disk)))
-    -- that is done by the last two calls, a write and a sync, and no other behind the reads
+    -- that is done by the last two calls, a write and a sync, and no other after the reads
     pub completes : IfOk result (λ x. Completes g disk x.0.disk)
     -- nothing at all is written of a file that is refused
     pub untouched : IfErr result (λ refused. refused.fault ≢ stores.Device → Untouched g disk refused.disk)
-    -- memory is asked for only where the slots name a root: what is wrong with them is told as such
+    -- memory is asked for only where the slots name a root: what is wrong with them is reported as such
     pub memory : IfErr result (λ refused. refused.fault ≡ stores.OutOfMemory → HasRoot (g.seen disk))
     -- the device failed where it is said to be at fault, and nowhere else
     pub cause : MatchResult result (λ x. g.faults x.0.disk ≡ g.faults disk)
         (λ refused. FailedBy refused.fault (g.faults disk) (g.faults refused.disk))
 
-  -- a store is made of a file only where there is no reason against it, and the fault tells the reason
+  -- a store is made of a file only where there is no reason against it, and the fault says the reason
   abbrev pub TellsReason : {T : Type 0} → ℕ → D → Result T (OpenFault D) → Type 0
   TellsReason max_blocks disk result =
       MatchResult result (λ _. refusal_of_new (g.seen disk) max_blocks ≡ None)

@@ -7,7 +7,7 @@ use Rattle.extent_map.specs.Taken.{taken_of}
 use Rattle.store_terms.specs.Image.{Held, listing_of}
 use Rattle.store_terms.specs.StandsFor.{root_of, reading, gate, open_gate, body_at}
 use Rattle.store_terms.specs.declared.root.Root.{Root}
-use Rattle.store_terms.specs.Roots.{sequence_max}
+use Rattle.store_terms.specs.Roots.{body_size, sequence_max}
 use Rattle.store_terms.specs.declared.damage.Damage.{Damage}
 use Rattle.commit_plan.specs.declared.fault.StoreFault.{StoreFault}
 use Rattle.commit_plan.specs.declared.fault.StoreFault.TheVariants as stores
@@ -21,11 +21,11 @@ use Rattle.root_store.specs.Finding.{has_shut_gate}
 use Rattle.root_store.specs.Healing.{HoldsTwin}
 
 -- after the first sync, all is read: a crash leaves the bytes that were seen, and nothing else
-pub record IsRead {D : Type 0} (g : Ghosts D) (old new : D) (x : Loaded) (is_alone : Bool) : Type 0 where
+pub record IsRead {D : Type 0} (g : Ghosts D) (old new : D) (x : Loaded) (is_shut : Bool) : Type 0 where
   pub only : Only (g.seen old) (g.may_leave new)
   pub root : root_of (g.seen old) ≡ Ok x.root
   pub listing : listing_of (g.seen old) x.root ≡ Ok (kept_in x).listing
-  pub alone : is_alone ≡ has_shut_gate (g.seen old)
+  pub shut_gate : is_shut ≡ has_shut_gate (g.seen old)
   pub room : IsMapOf (extents_in (kept_in x)) (taken_of x.live.room.map)
 
 -- what a crash may leave while a file is opened: what it might have left before, or what stands for the same
@@ -54,7 +54,7 @@ pub record WritesBody (old new : List ℕ) : Type 0 where
   pub is : root_of old ≡ Ok root
   pub shut : gate old (other root) ≢ open_gate
   pub below : root.sequence < sequence_max
-  pub torn : Torn (body_at (other root)) 48 old new
+  pub torn : Torn (body_at (other root)) body_size old new
 
 -- what opening writes of a file: nothing but that body, if anything
 abbrev pub Writes : List ℕ → List ℕ → Type 0
@@ -64,9 +64,9 @@ Writes old new = (new ≡ old) ⊎ WritesBody old new
 abbrev pub StandsStill : List ℕ → List ℕ → Type 0
 StandsStill old new = (reading new ≡ reading old) × Writes old new
 
--- a file is only read behind its first sync, which is the first call: until it has succeeded, a crash leaves what it
+-- a file is only read after its first sync, which is the first call: until it has succeeded, a crash leaves what it
 -- might have left before; from then on, what was seen, and that alone. How many calls these reads are is free, and a
--- further sync among them does to a disk nothing that a read might not do, so that it is not told apart from one
+-- further sync among them does to a disk nothing that a read might not do, so that no clause keeps it apart from one
 pub record IsSettled {D : Type 0} (g : Ghosts D) (old new : D) : Type 0 where
   -- the disk as that sync left it
   pub synced : D
@@ -77,7 +77,7 @@ pub record IsSettled {D : Type 0} (g : Ghosts D) (old new : D) : Type 0 where
   pub after : LeavesOnly g synced new (λ file. file ≡ g.seen old)
 
 -- a file is opened in two phases: until the first sync has succeeded, a crash leaves what it might have left before;
--- from then on, what stands for the same, and differs from what was seen in that body alone. Behind the reads there are
+-- from then on, what stands for the same, and differs from what was seen in that body alone. After the reads there are
 -- two calls at most
 pub record InPhases {D : Type 0} (g : Ghosts D) (old new : D) : Type 0 where
   -- the disk as the reads left it
@@ -98,7 +98,7 @@ pub record IsIncomplete (file : List ℕ) : Type 0 where
   pub shut : gate file (other root) ≢ open_gate
   pub below : root.sequence < sequence_max
 
--- a file is only read until two calls before the end: the completing write and its sync, and no other behind the reads
+-- a file is only read until two calls before the end: the completing write and its sync, and no other after the reads
 pub record EndsInTwo {D : Type 0} (g : Ghosts D) (old new : D) : Type 0 where
   -- the disk as the reads left it
   pub read : D

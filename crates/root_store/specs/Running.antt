@@ -56,7 +56,7 @@ module _ {D : Type 0} (g : Ghosts D) where
 abbrev pub KeepsRoots : {D : Type 0} {g : Ghosts D} → Commit D g → Commit D g → Type 0
 KeepsRoots old new = (new.root ≡ old.root) × (new.next_root ≡ old.next_root)
 
--- what a step makes of the roots: Done tells the number of the root that the commit leads to, which is live from then
+-- what a step makes of the roots: Done reports the number of the root that the commit leads to, which is live from then
 -- on; any other answer leaves both
 abbrev pub Turns : {D : Type 0} {g : Ghosts D} → Progress → Commit D g → Commit D g → Type 0
 Turns progress.Idle old new = KeepsRoots old new
@@ -81,12 +81,8 @@ KeepsTo limit s = (limit_of s.live.room.map ≡ limit) × (limit_of s.next_live.
 -- whether a commit is under way
 abbrev pub is_busy : Phase → Bool
 is_busy Idle = false
-is_busy Close = true
-is_busy Settle = true
-is_busy Put = true
-is_busy Open = true
-is_busy Finish = true
 is_busy Failed = false
+is_busy phase = true
 
 -- the fault that a step answers: that of an earlier call, or the device's
 abbrev pub fault_in : Phase → StoreFault

@@ -114,7 +114,7 @@ impl<D: Disk> Commit<D> {
         self.begin_known(alloc, image, false)
     }
 
-    /// The same, told whether each tile of the image is known to be the live root's: then none is compared, and a
+    /// The same, where the caller says whether each tile of the image is known to be the live root's: then none is compared, and a
     /// commit's time follows what changed.
     pub fn begin_known(
         &mut self,

@@ -25,7 +25,7 @@ pub struct Commit<D: Disk> {
     /// What the file stands for after the commit.
     pub(crate) next_root: Root,
     pub(crate) next_live: LiveRecords,
-    /// The writes of the commit: records, catalog, body. Those that are made have no bytes; none is kept behind Done.
+    /// The writes of the commit: records, catalog, body. Those that are made have no bytes; none is kept after Done.
     pub(crate) plan: Vec<Write>,
     /// How many of them are made.
     pub(crate) next: usize,
@@ -39,7 +39,7 @@ pub struct Commit<D: Disk> {
 fn let_go(plan: &mut Vec<Write>, made: usize)
     requires { made < length plan.old.items }
     ensures gone { IfSome (slice_get plan.new.items made) (λ write. vec_capacity write.bytes ≡ 0) }
-    // The writes behind it are as they were.
+    // The writes after it are as they were.
     ensures rest { drop (made + 1) plan.new.items ≡ drop (made + 1) plan.old.items }
     ensures many { length plan.new.items ≡ length plan.old.items }
 {

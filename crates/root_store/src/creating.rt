@@ -21,7 +21,7 @@ use extent_map::extent::Extent as Run;
 use extent_map::{BLOCK, FIRST_BLOCK};
 use record_writing::root_body::write_body;
 use std::alloc::{AllocError, Global};
-use store_terms::layout::{BODY, GATE_OPEN, SLOTS_END};
+use store_terms::layout::{BODY, GATE_OPEN, NEW_BLOCKS, SLOTS_END};
 use store_terms::root::{RecordExtent, Root};
 
 /// Where the empty catalog of a new store lies.
@@ -38,7 +38,7 @@ const FIRST: Root = Root {
     catalog: CATALOG,
 };
 
-/// The root that stands beside it, behind a gate that is shut.
+/// The root beside it, behind a gate that is shut.
 const TWIN: Root = Root {
     is_old: false,
     sequence: 1,
@@ -80,7 +80,7 @@ fn check<D: Disk>(disk: &mut D, max_blocks: u32) -> Result<(), StoreFault>
     if disk.length()? != 0 {
         return Err(StoreFault::NotEmpty);
     }
-    if max_blocks < 3 {
+    if max_blocks < NEW_BLOCKS {
         return Err(StoreFault::Full);
     }
     Ok(())
@@ -140,7 +140,7 @@ fn prepare<D: Disk>(
 /// - `file`: three blocks that are zero but for the bodies, the catalog and the first gate, which alone is open.
 /// - `phases`: what is written first has both gates shut, and is synced before the first gate opens; from then on a
 ///   crash leaves those three blocks, whatever that gate.
-/// - `answer`: a file is refused that is not empty, or has no block for the catalog; memory is asked for behind that.
+/// - `answer`: a file is refused that is not empty, or has no block for the catalog; memory is asked for after that.
 /// - `unchanged`: a file that is refused stays as it is.
 /// - `cause`: the device failed where it is said to be at fault.
 /// - `calls`: five device calls are made; of a file that is refused, or without memory, the length alone is asked for.

@@ -9,13 +9,12 @@ ghost use Rattle.root_store.specs.Finding.{IsSlot, has_shut_gate};
 use disk_model::disk::Disk;
 use extent_map::BLOCK;
 use record_reading::root_body::read_body;
-use record_writing::root_body::format_of;
 use root_reading::load_fault::LoadFault;
 use store_terms::damage::Damage;
-use store_terms::layout::{BODY, GATE_OPEN, NUMBER_MAX, SLOTS_END};
-use store_terms::root::{Body, Root};
+use store_terms::layout::{BODY, BODY_READ, GATE_OPEN, NUMBER_MAX, SLOTS_END};
+use store_terms::root::{Body, Root, format_of};
 
-/// What stands in a slot: its gate, and its body whatever the gate.
+/// What is in a slot: its gate, and its body whatever the gate.
 #[derive(Clone, Copy)]
 pub(crate) struct RootSlot {
     pub(crate) gate: u8,
@@ -88,7 +87,7 @@ fn root_in(first: &RootSlot, second: &RootSlot) -> Result<Root, Damage>
     newer(older, other)
 }
 
-/// What stands in the slot with this number.
+/// What is in the slot with this number.
 fn read_slot<D: Disk>(disk: &mut D, number: usize) -> Result<RootSlot, LoadFault>
     requires small { number ≤ 1 }
     requires long { D.is_honest disk.old → block_size * 2 ≤ length (D.seen disk.old) }
@@ -96,7 +95,7 @@ fn read_slot<D: Disk>(disk: &mut D, number: usize) -> Result<RootSlot, LoadFault
     ensures read { D.is_honest disk.old → IfOk result (IsSlot (D.seen disk.old) number) }
     ensures err { IfErr result (λ e. e ≡ LoadFault.Device) }
 {
-    let mut bytes = [0; BODY + 40];
+    let mut bytes = [0; BODY + BODY_READ];
     disk.read(number * BLOCK, &mut bytes)?;
     Ok(RootSlot {
         gate: bytes[0],
@@ -110,7 +109,7 @@ pub fn find_root<D: Disk>(disk: &mut D) -> Result<(Root, bool, usize), LoadFault
     ensures gives { D.is_honest disk.old → Gives (λ x. x.0) result (root_of (D.seen disk.old)) }
     ensures numbered { IfOk result (λ x. x.0.version ≤ version_max) }
     ensures small { D.is_honest disk.old → IfOk result (λ x. length (D.seen disk.old) < 2 ^ 64) }
-    ensures alone { D.is_honest disk.old → IfOk result (λ x. x.1 ≡ has_shut_gate (D.seen disk.old)) }
+    ensures shut_gate { D.is_honest disk.old → IfOk result (λ x. x.1 ≡ has_shut_gate (D.seen disk.old)) }
     ensures size { D.is_honest disk.old → IfOk result (λ x. x.2 ≡ length (D.seen disk.old)) }
     ensures memory { IfErr result (λ e. e ≢ LoadFault.OutOfMemory) }
 {

@@ -53,9 +53,9 @@ fn read_store<D: Disk>(
     ensures numbered { IfOk result (λ x. x.0.root.version ≤ version_max) }
 {
     settle(disk)?;
-    let (root, is_alone, size) = find_root(disk)?;
+    let (root, has_shut_gate, size) = find_root(disk)?;
     let loaded = read_root(alloc, disk, size, root, max_blocks)?;
-    Ok((loaded, is_alone))
+    Ok((loaded, has_shut_gate))
 }
 
 /// What a file holds. Where one of its gates is shut, the body behind it is made whole.
@@ -72,8 +72,8 @@ pub(crate) fn load<D: Disk>(
     ensures content { IfOk result (λ x. live_content x.live ≡ kept_content (kept_in x)) }
     ensures numbered { IfOk result (λ x. x.root.version ≤ version_max) }
 {
-    let (loaded, is_alone) = read_store(alloc, disk, max_blocks)?;
-    if !is_alone {
+    let (loaded, has_shut_gate) = read_store(alloc, disk, max_blocks)?;
+    if !has_shut_gate {
         return Ok(loaded);
     }
     if loaded.root.sequence >= NUMBER_MAX {
@@ -91,7 +91,7 @@ pub(crate) fn load<D: Disk>(
 /// - `ok`, `err`: the store stands for just that; a crash at any moment of the call leaves what it might have left
 ///   before, or what stands for the same.
 /// - `phases`, `stops`: the first call is a sync. What might have been left before is left until it has succeeded, and
-///   no longer; from then on the file as it was seen, but for the body behind a shut gate. Behind the reads there are
+///   no longer; from then on the file as it was seen, but for the body behind a shut gate. After the reads there are
 ///   two calls at most.
 /// - `writes`: nothing is written but the body behind a shut gate.
 /// - `completed`, `completes`: where that gate was shut and a number is left, the body is the root's own under the next

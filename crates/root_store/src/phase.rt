@@ -1,4 +1,4 @@
-//! Where a commit stands, and what a step of it answers.
+//! How far a commit is, and what a step of it answers.
 
 /// The device call that a commit makes next. Each step makes one and goes on to the next.
 #[derive(Clone, Copy, Debug)]

@@ -6,7 +6,7 @@ use Rattle.store_terms.specs.declared.root.Root.{Root}
 use Rattle.store_terms.specs.Roots.{body_text, body_in, format_of}
 use Rattle.store_terms.specs.RecordLaws.{BodyReadsBack}
 
--- the format is a small number, and tells whether it is the old one
+-- the format is a small number, and says whether it is the old one
 small : (b : Bool) → cond b 1 2 < 256 ^ 4
 small true = omega arith
 small false = omega arith

@@ -20,7 +20,7 @@ accepted_none : (o : Option Refusal) → is_accepted o ≡ true → o ≡ None
 accepted_none None e = refl
 accepted_none (Some reason) e = absurd cc
 
--- a layer that may stand behind orderly ones
+-- a layer that may follow orderly ones
 kept_orderly : (known : List Layer) (name : Name) (content : Content) → IsOrderly known → refusal_of_keeping known name content ≡ None → IsOrderly (with_content known name content)
 kept_orderly known name (base rings) orderly none = step_orderly known (put name rings) none orderly
 kept_orderly known name (derived tree) orderly none = step_orderly known (define name tree) none orderly

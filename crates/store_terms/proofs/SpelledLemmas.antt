@@ -26,7 +26,7 @@ spelled : {A : Type 0} (place form : Damage) (file : List ℕ) (e : RecordExtent
 spelled place form file e read value spells =
     ap (λ b. cond b (Ok (bytes_of file e)) (Err place) >>= λ bytes. or_fault form (read bytes)) spells.placed ∙ ap (or_fault form) spells.is
 
--- the same with what comes behind
+-- the same with what comes after
 spelled_then : {A B : Type 0} (place form : Damage) (file : List ℕ) (e : RecordExtent) (read : List ℕ → Option A) (value : A) (next : A → Result B Damage) → Spells file e read value
     → (placed_bytes place file e >>= λ bytes. or_fault form (read bytes) >>= next) ≡ next value
 spelled_then place form file e read value next spells =

@@ -64,7 +64,7 @@ sieved test f = record {
   fits = λ x. f.fits x && test x;
 }
 
--- n values, one behind another
+-- n values, one after another
 abbrev pub read_many : {A : Type 0} → (List ℕ → Option (A × List ℕ)) → ℕ → List ℕ → Option (List A × List ℕ)
 read_many read zero bytes = Some ([], bytes)
 read_many read (suc n) bytes = read bytes >>= λ a. read_many read n a.1 >>= λ b. Some (a.0 ∷ b.0, b.1)

@@ -40,7 +40,7 @@ abbrev pub is_accepted : Option Refusal → Bool
 is_accepted None = true
 is_accepted (Some refusal) = false
 
--- whether a layer may stand behind some: it has a name, none of them has it, and the command that keeps it is accepted
+-- whether a layer may follow some others: it has a name, none of them has it, and the command that keeps it is accepted
 abbrev pub may_stand : List Layer → Name → Content → Bool
 may_stand known name content = is_name name && not (stands known name) && is_accepted (refusal_of_keeping known name content)
 
@@ -65,7 +65,7 @@ layer_of file known name (inr (e, tiles)) =
     >>= λ expression. with_layer known name (derived expression)
     >>= λ layers. tiles_of file name 0 tiles >>= λ finished. Ok (layers, finished)
 
--- all layers and tiles that are listed, behind those that are known
+-- all layers and tiles that are listed, after those that are known
 abbrev pub layers_of : List ℕ → List Layer → List Listed → Result (List Layer × List Finished) Damage
 layers_of file known [] = Ok (known, [])
 layers_of file known (l ∷ ls) =

@@ -5,6 +5,7 @@ pub mod BaseRecord
 pub mod DefinitionRecord
 pub mod TileRecord
 pub mod Catalog
+pub mod Listing
 pub mod Places
 pub mod Roots
 pub mod Image

@@ -6,9 +6,9 @@ use Rattle.store_terms.specs.Fields.{Field, both, repeated}
 use Rattle.store_terms.specs.Choices.{either, optional}
 use Rattle.store_terms.specs.Catalog as terms
 use Rattle.store_terms.specs.Catalog.{extent}
-use Rattle.record_writing.specs.declared.catalog.Listed.{Listed}
-use Rattle.record_writing.specs.declared.catalog.Records.{Records}
-use Rattle.record_writing.specs.declared.catalog.Records.TheVariants.{Base, Derived}
+use Rattle.store_terms.specs.declared.catalog.Listed.{Listed}
+use Rattle.store_terms.specs.declared.catalog.Records.{Records}
+use Rattle.store_terms.specs.declared.catalog.Records.TheVariants.{Base, Derived}
 
 -- how the records of a layer are spelled, where there are n columns
 abbrev pub spelled_records : ℕ → Field terms.Records

@@ -10,7 +10,7 @@ use Rattle.store_terms.specs.Catalog.{Records, Listed}
 abbrev pub bytes_of : List ℕ → RecordExtent → List ℕ
 bytes_of file e = part file (block_size * e.block) e.size
 
--- whether a record lies behind the slots, in whole blocks of the file
+-- whether a record lies after the slots, in whole blocks of the file
 abbrev pub is_placed : List ℕ → RecordExtent → Bool
 is_placed file e = nat_le 2 e.block && nat_le (e.block + blocks e.size) (length file / block_size)
 

@@ -15,7 +15,7 @@ use Rattle.store_terms.specs.DefinitionRecord.{definition_of_record}
 use Rattle.store_terms.specs.TileRecord.{tile_of_record, IsTileRecord}
 use Rattle.store_terms.specs.Places.{is_placed}
 use Rattle.store_terms.specs.declared.root.Root.{Root}
-use Rattle.store_terms.specs.Roots.{body_text, body_in, ours}
+use Rattle.store_terms.specs.Roots.{body_read, body_text, body_in, ours}
 use Rattle.store_terms.specs.Image.{Held, held_of}
 use Rattle.store_terms.specs.Frame.{extents_of}
 
@@ -37,7 +37,7 @@ BaseReadsBack = (rs : List (List WholePoint)) → rings_fault rs ≡ None → Al
 
 -- a body that is written is read again
 abbrev pub BodyReadsBack : Type 0
-BodyReadsBack = (r : Root) → r.sequence < 256 ^ 8 → r.version < 256 ^ 8 → r.catalog.block < 256 ^ 8 → r.catalog.size < 256 ^ 4 → body_in (take 40 (body_text r)) ≡ ours r
+BodyReadsBack = (r : Root) → r.sequence < 256 ^ 8 → r.version < 256 ^ 8 → r.catalog.block < 256 ^ 8 → r.catalog.size < 256 ^ 4 → body_in (take body_read (body_text r)) ≡ ours r
 
 -- what a root holds are layers in order: no name twice, and each definition over earlier layers
 abbrev pub HeldIsOrderly : Type 0

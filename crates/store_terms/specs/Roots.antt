@@ -20,12 +20,19 @@ old_format = 1
 abbrev pub format_of : Root → ℕ
 format_of r = if r.is_old then old_format else format_number
 
+-- how many bytes a body has, and how many of them are read
+abbrev pub body_size : ℕ
+body_size = 48
+
+abbrev pub body_read : ℕ
+body_read = 40
+
 -- the body of a slot: magic, format, the numbers of the root, and zeros that are not read
 abbrev pub body_text : Root → List ℕ
 body_text r =
     magic ++ (big_bytes 4 (format_of r) ++ (big_bytes 8 r.sequence ++ (big_bytes 8 r.version ++ (big_bytes 8 r.catalog.block ++ (big_bytes 4 r.catalog.size ++ big_bytes 8 0)))))
 
--- what the first 40 bytes of a body say, whether it is ours or not
+-- what the bytes of a body that are read say, whether it is ours or not
 unfoldable pub body_in : List ℕ → Body
 body_in bytes = record {
   is_ours = bytes_eq (take 8 bytes) magic;

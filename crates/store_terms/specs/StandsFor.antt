@@ -7,10 +7,14 @@ use Rattle.store_terms.specs.declared.damage.Damage.TheVariants.{NotAStore, Form
 use Rattle.store_terms.specs.Places.{block_size}
 use Rattle.store_terms.specs.declared.root.Root.{Root}
 use Rattle.store_terms.specs.declared.root.Body.{Body}
-use Rattle.store_terms.specs.Roots.{body_in, format_of, sequence_max}
+use Rattle.store_terms.specs.Roots.{body_in, body_read, format_of, sequence_max}
 use Rattle.store_terms.specs.Image.{◌>>=◌, Held, held_of}
 
--- where the gate of a slot stands, and its body behind it
+-- where the two slots end, a block each
+abbrev pub slots_end : ℕ
+slots_end = block_size * 2
+
+-- where the gate of a slot is, and its body after it
 abbrev pub gate_at : ℕ → ℕ
 gate_at k = block_size * k
 
@@ -26,9 +30,9 @@ gate file k = slice_index file (gate_at k)
 
 -- the body of a slot, whatever its gate
 abbrev pub body : List ℕ → ℕ → Body
-body file k = body_in (part file (body_at k) 40)
+body file k = body_in (part file (body_at k) body_read)
 
--- whether the root may stand in a slot: its numbers are not too great, and its sequence is one of the slot
+-- whether the root may be in a slot: its numbers are not too great, and its sequence is one of the slot
 abbrev pub fits_slot : ℕ → Root → Bool
 fits_slot k r = nat_le r.sequence sequence_max && nat_le r.version version_max && (r.sequence % 2 == k)
 
@@ -53,7 +57,7 @@ newer_root (Some a) (Some b) = if nat_lt b.sequence a.sequence then Ok a else Ok
 -- the root of a file: both slots are ours, then the numbers of the one and of the other are right, then the newer is taken
 unfoldable pub root_of : List ℕ → Result Root Damage
 root_of file =
-    if nat_lt (length file) (block_size * 2) || (is_foreign file 0 || is_foreign file 1) then Err NotAStore
+    if nat_lt (length file) slots_end || (is_foreign file 0 || is_foreign file 1) then Err NotAStore
     else (slot file 0 >>= λ a. slot file 1 >>= λ b. newer_root a b)
 
 -- what opening the file gives

@@ -1,5 +1,5 @@
 //! What a catalog lists: the layers in order, each with its name and where its records lie.
-use store_terms::root::RecordExtent;
+use crate::root::RecordExtent;
 
 /// Where the records of a layer lie: that of a base layer; or that of a definition, and by column
 /// those of its finished tiles.

@@ -11,14 +11,14 @@ pub enum Damage {
     Format,
     /// An open slot has a number that is too great, or a sequence of the other slot.
     Numbers,
-    /// The catalog does not lie in the file, behind the slots.
+    /// The catalog does not lie in the file, after the slots.
     CatalogPlace,
     CatalogForm,
-    /// A record does not lie in the file, behind the slots.
+    /// A record does not lie in the file, after the slots.
     RecordPlace,
     /// A base or definition record has not its form.
     LayerForm,
-    /// A layer may not stand behind those before it.
+    /// A layer may not follow those before it.
     LayerRefused,
     /// A tile record has not its form, or is that of another column.
     TileForm,
@@ -27,7 +27,7 @@ pub enum Damage {
 }
 
 impl Damage {
-    /// The code under which damage is told; `None` where the file is no store.
+    /// The code under which damage is reported; `None` where the file is no store.
     pub fn code(&self) -> Option<u8>
         ensures { result ≡ code_of self.now }
     {

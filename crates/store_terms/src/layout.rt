@@ -1,4 +1,4 @@
-//! The numbers of a store's file, as docs/FORMAT.md has them: where the parts of a root slot stand, and what its bytes
+//! The numbers of a store's file, as docs/FORMAT.md has them: where the parts of a root slot are, and what its bytes
 //! say. How long a block is, and which is the first that holds a record, `extent_map` says.
 
 use extent_map::BLOCK;
@@ -13,8 +13,17 @@ pub const GATE_OPEN: u8 = 0xA7;
 /// The byte that a gate is closed with.
 pub const GATE_CLOSED: u8 = 0;
 
-/// How far behind the gate of its slot a body stands.
+/// How far a body is from the gate of its slot.
 pub const BODY: usize = 16;
+
+/// How many bytes a body has.
+pub const BODY_SIZE: usize = 48;
+
+/// How many bytes of a body are read: zeros follow.
+pub const BODY_READ: usize = 40;
+
+/// How many blocks a new store has: its slots, and one for its catalog.
+pub const NEW_BLOCKS: u32 = 3;
 
 /// The bytes that each body begins with.
 pub const MAGIC: &[u8] = b"OVLSTORE";

@@ -1,4 +1,8 @@
 //! Roots, and where the records of a store lie.
+ghost use Rattle.std.specs.Prelude.{◌≡◌};
+ghost use Rattle.store_terms.specs.Roots.{format_of};
+
+use crate::layout::{FORMAT, OLD_FORMAT};
 
 /// Where a record lies: its first block, and how many bytes it has.
 #[derive(Clone, Copy, Debug, PartialEq, Eq)]
@@ -15,6 +19,13 @@ pub struct Root {
     pub sequence: u64,
     pub version: u64,
     pub catalog: RecordExtent,
+}
+
+/// The number of a root's format.
+pub fn format_of(root: Root) -> u32
+    ensures { result ≡ format_of root }
+{
+    if root.is_old { OLD_FORMAT } else { FORMAT }
 }
 
 /// What the body of a slot says, whether it is ours or not.

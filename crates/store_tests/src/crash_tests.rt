@@ -15,7 +15,7 @@ const CHOICES: &[Choice] = &[
     Choice::Fill(0xA7),
 ];
 
-/// The version that is opened after a crash behind so many calls.
+/// The version that is opened after a crash after so many calls.
 fn number_after(
     rt: &impl Abort,
     disk: &MemDisk,
@@ -30,7 +30,7 @@ fn number_after(
     }
 }
 
-/// Checks the version that is opened after a crash behind so many calls of making a store and committing.
+/// Checks the version that is opened after a crash after so many calls of making a store and committing.
 fn check_number(rt: &impl Abort, number: Option<u64>, calls: usize) {
     assert!(rt;
         number == Some(0) || number == Some(1),

@@ -1,10 +1,10 @@
-//! Files with one thing wrong, and with several: the first of them is told, and nothing is written.
+//! Files with one thing wrong, and with several: the first of them is reported, and nothing is written.
 use crate::testing::{only_reads, opened, put, stored};
 use commit_plan::fault::StoreFault;
 use std::alloc::Global;
 use std::process::Abort;
 
-/// Bytes in the place of others, and what the file is told to be then: the fault, and its code or 0.
+/// Bytes in the place of others, and what the file is said to be then: the fault, and its code or 0.
 type Case = (usize, &'static [u8], u8, u8);
 
 /// The first byte of slot 1.
@@ -35,7 +35,7 @@ const CASES: &[Case] = &[
     (35, &[1], 33, 2),
     (SLOT + 35, &[2], 33, 2),
     (SLOT + 36, &[64, 0, 0, 0, 0, 0, 0, 1], 33, 2),
-    // A catalog in a slot, behind the file, far behind it, and over its end.
+    // A catalog in a slot, after the file, far after it, and over its end.
     (SLOT + 51, &[1], 33, 3),
     (SLOT + 51, &[8], 33, 3),
     (SLOT + 44, &[255; 12], 33, 3),
@@ -46,7 +46,7 @@ const CASES: &[Case] = &[
     (CATALOG + 47, &[2], 33, 4),
     (SLOT + 55, &[91], 33, 4),
     (SLOT + 55, &[93], 33, 4),
-    // A record in a slot, one behind the file, one over its end, and a tile behind it.
+    // A record in a slot, one after the file, one over its end, and a tile after it.
     (CATALOG + 12, &[1], 33, 5),
     (CATALOG + 42, &[8], 33, 5),
     (CATALOG + 13, &[255; 4], 33, 5),
@@ -59,7 +59,7 @@ const CASES: &[Case] = &[
     // Another spelling, and no expression.
     (DEFINITION, b"(A&B)", 33, 6),
     (DEFINITION, b"A & &", 33, 6),
-    // An equal name, no name, a layer that stands later, and one that stands nowhere.
+    // An equal name, no name, a layer that comes later, and one that is nowhere.
     (CATALOG + 18, b"A", 33, 7),
     (CATALOG + 18, b"9", 33, 7),
     (DEFINITION, b"A & I", 33, 7),
@@ -112,7 +112,7 @@ fn refusal(rt: &impl Abort, alloc: Global, bytes: &[u8]) -> (u8, u8) {
     }
 }
 
-/// Checks that a file is told to be what a case says.
+/// Checks that a file is found to be what a case says.
 fn check(rt: &impl Abort, alloc: Global, file: &[u8], case: Case) {
     let (at, _, fault, code) = case;
     assert_eq!(rt; refusal(rt, alloc, file), (fault, code), "at {at}");

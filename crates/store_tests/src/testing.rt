@@ -132,7 +132,7 @@ pub fn committed(rt: &impl Abort, alloc: Global) -> MemDisk {
     disk_with(rt, alloc, 5, image_of_a(rt, alloc), COMMITTED)
 }
 
-/// Puts bytes in the place of others; those that would lie behind the end are left out.
+/// Puts bytes in the place of others; those that would lie after the end are left out.
 pub fn put(file: &mut Vec<u8>, at: usize, bytes: &[u8]) {
     for (i, &byte) in bytes.iter().enumerate() {
         let target = at.saturating_add(i);
@@ -142,7 +142,7 @@ pub fn put(file: &mut Vec<u8>, at: usize, bytes: &[u8]) {
     }
 }
 
-/// Whether these bytes stand at a place of a file.
+/// Whether these bytes are at a place of a file.
 pub fn stand_at(file: &[u8], at: usize, bytes: &[u8]) -> bool {
     file.get(at..at.saturating_add(bytes.len())) == Some(bytes)
 }

@@ -12,6 +12,6 @@ abbrev pub passes : ℕ → Bool
 passes zero = false
 passes (suc n) = true
 
--- one fewer is left behind each
+-- one fewer is left after each
 abbrev pub next : StopPlan → StopPlan
 next plan = record { left = plan.left - 1 }

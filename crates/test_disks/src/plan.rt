@@ -6,7 +6,7 @@ pub trait Plan: Drop {
     /// Whether the next call is passed on.
     ghost passes: { Self → Bool };
 
-    /// The plan behind that call.
+    /// The plan after that call.
     ghost next: { Self → Self };
 
     /// Whether this call is passed on.

@@ -1,10 +1,10 @@
--- The catalog has its place behind the records, and the body names it.
+-- The catalog has its place after the records, and the body names it.
 use Rattle.std.proofs.Common.{false, ◌≡◌, true, Some, ◌+◌, ◌^◌, ◌<◌, ◌++◌, ◌∷◌, [], ℕ, List, length, inr, sym, ◌∙◌, ap, refl, subst, arith}
 use Rattle.std.specs.List.{flat_map}
 use Rattle.std.proofs.lemmas.List.{length-append}
 use Rattle.extent_map.specs.FirstFit.{IsPlanned}
 use Rattle.overlay_terms.specs.Column.{column_count}
-use Rattle.record_writing.specs.Listing.{entries_of}
+use Rattle.store_terms.specs.Listing.{entries_of}
 use Rattle.store_terms.specs.declared.root.Root.{Root}
 use Rattle.store_terms.specs.Catalog.{Listed, catalog}
 use Rattle.store_terms.specs.Places.{all_apart, extents_listed}

@@ -1,5 +1,5 @@
 use Rattle.std.proofs.Common.{◌≡◌, drop}
-use Rattle.record_writing.specs.Listing.{entries_of}
+use Rattle.store_terms.specs.Listing.{entries_of}
 use Rattle.commit_plan.specs.Staying.{records_named}
 use Rattle.commit_plan.proofs.live_records.records_named.Given as goal
 

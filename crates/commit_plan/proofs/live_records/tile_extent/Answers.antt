@@ -1,5 +1,5 @@
 use Rattle.std.proofs.Common.{◌≡◌, sym, ◌∙◌, ap, inr, rules, arith}
-use Rattle.record_writing.specs.Listing.{records_of}
+use Rattle.store_terms.specs.Listing.{records_of}
 use Rattle.commit_plan.specs.Staying.{tile_extent}
 use Rattle.commit_plan.proofs.Entries.{entry_past, entry_is}
 use Rattle.commit_plan.proofs.live_records.tile_extent.Goals as goal

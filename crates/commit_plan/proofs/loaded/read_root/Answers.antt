@@ -3,7 +3,7 @@ use Rattle.extent_map.specs.Taken.{taken_of}
 use Rattle.overlay_terms.specs.Layers.{Layer}
 use Rattle.overlay_terms.specs.Histories.{Finished}
 use Rattle.layer_tiles.specs.Table.{tiles_in, Tabled}
-use Rattle.record_writing.specs.Listing as listings
+use Rattle.store_terms.specs.Listing as listings
 use Rattle.store_terms.specs.Catalog.{Listed}
 use Rattle.store_terms.specs.Places.{extents_listed}
 use Rattle.store_terms.specs.Image.{Held, listing_of, layers_of, held_of}

@@ -8,7 +8,7 @@ use Rattle.extent_map.specs.Taken.{taken_of, limit_of}
 use Rattle.layer_tiles.specs.Table.{tiles_in, Tabled}
 use Rattle.store_terms.specs.Catalog.{catalog}
 use Rattle.store_terms.specs.Places.{extents_listed}
-use Rattle.record_writing.specs.Listing.{entries_of}
+use Rattle.store_terms.specs.Listing.{entries_of}
 use Rattle.root_reading.specs.RootRuns.{IsMapOf}
 use Rattle.commit_plan.specs.ImageHeld.{image_held}
 use Rattle.commit_plan.specs.declared.fault.StoreFault.TheVariants.{Full}

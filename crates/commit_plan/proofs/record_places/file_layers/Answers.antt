@@ -5,8 +5,8 @@ use Rattle.std.proofs.lemmas.List.{length-append, map-append}
 use Rattle.std.proofs.lemmas.List.Elements.{All-push}
 use Rattle.layer_book.specs.Layer.{content}
 use Rattle.layer_tiles.specs.Table.{laid}
-use Rattle.record_writing.specs.Listing.{entry_of, entries_of, IsListable}
-use Rattle.record_writing.specs.declared.catalog.Listed as code
+use Rattle.store_terms.specs.Listing.{entry_of, entries_of, IsListable}
+use Rattle.store_terms.specs.declared.catalog.Listed as code
 use Rattle.commit_plan.specs.declared.fault.StoreFault.TheVariants.{Full}
 use Rattle.commit_plan.specs.Drafted.{sizes_in}
 use Rattle.commit_plan.specs.Filed.{filed_of}

@@ -2,7 +2,7 @@
 use Rattle.std.proofs.Common.{◌≡◌, ◌++◌, length, take}
 use Rattle.std.specs.List.{All}
 use Rattle.layer_tiles.specs.Table.{placed_rows, tiles_of}
-use Rattle.record_writing.specs.Listing.{entries_of, IsListable}
+use Rattle.store_terms.specs.Listing.{entries_of, IsListable}
 use Rattle.commit_plan.specs.Drafted.{sizes_in}
 use Rattle.commit_plan.specs.Sizes.{sizes_of_layers}
 use Rattle.commit_plan.specs.RecordPlaces.{AreLayersFiled}

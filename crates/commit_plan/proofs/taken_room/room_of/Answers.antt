@@ -1,6 +1,6 @@
 use Rattle.std.proofs.Common.{◌∷◌, refl, sym, subst, rules}
 use Rattle.extent_map.specs.Taken.{taken_of}
-use Rattle.record_writing.specs.Listing.{entries_of}
+use Rattle.store_terms.specs.Listing.{entries_of}
 use Rattle.store_terms.specs.Places.{extents_listed}
 use Rattle.root_reading.specs.RootRuns.{AreRunsFor}
 use Rattle.root_reading.proofs.RootRunsLemmas.{room_taken, room_apart, room_overlap}

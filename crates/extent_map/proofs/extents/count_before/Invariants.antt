@@ -2,7 +2,7 @@ use Rattle.std.proofs.Common.{◌+◌, ◌-◌, ◌≤◌, take, drop, length}
 use Rattle.std.specs.List.{AllByRecursion}
 use Rattle.extent_map.proofs.extents.count_before.Given as goal
 
--- those below stand before, those from above on do not
+-- those below come before it, those from above on do not
 abbrev pub invariant-loop-low : goal.invariant-loop-low
 invariant-loop-low l = record {
   order : l.low ≤ l.high;

@@ -4,7 +4,7 @@ use Rattle.std.proofs.lemmas.List.{map-append}
 use Rattle.store_terms.specs.Fields.{read_many}
 use Rattle.store_terms.specs.Catalog.{listed}
 use Rattle.store_terms.proofs.Loops.{goes_on, is_done}
-use Rattle.record_writing.specs.Listing.{entry_of, entries_of}
+use Rattle.store_terms.specs.Listing.{entry_of, entries_of}
 use Rattle.record_reading.proofs.Failing.{fails, starts}
 use Rattle.record_reading.proofs.catalog_record.listing_at.Goals as goal
 

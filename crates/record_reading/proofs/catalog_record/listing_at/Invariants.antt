@@ -2,7 +2,7 @@ use Rattle.std.proofs.Common.{◌≡◌, ◌-◌}
 use Rattle.store_terms.specs.Fields.{read_many}
 use Rattle.store_terms.specs.Catalog.{listed}
 use Rattle.store_terms.proofs.Loops.{with_front}
-use Rattle.record_writing.specs.Listing.{entries_of}
+use Rattle.store_terms.specs.Listing.{entries_of}
 use Rattle.record_reading.proofs.catalog_record.listing_at.Given as goal
 
 abbrev pub invariant-loop : goal.invariant-loop

@@ -1,6 +1,6 @@
 use Rattle.std.proofs.Common.{◌≡◌, map, take}
 use Rattle.store_terms.specs.Catalog.{without_tiles}
-use Rattle.record_writing.specs.Listing.{entries_of}
+use Rattle.store_terms.specs.Listing.{entries_of}
 use Rattle.record_reading.proofs.catalog_record.without_tiles.Given as goal
 
 -- the layers so far have each tile pending

@@ -3,7 +3,7 @@ use Rattle.std.proofs.lemmas.List.{get_or-map, length-map}
 use Rattle.overlay_terms.specs.Column.{column_count}
 use Rattle.store_terms.specs.Catalog.{listed, catalog}
 use Rattle.store_terms.proofs.LayoutLemmas.{catalog_is}
-use Rattle.record_writing.specs.Listing.{entry_of, entries_of}
+use Rattle.store_terms.specs.Listing.{entry_of, entries_of}
 use Rattle.record_writing.proofs.PutLemmas.{put_number, put_more, put_all, put_counted, put_reads_back}
 use Rattle.record_writing.proofs.catalog_writing.write_catalog.Goals as goal
 

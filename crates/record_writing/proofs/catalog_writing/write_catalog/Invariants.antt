@@ -1,7 +1,7 @@
 use Rattle.std.proofs.Common.{take}
 use Rattle.overlay_terms.specs.Column.{column_count}
 use Rattle.store_terms.specs.Catalog.{listed}
-use Rattle.record_writing.specs.Listing.{entries_of}
+use Rattle.store_terms.specs.Listing.{entries_of}
 use Rattle.record_writing.specs.Putting.{ArePut}
 use Rattle.record_writing.proofs.catalog_writing.write_catalog.Given as goal
 

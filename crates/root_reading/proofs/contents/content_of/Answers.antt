@@ -2,7 +2,7 @@ use Rattle.std.proofs.Common.{◌≡◌, ◌<◌, length, get_or, refl, [], sym,
 use Rattle.std.proofs.lemmas.List.{length-map, get_or-map}
 use Rattle.layer_tiles.proofs.Stored.{laid_is_stored}
 use Rattle.layer_tiles.specs.Table.{laid, tiles_in}
-use Rattle.record_writing.specs.Listing.{entry_of, entries_of}
+use Rattle.store_terms.specs.Listing.{entry_of, entries_of}
 use Rattle.store_terms.specs.Image.{layers_of}
 use Rattle.root_reading.proofs.Looked.{looks_none, looks_on, gives_err, size_stays}
 use Rattle.root_reading.proofs.LayerReadingLemmas.{layers_go_on, layers_end, no_front}

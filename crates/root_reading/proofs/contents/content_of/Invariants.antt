@@ -1,6 +1,6 @@
 use Rattle.std.proofs.Common.{◌≡◌, ◌↔◌, [], drop}
 use Rattle.layer_tiles.specs.Table.{tiles_in}
-use Rattle.record_writing.specs.Listing.{entries_of}
+use Rattle.store_terms.specs.Listing.{entries_of}
 use Rattle.store_terms.specs.Image.{layers_of}
 use Rattle.root_reading.specs.Looking.{Looks}
 use Rattle.root_reading.specs.LayerReading.{then_layers}

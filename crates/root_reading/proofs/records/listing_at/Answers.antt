@@ -1,5 +1,5 @@
 use Rattle.std.proofs.Common.{sym, subst, ◌∙◌, rules}
-use Rattle.record_writing.specs.Listing as listings
+use Rattle.store_terms.specs.Listing as listings
 use Rattle.store_terms.specs.Fields.{AreBytes}
 use Rattle.store_terms.specs.Catalog.{catalog_of_record}
 use Rattle.store_terms.specs.Image.{listing_of}

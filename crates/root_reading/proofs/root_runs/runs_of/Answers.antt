@@ -1,6 +1,6 @@
 use Rattle.std.proofs.Common.{◌≡◌, ◌<◌, ◌≤◌, ◌∷◌, [], length, take, get_or, List, sym, ◌∙◌, ap, subst, arith}
 use Rattle.std.proofs.lemmas.List.{length-map, get_or-map, take_all}
-use Rattle.record_writing.specs.Listing.{entry_of, entries_of}
+use Rattle.store_terms.specs.Listing.{entry_of, entries_of}
 use Rattle.store_terms.specs.Catalog.{Listed}
 use Rattle.store_terms.specs.Places.{extents_listed}
 use Rattle.root_reading.specs.RootRuns.{AreRunsFor}

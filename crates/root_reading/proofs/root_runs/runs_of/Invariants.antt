@@ -1,5 +1,5 @@
 use Rattle.std.proofs.Common.{◌∷◌, take}
-use Rattle.record_writing.specs.Listing.{entries_of}
+use Rattle.store_terms.specs.Listing.{entries_of}
 use Rattle.store_terms.specs.Places.{extents_listed}
 use Rattle.root_reading.specs.RootRuns.{AreRunsFor}
 use Rattle.root_reading.proofs.root_runs.runs_of.Given as goal

@@ -63,6 +63,6 @@ returns-clause-looks g c = record {
   cause = search rules;
 }
 
--- found by search alone: it stands here so that a wrong body is refused without working out what to write
-pub returns-clause-alone : goal.returns-clause-alone
-returns-clause-alone g c = search rules
+-- found by search alone: it is here so that a wrong body is refused without working out what to write
+pub returns-clause-shut_gate : goal.returns-clause-shut_gate
+returns-clause-shut_gate g c = search rules

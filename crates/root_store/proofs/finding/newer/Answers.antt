@@ -1,7 +1,7 @@
 use Rattle.std.proofs.Common.{rules}
 use Rattle.root_store.proofs.finding.newer.Goals as goal
 
--- found by search alone: they stand here so that a wrong body is refused without working out what to write
+-- found by search alone: they are here so that a wrong body is refused without working out what to write
 pub returns-then-b-a-clause-gives : goal.returns-then-b-a-clause-gives
 returns-then-b-a-clause-gives c = search rules
 

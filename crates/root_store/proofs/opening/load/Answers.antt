@@ -30,18 +30,18 @@ returns-in_err-loaded-clause-loads g c honest =
       cause = causes_from (Loaded × Bool) fault (k.faults old) (k.faults old) (k.faults mid) refl (looks.cause honest);
     })
 
-pub returns-then-not-is_alone-clause-loads : goal.returns-then-not-is_alone-clause-loads
-returns-then-not-is_alone-clause-loads g c honest =
+pub returns-then-not-has_shut_gate-clause-loads : goal.returns-then-not-has_shut_gate-clause-loads
+returns-then-not-has_shut_gate-clause-loads g c honest =
     let k = g.D.Disk in
     let old = c.args.disk.now in
     let mid = c.read_store.new.disk in
     let x = c.in_ok-loaded.loaded in
     let reads = c.in_ok-loaded.ensures.reads honest in
     let was = c.in_ok-loaded.ensures.looks.looks honest in
-    let both : c.in_ok-loaded.is_alone ≡ false = search rules in
-    let none = sym reads.read.alone ∙ both in
+    let both : c.in_ok-loaded.has_shut_gate ≡ false = search rules in
+    let none = sym reads.read.shut_gate ∙ both in
     record {
-      loads = both_loads k old mid x c.in_ok-loaded.is_alone was reads.read reads.gives both;
+      loads = both_loads k old mid x c.in_ok-loaded.has_shut_gate was reads.read reads.gives both;
       phases = phases_read k old mid reads.settled;
       stops = tt;
       writes = inl was.seen;
@@ -62,7 +62,7 @@ returns-then-loaded-ge-NUMBER_MAX-clause-loads g c honest =
     let was = c.in_ok-loaded.ensures.looks.looks honest in
     let last : sequence_max ≤ x.root.sequence = omega arith in
     record {
-      loads = last_loads k old mid x c.in_ok-loaded.is_alone was reads.read reads.gives (search rules) last;
+      loads = last_loads k old mid x c.in_ok-loaded.has_shut_gate was reads.read reads.gives (search rules) last;
       phases = phases_read k old mid reads.settled;
       stops = tt;
       writes = inl was.seen;
@@ -84,15 +84,15 @@ returns-in_err-heal-clause-loads g c honest =
     let reads = c.in_ok-loaded.ensures.reads honest in
     let was = c.in_ok-loaded.ensures.looks.looks honest in
     let now = c.in_err-heal.ensures.heals was.honest in
-    let alone : c.in_ok-loaded.is_alone ≡ true = search rules in
-    let shut = sym reads.read.alone ∙ alone in
+    let alone : c.in_ok-loaded.has_shut_gate ≡ true = search rules in
+    let shut = sym reads.read.shut_gate ∙ alone in
     let below : x.root.sequence < sequence_max = omega arith in
-    let heals = now.heals (kept_in x) refl (shuts k old mid x c.in_ok-loaded.is_alone was reads.read reads.gives alone) in
+    let heals = now.heals (kept_in x) refl (shuts k old mid x c.in_ok-loaded.has_shut_gate was reads.read reads.gives alone) in
     let device = c.in_err-heal.ensures.err in
     at_err (LoadsHonestly k old new) c.from_residual-in_err-heal.result fault c.from_residual-in_err-heal.ensures.1
     (record {
       loads =
-          failed_loads k old mid x c.in_ok-loaded.is_alone was reads.read reads.gives new (Err fault) heals fault
+          failed_loads k old mid x c.in_ok-loaded.has_shut_gate was reads.read reads.gives new (Err fault) heals fault
           (refuses_device fault (reading (k.seen old)) device) heals.err;
       phases = tt;
       stops =
@@ -119,13 +119,13 @@ returns-clause-loads g c honest =
     let reads = c.in_ok-loaded.ensures.reads honest in
     let was = c.in_ok-loaded.ensures.looks.looks honest in
     let now = c.in_ok-heal.ensures.heals was.honest in
-    let alone : c.in_ok-loaded.is_alone ≡ true = search rules in
-    let shut = sym reads.read.alone ∙ alone in
+    let alone : c.in_ok-loaded.has_shut_gate ≡ true = search rules in
+    let shut = sym reads.read.shut_gate ∙ alone in
     let below : x.root.sequence < sequence_max = omega arith in
-    let heals = now.heals (kept_in x) refl (shuts k old mid x c.in_ok-loaded.is_alone was reads.read reads.gives alone) in
+    let heals = now.heals (kept_in x) refl (shuts k old mid x c.in_ok-loaded.has_shut_gate was reads.read reads.gives alone) in
     let few : k.calls new ≤ k.calls mid + 2 = omega (arith, now.calls) in
     record {
-      loads = healed_loads k old mid x c.in_ok-loaded.is_alone was reads.read reads.gives new _ heals heals.ok;
+      loads = healed_loads k old mid x c.in_ok-loaded.has_shut_gate was reads.read reads.gives new _ heals heals.ok;
       phases =
           phases_healed k old mid new (kept_in x) reads.gives reads.read.root shut below reads.settled few heals.run
           (now.elsewhere (k.seen old) reads.read.only);

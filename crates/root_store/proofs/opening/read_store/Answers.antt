@@ -100,7 +100,7 @@ returns-clause-reads g c honest =
       read = record {
         only = λ f left. c.in_ok-settle.ensures.only honest f (looks2.fewer f (looks3.fewer f left));
         root = root ∙ ap Ok same;
-        alone = c.in_ok-root.ensures.alone looks1.honest ∙ ap has_shut_gate looks1.seen;
+        shut_gate = c.in_ok-root.ensures.shut_gate looks1.honest ∙ ap has_shut_gate looks1.seen;
         listing = subst (λ r. listing_of file r ≡ Ok (kept_in x).listing) same
             (subst (λ (f : List ℕ). listing_of f first ≡ Ok (kept_in x).listing) both.seen
             (c.in_ok-loaded.ensures.listing both.honest));

@@ -32,7 +32,7 @@ returns-in_err-next-clause-errors g c =
 pub returns-clause-blocks : goal.returns-clause-blocks
 returns-clause-blocks g c limit keeps = c.start.ensures.blocks limit keeps.0 (c.in_ok-next.ensures.blocks ∙ keeps.0)
 
--- found by search alone: it stands here so that a wrong body is refused without working out what to write
+-- found by search alone: it is here so that a wrong body is refused without working out what to write
 pub returns-clause-begun : goal.returns-clause-begun
 returns-clause-begun g c = search rules
 
