@@ -1,4 +1,4 @@
--- What a fault says, told from its cases.
+-- What a fault says, by its cases.
 use Rattle.std.proofs.Common.{◌≡◌, ap, sym, subst, Option, None, Result, Ok, Err, IsErrAnd, IfErr}
 use Rattle.std.specs.Option.{option_map}
 

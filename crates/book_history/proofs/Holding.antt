@@ -31,7 +31,7 @@ of_named P (layer ∷ layers) name all stands =
     split true same d rest h = subst P (same_name layer.name name same) (All-head (λ (l : Layer). P l.name) layer layers all)
     split false same d rest h = rest h
 
--- a value that is told by a function of another is none where that is none, and only there
+-- a value that is a function of another is none where that is none, and only there
 pub none_kept : {A B : Type 0} (f : A → B) (o : Option A) (t : Option B) → option_map f o ≡ t → is_some o ≡ false → t ≡ None
 none_kept f None t is none = sym is
 none_kept f (Some x) t is none = absurd (cc (none))

@@ -40,7 +40,7 @@ own_next by xs made c v is =
     own_more by xs (entry (accepted by c) v) ∙ ap (λ l. l ++ cons_option (own_command by (accepted by c)) []) is
     ∙ ap (λ (b : Bool). made ++ cons_option (if b then Some c else None) []) (eq-eqb by by refl)
 
--- the same where the log is told by an equation, and the session by another name
+-- the same where the log is given by an equation, and the session by another name
 pub own_then : (by named : ℕ) (xs ys : List Entry) (made : List Batch) (c : Batch) (v : Version) → named ≡ by
     → ys ≡ xs ++ entry (accepted named c) v ∷ [] → commands_of by xs ≡ made → commands_of by ys ≡ made ++ c ∷ []
 own_then by named xs ys made c v same is own =

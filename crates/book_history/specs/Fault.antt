@@ -43,7 +43,7 @@ passes Failed = false
 passes SequenceLimit = true
 passes OutOfMemory = true
 
--- the text behind a store's number
+-- the text after a store's number
 abbrev pub store_text_of : ToldFault → List ℕ
 store_text_of Device = common.text_of faults.Device
 store_text_of Full = common.text_of faults.Full
@@ -51,7 +51,7 @@ store_text_of Failed = common.text_of faults.StoreFailed
 store_text_of SequenceLimit = common.text_of faults.SequenceLimit
 store_text_of OutOfMemory = common.text_of faults.OutOfMemory
 
--- the text that is printed behind the number
+-- the text that is printed after the number
 abbrev pub text_of : BookFault → List ℕ
 text_of (fault.Version refused) = version_fault.text_of refused
 text_of fault.Closing = common.text_of faults.Closing

@@ -1,4 +1,4 @@
--- The rule of the history, and what its steps tell.
+-- The rule of the history, and what its steps say.
 use Rattle.std.specs.Prelude.{ℕ, ◌≡◌, ◌==◌, suc, true, List, [], ◌∷◌, ◌++◌, length, MatchBool}
 use Rattle.logbook.specs.Pages.{Cell, Step, View, Book, Named}
 use Rattle.overlay_terms.specs.Histories.{Entry}

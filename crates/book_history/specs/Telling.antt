@@ -1,4 +1,4 @@
--- Which numbers a log may tell durable.
+-- Which numbers a log may report durable.
 use Rattle.std.specs.Prelude.{◌≡◌, ◌⊎◌, ℕ, List}
 use mathlib.Core.List.{IsPrefix}
 use Rattle.overlay_terms.specs.Histories.{Entry}
@@ -10,6 +10,6 @@ pub record MayTell (stored : List Entry → ℕ → Type 0) (log : List Entry) (
   pub longer : IsPrefix was log
   pub holds : stored was number
 
--- the number that a log tells durable is that of its first version, or was stored
+-- the number that a log reports durable is that of its first version, or was stored
 abbrev pub IsToldIn : (List Entry → ℕ → Type 0) → List Entry → Type 0
 IsToldIn stored log = ((newest_in log).durable ≡ (history_of log).start.durable) ⊎ MayTell stored log (newest_in log).durable

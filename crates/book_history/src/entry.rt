@@ -13,7 +13,7 @@ use std::marker::Model;
 use tile_build::Tile;
 use versions::Version;
 
-/// What made a version, as it stands in the logbook. No value of it is made.
+/// What made a version, as it is in the logbook. No value of it is made.
 #[derive(Drop)]
 pub enum Event {
     Accepted(u64, Batch),

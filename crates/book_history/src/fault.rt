@@ -23,7 +23,7 @@ pub enum ToldFault {
 }
 
 impl ToldFault {
-    /// The text that is printed behind the number.
+    /// The text that is printed after the number.
     pub fn text(&self) -> FaultText
         ensures text { shown result ≡ store_text_of self.now }
         ensures brief { IsBrief result }
@@ -80,7 +80,7 @@ pub enum BookFault {
 pub const NO_MEMORY: BookFault = BookFault::Version(VersionFault::Layer(LayerFault::OutOfMemory));
 
 impl BookFault {
-    /// The text that is printed behind the number.
+    /// The text that is printed after the number.
     pub fn text(&self) -> FaultText
         ensures text { shown result ≡ text_of self.now }
         ensures brief { IsBrief result }

@@ -82,7 +82,7 @@ pub trait BookName {
 
     ghost book: { Book };
 
-    /// Of which log which number is stored. Who adds an entry that tells a number durable has to prove it of that number.
+    /// Of which log which number is stored. Who adds an entry by which a number is durable has to prove that it is stored.
     ghost stored: { List terms.Entry → ℕ → Type 0 };
 }
 
@@ -188,7 +188,7 @@ impl SeenLog {
     {
         let mut both = self.seen.again();
         both.learn(&other.seen);
-        // Their lengths are told by both: the clauses rest on that.
+        // Both say their lengths: the clauses rest on that.
         let _ = &self.at;
         let _ = &other.at;
     }

@@ -13,7 +13,7 @@ use Rattle.book_history.proofs.Fronts.{prefix_self}
 pub newest_of : (log after : List Entry) (e : Entry) → after ≡ log ++ e ∷ [] → newest_in after ≡ e.version
 newest_of log after e is = ap newest_in is ∙ newest_more log e
 
--- the same log, told with its newest version and with an equal event
+-- the same log, given by its newest version and with an equal event
 pub told_by : (log after : List Entry) (f g : Event) (v : Version) → f ≡ g → after ≡ log ++ entry f v ∷ []
     → after ≡ log ++ entry g (newest_in after) ∷ []
 told_by log after f g v same is =

@@ -14,7 +14,7 @@ moved was now to given n book log is at news =
     is ∙ ap (λ (t : BookLog). record { book = was.book; log = t.log; given = given }) at
     ∙ ap (λ k. record { book = was.book; log = log; given = k }) news
 
--- the durable number that stands in the version of a log's end
+-- the durable number in the version of a log's end
 pub durable_there : (at : BookLog) (book : Book) (log : List Entry) (end version : Version) {durable : ℕ} → at ≡ record { book = book; log = log }
     → end ≡ newest_in log → version ≡ end → durable ≡ version.durable → (newest_in at.log).durable ≡ durable
 durable_there at book log end version is newest same told =

@@ -1,4 +1,4 @@
--- A log that gains an entry tells durable what it may.
+-- A log that gains an entry reports durable what it may.
 use Rattle.std.proofs.Common.{◌≡◌, ◌⊎◌, inl, inr, ℕ, ◌<◌, List, [], ◌∷◌, ◌++◌, length, ap, sym, ◌∙◌, subst, arith, refl}
 use mathlib.Core.List.{IsPrefix}
 use Rattle.overlay_terms.specs.Histories.{Version, Entry}
@@ -26,7 +26,7 @@ module _ (stored : List Entry → ℕ → Type 0) where
       let is : (newest_in (log ++ e ∷ [])).durable ≡ e.version.durable = ap (λ (v : Version). v.durable) (newest_more log e) in
       inr (subst (MayTell stored (log ++ e ∷ [])) (sym is) (may_more log (log ++ e ∷ []) e.version.durable (e ∷ [], refl) may))
 
-  -- a log that gains an entry by which no other number is durable, or one that may be told
+  -- a log that gains an entry by which no other number is durable, or one that may be reported
   pub told_more : (log after : List Entry) (e : Entry) → after ≡ log ++ e ∷ [] → 0 < length log → IsToldIn stored log
       → (e.version.durable ≡ (newest_in log).durable) ⊎ MayTell stored log e.version.durable → IsToldIn stored after
   told_more log after e is long old new = subst (IsToldIn stored) (sym is) (told_after log e long old new)

@@ -1,4 +1,4 @@
--- Why a session is refused, told from how it was turned away.
+-- Why a session is refused, by how it was turned away.
 use Rattle.std.proofs.Common.{inl, inr, Bool, IsTrue, List, sym, subst}
 use Rattle.overlay_terms.specs.Histories.{Entry, Version}
 use Rattle.book_history.specs.Known.{Known}

@@ -32,7 +32,7 @@ pub record IsAcceptedIn (log : List Entry) (was : Known) (batch : Batch) (after 
   pub own : commands_of was.session after ≡ was.made ++ batch ∷ []
   pub valid : IsLog after
 
--- a session is turned away: it has looked, and is told why; or the log is behind what it saw, and nothing changed
+-- a session is turned away: it has looked, and gets the reason; or the log is behind what it saw, and nothing changed
 abbrev pub IsTurnedAway : {F : Type 0} → List Entry → Known → Refused F → Refused F → Known → Type 0
 IsTurnedAway log was why refused now =
     ((refused ≡ why) × HasLooked was log now) ⊎ ((refused ≡ Gone) × (now ≡ was))

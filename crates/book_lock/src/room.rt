@@ -9,7 +9,7 @@ use std::alloc::Global;
 use std::sync::Arc;
 use versions::Version;
 
-/// Memory for a version, where there was some: so what has to be told can be told where there is none any more.
+/// Memory for a version, where there was some: so what has to be reported can be, where there is none any more.
 #[derive(Drop)]
 pub struct Room {
     place: Option<Arc<Version, Global>>,

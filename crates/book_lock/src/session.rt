@@ -137,7 +137,7 @@ impl Session {
         self.place = moved(place, to);
     }
 
-    /// Sees a longer log, in which the batch that it just made stands last.
+    /// Sees a longer log, whose last entry is the batch that it just made.
     pub(crate) fn made_one(&mut self, to: &SeenLog, newest: u64)
         requires newest { (newest_in to.now.log).number ≡ newest }
         requires book { to.now.book ≡ self.old.book }

@@ -37,7 +37,7 @@ impl<J: BookName, R: Wait + Drop> LockedLog<J, R> {
         }
     }
 
-    /// A session that is turned away looks, and is told why. Where the log is behind what it saw, that is what it is told.
+    /// A session that is turned away looks, and gets the reason, which may be that the log is behind what it saw.
     pub fn turn_away<F: Copy>(&self, me: &mut Session, why: Refused<F>) -> Refused<F>
         requires { me.old.book ≡ J.book }
         ensures { IsTurnedAway self.now me.old why result me.new }

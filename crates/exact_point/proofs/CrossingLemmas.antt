@@ -275,7 +275,7 @@ pub only_crossing : (a b : Segment) (t w : ℤ) (z : Point) → t ≡ lead_of a 
 only_crossing a b t w z et ew m p hp k =
     one_crossing a b z p (as_formed a b t w z et ew m) (reached a p k.on_first) (reached b p k.on_second)
 
--- ---- the place is told along the one that the other turns left from
+-- ---- the place is given along the one that the other turns left from
 ahead : (t : ℤ) → pos 0 <ℤ t → int_lt (pos 0) t ≡ true
 ahead t h = grind (arith, ints)
 
@@ -292,7 +292,7 @@ on_second a b w e h =
     ap (part_way b (lead_of b a a)) e
     ∙ sym (ap (λ (v : Bool). if v then part_way a (lead_of a b b) (turn_of a b) else part_way b (lead_of b a a) (turn_of b a)) (behind _ h))
 
--- a place so far along is the one that the numbers tell
+-- a place so far along is the one that the numbers give
 pub way_at : (s : Segment) (t w t' w' : ℤ) (p : Point) → t ≡ t' → w ≡ w' → IsPartWay s t w p → p ≡ part_way s t' w'
 way_at s t w t' w' p et ew h = point_by p (part_way s t w) h.across h.along h.over ∙ (λ i. part_way s (et i) (ew i))
   where

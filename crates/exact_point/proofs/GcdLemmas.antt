@@ -43,7 +43,7 @@ first_even n k h = sym (bit_at_lowest n) ∙ h 0 (omega arith)
 halved : (n k : ℕ) → n / 2 / 2 ^ k ≡ n / 2 ^ suc k
 halved n k = let e : 1 + k ≡ suc k = omega arith in shr-shr n 1 k ∙ ap (λ m. n / 2 ^ m) e
 
--- no digit stands below the lowest 1, be there one or not
+-- no digit is 1 below the lowest 1, be there one or not
 pub lower_twos : (n : ℕ) → n < 2 ^ 64 → HasTwos n (trailing_zeros w64 n)
 lower_twos n fits =
     ⊎_elim (λ some. (bit_at-trailing_zeros w64 n some fits).2) (λ none. λ i _. let zero_n : n ≡ 0 = omega (arith, none) in ap (λ m. bit_at m i) zero_n ∙ bit_at-zero i) (cases_lt 0 n)

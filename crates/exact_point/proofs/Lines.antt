@@ -13,7 +13,7 @@ use Rattle.exact_point.proofs.Signs.{not_positive_times, not_negative_times, pos
 abbrev pub base : Segment → ℤ
 base s = (width s *ℤ s.left.y) -ℤ (rise s *ℤ s.left.x)
 
--- how far s stands above t over x = 0, times both widths
+-- how far s is above t over x = 0, times both widths
 abbrev pub offset : Segment → Segment → ℤ
 offset t s = (width t *ℤ base s) -ℤ (width s *ℤ base t)
 

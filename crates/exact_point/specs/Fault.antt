@@ -6,6 +6,6 @@ use Rattle.exact_point.specs.declared.fault.PointFault.TheVariants.{PointRange}
 abbrev pub code_of : PointFault → ℕ
 code_of PointRange = 20
 
--- the text that is printed behind the number
+-- the text that is printed after the number
 abbrev pub text_of : PointFault → List ℕ
 text_of PointRange = codes "point out of range"

@@ -13,7 +13,7 @@ rise s = s.right.y -ℤ s.left.y
 abbrev pub line_height : Segment → Point → ℤ
 line_height s q = (rise s *ℤ (q.x -ℤ (s.left.x *ℤ q.w))) +ℤ (width s *ℤ (s.left.y *ℤ q.w))
 
--- how far t stands above s over the x of q, times both widths and the denominator
+-- how far t is above s over the x of q, times both widths and the denominator
 abbrev pub gap : Segment → Segment → Point → ℤ
 gap s t q = (width s *ℤ line_height t q) -ℤ (width t *ℤ line_height s q)
 

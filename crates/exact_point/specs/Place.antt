@@ -27,7 +27,7 @@ pub hpoint_cmp_total : IsTotalOrder hpoint_cmp
 unfolding x_of y_of
 hpoint_cmp_total = then_total (on_total x_of ratio_cmp_total) (on_total y_of ratio_cmp_total)
 
--- the points are equal where the order tells them not apart
+-- the points are equal where neither is before the other in the order
 abbrev pub same_hpoint : HPoint → HPoint → Bool
 same_hpoint = eq_by_cmp hpoint_cmp
 

@@ -1,7 +1,7 @@
 //! The order of points.
 ghost use Rattle.exact_point.specs.Place.{PointsAreOrdered};
 
-/// The order of points is total, and tells apart exactly those at different places.
+/// The order of points is total, and points are equal by it exactly where they are one place.
 pub fn points_are_ordered()
     ensures { PointsAreOrdered }
 {}

@@ -17,7 +17,7 @@ code_of Read = 48
 code_of Write = 49
 code_of Words = 50
 
--- the text that is printed behind the number
+-- the text that is printed after the number
 abbrev pub text_of : CommonFault → List ℕ
 text_of Device = codes "device"
 text_of Full = codes "full"

@@ -9,7 +9,7 @@ shown (Plain text) = text.now
 shown (At text number) = text.now ++ decimal number
 shown (Ring number text) = codes "ring " ++ (decimal number ++ text.now)
 
--- what stands round a number is short
+-- what is written round a number is short
 abbrev pub IsBrief : FaultText → Type 0
 IsBrief (Plain text) = length text.now ≤ 32
 IsBrief (At text number) = length text.now ≤ 32

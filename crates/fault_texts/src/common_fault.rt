@@ -18,7 +18,7 @@ pub enum CommonFault {
     OutOfMemory,
     /// The book closes.
     Closing,
-    /// The book gives no place, or is behind what was seen.
+    /// The book gives no place, or is older than what was seen.
     Gone,
     NoStore,
     Read,
@@ -47,7 +47,7 @@ impl CommonFault {
         }
     }
 
-    /// The text that is printed behind the number.
+    /// The text that is printed after the number.
     pub fn text(&self) -> FaultText
         ensures text { shown result ≡ text_of self.now }
         ensures brief { IsBrief result }

@@ -8,9 +8,9 @@ use std::fmt;
 #[derive(Clone, Copy, Debug, PartialEq, Eq)]
 pub enum FaultText {
     Plain(&'static str),
-    /// A text, and the number behind it.
+    /// A text, and the number after it.
     At(&'static str, usize),
-    /// The number of a ring, and the text behind it.
+    /// The number of a ring, and the text after it.
     Ring(usize, &'static str),
 }
 

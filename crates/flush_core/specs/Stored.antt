@@ -1,5 +1,5 @@
 -- Which version is stored, and what of it.
-use Rattle.std.specs.Prelude.{◌≡◌, ℕ, ◌+◌, Result, Ok, Err}
+use Rattle.std.specs.Prelude.{◌≡◌, ℕ, ◌+◌, Result, Ok}
 use Rattle.overlay_terms.specs.Layers.{Name}
 use Rattle.overlay_terms.specs.Histories.{Version, tile_at}
 use Rattle.disk_model.specs.declared.disk.Disk.{Ghosts}
@@ -13,15 +13,13 @@ use Rattle.commit_plan.specs.Sizes.{new_records}
 use Rattle.commit_plan.specs.Fitting.{HasRoom, HasNoRoom}
 use Rattle.commit_plan.specs.Kept.{Kept}
 use Rattle.root_store.specs.declared.phase.Progress.{Progress}
-use Rattle.root_store.specs.declared.phase.Progress.TheVariants.{Idle, Going, Done}
+use Rattle.root_store.specs.declared.phase.Progress.TheVariants.{Done}
 use Rattle.flush_core.specs.Imaging.{version_held}
 
--- the number of the version that is stored after a step: only one that answers Done changes it, to the number that it tells
+-- the number of the version that is stored after a step: only one that answers Done changes it, to the number that it gives
 abbrev pub stored_after : Result Progress StoreFault → ℕ → ℕ
 stored_after (Ok (Done number)) old = number
-stored_after (Ok Going) old = old
-stored_after (Ok Idle) old = old
-stored_after (Err fault) old = old
+stored_after result old = old
 
 -- what a store holds is a version: its number, its layers, and each of its finished tiles and no other
 pub record IsImageOf (version : Version) (x : Held) : Type 0 where

@@ -72,8 +72,8 @@ impl<D: Disk> Flusher<D> {
         self.begin_known(alloc, version, false)
     }
 
-    /// The same, told whether each tile of the version is known to be the live root's: then none is compared, and a
-    /// commit's time follows what changed.
+    /// The same, where the caller says whether each tile of the version is known to be the live root's: then none is
+    /// compared, and a commit's time follows what changed.
     pub fn begin_known(
         &mut self,
         alloc: Global,

@@ -13,7 +13,7 @@ use Rattle.layer_book.proofs.Rings.{AreRings, with_content_rings, others_rings}
 abbrev replaced : Name → Content → Layer → Layer
 replaced name new layer = cond (bytes_eq layer.name name) (record { name = name; content = new }) layer
 
--- each layer stands under a name
+-- each layer is under a name
 abbrev AreNamed : List Layer → Type 0
 AreNamed layers = AllByRecursion (λ layer. IsTrue (is_name layer.name)) layers
 

@@ -11,7 +11,7 @@ use Rattle.overlay_terms.specs.Layers.{Name, base, Layer, named}
 use Rattle.overlay_terms.specs.Commands.{index_of}
 use Rattle.layer_book.specs.Question.{Question, content_answer, answers, labelled, if_wanted, wanted_layers, content_at}
 
--- what stands beside a name is what stands at its index
+-- what is beside a name is what is at its index
 named_by_index : (layers : List Layer) (known : List Bool) (used : Name) → length known ≤ length layers → named false (labelled layers known) used ≡ unwrap_or (slice_get known (index_of layers used)) false
 named_by_index [] [] used h = refl
 named_by_index [] (v ∷ vs) used h = absurd (omega arith)

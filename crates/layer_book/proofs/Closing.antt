@@ -89,7 +89,7 @@ past_end [] i layer h e = cc
 past_end (l ∷ layers) zero layer h e = omega arith
 past_end (l ∷ layers) (suc i) layer h e = past_end layers i layer (omega arith) e
 
--- no layer stands there
+-- there is no layer there
 pub closed_at_end : (layers : List Layer) (ws : List Bool) → IsClosedFrom layers ws (length layers)
 closed_at_end layers ws i layer h e m = absurd (past_end layers i layer h e)
 

@@ -43,7 +43,7 @@ found es name r e =
     (λ n. cond (nat_lt (index_of (layers_of es) name) n) (Some (index_of (layers_of es) name)) None) (same_length es) in
     rw (at, stands_is (layers_of es) name) (pick _ _ (nat_lt (index_of (layers_of es) name) (length (layers_of es))) refl)
 
--- what a look-up finds is what stands under the name
+-- what a look-up finds is what is under the name
 lookup_is : (es : List (List ℕ × Layer)) (name : List ℕ) → option_map content (lookup (bytes_eq name) es) ≡ content_named (layers_of es) name
 lookup_is [] name = refl
 lookup_is (e ∷ es) name = rw (turned e.0 name) (split (bytes_eq name e.0) (lookup_is es name)) where

@@ -23,7 +23,7 @@ abbrev tells : Option (List Marked) → List Marked → Bool
 tells None rest = false
 tells (Some left) rest = pointwise same_marked left rest
 
--- expected segments are compared apart from those behind them
+-- expected segments are compared apart from those after them
 past_tells : (expected marked rest : List Marked) → pointwise same_marked marked (expected ++ rest) ≡ tells (past expected marked) rest
 past_tells [] marked rest = refl
 past_tells (e ∷ expected) [] rest = refl

@@ -85,7 +85,7 @@ module _ (T : List (Name × List Name)) (name : Name) where
   abbrev EndsDerived : List Layer → Type 0
   EndsDerived layers = (default : Bool) → ends_derived default (passing (is_reached T name) layers) ≡ true
 
-  -- layers behind one have the last
+  -- layers after one have the last
   ends_behind : (layer : Layer) (layers : List Layer) (b : Bool) → is_reached T name layer.name ≡ b → EndsDerived layers → EndsDerived (layer ∷ layers)
   ends_behind layer layers false out later default =
       ap (ends_derived default) (passing_no (is_reached T name) layer layers out) ∙ later default

@@ -28,7 +28,7 @@ marked_few (w ∷ ws) [] = omega arith
 marked_few (true ∷ ws) (layer ∷ layers) = omega (arith, marked_few ws layers)
 marked_few (false ∷ ws) (layer ∷ layers) = omega (arith, marked_few ws layers)
 
--- the marks of a layer that stands
+-- the marks of a layer that there is
 pub record IsMarked (layers : List Layer) (name : Name) (ws : List Bool) : Type 0 where
   pub book : IsBook layers
   pub standing : stands layers name ≡ true

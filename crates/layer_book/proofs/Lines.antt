@@ -10,7 +10,7 @@ lines_more layers i l e =
     ap (λ k. flat_map layer_line (take k layers)) (add-one i) ∙ ap (flat_map layer_line) (take_there layers i l e)
     ∙ flat_map-append layer_line (take i layers) (l ∷ []) ∙ ap (λ line. flat_map layer_line (take i layers) ++ line) (append-nil (layer_line l))
 
--- one line more behind a head
+-- one line more after a head
 pub line_step : (head count : List ℕ) (layers : List Layer) (i : ℕ) (l : Layer) (text made : List ℕ) → slice_get layers i ≡ Some l → text ≡ head ++ (count ++ (10 ∷ flat_map layer_line (take i layers))) → made ≡ text ++ layer_line l → made ≡ head ++ (count ++ (10 ∷ flat_map layer_line (take (i + 1) layers)))
 line_step head count layers i l text made e so_far m =
     m ∙ ap (λ t. t ++ layer_line l) so_far ∙ append_assoc head (count ++ (10 ∷ flat_map layer_line (take i layers))) (layer_line l)

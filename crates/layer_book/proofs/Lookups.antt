@@ -1,4 +1,4 @@
--- What stands under a name, and the first reason against some names.
+-- What is under a name, and the first reason against some names.
 use Rattle.std.proofs.Common.{◌≡◌, Bool, true, false, not, cond, is_some, ◌||◌, ◌&&◌, List, [], ◌∷◌, ◌++◌, length, Option, Some, None, refl, ap, sym, ◌∙◌, subst, arith, bytes_eq}
 use Rattle.std.specs.List.{list_any}
 use Rattle.std.specs.Option.{option_map, option_or}

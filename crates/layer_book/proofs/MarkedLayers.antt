@@ -50,7 +50,7 @@ rings_of-one layer = by_content layer.content where
   by_content (base rings) = refl
   by_content (derived e) = refl
 
--- a wanted layer's rings behind those before it
+-- a wanted layer's rings after those before it
 pub rings_more : (ws : List Bool) (layers : List Layer) (i : ℕ) (layer : Layer) (old new : List (List (List WholePoint))) → slice_get layers i ≡ Some layer → at_index ws i ≡ true → old ≡ rings_of (marked_layers ws (take i layers)) → new ≡ old ++ rings_in layer.content → new ≡ rings_of (marked_layers ws (take (i + 1) layers))
 rings_more ws layers i layer old new e w before made =
     made ∙ ap (λ rs. rs ++ rings_in layer.content) before ∙ ap (λ rs. rings_of (marked_layers ws (take i layers)) ++ rs) (sym (rings_of-one layer))
@@ -58,7 +58,7 @@ rings_more ws layers i layer old new e w before made =
     ∙ ap (λ b. rings_of (marked_layers ws (take i layers) ++ cond b (layer ∷ []) [])) (sym w)
     ∙ ap rings_of (sym (marked_more ws layers i layer e))
 
--- a wanted layer behind those before it
+-- a wanted layer after those before it
 pub reached_more : (ws : List Bool) (layers : List Layer) (i : ℕ) (layer : Layer) (old new : List Reached) → slice_get layers i ≡ Some layer → at_index ws i ≡ true → old ≡ map reached_of (marked_layers ws (take i layers)) → new ≡ old ++ reached_of layer ∷ [] → new ≡ map reached_of (marked_layers ws (take (i + 1) layers))
 reached_more ws layers i layer old new e w before made =
     made ∙ ap (λ rs. rs ++ reached_of layer ∷ []) before

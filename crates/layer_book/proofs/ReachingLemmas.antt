@@ -1,4 +1,4 @@
--- What one pass from the first layer to the last tells is which layers reach a name.
+-- One pass from the first layer to the last finds which layers reach a name.
 use Rattle.std.proofs.Common.{◌≡◌, ℕ, zero, suc, ◌+◌, ◌<◌, Bool, true, false, ◌||◌, ◌&&◌, List, [], ◌∷◌, ◌++◌, length, take, fold, replicate, slice_get, Some, set, refl, ap, sym, ◌∙◌, subst, arith, add-one, bytes_eq}
 use Rattle.std.specs.List.{list_any}
 use Rattle.std.proofs.lemmas.Bool.{both_ways, false_from_ne_true}
@@ -45,7 +45,7 @@ reaching_more under layers marks i v h room so_far is =
     ∙ sym (labelled_more layers (take i marks) i layer v n there.1)
     ∙ ap (labelled layers) (sym (take_more_set marks i v room))
 
--- what the expression of a layer with another name tells
+-- what the expression of a layer with another name says
 pub expression_tells : (under own : Name) (known : List (Name × Bool)) (expression : Tree Name) (layers : List Layer) (i : ℕ) (v : Bool)
     → Some (record { name = own; content = derived expression }) ≡ slice_get layers i → bytes_eq own under ≡ false → v ≡ list_any (named false known) (leaves expression)
     → (layer : Layer) → slice_get layers i ≡ Some layer → v ≡ layer_reaches under known layer
@@ -58,7 +58,7 @@ module _ (under : Name) where
   abbrev is_under : Name → Bool
   is_under n = bytes_eq n under
 
-  -- what a layer tells is whether the name is among those that it reaches
+  -- a layer says whether the name is among those that it reaches
   layer_step : (known : List (Name × Bool)) (reached : List (Name × List Name)) (name : Name) (content : Content) → Reach is_under known reached
       → (bytes_eq name under || list_any (named false known) (used_names content)) ≡ list_any is_under (content_reach name reached content)
   layer_step known reached name (base rings) h = refl

@@ -43,7 +43,7 @@ steps_are layers name =
     λ i. record { bases = sym (length-map bases (λ (b : Name × List (List WholePoint)). b.0)) i; definitions = map (λ d. relabel (source_of (map (λ b. b.0) bases) (map (λ e. e.0) definitions)) d.1) definitions }
 
 module _ (name : Name) (old new : List (List WholePoint)) where
-  -- where a layer has the name, the old rings stand under it
+  -- where a layer has the name, the old rings are under it
   abbrev pub HasOld : Layer → Type 0
   HasOld layer = bytes_eq layer.name name ≡ true → layer.content ≡ base old
 
@@ -137,7 +137,7 @@ module _ (name : Name) (old new : List (List WholePoint)) where
   own_segments : (xs : List Segment) → pointwise same_segment xs xs ≡ true
   own_segments xs = (pointwise_decides same_segment-Decides xs xs).1 refl
 
-  -- where the layer is among those in reach, its segments tell
+  -- where the layer is among those in reach, its segments decide
   marks_told : (k n : ℕ) (layers : List Layer) → AreOld layers → pointwise same_marked (marked_from k n (rings_of (all_put layers))) (marked_from k n (rings_of layers)) ≡ (not (stands layers name) || same_there k)
   marks_told k n [] h = refl
   marks_told k n (layer ∷ layers) h = split (bytes_eq layer.name name) refl layer.content refl (λ m. marks_told k m layers h.1) where
@@ -184,7 +184,7 @@ module _ (name : Name) (old new : List (List WholePoint)) where
       let parts = or_parts (bytes_eq layer.name name) (stands layers name) e in
       (λ at. absurd (both_ways (bytes_eq layer.name name) parts.0 at), none_old layers parts.1)
 
-  -- what stands under a name is all that does
+  -- what is under a name is all that is
   pub old_rings : (known : List Name) (layers : List Layer) → is_orderly_after known layers ≡ true → content_named layers name ≡ Some (base old) → AreOld layers
   old_rings known [] orderly e = tt
   old_rings known (layer ∷ layers) orderly e =

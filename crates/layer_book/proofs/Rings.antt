@@ -43,7 +43,7 @@ appended_rings (first ∷ layers) layer own all =
     let parts = rings_parts first layers all in
     rings_cons first (layers ++ layer ∷ []) parts.0 (appended_rings layers layer own parts.1)
 
--- with a layer in the place of another, or behind the last
+-- with a layer in the place of another, or after the last
 pub with_content_rings : (layers : List Layer) (name : Name) (new : Content) → HasRings new → AreRings layers → AreRings (with_content layers name new)
 with_content_rings layers name new own all = split (stands layers name) where
   split : (b : Bool) → AreRings (cond b (map (λ (layer : Layer). cond (bytes_eq layer.name name) (record { name = name; content = new }) layer) layers) (layers ++ record { name = name; content = new } ∷ []))

@@ -1,4 +1,4 @@
--- Sketches of layers: what their entries tell, and how one grows.
+-- Sketches of layers: what their entries say, and how one grows.
 use Rattle.std.specs.Prelude.{◌≡◌, ℕ, ◌+◌, Bool, ◌||◌, List, [], ◌∷◌, ◌++◌, map, slice_get, Some}
 use Rattle.std.specs.List.{list_any}
 use Rattle.std.proofs.Common.{refl, ap, sym, ◌∙◌, take, add-one}

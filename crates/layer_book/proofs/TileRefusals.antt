@@ -1,4 +1,4 @@
--- Why a layer has no tile in a column, by what stands under its name.
+-- Why a layer has no tile in a column, by what is under its name.
 use Rattle.std.proofs.Common.{◌≡◌, ℕ, true, not, List, [], Option, Some, None, is_some, refl, ◌∙◌, if◌then◌else◌}
 use Rattle.overlay_terms.specs.Layers.{Name, Content, Layer}
 use Rattle.overlay_terms.specs.Commands.{is_derived}
@@ -9,7 +9,7 @@ use Rattle.layer_book.specs.Layer.{content_named}
 use Rattle.layer_book.specs.TileRefusal.{tile_refusal}
 use Rattle.layer_book.proofs.Lookups.{as_base, as_standing, passes}
 
--- the reason, where a content is no expression or stands nowhere, or there is no such column
+-- the reason, where a content is no expression or is nowhere, or there is no such column
 abbrev pub refusal_by : Option Content → Option ℕ → Option LayerFault
 refusal_by None column = Some UnknownLayer
 refusal_by (Some content) column = if not (is_derived content) then Some NotDerived else (if is_some column then None else Some BadColumn)

@@ -91,7 +91,7 @@ steps_differ layers after name other =
     (λ k. ap (λ b. not ((k == k && pointwise same_marked (input_of after name k).marked (input_of layers name k).marked) && b)) other ∙ ap not
     (and_false (k == k && pointwise same_marked (input_of after name k).marked (input_of layers name k).marked))) column_count 0)
 
--- where they are the same, the segments tell
+-- where they are the same, the segments decide
 pub marks_tell : (layers after : List Layer) (name : Name) (news olds : List (List (List WholePoint))) → news ≡ rings_of (layers_in_reach after name)
     → olds ≡ rings_of (layers_in_reach layers name) → same_steps (steps_in_reach after name) (steps_in_reach layers name) ≡ true →
     map (λ k. not (pointwise same_marked (marked_in k news) (marked_in k olds))) columns ≡ map (λ k. not (same_input (input_of after name k) (input_of layers name k))) columns

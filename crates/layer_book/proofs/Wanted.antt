@@ -14,7 +14,7 @@ use Rattle.layer_book.proofs.Names.{same_name, own_name}
 use Rattle.layer_book.specs.Layer.{content_named}
 use Rattle.layer_book.proofs.Order.{head_of, apart}
 
--- where a name stands, what is beside it is what is at its index
+-- where there is a layer of a name, what is beside it is what is at its index
 pub named_at : (layers : List Layer) (known : List Bool) (name : Name) → stands layers name ≡ true → named false (labelled layers known) name ≡ at_index known (index_of layers name)
 named_at [] known name h = cc
 named_at (layer ∷ layers) [] name h = refl
@@ -113,7 +113,7 @@ index_here layers name i layer h e same =
     let named : layer.name ≡ name = same_name layer.name name same in
     (subst (λ n. stands layers n ≡ true) named (stands_at layers i layer e), subst (λ n. index_of layers n ≡ i) named (index_at [] layers i layer h e))
 
--- what stands at a name's index is what stands under the name
+-- what is at a name's index is what is under the name
 pub content_there : (layers : List Layer) (name : Name) → option_map (λ (layer : Layer). layer.content) (slice_get layers (index_of layers name)) ≡ content_named layers name
 content_there [] name = refl
 content_there (l ∷ layers) name = split (bytes_eq l.name name) (content_there layers name) where

@@ -19,7 +19,7 @@ code_of BatchSize = 17
 code_of BadColumn = 23
 code_of OutOfMemory = common.code_of faults.OutOfMemory
 
--- the text that is printed behind the number
+-- the text that is printed after the number
 abbrev pub text_of : LayerFault → List ℕ
 text_of UnknownLayer = codes "unknown layer"
 text_of NotBase = codes "not a base layer"

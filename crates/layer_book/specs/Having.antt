@@ -9,7 +9,7 @@ use Rattle.overlay_terms.specs.SameInput.{same_marked}
 abbrev pub marks_in : ℕ → ℕ → List Segment → List Marked
 marks_in column number segs = map (λ s. record { layer = number; segment = s }) (filter (touches column) segs)
 
--- what of marked segments is behind the expected ones; none where they do not begin with these
+-- what of marked segments follows the expected ones; none where they do not begin with these
 abbrev pub past : List Marked → List Marked → Option (List Marked)
 past [] marked = Some marked
 past (e ∷ expected) [] = None

@@ -16,7 +16,7 @@ abbrev pub content : Layer → Content
 content (Base rings) = base rings.value
 content (Derived expression) = derived expression.value
 
--- a name and what stands under it, as a layer
+-- a name and what is under it, as a layer
 abbrev pub named_layer : List ℕ × Layer → terms.Layer
 named_layer entry = record { name = entry.0; content = content entry.1 }
 
@@ -39,7 +39,7 @@ abbrev pub rings_in : Content → List (List (List WholePoint))
 rings_in (base rings) = rings ∷ []
 rings_in (derived expression) = []
 
--- what stands under a name
+-- what is under a name
 abbrev pub content_named : List terms.Layer → List ℕ → Option Content
 content_named [] name = None
 content_named (layer ∷ layers) name = if bytes_eq layer.name name then Some layer.content else content_named layers name

@@ -4,7 +4,7 @@ use Rattle.wkt_form.specs.Spelling.{wkt_text}
 use Rattle.layer_expr.specs.Spelling.{expression_text}
 use Rattle.overlay_terms.specs.Layers.{Content, base, derived, Layer}
 
--- the text behind the name: the rings as a text, or `= ` and the expression
+-- the text after the name: the rings as a text, or `= ` and the expression
 abbrev pub content_text : Content → List ℕ
 content_text (base rings) = wkt_text rings
 content_text (derived expression) = codes "= " ++ expression_text expression

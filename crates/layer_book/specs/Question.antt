@@ -53,7 +53,7 @@ at_index wanted i = unwrap_or (slice_get wanted i) false
 abbrev pub is_wanted : List Layer → List Bool → Name → Bool
 is_wanted layers wanted name = at_index wanted (index_of layers name)
 
--- the layer with a name stands at an index
+-- the layer with a name is at an index
 abbrev pub StandsAt : List Layer → ℕ → Name → Type 0
 StandsAt layers index name = (stands layers name ≡ true) × (index ≡ index_of layers name)
 

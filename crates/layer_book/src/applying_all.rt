@@ -14,7 +14,7 @@ use crate::sketch::Sketch;
 use std::alloc::{AllocError, Global};
 
 impl Layers {
-    /// The layers after a batch. A refusal is that of the first command that is refused behind those before it, and
+    /// The layers after a batch. A refusal is that of the first command that is refused after those before it, and
     /// comes before any memory is taken.
     pub fn apply_all(&self, alloc: Global, batch: &Batch) -> Result<Layers, BatchFault>
         ensures accepted { IfOk result (λ _. refusal_from 0 self.now batch.now ≡ None) }

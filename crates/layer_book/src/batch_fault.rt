@@ -12,7 +12,7 @@ use thiserror::Error;
 #[derive(Clone, Copy, Debug, PartialEq, Eq, Error)]
 #[error("{}", Text(*self))]
 pub enum BatchFault {
-    /// A command, counted from 0, and the number of the fault that it has behind those before it.
+    /// A command, counted from 0, and the number of the fault that it has after those before it.
     At(u32, u8),
     /// The number of a fault that is no single command's.
     Whole(u8),

@@ -20,7 +20,7 @@ use plane_base::{Column, Seg};
 
 impl Layers {
     /// Whether an input is the present one of the tile of a derived layer in the input's column. The parts are compared
-    /// where they stand: it takes no memory.
+    /// where they are: it takes no memory.
     pub fn has_input(&self, name: &Name, input: &TileInput) -> bool
         requires { stands_as_derived self.now name.now ≡ true }
         ensures { IsTrue result ↔ (input.now ≡ input_of self.now name.now input.now.column) }

@@ -15,7 +15,7 @@ use plane_base::BaseLayer;
 use std::alloc::AllocError;
 use std::sync::Arc;
 
-/// What stands under a name.
+/// What a name means.
 #[derive(Debug, Drop)]
 pub enum Layer {
     Base(Arc<BaseLayer>),

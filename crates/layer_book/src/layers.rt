@@ -89,7 +89,7 @@ impl Layers {
         }
     }
 
-    /// What stands under a name.
+    /// What is under a name.
     pub fn get(&self, name: &Name) -> Option<&Layer>
         ensures value { option_map (λ layer. content layer.now) result ≡ content_named self.now name.now }
         ensures valid { IsBook self.now }
@@ -122,7 +122,7 @@ impl Layers {
         Ok(Layers { map })
     }
 
-    /// The layers without the one that has a name, which no definition names. Those behind it
+    /// The layers without the one that has a name, which no definition names. Those after it
     /// close up.
     pub fn without(&self, _alloc: Global, name: &Name) -> Result<Layers, AllocError>
         requires { refusal_of_remove self.now name.now ≡ None }

@@ -38,7 +38,7 @@ fn add_line(alloc: Global, text: &mut Vec<u8>, name: &Name, layer: &Layer) -> Re
     Ok(())
 }
 
-/// Adds what stands behind a layer's name.
+/// Adds what follows a layer's name.
 fn add_content(alloc: Global, text: &mut Vec<u8>, layer: &Layer) -> Result<(), AllocError>
     ensures { OnOk result (text.new.items ≡ text.old.items ++ content_text (content layer.now)) }
 {

@@ -20,7 +20,7 @@ use layer_expr::name::Name;
 use layer_expr::{Expr, MAX_LAYERS};
 use plane_base::BaseLayer;
 
-/// A layer by its name and what stands under it.
+/// A layer by its name and what is under it.
 #[derive(Clone, Copy, Default)]
 pub(crate) enum Entry<'a> {
     #[default]

@@ -33,7 +33,7 @@ impl Layers {
     }
 
     /// The layers at the wanted indices, each with its name and, where it is derived, its expression, and how many they
-    /// are. The places behind them hold a name that is handed in. It takes no memory.
+    /// are. The places after them hold a name that is handed in. It takes no memory.
     pub(crate) fn wanted_layers<'a>(
         &'a self,
         blank: &'a Name,

@@ -133,7 +133,7 @@ ended : (bytes : List ℕ) (count : ℕ) (s : ReaderState (Tree (List ℕ))) (o 
 ended bytes count s None h e = inr (ExprSyntax (length bytes), ends_early bytes count [] s h refl e)
 ended bytes count s (Some tree) h e = inl (tree, ends_whole bytes count [] s tree h refl e)
 
--- at a token, if the rest is decided wherever the reader stands behind it
+-- at a token, if the rest is decided wherever the reader is after it
 abbrev Later : List ℕ → List Token → Type 0
 Later bytes more = (count : ℕ) (u : ReaderState (Tree (List ℕ))) → IsAt bytes count more u → Decided bytes
 

@@ -48,7 +48,7 @@ plus-whole (joined union l r) = refl
 plus-whole (joined difference l r) = refl
 plus-whole (joined sym_difference l r) = refl
 
--- what is written is read to its end, as an atom, as a product and as a sum, whatever stands round it
+-- what is written is read to its end, as an atom, as a product and as a sum, whatever is round it
 pub record IsRead (w : Written) : Type 0 where
   pub as_atom : IsTrue (is_atom (level_of w)) → (outer : List (Frame Written)) (left : Option (Operation × Written)) (factor : Option Written) → behind_all W (Some (awaits outer left factor)) (written_kinds w) ≡ Some (holds outer left (times W factor w))
   pub as_product : IsTrue (not (is_sum (level_of w))) → (outer : List (Frame Written)) (left : Option (Operation × Written)) → behind_all W (Some (awaits outer left None)) (written_kinds w) ≡ Some (holds outer left w)
@@ -123,7 +123,7 @@ one_spelling v w gv gw same =
     let lasts : last_of v ≡ last_of w = cc in
     sym (plus-whole v) ∙ ap (λ left. plus W left (last_of v)) lefts ∙ ap (λ last. plus W (left_of w) last) lasts ∙ plus-whole w
 
--- the tokens that stand behind one another where a reader stands
+-- the tokens that come one after another where a reader is
 abbrev pub left_kinds : Option (Operation × Written) → List Kind
 left_kinds None = []
 left_kinds (Some l) = written_kinds l.1 ++ operator l.0 ∷ []
@@ -157,7 +157,7 @@ abbrev pub IsSound : ReaderState Written → Type 0
 IsSound (awaits outer left factor) = IsOuter outer × IsLeft left × IsFactor factor
 IsSound (holds outer left a) = IsOuter outer × IsLeft left × IsFactor (Some a)
 
--- where the reader stands after some tokens is sound, and they are the tokens
+-- where the reader is after some tokens is sound, and they are the tokens
 abbrev pub Fits : List Kind → Option (ReaderState Written) → Type 0
 Fits ks None = Unit {0}
 Fits ks (Some s) = IsSound s × (state_kinds s ≡ ks)

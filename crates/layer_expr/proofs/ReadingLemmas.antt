@@ -1,4 +1,4 @@
--- From where the reader stands to what the grammar says of the bytes.
+-- From where the reader is to what the grammar says of the bytes.
 use Rattle.std.proofs.Common.{◌≡◌, ℕ, zero, suc, ◌+◌, ◌==◌, ◌<◌, ◌≤◌, ◌⊎◌, Bool, true, false, ◌&&◌, List, [], ◌∷◌, ◌++◌, length, take, drop, refl, ap, sym, subst, ◌∙◌, arith, inl, inr}
 use Rattle.std.proofs.lemmas.List.{length-take, map-append}
 use Rattle.std.proofs.lemmas.List.Elements.{All-cons, All-nil}
@@ -18,7 +18,7 @@ use Rattle.layer_expr.specs.Reader.{is_good, IsStepFault, IsEndFault}
 use Rattle.layer_expr.proofs.ReaderStateLemmas.{T, both, all_true, Begun, false_is_true, behind_all-append, tree_begun, tree_not_begun, tree_finished, tree_not_finished}
 use Rattle.layer_expr.proofs.TokenLemmas.{name_more, name_stop, letter_goes_on}
 
--- each name among the tokens is a run of letters, digits and `_` behind a letter: it is a name of a layer if it is short
+-- each name among the tokens is a run of letters, digits and `_` after a letter: it is a name of a layer if it is short
 abbrev pub IsShaped : List Token → Type 0
 IsShaped [] = Unit {0}
 IsShaped (t ∷ ts) = (is_good t.kind ≡ is_name_short t) × IsShaped ts
@@ -81,7 +81,7 @@ tokens_shaped in_name at (b ∷ bs) =
     let no_name_shaped : IsShaped no_name = if_shaped (is_blank b) (tokens_after false (at + 1) bs) no_blank (λ _. tokens_shaped false (at + 1) bs) (λ _. no_blank_shaped) in
     if_shaped (in_name && is_name_byte b) (tokens_after in_name (at + 1) bs) no_name (λ _. tokens_shaped in_name (at + 1) bs) (λ _. no_name_shaped)
 
--- the token at a place, what stands before it with it, and what stands behind it
+-- the token at a place, what is before it with it, and what is after it
 pub token_at : (ts : List Token) (i : ℕ) (t : Token) (rest : List Token) → drop i ts ≡ t ∷ rest → slice_get ts i ≡ Some t
 token_at [] zero t rest h = absurd (cc)
 token_at [] (suc i) t rest h = absurd (cc)
@@ -152,7 +152,7 @@ shaped_rest (suc i) (t ∷ ts) h = shaped_rest i ts h.1
 shaped_behind : (bytes : List ℕ) (count : ℕ) (left : List Token) → drop count (tokens_of bytes) ≡ left → (t : Token) (rest : List Token) → left ≡ t ∷ rest → IsShaped (t ∷ rest)
 shaped_behind bytes count left e t rest f = subst IsShaped (e ∙ f) (shaped_rest count (tokens_of bytes) (tokens_shaped false 0 bytes))
 
--- where the reader stands after the first tokens: what is left, and that these can stand there and are names of layers
+-- where the reader is after the first tokens: what is left, and that these can stand there and are names of layers
 pub record IsAt (bytes : List ℕ) (count : ℕ) (left : List Token) (s : ReaderState (Tree (List ℕ))) : Type 0 where
   pub rest : drop count (tokens_of bytes) ≡ left
   pub few : count ≤ 64

@@ -84,7 +84,7 @@ stands_before-more : (p q r s : ℕ) (source : Source) → p ≤ r → q ≤ s �
 stands_before-more p q r s (base_bit k) few less h = lt-ltb k r (omega (arith, ltb-true k p h))
 stands_before-more p q r s (definition k) few less h = lt-ltb k s (omega (arith, ltb-true k q h))
 
--- where each known name has a number that stands before, so has each leaf over known names
+-- where each known name has a number from before, so has each leaf over known names
 leaves-relabel : (at : Name → Source) (known : List Name) (p q : ℕ) → ((n : Name) → is_among known n ≡ true → stands_before p q (at n) ≡ true) → (t : Tree Name) → list_all (is_among known) (leaves t) ≡ true → list_all (stands_before p q) (leaves (relabel at t)) ≡ true
 leaves-relabel at known p q below (leaf name) h = and_from _ true (below name (and_parts (is_among known name) true h).0) refl
 leaves-relabel at known p q below (combine o l r) h =

@@ -29,7 +29,7 @@ pub front_taken : (s : List ℕ) → name_front s ≡ take (length (name_front s
 front_taken [] = refl
 front_taken (b ∷ bs) = front_taken_by b bs (is_name_byte b) refl (front_taken bs)
 
--- behind a name that goes on, the tokens are those behind its end
+-- after a name that goes on, the tokens are those after its end
 behind_front_by : (at b : ℕ) (bs : List ℕ) (t : Bool) → is_name_byte b ≡ t → tokens_after true (at + 1) bs ≡ tokens_after false (at + 1 + length (name_front bs)) (drop (length (name_front bs)) bs) → tokens_after true at (b ∷ bs) ≡ tokens_after false (at + length (name_front (b ∷ bs))) (drop (length (name_front (b ∷ bs))) (b ∷ bs))
 behind_front_by at b bs true h ih =
     let here : tokens_after true at (b ∷ bs) ≡ tokens_after true (at + 1) bs = rw h in

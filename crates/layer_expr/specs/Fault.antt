@@ -12,7 +12,7 @@ code_of ExprTooLong = 8
 code_of BadName = 9
 code_of OutOfMemory = common.code_of faults.OutOfMemory
 
--- the text that is printed behind the number
+-- the text that is printed after the number
 abbrev pub text_of : ExprFault → List ℕ
 text_of (ExprSyntax at) = codes "expression syntax at " ++ decimal at
 text_of ExprTooLong = codes "expression too long"

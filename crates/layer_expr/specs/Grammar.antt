@@ -19,9 +19,7 @@ pub data Written : Type 0 where
 
 abbrev pub is_intersection : Operation → Bool
 is_intersection intersection = true
-is_intersection union = false
-is_intersection difference = false
-is_intersection sym_difference = false
+is_intersection other = false
 
 -- atom := name | '(' sum ')'; product := atom ('&' atom)*; sum := product (('|' | '-' | '^') product)*. How loosely what is
 -- written binds: an atom, a product of at least two atoms, a sum of at least two products
@@ -36,19 +34,15 @@ level_of (in_brackets w) = atom
 level_of (joined o l r) = by_operation o where
   by_operation : Operation → Level
   by_operation intersection = product
-  by_operation union = sum
-  by_operation difference = sum
-  by_operation sym_difference = sum
+  by_operation other = sum
 
 abbrev pub is_atom : Level → Bool
 is_atom atom = true
-is_atom product = false
-is_atom sum = false
+is_atom other = false
 
 abbrev pub is_sum : Level → Bool
-is_sum atom = false
-is_sum product = false
 is_sum sum = true
+is_sum other = false
 
 -- whether what is written groups as the grammar says: the left operand of `&` is no sum and the right one an atom; the right
 -- operand of another operator is no sum
@@ -58,9 +52,7 @@ is_grouped (in_brackets w) = is_grouped w
 is_grouped (joined o l r) = is_grouped l && is_grouped r && by_operation o where
   by_operation : Operation → Bool
   by_operation intersection = not (is_sum (level_of l)) && is_atom (level_of r)
-  by_operation union = not (is_sum (level_of r))
-  by_operation difference = not (is_sum (level_of r))
-  by_operation sym_difference = not (is_sum (level_of r))
+  by_operation other = not (is_sum (level_of r))
 
 -- the tokens of what is written
 abbrev pub written_kinds : Written → List Kind
@@ -103,7 +95,7 @@ pub record IsGoodSoFar (tokens : List Token) : Type 0 where
   pub names : All (λ token. IsTrue (is_name_short token)) tokens
 
 -- the token at an index is the first at fault: it is one too many; it cannot stand there; it is too long a name. At the end of
--- the tokens the expression is not whole, and the fault is told at the length of the bytes
+-- the tokens the expression is not whole, and the fault is reported at the length of the bytes
 abbrev pub IsFaultAt : List ℕ → ℕ → Option Token → ExprFault → Type 0
 IsFaultAt bytes i None fault = ¬ (IsSum (tokens_of bytes)) × (fault ≡ ExprSyntax (length bytes))
 IsFaultAt bytes i (Some token) fault =

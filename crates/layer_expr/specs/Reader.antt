@@ -1,4 +1,4 @@
--- Where the reader of the code stands, and how a step of it is refused.
+-- Where the reader of the code is, and how a step of it is refused.
 use Rattle.std.specs.Prelude.{◌≡◌, ◌⊎◌, ℕ, Bool, true, false, List, reverse, map, Option, Some, None, is_some, IsTrue}
 use Rattle.overlay_terms.specs.Trees.{Tree}
 use Rattle.overlay_terms.specs.Trees as terms
@@ -39,7 +39,7 @@ within_state outer (Holds left operand) = holds outer (left_tree left) (tree ope
 abbrev pub state_of : Reader → pure.ReaderState (Tree (List ℕ))
 state_of reader = within_state (outer_trees reader.outer.items) reader.within
 
--- what waits behind an operator, whatever is open round it
+-- what waits after an operator, whatever is open round it
 abbrev pub IsBehind : Operation → Option Left → Node → Within → Type 0
 IsBehind o left operand within =
     (outer : List (pure.Frame (Tree (List ℕ)))) → within_state outer within ≡ behind tree_making (operation o) outer (left_tree left) (tree operand)
@@ -52,7 +52,7 @@ is_good open_bracket = true
 is_good close_bracket = true
 is_good stray = true
 
--- a reader behind one more token of a kind, which can stand there and, if it is a name, is a name of a layer
+-- a reader after one more token of a kind, which can stand there and, if it is a name, is a name of a layer
 abbrev pub IsNext : Kind → Reader → Reader → Type 0
 IsNext kind old new = (moved tree_making kind (state_of old) ≡ Some (state_of new)) × IsTrue (is_good kind)
 

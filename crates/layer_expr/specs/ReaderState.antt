@@ -1,11 +1,11 @@
--- Where a reader of tokens stands after some of them. The reader cites this, and what a record of a definition spells:
+-- Where a reader of tokens is after some of them. The reader cites this, and what a record of a definition spells:
 -- what an expression is, the grammar says alone.
 use Rattle.std.specs.Prelude.{ℕ, List, [], ◌∷◌, Option, Some, None, option_and_then}
 use Rattle.overlay_terms.specs.Trees.{Operation, intersection, union, difference, sym_difference, Tree, leaf, combine}
 use Rattle.layer_expr.specs.Token.{Kind, name, operator, open_bracket, close_bracket, stray}
 use Rattle.layer_expr.specs.Grammar.{Written, a_name, in_brackets, joined}
 
--- how what is read is put together: from a name, from what stands in brackets, from two operands
+-- how what is read is put together: from a name, from what is in brackets, from two operands
 pub record Making (A : Type 0) : Type 0 where
   pub of_name : List ℕ → A
   pub of_brackets : A → A
@@ -27,7 +27,7 @@ pub data ReaderState (A : Type 0) : Type 0 where
   awaits : List (Frame A) → Option (Operation × A) → Option A → ReaderState A
   holds : List (Frame A) → Option (Operation × A) → A → ReaderState A
 
--- an operand behind the product that waits for it, and a product behind the sum that waits for it
+-- an operand after the product that waits for it, and a product after the sum that waits for it
 abbrev pub times : {A : Type 0} → Making A → Option A → A → A
 times m None a = a
 times m (Some l) a = m.of_join intersection l a
@@ -36,19 +36,19 @@ abbrev pub plus : {A : Type 0} → Making A → Option (Operation × A) → A �
 plus m None p = p
 plus m (Some left) p = m.of_join left.0 left.1 p
 
--- behind an operator
+-- after an operator
 abbrev pub behind : {A : Type 0} → Making A → Operation → List (Frame A) → Option (Operation × A) → A → ReaderState A
 behind m intersection outer left a = awaits outer left (Some a)
 behind m union outer left a = awaits outer (Some (union, plus m left a)) None
 behind m difference outer left a = awaits outer (Some (difference, plus m left a)) None
 behind m sym_difference outer left a = awaits outer (Some (sym_difference, plus m left a)) None
 
--- behind a closing bracket, if a bracket is open
+-- after a closing bracket, if a bracket is open
 abbrev pub closed : {A : Type 0} → Making A → List (Frame A) → A → Option (ReaderState A)
 closed m [] a = None
 closed m (frame left factor ∷ outer) a = Some (holds outer left (times m factor (m.of_brackets a)))
 
--- behind one more token, if it can stand there
+-- after one more token, if it can stand there
 abbrev pub moved : {A : Type 0} → Making A → Kind → ReaderState A → Option (ReaderState A)
 moved m (name n) (awaits outer left factor) = Some (holds outer left (times m factor (m.of_name n)))
 moved m (operator o) (awaits outer left factor) = None
@@ -61,7 +61,7 @@ moved m open_bracket (holds outer left a) = None
 moved m close_bracket (holds outer left a) = closed m outer (plus m left a)
 moved m stray (holds outer left a) = None
 
--- behind some more tokens
+-- after some more tokens
 abbrev pub behind_all : {A : Type 0} → Making A → Option (ReaderState A) → List Kind → Option (ReaderState A)
 behind_all m s [] = s
 behind_all m s (k ∷ ks) = behind_all m (option_and_then (moved m k) s) ks

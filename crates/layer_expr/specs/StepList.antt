@@ -46,7 +46,7 @@ abbrev pub names_in : Option (Tree Name) → List Name
 names_in None = []
 names_in (Some expression) = leaves expression
 
--- layers that stand behind layers of the given names: each has a name of its own, and its expression names only layers before it
+-- layers that come after layers of the given names: each has a name of its own, and its expression names only layers before it
 abbrev pub is_ordered_after : List Name → List Reached → Bool
 is_ordered_after known [] = true
 is_ordered_after known (layer ∷ layers) =
@@ -60,7 +60,7 @@ IsOrdered layers = IsTrue (is_ordered_after [] layers)
 abbrev pub ReachesAll : List Reached → Type 0
 ReachesAll layers = IsTrue (last_or false (map (λ layer. is_some layer.1) layers) || length layers == 1)
 
--- what each layer is, in order, behind layers whose values are known: a base layer takes the next bit, and an expression is evaluated over the layers before it
+-- what each layer is, in order, after layers whose values are known: a base layer takes the next bit, and an expression is evaluated over the layers before it
 abbrev pub values_after : ℕ → List (Name × Bool) → (ℕ → Bool) → List Reached → List (Name × Bool)
 values_after next known bits [] = known
 values_after next known bits ((name, None) ∷ layers) = values_after (next + 1) (known ++ (name, bits next) ∷ []) bits layers
@@ -81,7 +81,7 @@ abbrev pub names_earlier : ℕ → ℕ → List (Tree Source) → Bool
 names_earlier bases place definitions =
     list_all (λ d. list_all (stands_before bases d.0) (leaves d.1)) (enumerate_from place definitions)
 
--- no more base layers and no more definitions than layers may stand, each over base layers and earlier definitions
+-- no more base layers and no more definitions than there may be layers, each over base layers and earlier definitions
 pub record IsStepList (steps : Steps) : Type 0 where
   pub few_bases : steps.bases ≤ layers_max
   pub few_definitions : length steps.definitions ≤ layers_max

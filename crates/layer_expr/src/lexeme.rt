@@ -25,7 +25,7 @@ pub enum Sign {
     Stray,
 }
 
-/// A token, the offset of its first byte, and that of the byte behind it.
+/// A token, the offset of its first byte, and that of the byte after it.
 #[derive(Clone, Copy, Debug)]
 pub struct Lexeme {
     pub sort: Sort,
@@ -33,7 +33,7 @@ pub struct Lexeme {
     pub end: usize,
 }
 
-/// The first token at or behind an offset.
+/// The first token at or after an offset.
 pub fn next_lexeme(bytes: &[u8], from: usize) -> Option<Lexeme>
     requires { from ≤ length bytes.now }
     ensures none { IfNone result (tokens_after false from (drop from bytes.now) ≡ []) }
@@ -60,7 +60,7 @@ pub fn next_lexeme(bytes: &[u8], from: usize) -> Option<Lexeme>
     })
 }
 
-/// The offset of the first byte at or behind `from` that is no white space, or the length.
+/// The offset of the first byte at or after `from` that is no white space, or the length.
 fn skip_blanks(bytes: &[u8], from: usize) -> usize
     requires { from ≤ length bytes.now }
     ensures low { from ≤ result }
@@ -78,7 +78,7 @@ fn skip_blanks(bytes: &[u8], from: usize) -> usize
     at
 }
 
-/// The offset behind the letters, digits and underscores that stand at an offset.
+/// The offset after the letters, digits and underscores that begin at an offset.
 fn name_end(bytes: &[u8], from: usize) -> usize
     requires { from ≤ length bytes.now }
     ensures { result ≡ from + length (name_front (drop from bytes.now)) }

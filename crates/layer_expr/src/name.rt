@@ -94,7 +94,7 @@ fn all_name_bytes(bytes: &[u8]) -> bool
     bytes.iter().all(|b| goes_on(*b))
 }
 
-/// Whether the byte may stand after the first of a name.
+/// Whether the byte may follow the first of a name.
 pub(crate) fn goes_on(b: u8) -> bool
     ensures { result ≡ is_name_byte b }
 {

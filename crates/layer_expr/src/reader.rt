@@ -1,4 +1,4 @@
-//! Where a reader stands after some tokens: what was read and waits for more.
+//! Where a reader is after some tokens: what was read and waits for more.
 ghost use Rattle.std.specs.Prelude.{◌≡◌, ◌≤◌, length, IfOk, IfErr};
 ghost use Rattle.layer_expr.specs.Expr.{operation, tree};
 ghost use Rattle.layer_expr.specs.Token.{name, operator, open_bracket, close_bracket};
@@ -12,7 +12,7 @@ use crate::lexeme::{Lexeme, Sign, Sort};
 use crate::name::Name;
 use std::alloc::{AllocError, Global};
 
-/// A left operand that waits for the right one behind its operator.
+/// A left operand that waits for the right one after its operator.
 #[derive(Debug, Drop)]
 pub struct Left {
     pub operation: Operation,
@@ -52,7 +52,7 @@ impl Reader {
         }
     }
 
-    /// The reader behind one more token of the bytes.
+    /// The reader after one more token of the bytes.
     pub fn behind(self, alloc: Global, bytes: &[u8], lexeme: Lexeme) -> Result<Reader, ExprFault>
         requires low { lexeme.at ≤ lexeme.end }
         requires high { lexeme.end ≤ length bytes.now }
@@ -163,7 +163,7 @@ impl Reader {
     }
 }
 
-/// An operand behind the product that waits for it.
+/// An operand after the product that waits for it.
 fn product(alloc: Global, factor: Option<Node>, operand: Node) -> Result<Node, AllocError>
     ensures { IfOk result (λ node. tree node ≡ times tree_making (factor_tree factor) (tree operand)) }
 {
@@ -173,7 +173,7 @@ fn product(alloc: Global, factor: Option<Node>, operand: Node) -> Result<Node, A
     }
 }
 
-/// A product behind the sum that waits for it.
+/// A product after the sum that waits for it.
 fn sum(alloc: Global, left: Option<Left>, operand: Node) -> Result<Node, AllocError>
     ensures { IfOk result (λ node. tree node ≡ plus tree_making (left_tree left) (tree operand)) }
 {
@@ -188,7 +188,7 @@ fn sum(alloc: Global, left: Option<Left>, operand: Node) -> Result<Node, AllocEr
     }
 }
 
-/// What waits behind an operator.
+/// What waits after an operator.
 fn waiting(
     alloc: Global,
     left: Option<Left>,

@@ -71,7 +71,7 @@ impl StepList {
     pub fn value(&self, mask: u32) -> bool
         ensures value { result ≡ steps_value self.now (mask_bits mask) }
 
-        // Only the bits of as many layers as may stand count.
+        // Only the bits of as many layers as there may be count.
         ensures known { (bits : ℕ → Bool) → ((k : ℕ) → k < layers_max → mask_bits mask k ≡ bits k) → result ≡ steps_value self.now bits }
         ensures nothing { mask ≡ 0 → result ≡ false }
     {
@@ -227,7 +227,7 @@ fn base_number(name: &Name, layers: &[(&Name, Option<&Expr>)]) -> Option<usize>
         .position(|layer| layer.0.bytes() == name.bytes())
 }
 
-/// How many definitions stand before the one with a name.
+/// How many definitions come before the one with a name.
 fn definition_number(name: &Name, layers: &[(&Name, Option<&Expr>)]) -> usize
     ensures place { result
         ≡ length (take_while (λ layer. not (bytes_eq layer.0.now name.now)) (filter (λ layer. is_some layer.1) layers.now)) }

@@ -5,10 +5,10 @@ ghost use Rattle.overlay_terms.specs.Layers.{layers_max};
 use crate::expr::Operation;
 use std::alloc::{AllocError, Global};
 
-/// The most layers that stand at a time: as many as a mask has bits.
+/// The most layers that there are at a time: as many as a mask has bits.
 pub const MAX_LAYERS: usize = 32;
 
-/// The number of a base layer, below how many layers may stand.
+/// The number of a base layer, below how many layers there may be.
 #[derive(Clone, Copy, Debug, PartialEq, Eq)]
 pub struct BaseBit {
     pub number: u8,

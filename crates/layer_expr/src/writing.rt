@@ -16,7 +16,7 @@ pub fn write_expr(alloc: Global, expression: &Expr) -> Result<Vec<u8>, AllocErro
     Ok(text)
 }
 
-/// Writes an expression behind a text, in brackets if it needs them there.
+/// Writes an expression after a text, in brackets if it needs them there.
 fn write_node(node: &Node, in_brackets: bool, text: &mut Vec<u8>) -> Result<(), AllocError>
     ensures { OnOk result (text.new.items ≡ text.old.items ++ written_text (bracketed_if in_brackets (canonical (tree node.now)))) }
 {

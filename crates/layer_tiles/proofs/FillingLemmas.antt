@@ -1,4 +1,4 @@
--- A tile, a row or a layer more behind all that there are.
+-- A tile, a row or a layer more after all that there are.
 use Rattle.std.specs.Prelude.{◌≡◌, ℕ, ◌+◌, ◌<◌, ◌==◌, ◌&&◌, true, IsTrue, List, [], ◌∷◌, ◌++◌, take, replicate, slice_get, bytes_eq, Option, Some, None, Result, Ok, Err, IfOk, All, if◌then◌else◌}
 use Rattle.std.specs.List.{AllPairs}
 use Rattle.std.proofs.Common.{zero, suc, length, get_or, refl, ap, sym, ◌∙◌, subst, add-one, add-zero, append-nil, append_assoc, arith}
@@ -35,7 +35,7 @@ module _ (layers : List Layer) where
   all_ahead (x ∷ xs) rest f ordered =
       All-cons (λ g. Before g f) x xs (all_at (Before x) xs rest f (behind_first layers x (xs ++ f ∷ rest) ordered)) (all_ahead xs rest f (behind_rest layers x (xs ++ f ∷ rest) ordered))
 
-  -- each of the tiles of a file may stand behind those before it
+  -- each of the tiles of a file may come after those before it
   pub next_stored : (all done rest : List Finished) (f : Finished) → AreStored layers all → all ≡ done ++ f ∷ rest → IsNextTile layers done f
   next_stored all done rest f stored cut = record {
     derived_layer = all_at (λ g. IsTrue (stands_as_derived layers g.name)) done rest f (subst (All (λ g. IsTrue (stands_as_derived layers g.name))) cut stored.derived_layers);
@@ -44,7 +44,7 @@ module _ (layers : List Layer) where
     behind = all_ahead done rest f (subst (AllPairs Before) cut stored.ordered);
   }
 
-  -- where each stands before a tile, none is of its layer and column
+  -- where each is before a tile, none is of its layer and column
   none_before : (tiles : List Finished) (f : Finished) → All (λ g. Before g f) tiles → tile_at tiles f.name f.column ≡ None
   none_before tiles f ahead = by_found (tile_at tiles f.name f.column) refl where
     by_found : (o : Option Tile) → tile_at tiles f.name f.column ≡ o → o ≡ None
@@ -53,7 +53,7 @@ module _ (layers : List Layer) where
         let g : Finished = record { name = f.name; column = f.column; tile = tile } in
         absurd (both_ways (is_tile_before layers g f) (never_before layers g f (is_own layers g)) (found_is (λ x. Before x f) tiles f.name f.column tile ahead e))
 
-  -- tiles in order in which one more is found are those with it behind them
+  -- tiles in order in which one more is found are those with it after them
   pub next_behind : (tiles made : List Finished) (f : Finished) → AllPairs Before tiles → AllPairs Before made → All (λ g. Before g f) tiles
       → ((name : Name) (k : ℕ) → tile_at made name k ≡ (if bytes_eq f.name name && (f.column == k) then Some f.tile else tile_at tiles name k)) → made ≡ tiles ++ f ∷ []
   next_behind tiles made f ordered in_order ahead finds =

@@ -12,7 +12,7 @@ use Rattle.overlay_terms.proofs.KeptCommands.{untouched_input_stays}
 use Rattle.layer_tiles.specs.Table.{left_at, Laid, IsLaid}
 use Rattle.layer_tiles.proofs.Tables.{found_with, IsFound}
 
--- the tiles that a command leaves are of derived layers that stand
+-- the tiles that a command leaves are of derived layers that there are
 fit_left : (layers : List Layer) (command : Command) (name : Name) (k : ℕ) (before : Option Tile) (tile : Tile) (b : Bool) → is_touched layers command name k ≡ b → (before ≡ Some tile → IsTrue (stands_as_derived layers name) × (k < column_count)) → (if b then None else before) ≡ Some tile → IsTrue (stands_as_derived (applied layers command) name) × (k < column_count)
 fit_left layers command name k before tile true touched fit there = absurd (cc)
 fit_left layers command name k before tile false out fit there =

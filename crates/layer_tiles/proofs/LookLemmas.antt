@@ -1,4 +1,4 @@
--- What the rows of a table tell, and what is left of them after a command.
+-- What the rows of a table say, and what is left of them after a command.
 use Rattle.std.specs.Prelude.{◌≡◌, ℕ, ◌<◌, ◌≤◌, nat_lt, Bool, true, false, IsTrue, List, [], set, replicate, slice_get, unwrap_or, Result, Ok, Err, IfOk, Option, Some, None, if◌then◌else◌}
 use Rattle.std.specs.Option.{option_map}
 use Rattle.std.proofs.Common.{zero, suc, length, get_or, refl, ap, sym, ◌∙◌, subst, arith, ◌∷◌}
@@ -18,7 +18,7 @@ use Rattle.layer_tiles.specs.Table.{row_by, rows_by, tiles_of, left_at, laid_in,
 use Rattle.layer_tiles.proofs.Tables.{at_index_of, same_row, slot_by, found_with, row_with, rows_with, is_table, found_there, IsFound}
 use Rattle.layer_tiles.proofs.FoundLemmas.{with_found, left_found}
 
--- what stands at an index, as a row of look-ups
+-- what is at an index, as a row of look-ups
 abbrev pub row_there : Laid → ℕ → Option (List (Option Tile))
 row_there laid i = option_map (λ (layer : Layer). row_by (tile_at laid.tiles layer.name)) (slice_get laid.layers i)
 
@@ -27,7 +27,7 @@ pub row_of_table : (layers : List Layer) (rows : List (List (Option Tile))) (i :
 row_of_table layers rows i valid =
     ap (λ rs. slice_get rs i) valid.filled ∙ slice_get-map (λ (layer : Layer). row_by (tile_at (tiles_of layers rows) layer.name)) layers i
 
--- a read within rows, and behind them
+-- a read within rows, and past them
 pub row_read : {X : Type 0} (rows : List X) (i : ℕ) (row : X) → i < length rows → row ≡ get_or rows i row → Some row ≡ slice_get rows i
 row_read rows i row h e = sym (slice_get_read rows (length rows) i row refl h e)
 
@@ -111,7 +111,7 @@ module _ (laid : Laid) (valid : IsLaid laid) where
     none_left true = refl
     none_left false = refl
 
-    -- a layer that does not stand has an empty row
+    -- a layer that there is not has an empty row
     strange_row : stands laid.layers name ≡ false → replicate column_count None ≡ row_by (left_at laid command name)
     strange_row strange =
         same_row (λ k. None) (left_at laid command name)

@@ -29,7 +29,7 @@ pub all_at : (P : Finished → Type 0) (done rest : List Finished) (f : Finished
 all_at P [] rest f all = all zero f (omega arith)
 all_at P (x ∷ xs) rest f all = all_at P xs rest f (λ k d h. all (suc k) d (omega arith))
 
--- no tile stands before itself
+-- no tile is before itself
 pub never_before : (layers : List Layer) (a b : Finished) → is_of b.name b.column a ≡ true → is_tile_before layers a b ≡ false
 never_before layers a b same =
     let parts = and_parts (bytes_eq a.name b.name) (a.column == b.column) same in
@@ -60,7 +60,7 @@ module _ (layers : List Layer) where
   abbrev Before : Finished → Finished → Type 0
   Before a b = IsTrue (is_tile_before layers a b)
 
-  -- how a tile stands before another
+  -- how a tile is before another
   before_parts : (a b : Finished) → Before a b → (index_of layers a.name < index_of layers b.name) ⊎ ((a.name ≡ b.name) × (a.column < b.column))
   before_parts a b before =
       ⊎_elim (λ e. inl (grind (arith, nat_tests))) (λ e.
@@ -77,7 +77,7 @@ module _ (layers : List Layer) where
     cases (inr same) (inl high) = let level = ap (index_of layers) same.0 in omega arith
     cases (inr low) (inr high) = omega (arith, low.1, high.1)
 
-  -- behind a tile there is none of its layer and column
+  -- after a tile there is none of its layer and column
   none_behind : (f : Finished) (fs : List Finished) (name : Name) (k : ℕ) → All (Before f) fs → is_of name k f ≡ true → tile_at fs name k ≡ None
   none_behind f fs name k behind same = by_found (tile_at fs name k) refl where
     by_found : (o : Option Tile) → tile_at fs name k ≡ o → o ≡ None

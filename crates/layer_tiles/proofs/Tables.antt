@@ -1,4 +1,4 @@
--- What is found among the tiles of a table, in which order they stand, and what its rows are.
+-- What is found among the tiles of a table, in which order they are, and what its rows are.
 use Rattle.std.specs.Prelude.{◌≡◌, ℕ, ◌+◌, ◌<◌, ◌≤◌, ◌==◌, nat_lt, Bool, true, false, ◌&&◌, ◌||◌, IsTrue, List, [], ◌∷◌, ◌++◌, map, set, slice_get, Option, Some, None, is_some, bytes_eq, All, if◌then◌else◌}
 use Rattle.std.specs.List.{AllPairs, range_with_len}
 use Rattle.std.proofs.Common.{zero, suc, get_or, refl, ap, sym, ◌∙◌, subst, cond, add-one, arith}
@@ -22,7 +22,7 @@ use Rattle.layer_book.proofs.Wanted.{index_at}
 use Rattle.layer_tiles.specs.Table.{row_by, rows_by, row_tiles, tiles_of, IsTable}
 use Rattle.layer_tiles.proofs.Restored.{found_is}
 
--- ---- what is found in lists, one behind the other
+-- ---- what is found in lists, one after the other
 
 pub found_left : (xs ys : List Finished) (name : Name) (k : ℕ) → is_some (tile_at xs name k) ≡ true → is_some (tile_at (xs ++ ys) name k) ≡ true
 found_left [] ys name k there = absurd (false≢true there)
@@ -84,7 +84,7 @@ set_row f x k h = set_from f x column_count 0 k k (omega arith) h
 
 -- ---- lists by layers
 
--- what stands at the index of a name
+-- what is at the index of a name
 pub at_index_of : {X : Type 0} (g : Name → X) (layers : List Layer) (name : Name) → slice_get (map (λ (layer : Layer). g layer.name) layers) (index_of layers name) ≡ (if stands layers name then Some (g name) else None)
 at_index_of g [] name = refl
 at_index_of g (l ∷ layers) name = split (bytes_eq l.name name) refl (at_index_of g layers name) where
@@ -191,7 +191,7 @@ module _ (found : Name → ℕ → Option Tile) where
         (subst (λ (n : Name). is_some (tile_at (row_tiles n 0 (row_by (found n))) name k) ≡ true) (sym (same_name l.name name here)) (row_there name column_count 0 k tile (omega arith) (omega arith) e))
     split false away any next = found_right (row_tiles l.name 0 (row_by (found l.name))) rest name k (next any)
 
-  -- where what is found is of layers that stand and of columns that there are, it is found among the tiles
+  -- where what is found is of layers and columns that there are, it is found among the tiles
   found_in : (layers : List Layer) → ((name : Name) (k : ℕ) (tile : Tile) → found name k ≡ Some tile → (stands layers name ≡ true) × (k < column_count))
       → (name : Name) (k : ℕ) → tile_at (tiles_of layers (rows_by found layers)) name k ≡ found name k
   found_in layers fit name k = by_found (tile_at (tiles_of layers (rows_by found layers)) name k) (found name k) refl refl where

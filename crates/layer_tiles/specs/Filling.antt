@@ -10,17 +10,17 @@ use Rattle.overlay_terms.specs.StoredTiles.{is_tile_before}
 abbrev pub named : Name → ℕ → Tile → Finished
 named name column tile = record { name = name; column = column; tile = tile }
 
--- each of some tiles stands before that of a layer and column, whatever it is
+-- each of some tiles is before that of a layer and column, whatever it is
 abbrev pub AreBefore : List Layer → List Finished → Name → ℕ → Type 0
 AreBefore layers tiles name column = All (λ f. IsTrue (is_tile_before layers f (named name column oversize))) tiles
 
--- a tile that may stand behind some: of a derived layer and of a column that there is, of its form, and each of them before it
+-- a tile that may come after some: of a derived layer and of a column that there is, of its form, and each of them before it
 pub record IsNextTile (layers : List Layer) (tiles : List Finished) (f : Finished) : Type 0 where
   pub derived_layer : IsTrue (stands_as_derived layers f.name)
   pub known_column : f.column < column_count
   pub formed : IsTrue (is_formed f.tile f.column)
   pub behind : AreBefore layers tiles f.name f.column
 
--- layers with one more behind them
+-- layers with one more after them
 abbrev pub IsLonger : List Layer → List Layer → Type 0
 IsLonger layers longer = (layer : Layer) × (longer ≡ layers ++ layer ∷ [])

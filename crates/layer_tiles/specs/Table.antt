@@ -101,7 +101,7 @@ tiles_in table = tiles_of table.layers (placed_rows table.rows)
 abbrev pub laid : Tabled → Laid
 laid table = laid_in table.layers (placed_rows table.rows)
 
--- layers as commands leave them, and tiles of derived layers that stand, each of its form, in the order of layers and columns
+-- layers as commands leave them, and tiles of derived layers among them, each of its form, in the order of layers and columns
 pub record IsLaid (laid : Laid) : Type 0 where
   pub book : IsBook laid.layers
   pub fit : AreFitting laid.layers laid.tiles

@@ -39,7 +39,7 @@ impl Table {
         Ok(table)
     }
 
-    /// The table with a tile behind all that it has, under the number of its column.
+    /// The table with a tile after all that it has, under the number of its column.
     fn with_stored(&self, alloc: Global, tile: (Name, u8, Tile)) -> Result<Table, AllocError>
         requires { IsNextTile self.now.layers (tiles_in self.now) (finished_of tile) }
         ensures layers { IfOk result (λ next. next.layers ≡ self.now.layers) }
@@ -53,7 +53,7 @@ impl Table {
         }
     }
 
-    /// The table with a tile behind all that it has.
+    /// The table with a tile after all that it has.
     pub fn with_next(
         &self,
         alloc: Global,

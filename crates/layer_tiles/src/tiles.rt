@@ -285,7 +285,7 @@ fn slot_at(slots: &[Slot], number: usize) -> Option<&Arc<Tile>>
     }
 }
 
-/// A tile and behind it those that were put into the row before.
+/// A tile, and after it those that were put into the row before.
 fn with_late(
     alloc: Global,
     late: &[LateTile],

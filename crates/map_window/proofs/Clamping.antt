@@ -7,7 +7,7 @@ use Rattle.overlay_terms.specs.Plane.{WholePoint, InRange, coordinate_max}
 use Rattle.overlay_terms.proofs.InputNumbers.{le_true, true_lt}
 use Rattle.exact_point.proofs.Tests.{lt_no}
 use Rattle.map_window.specs.Window.{Box}
-use Rattle.map_window.specs.Drawn.{clamped, into, is_coordinate, are_coordinates, is_placed}
+use Rattle.map_window.specs.Drawn.{clamped, into, is_coordinate, are_coordinates, lies_in_plane}
 
 -- what is so of each number that clamping may give
 pub by_clamped : (P : ℤ → Type 0) (low high x : ℤ) → (x <ℤ low → P low) → (low ≤ℤ x → high <ℤ x → P high) → (low ≤ℤ x → x ≤ℤ high → P x) → P (clamped low high x)
@@ -49,13 +49,13 @@ pub clamped_none : (low high x : ℤ) → low ≤ℤ x → x ≤ℤ high → cla
 clamped_none low high x l m = by_clamped (λ z. z ≡ x) low high x (λ a. absurd (omega (arith, ints))) (λ a b. absurd (omega (arith, ints))) (λ a b. refl)
 
 -- a point clamped into a box that lies in the plane has its x and y in range
-pub into_in_range : (frame : Box) (o a p : WholePoint) → p ≡ into frame a → is_placed frame o ≡ true → InRange (p.x -ℤ o.x) × InRange (p.y -ℤ o.y)
+pub into_in_range : (frame : Box) (o a p : WholePoint) → p ≡ into frame a → lies_in_plane frame o ≡ true → InRange (p.x -ℤ o.x) × InRange (p.y -ℤ o.y)
 into_in_range frame o a p e h =
     let parts = and_parts (are_coordinates frame.low_x frame.high_x o.x) (are_coordinates frame.low_y frame.high_y o.y) h in
     rw e (clamped_in_range frame.low_x frame.high_x o.x a.x parts.0, clamped_in_range frame.low_y frame.high_y o.y a.y parts.1)
 
 -- a box that lies in the plane has its corners in range
-pub box_in_range : (box : Box) (o : WholePoint) → is_placed box o ≡ true → (InRange (box.low_x -ℤ o.x) × InRange (box.high_x -ℤ o.x)) × (InRange (box.low_y -ℤ o.y) × InRange (box.high_y -ℤ o.y))
+pub box_in_range : (box : Box) (o : WholePoint) → lies_in_plane box o ≡ true → (InRange (box.low_x -ℤ o.x) × InRange (box.high_x -ℤ o.x)) × (InRange (box.low_y -ℤ o.y) × InRange (box.high_y -ℤ o.y))
 box_in_range box o h =
     let parts = and_parts (are_coordinates box.low_x box.high_x o.x) (are_coordinates box.low_y box.high_y o.y) h in
     let x = and_parts (is_coordinate (box.low_x -ℤ o.x)) (is_coordinate (box.high_x -ℤ o.x)) parts.0 in

@@ -1,4 +1,4 @@
--- Cores within frames: what their tests say, and on which side of a point the points of a map stand.
+-- Cores within frames: what their tests say, and on which side of a point the points of a map lie.
 use Rattle.std.proofs.Common.{◌≡◌, ℤ, pos, ◌-ℤ◌, ◌*ℤ◌, ◌<ℤ◌, ◌≤ℤ◌, refl, sym, ◌∙◌, arith, true, ◌&&◌}
 use Rattle.std.proofs.lemmas.Bool.{and_parts, and_from}
 use Rattle.std.proofs.lemmas.Int.{ints}
@@ -9,7 +9,7 @@ use Rattle.overlay_terms.proofs.InputNumbers.{lt_true, le_true, true_le, less_ti
 use Rattle.exact_point.proofs.OnSegment.{and3_parts}
 use Rattle.exact_point.proofs.Tests.{le_no}
 use Rattle.map_window.specs.Window.{Box, IsIn, Side, left_of, right_of, under, over, IsOff, StaysWithin, whole_moved, moved}
-use Rattle.map_window.specs.Drawn.{are_nested, is_framed, is_coordinate, is_placed, into, box_moved, is_held, clamped}
+use Rattle.map_window.specs.Drawn.{are_nested, is_framed, is_coordinate, lies_in_plane, into, box_moved, is_held, clamped}
 use Rattle.map_window.proofs.Clamping.{clamped_below, clamped_above, clamped_at_most, clamped_at_least, clamped_low, clamped_high, clamped_none, box_in_range, by_clamped}
 use Rattle.map_window.proofs.Lines.{Lies}
 use Rattle.map_window.proofs.Moves.{times_moved}
@@ -39,7 +39,7 @@ coordinate : (z low high : ℤ) → low ≤ℤ z → z ≤ℤ high → neg_ℤ (
 coordinate z low high h k l m = and_from _ _ (true_le (neg_ℤ (pos coordinate_max)) z (omega (arith, ints))) (true_le z (pos coordinate_max) (omega (arith, ints)))
 
 -- a core lies in the plane where its frame does
-pub core_placed : (core frame : Box) (o : WholePoint) → is_framed core frame ≡ true → is_placed frame o ≡ true → is_placed core o ≡ true
+pub core_placed : (core frame : Box) (o : WholePoint) → is_framed core frame ≡ true → lies_in_plane frame o ≡ true → lies_in_plane core o ≡ true
 core_placed core frame o h k =
     let f = framed core frame h in
     let r = box_in_range frame o k in
@@ -134,7 +134,7 @@ seen_across box right_of o q a h l m = short_of a.x box.high_x o.x q.w q.x h l m
 seen_across box under o q a h l m = past a.y box.low_y o.y q.w q.y h l m
 seen_across box over o q a h l m = short_of a.y box.high_y o.y q.w q.y h l m
 
--- ---- what an end tells, clamped
+-- ---- what an end shows, clamped
 module _ (core frame : Box) (f : IsFramed core frame) (q : Point) (positive : pos 0 <ℤ q.w) (here : IsIn core q) where
   passed : (frame.low_x *ℤ q.w) <ℤ q.x
   passed = before frame.low_x core.low_x q.w q.x positive f.left here.left

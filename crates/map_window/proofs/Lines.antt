@@ -213,7 +213,7 @@ nothing_of_line side q positive (a ∷ done) before last each e =
     (All-append (Aside side q) done (before ∷ last ∷ []) (All-tail (Aside side q) a done each.done)
     (All-cons (Aside side q) before (last ∷ []) each.before (All-cons (Aside side q) last [] each.last (All-nil (Aside side q))))))
 
--- the last of some points stands where their number says
+-- the last of some points is where their number says
 last_is : (a : WholePoint) (rest : List WholePoint) → slice_get (a ∷ rest) (length rest) ≡ Some (last_of a rest)
 last_is a [] = refl
 last_is a (b ∷ rest) = last_is b rest

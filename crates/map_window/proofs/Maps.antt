@@ -15,7 +15,7 @@ use Rattle.plane_base.specs.BaseLayer.{ring_fault, first_ring_fault, rings_fault
 use Rattle.plane_base.specs.declared.fault.PlaneFault.{PlaneFault}
 use Rattle.plane_base.specs.declared.fault.PlaneFault.TheVariants.{RingOpen, RingShort, TooManySegments, OutOfMemory}
 use Rattle.map_window.specs.Window.{Box, IsIn, Side, AreAlike, SeesNothing, StaysWithin, Shows, NothingBeyond, NothingOff, whole_moved, moved}
-use Rattle.map_window.specs.Drawn.{is_framed, is_placed, share_side, is_held, is_short, are_short, are_short_from, into, placed, box_moved, Line, points_of, extended, ring_drawn, rings_drawn}
+use Rattle.map_window.specs.Drawn.{is_framed, lies_in_plane, share_side, is_held, is_short, are_short, are_short_from, into, placed, box_moved, Line, points_of, extended, ring_drawn, rings_drawn}
 use Rattle.map_window.specs.Fault.{first_long_ring, window_fault, of_plane}
 use Rattle.map_window.specs.declared.fault.WindowFault.TheVariants as window
 use Rattle.map_window.specs.declared.fault.WindowFault.{WindowFault}
@@ -197,7 +197,7 @@ none_of (Some x) e = absurd (cc)
 -- a window that is not refused
 pub record IsFit (core frame : Box) (o : WholePoint) (rings : List (List WholePoint)) : Type 0 where
   pub within : is_framed core frame ≡ true
-  pub in_plane : is_placed frame o ≡ true
+  pub in_plane : lies_in_plane frame o ≡ true
   pub valid : first_ring_fault 0 rings ≡ None
   pub short : first_long_ring core frame 0 rings ≡ None
 
@@ -205,11 +205,11 @@ pub fit : (core frame : Box) (o : WholePoint) (rings : List (List WholePoint)) �
 fit core frame o rings e =
     let short = first_long_ring core frame 0 rings in
     let third = option_or (option_map Plane (first_ring_fault 0 rings)) short in
-    let second = option_or (if is_placed frame o then None else Some FrameOffPlane) third in
+    let second = option_or (if lies_in_plane frame o then None else Some FrameOffPlane) third in
     let a = both_absent (if is_framed core frame then None else Some CoreOffFrame) second e in
-    let b = both_absent (if is_placed frame o then None else Some FrameOffPlane) third a.second in
+    let b = both_absent (if lies_in_plane frame o then None else Some FrameOffPlane) third a.second in
     let c = both_absent (option_map Plane (first_ring_fault 0 rings)) short b.second in
-    record { within = if_none (is_framed core frame) CoreOffFrame a.first; in_plane = if_none (is_placed frame o) FrameOffPlane b.first; valid = none_of (first_ring_fault 0 rings) c.first; short = c.second }
+    record { within = if_none (is_framed core frame) CoreOffFrame a.first; in_plane = if_none (lies_in_plane frame o) FrameOffPlane b.first; valid = none_of (first_ring_fault 0 rings) c.first; short = c.second }
 
 each_so : {X : Type 0} (P : X → Type 0) → ((x : X) → P x) → (xs : List X) → All P xs
 each_so P f [] = All-nil P
@@ -252,7 +252,7 @@ pub told : {T : Type 0} (r : Result T PlaneFault) (fault : PlaneFault) (layer : 
     → (fault ≡ OutOfMemory) ⊎ ((nat_le (ring_step_count layer) steps_max ≡ false) × (fault ≡ TooManySegments))
 told r fault layer is valid refused accepted = by_steps r fault layer (nat_le (ring_step_count layer) steps_max) is (only_steps layer valid) refused accepted
 
--- the same as the window tells it
+-- the same as the window reports it
 pub told_as : (fault : PlaneFault) (e : WindowFault) (layer : List (List WholePoint)) → e ≡ of_plane fault → (fault ≡ OutOfMemory) ⊎ ((nat_le (ring_step_count layer) steps_max ≡ false) × (fault ≡ TooManySegments))
     → (e ≡ window.OutOfMemory) ⊎ (e ≡ Plane TooManySegments)
 told_as fault e layer is (inl f) = inl (is ∙ ap of_plane f)

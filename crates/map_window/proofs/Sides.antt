@@ -33,7 +33,7 @@ differ_turned true false = refl
 differ_turned false true = refl
 differ_turned false false = refl
 
--- what an end of a step tells of it: of steps under a point, whether the end is not right of it
+-- what an end of a step says of it: of steps under a point, whether the end is not right of it
 abbrev pub mark : Side → Point → WholePoint → Bool
 mark left_of q a = false
 mark right_of q a = false

@@ -1,4 +1,4 @@
--- Steps and lines on one side of a point: each point of a line tells the same of it, and all but the ends may be left out.
+-- Steps and lines on one side of a point: each point of a line says the same of it, and all but the ends may be left out.
 use Rattle.std.proofs.Common.{◌≡◌, ℕ, ℤ, pos, ◌+◌, ◌*ℤ◌, ◌<ℤ◌, refl, ap, sym, ◌∙◌, arith, true, false, Bool, not, List, [], ◌∷◌, ◌++◌, ◌%◌, ◌==◌, ◌||◌, count_by, if◌then◌else◌, append_assoc}
 use Rattle.std.specs.List.{cons_option}
 use Rattle.std.specs.Prelude.{int_le, Option, Some, None, All}
@@ -134,7 +134,7 @@ module _ (side : Side) (q : Point) (positive : pos 0 <ℤ q.w) where
   pub seen : (a b : WholePoint) → Aside side q a → Aside side q b → Seen side q a b (step a b)
   seen a b = seen_by a b (whole_cmp a b) (whole_cmp b a) refl refl (whole_cmp_total.antisymm b a)
 
-  -- a line on a side, and another behind it
+  -- a line on a side, and another after it
   pub seen_through : (a b c : WholePoint) (xs ys : List Segment) → Seen side q a b xs → Seen side q b c ys → Seen side q a c (xs ++ ys)
   seen_through a b c xs ys h k = record {
     inside =
@@ -150,7 +150,7 @@ module _ (side : Side) (q : Point) (positive : pos 0 <ℤ q.w) where
       let parts = seen_through a b c (step a b) (step b c) (seen a b la lb) (seen b c lb lc) in
       record { inside = whole.inside ∙ sym parts.inside; edge = whole.edge ∙ sym parts.edge }
 
--- the last of some points, the first of which stands apart
+-- the last of some points, the first of which is given apart
 abbrev pub last_of : WholePoint → List WholePoint → WholePoint
 last_of a [] = a
 last_of a (b ∷ rest) = last_of b rest

@@ -20,8 +20,8 @@ abbrev pub are_coordinates : ℤ → ℤ → ℤ → Bool
 are_coordinates low high from = is_coordinate (low -ℤ from) && is_coordinate (high -ℤ from)
 
 -- whether a box lies in the plane that has this origin
-abbrev pub is_placed : Box → WholePoint → Bool
-is_placed box o =
+abbrev pub lies_in_plane : Box → WholePoint → Bool
+lies_in_plane box o =
     are_coordinates box.low_x box.high_x o.x && are_coordinates box.low_y box.high_y o.y
 
 -- whether three numbers are less than a fourth, and whether they are more
@@ -62,7 +62,7 @@ clamped low high x = if int_lt x low then low else (if int_lt high x then high e
 abbrev pub into : Box → WholePoint → WholePoint
 into box a = record { x = clamped box.low_x box.high_x a.x; y = clamped box.low_y box.high_y a.y }
 
--- where a point of the map stands in the plane: clamped into the frame, seen from the origin
+-- where a point of the map lies in the plane: clamped into the frame, seen from the origin
 abbrev pub placed : Box → WholePoint → WholePoint → WholePoint
 placed frame o a = whole_moved o (into frame a)
 

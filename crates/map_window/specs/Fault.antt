@@ -9,7 +9,7 @@ use Rattle.plane_base.specs.declared.fault.PlaneFault.TheVariants as plane_fault
 use Rattle.fault_texts.specs.CommonFault as common
 use Rattle.fault_texts.specs.declared.common_fault.CommonFault.TheVariants as faults
 use Rattle.map_window.specs.Window.{Box}
-use Rattle.map_window.specs.Drawn.{is_framed, is_placed, are_short}
+use Rattle.map_window.specs.Drawn.{is_framed, lies_in_plane, are_short}
 use Rattle.map_window.specs.declared.fault.WindowFault.{WindowFault}
 use Rattle.map_window.specs.declared.fault.WindowFault.TheVariants.{CoreOffFrame, FrameOffPlane, StepTooLong, Plane, OutOfMemory}
 
@@ -23,10 +23,10 @@ first_long_ring core frame at (ring ∷ rings) =
 abbrev pub window_fault : Box → Box → WholePoint → List (List WholePoint) → Option WindowFault
 window_fault core frame o map =
     option_or (if is_framed core frame then None else Some CoreOffFrame)
-    (option_or (if is_placed frame o then None else Some FrameOffPlane)
+    (option_or (if lies_in_plane frame o then None else Some FrameOffPlane)
     (option_or (option_map Plane (first_ring_fault 0 map)) (first_long_ring core frame 0 map)))
 
--- the fault that a fault of the plane is told by
+-- the fault as which a fault of the plane is reported
 abbrev pub of_plane : PlaneFault → WindowFault
 of_plane plane_faults.OutOfMemory = OutOfMemory
 of_plane plane_faults.CoordRange = Plane plane_faults.CoordRange
@@ -42,7 +42,7 @@ code_of (StepTooLong _) = 26
 code_of (Plane fault) = plane.code_of fault
 code_of OutOfMemory = common.code_of faults.OutOfMemory
 
--- the text that is printed behind the number
+-- the text that is printed after the number
 abbrev pub text_of : WindowFault → List ℕ
 text_of CoreOffFrame = codes "core off frame"
 text_of FrameOffPlane = codes "frame off plane"

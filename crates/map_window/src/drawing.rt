@@ -3,7 +3,7 @@ ghost use Rattle.std.specs.Prelude.{◌≡◌, ◌++◌, ◌-ℤ◌, IfOk, OnOk,
 ghost use Rattle.std.specs.Option.{option_to_list};
 ghost use Rattle.overlay_terms.specs.Plane.{InRange};
 ghost use Rattle.map_window.specs.Window.{whole_moved};
-ghost use Rattle.map_window.specs.Drawn.{clamped, into, placed, box_moved, is_placed, added, extended, ring_of, ring_drawn, rings_drawn};
+ghost use Rattle.map_window.specs.Drawn.{clamped, into, placed, box_moved, lies_in_plane, added, extended, ring_of, ring_drawn, rings_drawn};
 
 use crate::far::{FarBox, FarPt, FarRing};
 use crate::fitting::share_side;
@@ -55,9 +55,9 @@ fn seen_from(at: FarPt, origin: FarPt) -> Result<Pt, PlaneFault>
     Pt::new(across(at, origin), along(at, origin))
 }
 
-/// Where a point of the map stands in the plane: in the frame, seen from the origin.
+/// Where a point of the map lies in the plane: in the frame, seen from the origin.
 fn placed(frame: &FarBox, origin: FarPt, a: FarPt) -> Result<Pt, PlaneFault>
-    requires { is_placed frame.now origin ≡ true }
+    requires { lies_in_plane frame.now origin ≡ true }
     ensures { result ≡ Ok (placed frame.now origin a) }
 {
     let at = into_frame(frame, a);
@@ -112,7 +112,7 @@ impl Line {
         origin: FarPt,
         a: FarPt,
     ) -> Result<(), PlaneFault>
-        requires { is_placed frame.now origin ≡ true }
+        requires { lies_in_plane frame.now origin ≡ true }
         ensures ok { OnOk result (self.new ≡ extended near.now frame.now origin self.old a) }
         ensures err { IsOkUnless result PlaneFault.OutOfMemory }
     {
@@ -157,7 +157,7 @@ fn whole_seen(at: FarPt, origin: FarPt) -> FarPt
 
 /// A box of the plane that has this origin.
 fn box_seen(core: &FarBox, origin: FarPt) -> FarBox
-    requires { is_placed core.now origin ≡ true }
+    requires { lies_in_plane core.now origin ≡ true }
     ensures { result ≡ box_moved origin core.now }
 {
     let low = whole_seen(core.low(), origin);
@@ -173,7 +173,7 @@ fn ring_drawn(
     frame: &FarBox,
     origin: FarPt,
 ) -> Result<Option<Ring>, PlaneFault>
-    requires { is_placed frame.now origin ≡ true }
+    requires { lies_in_plane frame.now origin ≡ true }
     ensures ok { IfOk result (λ drawn. drawn ≡ ring_drawn near.now frame.now origin ring.now) }
     ensures err { IsOkUnless result PlaneFault.OutOfMemory }
 {
@@ -210,8 +210,8 @@ pub(crate) fn rings_drawn(
     frame: &FarBox,
     origin: FarPt,
 ) -> Result<Vec<Ring>, PlaneFault>
-    requires core_placed { is_placed core.now origin ≡ true }
-    requires frame_placed { is_placed frame.now origin ≡ true }
+    requires core_placed { lies_in_plane core.now origin ≡ true }
+    requires frame_placed { lies_in_plane frame.now origin ≡ true }
     ensures ok { IfOk result (λ drawn. drawn.items ≡ rings_drawn core.now frame.now origin rings.now) }
     ensures err { IsOkUnless result PlaneFault.OutOfMemory }
 {

@@ -1,7 +1,7 @@
 //! Whether a map may be drawn into a frame.
 ghost use Rattle.std.specs.Prelude.{◌≡◌, int_lt, int_le, ◌&&◌, ◌||◌, ◌-ℤ◌, Some, None};
 ghost use Rattle.map_window.specs.Window.{Box};
-ghost use Rattle.map_window.specs.Drawn.{are_nested, is_framed, is_coordinate, are_coordinates, is_placed, are_less, are_more, share_side, is_held, is_short, are_short_from, are_short};
+ghost use Rattle.map_window.specs.Drawn.{are_nested, is_framed, is_coordinate, are_coordinates, lies_in_plane, are_less, are_more, share_side, is_held, is_short, are_short_from, are_short};
 ghost use Rattle.map_window.specs.Fault.{first_long_ring, window_fault};
 ghost use Rattle.plane_base.specs.BaseLayer.{ring_fault, first_ring_fault};
 
@@ -21,7 +21,7 @@ pub(crate) fn fault_of(
     if !is_framed(core, frame) {
         return Some(WindowFault::CoreOffFrame);
     }
-    if !is_placed(frame, origin) {
+    if !lies_in_plane(frame, origin) {
         return Some(WindowFault::FrameOffPlane);
     }
     if let Some(fault) = first_fault(rings) {
@@ -51,7 +51,7 @@ fn is_framed_along(core: &FarBox, frame: &FarBox) -> bool
     are_nested(frame.low_y(), core.low_y(), core.high_y(), frame.high_y())
 }
 
-/// Whether four numbers stand in this order, the middle two strictly between the others.
+/// Whether four numbers come in this order, the middle two strictly between the others.
 fn are_nested(a: i64, b: i64, c: i64, d: i64) -> bool
     ensures { result ≡ are_nested a b c d }
 {
@@ -59,8 +59,8 @@ fn are_nested(a: i64, b: i64, c: i64, d: i64) -> bool
 }
 
 /// Whether a box lies in the plane that has this origin.
-fn is_placed(frame: &FarBox, origin: FarPt) -> bool
-    ensures { result ≡ is_placed frame.now origin }
+fn lies_in_plane(frame: &FarBox, origin: FarPt) -> bool
+    ensures { result ≡ lies_in_plane frame.now origin }
 {
     let across = are_coordinates(frame.low_x(), frame.high_x(), origin.x());
     let along = are_coordinates(frame.low_y(), frame.high_y(), origin.y());

@@ -35,7 +35,7 @@ module _ {D : Type 0} (g : Ghosts D) where
   goes x version (Finish number) old reply new goes_on acts just commits = stays x version old new ((makes g (Finish number) old reply new acts).1 refl) commits
   goes x version Report old reply new goes_on acts just commits = stays x version old new ((makes g Report old reply new acts).1 refl) commits
 
-  -- so do the steps between its first and its last one; and what the last one commits is told too
+  -- so do the steps between its first and its last one; and what the last one commits is said too
   goes_between : (x : Kept) (version : Version) (run : List (Made D g)) (last : Made D g) (old : Engine D g) → EachFollows g old run last.old
       → EachCommits g (run ++ last ∷ []) → AllByRecursion (λ (made : Made D g). made.step ≡ Device → made.reply ≡ Going) run
       → Commits g old.flusher x version → Commits g last.old.flusher x version × CommitsJust g last.old last.reply last.new

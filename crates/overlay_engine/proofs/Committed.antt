@@ -101,7 +101,7 @@ module _ {D : Type 0} (g : Ghosts D) where
       subst (λ (f : Flusher D g). LeavesOnly g e.flusher.commit.disk f.commit.disk (IsFileOfEither x.held version)) (sym same)
       (started g e.flusher.commit.disk (IsFileOfEither x.held version) (λ c left. either_left e x version is c (now c left)))
 
-  -- only a step that asks for a device call tells that a commit goes on, or that it is done
+  -- only a step that asks for a device call answers that a commit goes on, or that it is done
   going_asks : (step : Step) (old new : Engine D g) → Acts g step old Going new → calls_asked step ≡ 1
   going_asks (Submit change) old new acts = absurd acts
   going_asks (SubmitAll batch) old new acts = absurd acts

@@ -264,7 +264,7 @@ module _ {D : Type 0} (g : Ghosts D) where
         ap calls_asked whole.ends.0,
       )
 
-  -- ---- the number that a commit tells
+  -- ---- the number that a commit gives
 
   abbrev next_of : Engine D g → ℕ
   next_of e = e.flusher.commit.next_root.version

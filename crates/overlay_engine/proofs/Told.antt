@@ -1,4 +1,4 @@
--- What the answers of a run tell.
+-- What the answers of a run say.
 use Rattle.std.proofs.Common.{◌≡◌, inl, inr, ℕ, List, [], ◌∷◌, ◌++◌, sym, ◌∙◌, ap, subst}
 use Rattle.disk_model.specs.declared.disk.Disk.{Ghosts}
 use Rattle.overlay_terms.specs.Histories.{Version}
@@ -12,7 +12,7 @@ use Rattle.overlay_engine.specs.Devices.{Calls, Devices}
 use Rattle.overlay_engine.specs.Runs.{Made, EachFollows}
 use Rattle.overlay_engine.specs.Telling.{HasNumber, next_after, Numbered, told_after, told_in, JobsAreNumbered, DurableIsTold, CrashKeepsTold}
 
--- what a reply tells of the numbers before and after its step
+-- what a reply says of the numbers before and after its step
 abbrev Tells : ℕ → ℕ → Reply → ℕ → ℕ → Type 0
 Tells job durable reply next now = HasNumber job reply × (next ≡ next_after job reply) × (now ≡ told_after durable reply)
 

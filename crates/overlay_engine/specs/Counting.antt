@@ -1,4 +1,4 @@
--- What the answers to device steps tell: how many calls a commit makes, which version it leaves, and whether the device failed.
+-- What the answers to device steps say: how many calls a commit makes, which version it leaves, and whether the device failed.
 use Rattle.std.specs.Prelude.{◌≡◌, ℕ, ◌+◌, false, List, [], ◌∷◌, ◌++◌}
 use Rattle.std.specs.List.{AllByRecursion}
 use Rattle.disk_model.specs.declared.disk.Disk.{Ghosts}
@@ -47,7 +47,7 @@ module _ {D : Type 0} (g : Ghosts D) where
     pub goes_on : AllByRecursion (λ (made : Made D g). made.step ≡ Device → made.reply ≡ Going) between
     pub ends : (last.step ≡ Device) × (last.reply ≡ Done number)
 
-  -- it makes as many calls as are told of the version and of the store that it began with
+  -- it makes as many calls as are counted for the version and of the store that it began with
   abbrev pub CommitCounts : Type 0
   CommitCounts = (old : Engine D g) (run : List (Made D g)) (new : Engine D g) → IsWholeCommit old run new → calls_asked_in run ≡ calls_of old.flusher.commit old.version
 
@@ -56,7 +56,7 @@ module _ {D : Type 0} (g : Ghosts D) where
   CommitCalls = (old : Engine D g) (run : List (Made D g)) (new : Engine D g) → IsWholeCommit old run new → g.is_honest old.flusher.commit.disk
       → g.calls new.flusher.commit.disk ≡ g.calls old.flusher.commit.disk + calls_of old.flusher.commit old.version
 
-  -- and it tells the number of that version, whatever the disk does
+  -- and it gives the number of that version, whatever the disk does
   abbrev pub CommitTells : Type 0
   CommitTells = (old : Engine D g) (run : List (Made D g)) (new : Engine D g) (whole : IsWholeCommit old run new) → whole.number ≡ old.version.number
 

@@ -58,7 +58,7 @@ module _ {D : Type 0} (g : Ghosts D) (start : Start) where
     pub later : f.commit.root.version ≤ y.held.number
     pub runs : Runs g f.commit x y
 
-  -- what is known of a store, by where its commit stands
+  -- what is known of a store, by how far its commit is
   abbrev pub In : Phase → Flusher D g → List Batch → Type 0
   In Idle f batches = AtRest f batches
   In Failed f batches = Leaves g f.commit.disk (Covered start f.commit.root.version batches)

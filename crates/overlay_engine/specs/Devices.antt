@@ -53,7 +53,7 @@ module _ {D : Type 0} (g : Ghosts D) where
   FailsOnce old new = g.is_honest old.flusher.commit.disk
       → g.is_honest new.flusher.commit.disk × disks.FailedCall (g.calls old.flusher.commit.disk) (g.calls new.flusher.commit.disk)
 
-  -- one device call of the commit under way: a call fewer is left; or it was the last, and what is stored is the root that the commit leads to, with the number that is told; or the device failed in it, and no commit is under way any more
+  -- one device call of the commit under way: a call fewer is left; or it was the last, and what is stored is the root that the commit leads to, with the number that is answered; or the device failed in it, and no commit is under way any more
   abbrev pub Calls : Engine D g → Reply → Engine D g → Type 0
   Calls old Going new =
       Counts progress.Going (calls_left old.flusher.commit) (calls_left new.flusher.commit) × KeepsRoots old.flusher.commit new.flusher.commit × (new ≡ record old { flusher = new.flusher }) × CallsOnce old new

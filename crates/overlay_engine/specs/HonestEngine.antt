@@ -68,15 +68,15 @@ module _ {D : Type 0} (g : Ghosts D) where
     -- the device failed where it is said to be at fault, and nowhere else
     pub cause : MatchResult result (λ e. g.faults e.flusher.commit.disk ≡ g.faults disk)
         (λ refused. FailedBy refused.fault (g.faults disk) (g.faults refused.disk))
-    -- nothing is written but the body behind a shut gate
+    -- nothing is written but the body, while its gate is shut
     pub writes : MatchResult result (λ e. Writes (g.seen disk) (g.seen e.flusher.commit.disk))
         (λ refused. Writes (g.seen disk) (g.seen refused.disk))
     -- where that gate was shut and a number is left, the body is the root's own under the next number, and synced
     pub completed : IfOk result (λ e. Leaves g e.flusher.commit.disk (IsCompleted (g.seen disk)))
-    -- that is done by the last two device calls, a write and a sync, and no other behind the reads
+    -- that is done by the last two device calls, a write and a sync, and no other after the reads
     pub completes : IfOk result (λ e. Completes g disk e.flusher.commit.disk)
     -- nothing at all is written of a file that is damaged or no store
     pub untouched : IfErr result
         (λ refused. (damage : Damage) → refused.fault ≡ Damaged damage → Untouched g disk refused.disk)
-    -- memory is asked for only where the slots name a root: what is wrong with them is told as such
+    -- memory is asked for only where the slots name a root: what is wrong with them is reported as such
     pub memory : IfErr result (λ refused. refused.fault ≡ OutOfMemory → HasRoot (g.seen disk))

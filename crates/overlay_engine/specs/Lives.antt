@@ -22,7 +22,7 @@ module _ {D : Type 0} (g : Ghosts D) (start : Start) where
   abbrev pub IsCovered : Stage D g → Type 0
   IsCovered stage = Covers g start stage.engine.flusher stage.engine.version stage.batches
 
-  -- a step is made: what `act` tells of it
+  -- a step is made: what `act` says of it
   pub record StepsTo (old new : Stage D g) : Type 0 where
     pub step : Step
     pub reply : Reply
@@ -30,7 +30,7 @@ module _ {D : Type 0} (g : Ghosts D) (start : Start) where
     pub survives : IsCovered old → Survives g start old.batches step old.engine reply new.engine
     pub batches : new.batches ≡ old.batches ++ accepted_by step reply
 
-  -- a recovery of one disk is stopped, or refused, and leaves another: what `recover` tells of each moment of it
+  -- a recovery of one disk is stopped, or refused, and leaves another: what `recover` says of each moment of it
   pub record Tries (disk next : D) : Type 0 where
     pub end : D
     pub moments : (least : ℕ) (batches : List Batch) → Leaves g disk (Covered start least batches) → LeavesOnly g disk end (Covered start least batches)
@@ -60,7 +60,7 @@ module _ {D : Type 0} (g : Ghosts D) (start : Start) where
   Lives stage [] = Unit {0}
   Lives stage (next ∷ more) = (StepsTo stage next ⊎ CrashesTo stage next) × Lives next more
 
-  -- what was durable at one stage stands at a later one: its version is that of batches which begin with the same ones
+  -- what was durable at one stage is so at a later one: its version is that of batches which begin with the same ones
   pub record StillStands (old new : Stage D g) : Type 0 where
     pub covered : IsCovered new
     pub durable : old.engine.version.durable ≤ new.engine.version.durable

@@ -27,7 +27,7 @@ abbrev pub RefusedAs : Option LayerFault → ℕ → Type 0
 RefusedAs (Some fault) code = code ≡ code_of fault
 RefusedAs None code = code ≡ 40
 
--- a fact for the number of a reply that tells that a commit is done
+-- a fact for the number of a reply that says that a commit is done
 abbrev pub IfDone : Reply → (ℕ → Type 0) → Type 0
 IfDone (Done number) P = P number
 IfDone reply P = Unit {0}
@@ -36,7 +36,7 @@ IfDone reply P = Unit {0}
 abbrev pub jobs_max : ℕ
 jobs_max = 2 ^ 32 - 1
 
--- where the job of a number stands among some
+-- where the job of a number is among some
 abbrev pub job_at : ℕ → List HeldJob → Option ℕ
 job_at number jobs = position (λ job. job.number == number) jobs
 
@@ -112,7 +112,7 @@ module _ {D : Type 0} {g : Ghosts D} where
   Finishes number old (Refused code) new = IsTrue (is_some (job_at number old.jobs.items)) × (code ≡ 40) × (new ≡ old)
   Finishes number old reply new = ⊥
 
-  -- an engine reports what is stored, and tells what is durable now
+  -- an engine reports what is stored, and says what is durable now
   abbrev pub Reports : Engine D g → Reply → Engine D g → Type 0
   Reports old (Durable number) new =
       IsReported old.version old.flusher.commit.root.version new.version × (number ≡ new.version.durable) × (new ≡ record old { version = new.version })

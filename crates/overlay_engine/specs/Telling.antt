@@ -1,4 +1,4 @@
--- What the answers of a run tell: the numbers of jobs, and what is durable.
+-- What the answers of a run say: the numbers of jobs, and what is durable.
 use Rattle.std.specs.Prelude.{◌≡◌, ℕ, ◌+◌, List, [], ◌∷◌}
 use Rattle.disk_model.specs.declared.disk.Disk.{Ghosts}
 use Rattle.overlay_engine.specs.declared.engine.Engine.{Engine}
@@ -21,7 +21,7 @@ abbrev pub Numbered : {D : Type 0} {g : Ghosts D} → ℕ → List (Made D g) �
 Numbered next [] = Unit {0}
 Numbered next (made ∷ run) = HasNumber next made.reply × Numbered (next_after next made.reply) run
 
--- the durable number that is told last, by one reply and by those of a run; where none is told, the one before
+-- the durable number that is reported last, by one reply and by those of a run; where none is, the one before
 abbrev pub told_after : ℕ → Reply → ℕ
 told_after number (Durable told) = told
 told_after number reply = number
@@ -35,7 +35,7 @@ module _ {D : Type 0} (g : Ghosts D) where
   abbrev pub JobsAreNumbered : Type 0
   JobsAreNumbered = (old : Engine D g) (run : List (Made D g)) (new : Engine D g) → EachFollows g old run new → Numbered old.next_job run
 
-  -- the durable number that was told last is the version's, in the end and as a crash comes
+  -- the durable number that was reported last is the version's, in the end and as a crash comes
   abbrev pub DurableIsTold : Type 0
   DurableIsTold = (old : Engine D g) (run : List (Made D g)) (new : Engine D g) → EachFollows g old run new → new.version.durable ≡ told_in old.version.durable run
 

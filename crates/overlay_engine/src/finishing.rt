@@ -34,7 +34,7 @@ impl<D: Disk> Engine<D> {
         }
     }
 
-    /// Where the job of a number stands among those that are held.
+    /// Where the job of a number is among those that are held.
     fn job_at(&self, number: u32) -> Option<usize>
         ensures place { result ≡ position (λ job. job.number == number) self.now.jobs.items }
         ensures within { IfSome result (λ index. index < length self.now.jobs.items) }

@@ -44,7 +44,7 @@ pub fn begun_covers<D: Disk>()
     ensures { BegunCovers D.Disk }
 {}
 
-/// Of a recovered version `Version::locate` tells where a point lies for the layers after the batches.
+/// Of a recovered version `Version::locate` says where a point lies for the layers after the batches.
 pub fn recovered_answers<D: Disk>()
     ensures { RecoveredAnswers D.Disk }
 {}
@@ -65,13 +65,13 @@ pub fn commit_calls<D: Disk>()
     ensures { CommitCalls D.Disk }
 {}
 
-/// The step that ends a commit tells the number of the version with which it began.
+/// The step that ends a commit gives the number of the version with which it began.
 pub fn commit_tells<D: Disk>()
     ensures { CommitTells D.Disk }
 {}
 
 /// Where the store stood for something before it, and each of its steps commits just what it is to commit, as
-/// `Engine::drive` tells, a commit leaves just the version with which it began, whichever tiles that has.
+/// `Engine::drive` says, a commit leaves just the version with which it began, whichever tiles that has.
 pub fn commit_leaves<D: Disk>()
     ensures { CommitLeaves D.Disk }
 {}
@@ -81,12 +81,12 @@ pub fn jobs_are_numbered<D: Disk>()
     ensures { JobsAreNumbered D.Disk }
 {}
 
-/// The durable number that was told last is the version's.
+/// The durable number that was reported last is the version's.
 pub fn durable_is_told<D: Disk>()
     ensures { DurableIsTold D.Disk }
 {}
 
-/// It is so as a crash comes: what is recovered is no older than what was told.
+/// It is so as a crash comes: what is recovered is no older than what was reported.
 pub fn crash_keeps_told<D: Disk>()
     ensures { CrashKeepsTold D.Disk }
 {}

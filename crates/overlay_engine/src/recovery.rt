@@ -30,7 +30,7 @@ impl<D: Disk> Engine<D> {
     ///   covers it from there on; it is refused only for the device or for memory, and what is left recovers as well.
     /// - `gives`: of any file the version is what it stands for, or the fault is what is wrong with it.
     /// - `rests`: the store stands for just the version, with its very tiles, and no commit is under way.
-    /// - `writes`: nothing is written but the body behind a shut gate.
+    /// - `writes`: nothing is written but the body, while its gate is shut.
     /// - `completed`, `completes`: where that gate was shut and a number is left, the body is the root's own under the
     ///   next number, and synced, by the last two device calls.
     /// - `untouched`: nothing at all is written of a file that is damaged or no store.

@@ -11,7 +11,7 @@ use layer_book::command::Command;
 use std::alloc::Global;
 
 impl<D: Disk> Engine<D> {
-    /// Makes a command, or tells the first reason why it is refused.
+    /// Makes a command, or gives the first reason why it is refused.
     pub(crate) fn submit(&mut self, alloc: Global, change: &Command) -> Reply
         ensures { Submits (command change.now) self.old result self.new }
     {
@@ -24,7 +24,7 @@ impl<D: Disk> Engine<D> {
         }
     }
 
-    /// Makes the commands of a batch, or tells the first reason why they are refused.
+    /// Makes the commands of a batch, or gives the first reason why they are refused.
     pub(crate) fn submit_all(&mut self, alloc: Global, batch: &Batch) -> Reply
         ensures { SubmitsAll batch.now self.old result self.new }
     {

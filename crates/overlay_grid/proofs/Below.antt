@@ -37,7 +37,7 @@ left_of s r j h =
     let no : int_lt r.x (s.right.x *ℤ pos 1) ≡ false = grind (arith, ints) in
     second_fails (int_le (s.left.x *ℤ pos 1) r.x) _ (int_lt (pos 0) (height_over s (point_at r j))) no
 
--- between its ends its height alone tells
+-- between its ends its height alone decides
 pub between : (s : Segment) (r : Rise) (j : ℕ) → s.left.x ≤ℤ r.x → r.x <ℤ s.right.x → is_below s (point_at r j) ≡ int_lt (pos 0) (height_over s (point_at r j))
 between s r j low high =
     let left = times_one s.left.x in
@@ -68,7 +68,7 @@ turns_on masks first y layer k j below h is bit =
       | inr t ↦ turned_outside masks first (j + 1) y k (omega (arith, t.1)) ∙ unchanged (layer == k) below (turned masks (j + 1) k) (is ∙ t.0)
     ]
 
--- where the first point above is behind the last one, nothing changes
+-- where the first point above is past the last one, nothing changes
 pub turns_behind : (masks : List ℕ) (first layer k j : ℕ) (below : Bool) → j < length masks → length masks ≤ first → below ≡ nat_le first j
     → turned masks (j + 1) k ≡ (if (layer == k) && below then not (turned masks (j + 1) k) else turned masks (j + 1) k)
 turns_behind masks first layer k j below h far is =

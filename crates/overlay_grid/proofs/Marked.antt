@@ -24,7 +24,7 @@ marked_one edges first j some near =
     before : first ≡ j + 1 → j ≡ first - 1
     before e = omega arith
 
--- the mark of a point behind the last one is not there
+-- the mark of a point past the last one is not there
 pub marked_none : (edges : List Bool) (first j : ℕ) → j < length edges → 0 < first → length edges ≤ first - 1 → is_marked edges j ≡ (is_marked edges j || (first == j + 1))
 marked_none edges first j h some far = or_nothing (is_marked edges j) (first == j + 1) (ne_eqb first (j + 1) (λ e. absurd (omega arith)))
 

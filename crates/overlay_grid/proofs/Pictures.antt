@@ -75,7 +75,7 @@ lines_push : (f : ℕ → List ℕ) (n : ℕ) → flat_map f (range_with_len 0 (
 lines_push f n =
     ap (flat_map f) (range_push n) ∙ flat_map-append f (range_with_len 0 n) (n ∷ []) ∙ ap (λ (ys : List ℕ). flat_map f (range_with_len 0 n) ++ ys) (append-nil (f n))
 
--- the line of the grid's size, and what stands behind it
+-- the line of the grid's size, and what follows it
 abbrev pub headed : ℕ → ℕ → List ℕ → List ℕ
 headed nx ny lines = codes "grid " ++ (decimal nx ++ (codes " " ++ (decimal ny ++ (10 ∷ lines))))
 

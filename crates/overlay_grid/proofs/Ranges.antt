@@ -52,7 +52,7 @@ between from (pos s) i last low h in_from most =
     (omega (arith, ints, in_from.0), omega (arith, ints))
 between from (negsuc s) i last low h in_from most = absurd (omega (arith, ints))
 
--- where the first is in range, the last one tells
+-- where the first is in range, the last one decides
 pub last_tells : (from step : ℤ) (count : ℕ) → pos 1 ≤ℤ step → 1 ≤ count → InRange from → int_le (from +ℤ (step *ℤ pos (count - 1))) (pos 1048576) ≡ all_in_range from step count
 last_tells from step count low some in_from =
     both_ways (int_le (from +ℤ (step *ℤ pos (count - 1))) (pos 1048576)) (all_in_range from step count)

@@ -70,6 +70,6 @@ turned_inside masks i n y layer k h near e =
     flips (layer == k) (mask_bits (slice_index masks i) k) (mask_bits y k) (sum_by (λ m. cond (mask_bits m k) 1 0) (take n (slice_set masks i y))) (sum_by (λ m. cond (mask_bits m k) 1 0) (take n masks))
     (inside (λ m. cond (mask_bits m k) 1 0) masks i n y h near) e
 
--- one behind them changes nothing
+-- one past them changes nothing
 pub turned_outside : (masks : List ℕ) (i n y k : ℕ) → n ≤ i → turned (slice_set masks i y) n k ≡ turned masks n k
 turned_outside masks i n y k far = ap (λ l. sum_by (λ m. cond (mask_bits m k) 1 0) l % 2 == 1) (outside masks i n y far)

@@ -11,7 +11,7 @@ code_of GridSize = 45
 code_of (Layer fault) = book.code_of fault
 code_of (Point fault) = point.code_of fault
 
--- the text that is printed behind the number
+-- the text that is printed after the number
 abbrev pub text_of : GridFault → List ℕ
 text_of GridSize = codes "grid size"
 text_of (Layer fault) = book.text_of fault

@@ -25,7 +25,7 @@ side_max = 256
 abbrev pub step_max : ℕ
 step_max = 2097152
 
--- a step, and how many points stand in a row and in a column
+-- a step, and how many points there are in a row and in a column
 pub record IsGridSize (step nx ny : ℤ) : Type 0 where
   pub step_low : pos 1 ≤ℤ step
   pub step_high : step ≤ℤ pos step_max
@@ -64,7 +64,7 @@ mark_of edge = 43
 abbrev pub grid_row : List BookLayer → Name → Grid → ℕ → List ℕ
 grid_row layers name g j = map (λ i. mark_of (answer_at layers name (grid_point g i j))) (range_with_len 0 g.nx) ++ 10 ∷ []
 
--- the picture: how many points stand in a row and in a column, then the rows, the lowest first
+-- the picture: how many points there are in a row and in a column, then the rows, the lowest first
 abbrev pub grid_text : List BookLayer → Name → Grid → List ℕ
 grid_text layers name g =
     codes "grid " ++ (decimal g.nx ++ (codes " " ++ (decimal g.ny ++ (10 ∷ flat_map (grid_row layers name g) (range_with_len 0 g.ny)))))

@@ -3,7 +3,7 @@ use Rattle.std.specs.Prelude.{ℕ, pos, ◌+ℤ◌, ◌*ℤ◌}
 use Rattle.overlay_terms.specs.Plane.{Point}
 use Rattle.overlay_grid.specs.declared.rising.Rise.{Rise}
 
--- the point that so many points stand below
+-- the point below which there are so many points
 abbrev pub point_at : Rise → ℕ → Point
 point_at rise j = record { x = rise.x; y = rise.y +ℤ (rise.step *ℤ pos j); w = pos 1 }
 

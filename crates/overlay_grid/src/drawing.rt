@@ -49,7 +49,7 @@ pub fn grid(
     Ok(written(alloc, grid, &columns)?)
 }
 
-/// Whether a picture can be drawn: the layer stands, and the points are in range.
+/// Whether a picture can be drawn: there is such a layer, and the points are in range.
 fn admit(layers: &Layers, name: &Name, grid: &GridSpec) -> Result<(), GridFault>
     ensures ok { IfOk result (λ _. grid_refusal layers.now name.now grid.now ≡ None) }
     ensures standing { IfOk result (λ _. stands layers.now name.now ≡ true) }

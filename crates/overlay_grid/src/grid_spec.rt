@@ -75,7 +75,7 @@ impl GridSpec {
         self.step
     }
 
-    /// How many points stand in a row.
+    /// How many points there are in a row.
     pub fn nx(&self) -> usize
         ensures value { result ≡ self.now.nx }
         ensures some { 1 ≤ result }
@@ -84,7 +84,7 @@ impl GridSpec {
         usize::from(self.nx)
     }
 
-    /// How many points stand in a column.
+    /// How many points there are in a column.
     pub fn ny(&self) -> usize
         ensures value { result ≡ self.now.ny }
         ensures some { 1 ≤ result }

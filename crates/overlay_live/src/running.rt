@@ -26,7 +26,7 @@ pub fn read_asked<Q: Env + AllocGlobal>(rt: &Q) -> Result<Asked, ProgramFault> {
 }
 
 /// Runs what the words ask for. It says whether each session was read to its end and the newest version is in the store,
-/// where it is to be. The fault is one that no session's replies tell.
+/// where it is to be. The fault is one that no session's replies report.
 pub fn run<'a, Q: Files<File = File> + Threads + Wait + Sync + AllocGlobal>(
     rt: &Q,
     input: Stdin,
@@ -53,7 +53,7 @@ fn print<'a>(mut output: impl Write + Drop, text: &str) -> Result<bool, Refusal<
 }
 
 /// Runs the sessions until each has read its lines to their end. The store is opened before the pairs, so that its fault
-/// is told before anybody waits at a pipe.
+/// is reported before anybody waits at a pipe.
 fn serve_plan<'a, Q: Files<File = File> + Threads + Wait + Sync + AllocGlobal>(
     rt: &Q,
     input: Stdin,

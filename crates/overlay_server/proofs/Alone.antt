@@ -30,7 +30,7 @@ keep_all (c ∷ cs) all =
 own_are_all : (es : List Entry) → All (λ (c : ℕ × Batch). c.0 < 1) (commands_in es) → commands_of 0 es ≡ accepted_in es
 own_are_all es all = own_are_among_all 0 es ∙ ap (λ (cs : List (ℕ × Batch)). map (λ c. c.1) cs) (keep_all (commands_in es) all)
 
--- what was accepted in a front of a log, and behind it
+-- what was accepted in a front of a log, and after it
 record IsFront (front log : List Entry) : Type 0 where
   history : IsHistory (history_of front)
   behind : List Batch

@@ -11,7 +11,7 @@ abbrev pub counted : ℕ → List Entry → ℕ
 counted zero entries = 0
 counted (suc n) entries = counted n entries + length (commands_of n entries)
 
--- a session's batches where one more entry stands
+-- a session's batches where there is one more entry
 one_of : (k by : ℕ) (batch : Batch) (version : Version) (es : List Entry)
     → ((by ≡ k) × (length (commands_of k (record { event = accepted by batch; version = version } ∷ es)) ≡ length (commands_of k es) + 1))
     ⊎ ((by ≢ k) × (length (commands_of k (record { event = accepted by batch; version = version } ∷ es)) ≡ length (commands_of k es)))

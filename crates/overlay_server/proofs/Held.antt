@@ -1,4 +1,4 @@
--- What a book may tell durable was held by the store of the version that it began with.
+-- What a book may report durable was held by the store of the version that it began with.
 use Rattle.std.proofs.Common.{◌≡◌, inl, inr, ℕ, ◌≤◌, IsTrue, List, [], ◌∷◌, Option, Some, None, is_some, refl, sym, ap, subst, arith}
 use mathlib.Core.List.{IsPrefix}
 use Rattle.std.specs.List.{AllByRecursion, AllZip}
@@ -31,7 +31,7 @@ module _ {D : Type 0} (g : Ghosts D) (now : HasOnlyNow g) (start : Version) (sto
   before (x ∷ xs) log history longer same on first =
       subst (λ (h : History). BeginsWith h (history_of (x ∷ xs))) same (begins_with (x ∷ xs) log (omega arith) longer)
 
-  -- the number that was told as the book began
+  -- the number that was reported as the book began
   first_held : (old : Flusher D g) (history : History) → BeginsWith history (history_of (first_log start)) → (newest history).durable ≡ history.start.durable
       → IsStoreOf g (history_of (first_log start)) old → WasHeld g start old history (newest history).durable
   first_held old history on first is =

@@ -1,4 +1,4 @@
--- Through any number of runs nothing is lost that was told durable.
+-- Through any number of runs nothing is lost that was reported durable.
 use Rattle.std.proofs.Common.{◌≡◌, ◌⊎◌, inl, inr, ℕ, ◌+◌, ◌-◌, ◌≤◌, List, [], ◌∷◌, ◌++◌, length, take, refl, sym, ◌∙◌, ap, subst, append-nil, append_assoc, length-append, arith}
 use Rattle.std.proofs.lemmas.List.{take-take, take-append-le}
 use Rattle.std.proofs.lemmas.List.Sums.{fold-append}
@@ -136,7 +136,7 @@ module _ {D : Type 0} (g : Ghosts D) (start : Start) where
   tried least batches disk (next ∷ more) last (tries, later) all =
       tried least batches next more last later (λ c left. (tries.moments least batches all).each c (tries.leaves c left))
 
-  -- all that was told durable within the call that was cut stands behind it
+  -- all that was reported durable within the call that was cut is so after it
   over_a_crash : (old new : Moment D g) (cut : CutTo g start old new) → IsRunning g start old → StandsAt g start (cut_call g start old new cut) new
   over_a_crash old new cut running =
       let kept = cut.keeps running.store in
@@ -188,7 +188,7 @@ module _ {D : Type 0} (g : Ghosts D) (start : Start) where
       let kept = cut.keeps running.store in
       onward old (cut_call g start old new cut) new (goes_on old cut.history cut.end running kept.goes_on cut.valid kept.store) (over_a_crash old new cut running)
 
-  -- what stands at a moment stands on
+  -- what is so at a moment stays so
   stands_on : (first m : Moment D g) (later : List (Moment D g)) → StandsAt g start first m → Runs g start m later → AllByRecursion (StandsAt g start first) later
   stands_on first m [] stands runs = tt
   stands_on first m (next ∷ more) stands (one, runs) =

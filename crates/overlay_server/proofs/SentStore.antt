@@ -5,7 +5,7 @@ use denote.Param.Send.{IsSend, recorded_send, struct_send, plain_send, sendable}
 use Rattle.std.proofs.Crossing.{crosses}
 use Rattle.disk_model.specs.declared.disk.Disk.{Ghosts}
 use Rattle.book_history.proofs.Sent.{tiles_send, tiles_sync}
-use Rattle.record_writing.proofs.catalog.Listed.TheSendSync as entries
+use Rattle.store_terms.proofs.catalog.Listed.TheSendSync as entries
 use Rattle.store_terms.proofs.root.Root.TheSendSync as roots
 use Rattle.commit_plan.proofs.room.Room.TheSendSync as rooms
 use Rattle.commit_plan.proofs.write.Write.TheSendSync as writes

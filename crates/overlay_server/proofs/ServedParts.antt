@@ -1,4 +1,4 @@
--- From what the threads of a server gave back, and what `close` tells, to what the server owes.
+-- From what the threads of a server gave back, and what `close` says, to what the server owes.
 use Rattle.std.proofs.Common.{◌≡◌, ◌+◌, ◌<◌, ℕ, List, [], Option, All, length, map, sym, subst}
 use Rattle.std.specs.Arc.{arc_value}
 use Rattle.std.specs.List.{AllZip}

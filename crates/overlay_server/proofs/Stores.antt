@@ -63,7 +63,7 @@ module _ {D : Type 0} (g : Ghosts D) where
     flushed = flushed_twice a.reporter b.reporter c.reporter (told_in a.told) (told_in b.told) (told_in c.told) a.flusher b.flusher c.flusher first.flushed second.flushed;
   }
 
-  -- ---- what may be told durable
+  -- ---- what may be reported durable
 
   -- what counts as stored is what the store of a version held
   abbrev pub CountsAs : (List Entry → ℕ → Type 0) → Version → Option (Flusher D g) → Type 0
@@ -85,7 +85,7 @@ module _ {D : Type 0} (g : Ghosts D) where
 
   -- ---- at the end of a book
 
-  -- what a run leaves, told of a longer history
+  -- what a run leaves, said of a longer history
   moments_on : (was now : History) (least : ℕ) (old new : D) → BeginsWith now was → LeavesOnly g old new (IsFileIn was least) → LeavesOnly g old new (IsFileIn now least)
   moments_on was now least old new on run =
       widened g old new (IsFileIn was least) (IsFileIn now least) (λ c file. file_more was now least least c on (omega arith) file) run
@@ -96,7 +96,7 @@ module _ {D : Type 0} (g : Ghosts D) where
   at_disk P back disk stored number is same left =
       subst (λ (n : ℕ). Leaves g disk (P n)) same (subst (λ (o : Option D). IfSome o (λ (d : D). Leaves g d (P stored))) is left)
 
-  -- nothing was told as the book began
+  -- nothing was reported as the book began
   none_yet_by : (start : Version) (was : Heard) (told : List Told) (disk : D) → was.log ≡ first_log start → told ≡ []
       → StaysTold g (history_of was.log) told disk disk
   none_yet_by start was told disk first none =
@@ -136,7 +136,7 @@ module _ {D : Type 0} (g : Ghosts D) where
 
   -- ---- where a server could not run
 
-  -- after its threads have returned, told of the longer log that the book has then
+  -- after its threads have returned, said of the longer log that the book has then
   pub stopped_by : (start : Version) (was now : Heard) (log : List Entry) (x y : List Told) (old new : Option (Flusher D g)) (back : Option D) → was.log ≡ first_log start → x ≡ []
       → BeginsWith (history_of log) (history_of now.log) → IsHistory (history_of log) → (newest_in log).durable ≡ (newest_in now.log).durable
       → AreFlushed g was x old now y new → MatchOption new (back ≡ None) (λ (f : Flusher D g). back ≡ Some f.commit.disk) → StoreComesBack g start log y old back

@@ -1,4 +1,4 @@
--- A book that is as many batches behind its first version as its sessions made has no other's.
+-- A book that is as many batches after its first version as its sessions made has no other's.
 use Rattle.std.proofs.Common.{◌≡◌, ◌<◌, ◌+◌, ◌∷◌, [], ℕ, zero, suc, List, Option, length, map, refl, ap, sym, ◌∙◌, arith}
 use Rattle.std.specs.List.{All, AllZip, sum_by}
 use Rattle.std.proofs.lemmas.List.{length-map, map-append}

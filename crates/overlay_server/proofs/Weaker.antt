@@ -1,4 +1,4 @@
--- What is told of a book's store may be told by another measure.
+-- What is said of a book's store may be said by another measure.
 use Rattle.std.proofs.Common.{ℕ, Bool, IsTrue, List, Option, inl, inr, [], ◌∷◌}
 use Rattle.overlay_terms.specs.Batches.{Batch}
 use Rattle.overlay_terms.specs.Histories.{History, BeginsWith}

@@ -1,4 +1,4 @@
--- What a book answered as it was to be opened, and the number that a server tells of it.
+-- What a book answered as it was to be opened, and the number that a server reports of it.
 use Rattle.std.specs.Prelude.{ℕ, Option, Some, None, Result, Ok, Err}
 use Rattle.book_history.specs.Fault.{code_of}
 use Rattle.book_history.specs.declared.fault.BookFault.{BookFault}
@@ -13,7 +13,7 @@ fault_of (Err fault) = Some fault
 abbrev pub answer_in : BookAnswer → Option BookFault
 answer_in answer = answer.fault
 
--- the number under which a server tells why it did not run: that of the book's refusal, or 40 where the book was opened and
+-- the number under which a server reports why it did not run: that of the book's refusal, or 40 where the book was opened and
 -- memory or a thread was refused
 abbrev pub refusal_code : Option BookFault → ℕ
 refusal_code None = 40

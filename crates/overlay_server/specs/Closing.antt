@@ -1,4 +1,4 @@
--- What is told of a store as its book closes.
+-- What is said of a store as its book closes.
 use Rattle.std.specs.Prelude.{◌≡◌, ◌≤◌, List, All, Option, Some, None, IfSome, IfNone}
 use Rattle.disk_model.specs.declared.disk.Disk.{Ghosts}
 use Rattle.disk_model.specs.Moments.{Leaves}
@@ -14,7 +14,7 @@ use Rattle.store_flushing.specs.declared.closed.Closed.{Closed}
 use Rattle.store_flushing.specs.declared.keeper.told_log.Told.{Told}
 
 module _ {D : Type 0} (g : Ghosts D) where
-  -- a book has closed, whose log goes on from what its reporter had seen: what is stored, the disk, and what is told of both as far
+  -- a book has closed, whose log goes on from what its reporter had seen: what is stored, the disk, and what is said of both as far
   -- as it was so for the reporter
   pub record IsClosedOf (now : Heard) (written : List Told) (store : Option (Flusher D g)) (closed : Closed D) : Type 0 where
     pub on : BeginsWith (history_of closed.seen_log.log) (history_of now.log)

@@ -14,7 +14,7 @@ use Rattle.overlay_server.specs.declared.storing.Store.{Store}
 
 module _ {D : Type 0} (g : Ghosts D) where
   -- the store is that of the history that the reporter has seen, it was so at each moment, and no commit is under way; what
-  -- was told durable was written down, and stays told
+  -- was reported durable was written down, and stays so
   pub record IsFlushed (was : Heard) (told : List Told) (old : Flusher D g) (now : Heard) (more : List Told) (new : Flusher D g) : Type 0 where
     pub flushes : IsStoreOf g (history_of was.log) old → Flushes g (history_of was.log) old (history_of now.log) new
     pub rests : is_busy new.commit.phase ≡ false

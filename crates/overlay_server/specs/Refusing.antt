@@ -54,7 +54,7 @@ pub record AreStopped (stored : BookStore) (start : Version) (log : List Entry) 
 
 module _ {D : Type 0} (g : Ghosts D) where
   -- what is left of a store: a crash at any moment left a file that stands for a version of this log, no older than what was
-  -- stored at first. What the log tells durable was written down as it was told, and from that moment on a crash leaves no
+  -- stored at first. What the log reports durable was written down as it was reported, and from that moment on a crash leaves no
   -- older version
   pub record IsStoppedBy (log : List Entry) (written : List Told) (old : Flusher D g) (disk : D) : Type 0 where
     pub moments : LeavesOnly g old.commit.disk disk (IsFileIn (history_of log) old.commit.root.version)

@@ -26,7 +26,7 @@ pub record Moment (D : Type 0) (g : Ghosts D) : Type 0 where
 abbrev pub batches_at : {D : Type 0} {g : Ghosts D} → Moment D g → List Batch
 batches_at m = m.before ++ accepted_in m.history.entries
 
--- the number that was told durable last
+-- the number that was reported durable last
 abbrev pub durable_at : {D : Type 0} {g : Ghosts D} → Moment D g → ℕ
 durable_at m = (newest m.history).durable
 
@@ -40,13 +40,13 @@ module _ {D : Type 0} (g : Ghosts D) (start : Start) where
     pub layers : m.history.start.layers ≡ layers_from start m.before
     pub store : IsStoreOf g m.history m.flusher
 
-  -- a call of the store's keeper has returned: what its clause `keeps` tells
+  -- a call of the store's keeper has returned: what its clause `keeps` says
   pub record CallsTo (old new : Moment D g) : Type 0 where
     pub before : new.before ≡ old.before
     pub valid : IsHistory new.history
     pub keeps : IsStoreOf g old.history old.flusher → KeepsTold g old.history old.flusher new.history new.flusher
 
-  -- the book has closed: what `close` tells of its last log, in which no more is told durable than is stored
+  -- the book has closed: what `close` says of its last log, in which no more is reported durable than is stored
   pub record ClosesTo (old new : Moment D g) : Type 0 where
     pub before : new.before ≡ old.before
     pub goes_on : BeginsWith new.history old.history
@@ -54,11 +54,11 @@ module _ {D : Type 0} (g : Ghosts D) (start : Start) where
     pub same : new.flusher ≡ old.flusher
     pub reported : (newest new.history).durable ≤ old.flusher.commit.root.version
 
-  -- a run that begins with an opened engine, behind such batches
+  -- a run that begins with an opened engine, after such batches
   abbrev pub opened : List Batch → Engine D g → Moment D g
   opened batches e = record { before = up_to start e.version.number batches; history = record { start = e.version; entries = [] }; flusher = e.flusher }
 
-  -- the machine crashes within a call of the keeper, or behind its return: what is told of the call holds as had it returned; and
+  -- the machine crashes within a call of the keeper, or after its return: what is said of the call holds as had it returned; and
   -- what that leaves is opened in the end, after so many openings that were stopped or refused, and the next run begins
   pub record CutTo (old new : Moment D g) : Type 0 where
     pub history : History
@@ -80,28 +80,28 @@ module _ {D : Type 0} (g : Ghosts D) (start : Start) where
   Runs m [] = Unit {0}
   Runs m (next ∷ more) = (CallsTo m next ⊎ (ClosesTo m next ⊎ CutTo m next)) × Runs next more
 
-  -- what was told durable at one moment stands at a later one, of whatever run: its version is that of batches which begin
+  -- what was reported durable at one moment is so at a later one, of whatever run: its version is that of batches which begin
   -- with the same ones
   pub record StandsAt (old new : Moment D g) : Type 0 where
     pub running : IsRunning new
     pub durable : durable_at old ≤ durable_at new
     pub same : up_to start (durable_at old) (batches_at new) ≡ up_to start (durable_at old) (batches_at old)
 
-  -- the moment to which a call that was cut would have come: all that was told durable within it is told there
+  -- the moment to which a call that was cut would have come: all that was reported durable within it is so there
   abbrev pub cut_call : (old new : Moment D g) → CutTo old new → Moment D g
   cut_call old new cut = record { before = old.before; history = cut.history; flusher = cut.end }
 
-  -- what was told durable within a call that was cut stands at these moments
+  -- what was reported durable within a call that was cut is so at these moments
   abbrev pub CutStands : (old new : Moment D g) → CallsTo old new ⊎ (ClosesTo old new ⊎ CutTo old new) → List (Moment D g) → Type 0
   CutStands old new (inl calls) later = Unit {0}
   CutStands old new (inr (inl closes)) later = Unit {0}
   CutStands old new (inr (inr cut)) later = AllByRecursion (StandsAt (cut_call old new cut)) later
 
-  -- what was told durable at any of the moments, or within a call that was cut, stands at each later moment
+  -- what was reported durable at any of the moments, or within a call that was cut, is so at each later moment
   abbrev pub AllStand : (m : Moment D g) (later : List (Moment D g)) → Runs m later → Type 0
   AllStand m [] runs = Unit {0}
   AllStand m (next ∷ more) runs = AllByRecursion (StandsAt m) (next ∷ more) × CutStands m next runs.0 (next ∷ more) × AllStand next more runs.1
 
-  -- through any number of runs nothing is lost that was told durable
+  -- through any number of runs nothing is lost that was reported durable
   abbrev pub RunsLoseNothing : Type 0
   RunsLoseNothing = (m : Moment D g) (later : List (Moment D g)) → IsRunning m → (runs : Runs m later) → AllStand m later runs

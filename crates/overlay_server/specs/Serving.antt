@@ -39,7 +39,7 @@ flusher_of (Some engine) = Some engine.flusher
 abbrev pub first_log : Version → List Entry
 first_log start = entry no_event start ∷ []
 
--- ---- what is stored, and what may be told durable
+-- ---- what is stored, and what may be reported durable
 
 -- of which log which number is stored: what the first version's store held when it had been followed to that log; without
 -- a store, nothing is
@@ -48,7 +48,7 @@ IsStoredOf g start None log number = ⊥
 IsStoredOf g start (Some old) log number =
     IsStoreOf g (history_of (first_log start)) old → IsStored g (history_of (first_log start)) old log number
 
--- a number that a history tells durable was stored: a store of the first version, followed to a beginning of this history,
+-- a number that a history reports durable was stored: a store of the first version, followed to a beginning of this history,
 -- held that number then, or a later one
 pub record WasHeld {D : Type 0} (g : Ghosts D) (start : Version) (old : Flusher D g) (history : History) (number : ℕ) : Type 0 where
   pub log : List Entry
@@ -57,7 +57,7 @@ pub record WasHeld {D : Type 0} (g : Ghosts D) (start : Version) (old : Flusher 
   pub no_less : number ≤ held
   pub stored : IsStored g (history_of (first_log start)) old log held
 
--- of which history a server tells a session the durable number: of one whose number was stored; without a store, of none
+-- of which history a server reports the durable number to a session: of one whose number was stored; without a store, of none
 abbrev pub IsHeldOf : {D : Type 0} (g : Ghosts D) → Version → Option (Flusher D g) → History → Type 0
 IsHeldOf g start None history = ⊥
 IsHeldOf g start (Some old) history =
@@ -75,7 +75,7 @@ pub record Part (W : Type 0) : Type 0 where
   pub given : Given
   pub finished : Finished W
 
--- a session was served: what it put behind what its writer had are the replies to the lines that it was given, by histories
+-- a session was served: what it put after what its writer had are the replies to the lines that it was given, by histories
 -- that it has seen then; the log has all of that, and of the session's batches just those that it made; `stored` is what is
 -- known of the store
 pub record IsServed {W : Type 0} (stored : BookStore) (contents : W → Option (List ℕ)) (log : List Entry) (part : Part W) : Type 0 where
@@ -101,7 +101,7 @@ module _ {D : Type 0} (g : Ghosts D) where
   -- what a run leaves of a store: a crash at any moment of it leaves a file that stands for a version of the log that the
   -- run ended with, no older than what was stored at first, and from then on no older than what is stored; that is no
   -- older than what was reported durable; and just it, unless a device call failed, before the run or within it. What it
-  -- told durable was written down as it was told, and from that moment on a crash leaves no older version
+  -- reported durable was written down as it was reported, and from that moment on a crash leaves no older version
   pub record IsLeftBy (log : List Entry) (written : List Told) (old last : Flusher D g) : Type 0 where
     pub no_less : old.commit.root.version ≤ last.commit.root.version
     pub moments : LeavesOnly g old.commit.disk last.commit.disk (IsFileIn (history_of log) old.commit.root.version)

@@ -13,8 +13,8 @@ use Rattle.overlay_server.specs.Keeping.{HoldsOfStore, IsStoreKept}
 use Rattle.overlay_server.specs.declared.threads.Returned.{Returned}
 use Rattle.overlay_server.specs.declared.threads.Work.{Work}
 
--- store and sessions are of this book, what the store comes to hold may be told durable, and there is room for what the
--- sessions leave
+-- store and sessions are of this book, what the store comes to hold may be reported durable, and there is room for what
+-- the sessions leave
 pub record IsReady {J R W D : Type 0} {g : Ghosts D} (book : Book) (stored : List Entry → ℕ → Type 0) (work : Work J R W D g) : Type 0 where
   pub store : work.store.reporter.book ≡ book
   pub durable : HoldsOfStore g stored work.store.reporter.log work.store.flusher

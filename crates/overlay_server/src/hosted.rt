@@ -1,4 +1,4 @@
-//! The book of a server, and its end: it is closed where each thread could start, and else told as far as it came.
+//! The book of a server, and its end: it is closed where each thread could start, and else reported as far as it came.
 ghost use Rattle.std.specs.Prelude.{◌≡◌, ◌+◌, ◌<◌, [], List, length, All, None, Some, MatchOption, MatchBool};
 ghost use Rattle.std.specs.Arc.{arc_value};
 ghost use Rattle.book_history.specs.Logs.{newest_in, IsLog};

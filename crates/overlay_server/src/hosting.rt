@@ -175,7 +175,7 @@ where
         requires meant { (log : List Entry) (number : ℕ) → J.stored log number ↔ IsStoredOf D.Disk self.version.value self.store.flusher log number }
         ensures left { IfOk result (IsLeftFrom W.contents D.Disk self.version.value self.store.flusher (given_to R.remaining W.contents ports.items)) }
         ensures refused { IfErr result (IsRefusedFrom D.Disk self.version.value self.store.flusher (given_to R.remaining W.contents ports.items)) }
-        // The book gave its places, so 44 is not told.
+        // The book gave its places, so 44 is not answered.
         ensures code { IfErr result (λ fault. fault.code ≡ 40) }
     {
         let Hosted {

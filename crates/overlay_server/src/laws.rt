@@ -23,13 +23,13 @@ pub fn versions_are_exact()
 {}
 
 /// The session of a server of one reader was alone: what was accepted in all that it has seen are the batches that it made.
-/// So its lines decide the versions behind them (`lines_decide`).
+/// So its lines decide the versions after them (`lines_decide`).
 pub fn one_session_is_alone<D: Disk>()
     ensures { OneSessionIsAlone D.Disk }
 {}
 
 /// Through any number of runs, of which each is cut by a crash within a call of its store's keeper or came to its end, and of
-/// the openings between them, what was told durable at some moment, or within the call that was cut, stands at each later
+/// the openings between them, what was reported durable at some moment, or within the call that was cut, is so at each later
 /// moment.
 pub fn runs_lose_nothing<D: Disk>()
     ensures { (start : Start) → RunsLoseNothing D.Disk start }

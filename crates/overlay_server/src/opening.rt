@@ -23,7 +23,7 @@ pub struct BookAnswer {
 }
 
 impl BookAnswer {
-    /// The number under which a server tells why it did not run: that of the book's refusal, or 40 where the book was
+    /// The number under which a server reports why it did not run: that of the book's refusal, or 40 where the book was
     /// opened, and so memory or a thread was refused.
     pub(crate) fn code(&self) -> u8
         ensures { result ≡ refusal_code (answer_in self.now) }

@@ -39,7 +39,7 @@ pub struct ServerFault<D> {
     pub answer: BookAnswer,
     /// The book's history, to its end.
     pub seen_log: SeenLog,
-    /// What was told durable, and when.
+    /// What was reported durable, and when.
     pub told: ToldLog,
     /// The sessions, in the order of the ports or readers, with what they have seen and made. None where none was begun,
     /// and then no command was accepted.

@@ -20,7 +20,7 @@ use version_book::seen_log::{LogWord, SeenLog, open};
 use versions::Version;
 
 /// Runs workers, the store and one session a reader, each in a thread of its own, until all scripts have ended. Session
-/// k runs the k-th reader's script, counted from 0, and what they wrote stands in the readers' order. The book begins with the
+/// k runs the k-th reader's script, counted from 0, and what they wrote is in the readers' order. The book begins with the
 /// engine's version and is committed to its store; without an engine it begins empty, and is kept in memory alone.
 ///
 /// Before it returns, it commits once more what the workers finished, so that each finished tile is in the store, unless

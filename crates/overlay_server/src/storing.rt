@@ -15,7 +15,7 @@ use version_book::reporter::Reporter;
 use version_book::seen_log::BookName;
 use version_book::shared::Shared;
 
-/// Who reports durable numbers, the store that versions are written to, where there is one, and what was told durable.
+/// Who reports durable numbers, the store that versions are written to, where there is one, and what was reported.
 #[derive(Drop)]
 pub struct Store<D: Disk> {
     pub reporter: Reporter,
@@ -83,7 +83,7 @@ pub fn keep_store<J: BookName, S: Wait + Drop, Q: Wait, D: Disk>(
     store: Store<D>,
 ) -> Store<D>
     requires book { store.reporter.book ≡ J.book }
-    // What the store comes to hold may be told durable.
+    // What the store comes to hold may be reported durable.
     requires stored { HoldsOfStore D.Disk J.stored store.reporter.log store.flusher }
     ensures { IsStoreKept J.book D.Disk store result }
 {

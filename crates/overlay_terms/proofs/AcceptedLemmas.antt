@@ -122,7 +122,7 @@ all_usable layers defined (used ∷ names) e =
     let each = both_absent (when (not (stands layers used)) unknown_layer) (when (nat_le (index_of layers defined) (index_of layers used)) later_layer) both.first in
     and_from _ _ (and_from _ _ (not-false (stands layers used) (not_when _ _ each.first)) (not_from_false _ (not_when _ _ each.second))) (all_usable layers defined names both.second)
 
--- content that may stand under a name keeps orderly layers so
+-- content that a name may have keeps orderly layers so
 with_content_orderly : (layers : List Layer) (name : Name) (content : Content) (b : Bool) → stands layers name ≡ b → IsOrderly layers → list_all (is_usable layers name) (used_names content) ≡ true →
     IsOrderly (if b then map (replaced_by name content) layers else layers ++ record { name = name; content = content } ∷ [])
 with_content_orderly layers name content true e orderly usable =

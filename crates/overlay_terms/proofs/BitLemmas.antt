@@ -34,7 +34,7 @@ module _ (p : Point) where
   abbrev count_of : ℕ → List Marked → ℕ
   count_of j marked = count_by (λ m. (m.layer == j) && is_below m.segment p) marked
 
-  -- segments that stand behind others are counted on
+  -- segments that come after others are counted on
   count-append : (j : ℕ) (a b : List Marked) → count_of j (a ++ b) ≡ count_of j a + count_of j b
   count-append j a b = sum_by-append (λ (m : Marked). cond ((m.layer == j) && is_below m.segment p) 1 0) a b
 

@@ -52,7 +52,7 @@ step_ends a b v rest Equal e =
 step_ends a b v rest Greater e =
     rw e (let more : segment_ends_at (record { left = b; right = a } ∷ rest) v ≡ (at b v + at a v) + segment_ends_at rest v = ends-cons (record { left = b; right = a }) rest v in omega arith)
 
--- the last of some points, the first of which stands apart
+-- the last of some points, the first of which is given apart
 last_of : WholePoint → List WholePoint → WholePoint
 last_of a [] = a
 last_of a (b ∷ rest) = last_of b rest

@@ -74,7 +74,7 @@ module _ (p : Point) (values : List (Name × Bool)) (reached : Name → Bool) (b
   abbrev numbered : Name × Tree Name → Tree Source
   numbered d = relabel (source_of bases definitions) d.1
 
-  -- where the walk over the layers stands: what is known before, and which of it are base layers and definitions in reach
+  -- how far the walk over the layers is: what is known before, and which of it are base layers and definitions in reach
   record Reaches (known before_bases before : List Name) (layers reachable : List Layer) : Type 0 where
     pub orderly : is_orderly_after known layers ≡ true
     pub rows : AllByRecursion (λ layer. value layer.name ≡ content_value p values layer.content) layers
@@ -83,7 +83,7 @@ module _ (p : Point) (values : List (Name × Bool)) (reached : Name → Bool) (b
     pub bases_are : bases ≡ before_bases ++ base_names reachable
     pub definitions_are : definitions ≡ before ++ derived_names reachable
 
-  -- the definitions behind give the values of their layers
+  -- the definitions after those known give the values of their layers
   abbrev Gives : List Name → List Layer → Type 0
   Gives before reachable =
       fold (λ known t. known ++ truth (source_value bits known) t ∷ []) (map value before) (map numbered (filter_map derived_of reachable)) ≡ map value (before ++ derived_names reachable)

@@ -12,7 +12,7 @@ use Rattle.overlay_terms.proofs.ClosedLayers.{numbered, marked_from, layers_are_
 use Rattle.overlay_terms.proofs.ClosedInputs.{closed_is_input}
 
 module _ {X : Type 0} (P : X → Type 0) where
-  -- what holds behind an item holds behind the same item
+  -- what holds after an item holds after the same item
   all_behind : (o : Option X) (xs ys : List X) → (All P xs → All P ys) → All P (cons_option o xs) → All P (cons_option o ys)
   all_behind None xs ys more all = more all
   all_behind (Some x) xs ys more all = All-cons P x ys (All-head P x xs all) (more (All-tail P x xs all))

@@ -58,11 +58,11 @@ module _ {X Y : Type 0} (g : Y → Bool) (v : X → Y) where
   map-filter (x ∷ xs) = map_step x xs (g (v x)) refl (map-filter xs)
 
 module _ {X : Type 0} where
-  -- what passes a test and stands in a list is found
+  -- what passes a test and is in a list is found
   pub any_from_Contains : (f : X → Bool) (xs : List X) (x : X) → Contains xs x → f x ≡ true → list_any f xs ≡ true
   any_from_Contains f xs x among passes = list_any_at f xs among.0 x among.1 (rw among.2 passes)
 
-  -- what a filter leaves stands in the list
+  -- what a filter leaves is in the list
   pub Contains-from_filter : (g : X → Bool) (xs : List X) (x : X) → Contains (filter g xs) x → Contains xs x
   Contains-from_filter g xs x among =
       All-contains (Contains xs) (filter g xs) x (All-filter g (Contains xs) xs (All-contains_itself xs)) among
@@ -77,13 +77,13 @@ module _ {X : Type 0} where
   more_here g x xs true e y among = rw e (suc among.0, omega (arith, among.1), among.2)
   more_here g x xs false e y among = rw e among
 
-  -- each element that passes stands in what the filter leaves
+  -- each element that passes is in what the filter leaves
   all_kept : (g : X → Bool) (xs : List X) → All (λ x. g x ≡ true → Contains (filter g xs) x) xs
   all_kept g [] = All-nil (λ x. g x ≡ true → Contains (filter g []) x)
   all_kept g (x ∷ xs) =
       All-cons (λ y. g y ≡ true → Contains (filter g (x ∷ xs)) y) x xs (kept_here g x xs (g x) refl)
       (All-weaker (λ y. g y ≡ true → Contains (filter g xs) y) (λ y. g y ≡ true → Contains (filter g (x ∷ xs)) y) (λ y more passes. more_here g x xs (g x) refl y (more passes)) xs (all_kept g xs))
 
-  -- what stands in a list and passes is left by the filter
+  -- what is in a list and passes is left by the filter
   pub Contains-filter : (g : X → Bool) (xs : List X) (x : X) → Contains xs x → g x ≡ true → Contains (filter g xs) x
   Contains-filter g xs x among = All-contains (λ y. g y ≡ true → Contains (filter g xs) y) xs x (all_kept g xs) among

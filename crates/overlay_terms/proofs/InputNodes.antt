@@ -147,7 +147,7 @@ module _ (k : ℕ) (xs : List Segment) (p r : Point) (proper : All IsProper xs) 
       ]
 
 module _ (k : ℕ) (xs ys : List Segment) (p r : Point) (agrees : Agrees k xs ys) (within : IsIn k p) (piece : IsPiece xs p r) where
-  -- the piece's segment stands in both lists
+  -- the piece's segment is in both lists
   among_both : Contains ys piece.support
   among_both = agrees.kept piece.support piece.among (on_touches k p within piece.support piece.from_on)
 

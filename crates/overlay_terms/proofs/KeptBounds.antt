@@ -17,7 +17,7 @@ pub reach_rows : (layers : List Layer) → IsOrderly layers → AreReachRows (re
 reach_rows layers orderly =
     rows_fixed [] (λ known layer. content_reach layer.name known layer.content) (λ known more layer h. content_reach_of_uses known more layer.name layer.content h) layers [] orderly
 
--- a layer that stands reaches itself
+-- a layer that is there reaches itself
 pub reaches_itself : (layers : List Layer) (name : Name) → IsOrderly layers → stands layers name ≡ true → is_reached (reaches layers) name name ≡ true
 reaches_itself layers name orderly standing =
     itself_all (reaches layers) layers [] (reach_rows layers orderly) (λ n e. absurd (false≢true e)) name standing

@@ -40,7 +40,7 @@ input_over k reachable =
 untouched_by : (before after : List Layer) (own : Name) (k : ℕ) → layers_in_reach after own ≡ layers_in_reach before own → stands_as_derived after own ≡ true → IsUntouched before after own k
 untouched_by before after own k same still = record { same_input = ap (input_over k) same; still_derived = still }
 
--- what stands under a name is replaced, and the layer does not reach it
+-- the content of a name is replaced, and the layer does not reach it
 untouched_replaced : (layers : List Layer) (name : Name) (content : Content) (own : Name) (k : ℕ) → IsOrderly layers → stands layers name ≡ true → stands_as_derived layers own ≡ true → (bytes_eq name own ≡ true → is_derived content ≡ true) → list_any (bytes_eq own) (derived_over layers name) ≡ false → IsUntouched layers (map (replaced_by name content) layers) own k
 untouched_replaced layers name content own k orderly standing as_derived kind out =
     let apart : reaches_name layers own name ≡ false = derived_fails (λ n. reaches_name layers n name) layers own out as_derived in
@@ -48,12 +48,12 @@ untouched_replaced layers name content own k orderly standing as_derived kind ou
     (same_in_reach layers (map (replaced_by name content) layers) name own orderly (differ_replaced layers name content) (stands_fails (is_reached (reaches layers) own) layers name apart standing))
     (still_replaced layers name content own kind as_derived)
 
--- a name that stands is not one that does not
+-- a name that is there is not one that is not
 differs : (layers : List Layer) (new own : Name) → stands layers new ≡ false → stands layers own ≡ true → bytes_eq new own ≡ false
 differs layers new own none standing =
     false_from_ne_true (bytes_eq new own) (λ e. both_ways (stands layers new) none (ap (stands layers) (same_name new own e) ∙ standing))
 
--- a new layer stands last
+-- a new layer comes last
 untouched_pushed : (layers : List Layer) (layer : Layer) (own : Name) (k : ℕ) → IsOrderly layers → stands layers layer.name ≡ false → stands_as_derived layers own ≡ true → IsUntouched layers (layers ++ layer ∷ []) own k
 untouched_pushed layers layer own k orderly new as_derived =
     let standing = derived_stands layers own as_derived in
@@ -75,7 +75,7 @@ untouched_removed layers name own k orderly unused as_derived differ back =
     (same_in_reach layers (without layers name) name own orderly (differ_removed layers name) (reaches_used layers own name orderly (derived_stands layers own as_derived) unused back))
     (still_without layers name own differ as_derived)
 
--- content put under a name, by whether the name stands
+-- content put under a name, by whether the name is there
 untouched_content : (layers : List Layer) (name : Name) (content : Content) (own : Name) (k : ℕ) (b : Bool) → stands layers name ≡ b → IsOrderly layers → stands_as_derived layers own ≡ true → (bytes_eq name own ≡ true → is_derived content ≡ true) → (stands layers name ≡ true → list_any (bytes_eq own) (derived_over layers name) ≡ false) →
     IsUntouched layers (if b then map (replaced_by name content) layers else layers ++ record { name = name; content = content } ∷ []) own k
 untouched_content layers name content own k true standing orderly as_derived kind out =

@@ -1,4 +1,4 @@
--- Layers with one name changed: how they differ, and which derived layers still stand.
+-- Layers with one name changed: how they differ, and which derived layers are still there.
 use Rattle.std.specs.Prelude.{◌≡◌, Bool, true, false, not, ◌&&◌, List, [], ◌∷◌, map, filter, bytes_eq, if◌then◌else◌}
 use Rattle.std.specs.List.{list_any}
 use Rattle.std.proofs.Common.{refl, ap, sym, ◌∙◌, subst, ⊎_elim}
@@ -34,7 +34,7 @@ differ_removed [] name = none
 differ_removed (layer ∷ layers) name =
     removed_first layer layers (without layers name) name (bytes_eq layer.name name) refl (differ_removed layers name)
 
--- a derived layer stands
+-- a derived layer is there
 pub derived_stands : (layers : List Layer) (name : Name) → stands_as_derived layers name ≡ true → stands layers name ≡ true
 derived_stands [] name h = h
 derived_stands (layer ∷ layers) name h =
@@ -91,7 +91,7 @@ derived_passing test layers = map (λ (layer : Layer). layer.name) (filter (λ (
 abbrev with_name : Bool → Layer → List Layer → List Name
 with_name b layer kept = map (λ (l : Layer). l.name) (if b then layer ∷ kept else kept)
 
--- a name that is none of these is none of those behind
+-- a name that is none of these is none of those after it
 none_behind_first : (b : Bool) (layer : Layer) (kept : List Layer) (own : Name) → list_any (bytes_eq own) (with_name b layer kept) ≡ false → list_any (bytes_eq own) (map (λ (l : Layer). l.name) kept) ≡ false
 none_behind_first true layer kept own h = (or_parts (bytes_eq own layer.name) (list_any (bytes_eq own) (map (λ (l : Layer). l.name) kept)) h).1
 none_behind_first false layer kept own h = h
@@ -119,12 +119,12 @@ derived_fails test (layer ∷ layers) own out h =
     (λ e. derived_fails test layers own (none_behind_first (is_derived layer.content && test layer.name) layer kept own out) e)
     (or_cases (bytes_eq layer.name own && is_derived layer.content) (stands_as_derived layers own) h)
 
--- what stands behind a first layer stands
+-- what is there after a first layer is there
 stands_behind : (b : Bool) (layer : Layer) (kept : List Layer) (name : Name) → stands kept name ≡ true → stands (if b then layer ∷ kept else kept) name ≡ true
 stands_behind true layer kept name h = or_right (bytes_eq layer.name name) _ h
 stands_behind false layer kept name h = h
 
--- a name that stands and passes a test stands among the layers that pass
+-- a name that is there and passes a test is among the layers that pass
 passes_too : (test : Name → Bool) (layers : List Layer) (name : Name) → test name ≡ true → stands layers name ≡ true → stands (passing test layers) name ≡ true
 passes_too test [] name passes h = h
 passes_too test (layer ∷ layers) name passes h =
@@ -132,7 +132,7 @@ passes_too test (layer ∷ layers) name passes h =
     (λ e. stands_behind (test layer.name) layer (passing test layers) name (passes_too test layers name passes e))
     (or_cases (bytes_eq layer.name name) (stands layers name) h)
 
--- a name that stands, but not among the layers that pass a test, does not pass it
+-- a name that is there, but not among the layers that pass a test, does not pass it
 pub stands_fails : (test : Name → Bool) (layers : List Layer) (name : Name) → stands (passing test layers) name ≡ false → stands layers name ≡ true → test name ≡ false
 stands_fails test layers name out h =
     false_from_ne_true (test name) (λ e. both_ways (stands (passing test layers) name) out (passes_too test layers name e h))

@@ -13,7 +13,7 @@ use Rattle.overlay_terms.proofs.TableLemmas.{names_of, named-push}
 use Rattle.overlay_terms.proofs.ReachLemmas.{has_name, is_reached}
 use Rattle.overlay_terms.proofs.DefinitionLemmas.{passing, passing_no}
 
--- layers that differ at one name alone: what stands under it is replaced, or taken out
+-- layers that differ at one name alone: its content is replaced, or taken out
 pub data DifferAt (name : Name) : List Layer → List Layer → Type 0 where
   none : DifferAt name [] []
   other : (layer : Layer) (layers changed : List Layer) → bytes_eq layer.name name ≡ false → DifferAt name layers changed → DifferAt name (layer ∷ layers) (layer ∷ changed)
@@ -133,7 +133,7 @@ still_removed name known left layer has new s = record {
       s.same u (ap (λ ns. has_name ns name) (sym past) ∙ avoids) ∙ sym past;
 }
 
--- layers behind one more entry are orderly
+-- layers after one more entry are orderly
 orderly_behind : (known : Table) (layer : Layer) (layers : List Layer) → is_orderly_after (names_of known) (layer ∷ layers) ≡ true → is_orderly_after (names_of (with_reach known layer)) layers ≡ true
 orderly_behind known layer layers h =
     subst (λ ns. is_orderly_after ns layers ≡ true) (sym (map-append (λ (e : Name × List Name). e.0) known

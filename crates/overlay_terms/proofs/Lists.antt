@@ -7,7 +7,7 @@ use Rattle.std.proofs.lemmas.List.Elements.{Contains-append_left, Contains-appen
 pub any_from : {X : Type 0} (P : X → Type 0) (xs : List X) (x : X) → Contains xs x → P x → Any P xs
 any_from P xs x c h = (c.0, x, c.1, c.2, h)
 
--- what has the property stands in the list
+-- what has the property is in the list
 pub any_contains : {X : Type 0} (P : X → Type 0) (xs : List X) (a : Any P xs) → Contains xs a.1
 any_contains P xs a = (a.0, a.2, a.3)
 
@@ -15,7 +15,7 @@ any_contains P xs a = (a.0, a.2, a.3)
 pub any_left : {X : Type 0} (P : X → Type 0) (xs ys : List X) → Any P xs → Any P (xs ++ ys)
 any_left P xs ys a = any_from P (xs ++ ys) a.1 (Contains-append_left xs ys a.1 (any_contains P xs a)) a.4
 
--- an element is the first, or stands in the rest
+-- an element is the first, or is in the rest
 pub Contains-cons_cases : {X : Type 0} (a : X) (xs : List X) (x : X) → Contains (a ∷ xs) x → (a ≡ x) ⊎ Contains xs x
 Contains-cons_cases a xs x (zero, l, e) = inl e
 Contains-cons_cases a xs x (suc k, l, e) = inr (k, omega (arith, l), e)
@@ -56,7 +56,7 @@ contains_map {X} {Y} f (a ∷ xs) x c = by (contains_map f xs x) (Contains-cons_
   by more (inl e) = let same : f a ≡ f x = ap f e in (0, omega arith, same)
   by more (inr m) = contains_rest (f a) (map f xs) (f x) (more m)
 
--- what stands in a list of images is the image of one that stands in the list
+-- what is in a list of images is the image of one in the list
 pub from_map : {X Y : Type 0} (f : X → Y) (xs : List X) (y : Y) → Contains (map f xs) y → (x : X) × Contains xs x × (f x ≡ y)
 from_map f [] y c = absurd (none_in_empty y c)
 from_map {X} {Y} f (x ∷ xs) y c = by (from_map f xs y) (Contains-cons_cases (f x) (map f xs) y c) where

@@ -16,7 +16,7 @@ same_name a b = (bytes_eq-Decides a b).0
 pub name_itself : (a : Name) → bytes_eq a a ≡ true
 name_itself a = (bytes_eq-Decides a a).1 refl
 
--- false behind a test
+-- false after a test
 pub or_false : (b : Bool) → (b || false) ≡ b
 or_false true = refl
 or_false false = refl

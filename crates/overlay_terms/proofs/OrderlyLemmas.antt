@@ -8,12 +8,12 @@ use Rattle.overlay_terms.specs.Orderly.{used_names, is_among, is_orderly_after}
 use Rattle.overlay_terms.specs.Commands.{index_of, stands}
 use Rattle.overlay_terms.proofs.NameLemmas.{same_name, or_false, list_all_so, is_among-push}
 
--- a layer that may stand behind layers of the given names
+-- a layer that may come after layers of the given names
 pub record MayFollow (known : List Name) (layer : Layer) : Type 0 where
   pub new_name : is_among known layer.name ≡ false
   pub uses_known : list_all (is_among known) (used_names layer.content) ≡ true
 
--- the first of orderly layers, and those behind it
+-- the first of orderly layers, and those after it
 pub record Splits (known : List Name) (layer : Layer) (layers : List Layer) : Type 0 where
   pub first : MayFollow known layer
   pub rest : is_orderly_after (known ++ layer.name ∷ []) layers ≡ true
@@ -30,11 +30,11 @@ pub orderly_joins : (known : List Name) (layer : Layer) (layers : List Layer) �
 orderly_joins known layer layers h =
     and_from _ _ (and_from _ _ (not_from_false _ h.first.new_name) h.first.uses_known) h.rest
 
--- what stands under a name, replaced
+-- the content of a name, replaced
 abbrev pub replaced_by : Name → Content → Layer → Layer
 replaced_by name content layer = if bytes_eq layer.name name then record { name = name; content = content } else layer
 
--- whether a name stands before the place of another, or is known before
+-- whether a name is before the place of another, or is known before
 abbrev pub is_before : List Name → List Layer → Name → Name → Bool
 is_before known layers name used = is_among known used || not (nat_le (index_of layers name) (index_of layers used))
 
@@ -54,7 +54,7 @@ place_below m n h = leb-false m n (not-true (nat_le m n) h)
 below_place : (m n : ℕ) → n < m → not (nat_le m n) ≡ true
 below_place m n h = not_from_false (nat_le m n) (lt-leb m n h)
 
--- nothing but what is known stands before the first layer
+-- nothing but what is known is before the first layer
 before_first_place : (known : List Name) (layer : Layer) (layers : List Layer) (name used : Name) → bytes_eq layer.name name ≡ true → is_before known (layer ∷ layers) name used ≡ true → is_among known used ≡ true
 before_first_place known layer layers name used here h =
     ⊎_elim (λ e. e)
@@ -72,7 +72,7 @@ before_later_by known layer layers name used false e h =
     let later = place_later layer layers used e in
     or_right (is_among (known ++ layer.name ∷ []) used) _ (below_place (index_of layers name) (index_of layers used) (omega arith))
 
--- what stands before a later layer is the first one, or stands before it among the rest
+-- what is before a later layer is the first one, or is before it among the rest
 before_later_place : (known : List Name) (layer : Layer) (layers : List Layer) (name used : Name) → bytes_eq layer.name name ≡ false → is_before known (layer ∷ layers) name used ≡ true → is_before (known ++ layer.name ∷ []) layers name used ≡ true
 before_later_place known layer layers name used elsewhere h =
     ⊎_elim (λ e. or_left _ _ (is_among-push known layer.name used ∙ or_left _ _ e))
@@ -86,7 +86,7 @@ before_later_place known layer layers name used elsewhere h =
 still_known : (known : List Name) (layers : List Layer) (m name used : Name) → is_among known used ≡ true → is_before (known ++ m ∷ []) layers name used ≡ true
 still_known known layers m name used e = or_left _ _ (is_among-push known m used ∙ or_left _ _ e)
 
--- layers stay orderly behind any names where the content that stands under a name uses only what is before
+-- layers stay orderly after any names where the content of a name uses only what is before
 abbrev StaysOrderly : List Layer → Name → Content → Type 0
 StaysOrderly layers name content =
     (known : List Name) → list_all (is_before known layers name) (used_names content) ≡ true → is_orderly_after known layers ≡ true → is_orderly_after known (map (replaced_by name content) layers) ≡ true
@@ -118,7 +118,7 @@ replaced_in_front layer layers name content false elsewhere again known uses_bef
           parts.rest;
     })
 
--- what stands under a name may be replaced by what uses only names before it
+-- the content of a name may be replaced by what uses only names before it
 pub orderly-replaced : (layers : List Layer) (name : Name) (content : Content) → StaysOrderly layers name content
 orderly-replaced [] name content known uses_before h = refl
 orderly-replaced (layer ∷ layers) name content known uses_before h =
@@ -138,7 +138,7 @@ pub is_known-cons : (known : List Name) (layer : Layer) (layers : List Layer) (n
 is_known-cons known layer layers name =
     or_assoc (is_among known name) (bytes_eq layer.name name) (stands layers name) ∙ ap (λ b. b || stands layers name) (sym (is_among-push known layer.name name))
 
--- a layer with a new name, over what stands, may stand last
+-- a layer with a new name, over what is there, may come last
 pub orderly-push : (known : List Name) (layers : List Layer) (layer : Layer) → is_orderly_after known layers ≡ true → is_known known layers layer.name ≡ false → list_all (is_known known layers) (used_names layer.content) ≡ true → is_orderly_after known (layers ++ layer ∷ []) ≡ true
 orderly-push known [] layer h new uses_known =
     orderly_joins known layer [] (record {

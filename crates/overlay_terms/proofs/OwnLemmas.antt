@@ -17,7 +17,7 @@ use Rattle.overlay_terms.proofs.DefinitionLemmas.{derived_names, passing, passin
 known_now : (known : List Name) (m n : Name) → bytes_eq m n ≡ true → is_among (known ++ m ∷ []) n ≡ true
 known_now known m n e = is_among-push known m n ∙ or_right (is_among known n) _ e
 
--- a name that stands, but not as a base layer, stands as a derived one
+-- a name that is there, but not as a base layer, is there as a derived one
 pub derived_from_stands : (layers : List Layer) (name : Name) → stands layers name ≡ true → stands_as_base layers name ≡ false → stands_as_derived layers name ≡ true
 derived_from_stands [] name h none = h
 derived_from_stands (layer ∷ layers) name h none = by_kind (bytes_eq layer.name name) (is_derived layer.content) (stands layers name) (stands_as_base layers name) (stands_as_derived layers name) h none (derived_from_stands layers name) where
@@ -27,7 +27,7 @@ derived_from_stands (layer ∷ layers) name h none = by_kind (bytes_eq layer.nam
   by_kind true false s b d h none again = absurd (cc)
   by_kind false kind s b d h none again = again h none
 
--- a name that is known is no layer's behind
+-- a name that is known is no later layer's
 not_behind : (layers : List Layer) (known : List Name) (name : Name) → is_among known name ≡ true → is_orderly_after known layers ≡ true → stands_as_base layers name ≡ false
 not_behind [] known name e orderly = refl
 not_behind (layer ∷ layers) known name e orderly =
@@ -35,7 +35,7 @@ not_behind (layer ∷ layers) known name e orderly =
     let other = false_from_ne_true (bytes_eq layer.name name) (λ same. both_ways (is_among known layer.name) parts.first.new_name (ap (is_among known) (same_name layer.name name same) ∙ e)) in
     or_from _ _ (and_left _ _ other) (not_behind layers (known ++ layer.name ∷ []) name (is_among-push known layer.name name ∙ or_left _ _ e) parts.rest)
 
--- a base layer stands alone among those whose names pass a test
+-- a base layer is alone among those whose names pass a test
 pub record StandsAlone (name : Name) (layers : List Layer) : Type 0 where
   pub rings : List (List WholePoint)
   pub is : layers ≡ record { name = name; content = base rings } ∷ []
@@ -88,7 +88,7 @@ module _ (T : List (Name × List Name)) (name : Name) where
     abbrev IsLast : List Layer → Type 0
     IsLast layers = (default : Bool) → last_or default (map value (derived_names (passing (is_reached T name) layers))) ≡ value name
 
-    -- layers behind one have the last
+    -- layers after one have the last
     last_behind : (n : Name) (content : Content) (b : Bool) (layers : List Layer) → is_reached T name n ≡ b → IsLast layers → IsLast (record { name = n; content = content } ∷ layers)
     last_behind n content false layers out later default =
         ap (λ ls. last_or default (map value (derived_names ls))) (passing_no (is_reached T name) (record { name = n; content = content }) layers out) ∙ later default

@@ -1,4 +1,4 @@
--- What a layer reaches: with a layer the layers that it uses, and nothing that stands behind it.
+-- What a layer reaches: with a layer the layers that it uses, and nothing that comes after it.
 use Rattle.std.specs.Prelude.{◌≡◌, Bool, true, ◌&&◌, ◌||◌, List, [], ◌∷◌, ◌++◌, filter, flat_map, bytes_eq, if◌then◌else◌}
 use Rattle.std.specs.List.{list_any, list_all, AllByRecursion}
 use Rattle.std.proofs.Common.{refl, ap, sym, ◌∙◌, subst, ⊎_elim}
@@ -60,7 +60,7 @@ pub known_push : (P : Name → Type 0) (known : List Name) (m : Name) → ((n : 
 known_push P known m all_known last n e =
     ⊎_elim (λ old. all_known n old) (λ here. subst P (same_name m n here) last) (or_cases (is_among known n) (bytes_eq m n) (sym (is_among-push known m n) ∙ e))
 
--- where only known names pass a test, no layer behind them does
+-- where only known names pass a test, no layer after them does
 pub none_behind : (test : Name → Bool) (layers : List Layer) (known : List Name) → ((m : Name) → test m ≡ true → is_among known m ≡ true) → is_orderly_after known layers ≡ true → filter (λ layer. test layer.name) layers ≡ []
 none_behind test [] known h orderly = refl
 none_behind test (layer ∷ layers) known h orderly =
@@ -112,7 +112,7 @@ module _ (T : List (Name × List Name)) where
   itself_row name (base rings) row = ap (λ ns. has_name ns name) row ∙ or_left _ _ (name_itself name)
   itself_row name (derived expression) row = ap (λ ns. has_name ns name) row ∙ or_left _ _ (name_itself name)
 
-  -- a layer that stands reaches all that is reached from what it reaches
+  -- a layer that is there reaches all that is reached from what it reaches
   pub closed_all : (layers : List Layer) (known : List Name) → is_orderly_after known layers ≡ true → AreReachRows layers → ((n : Name) → is_among known n ≡ true → ReachesOn n) → (n : Name) → is_known known layers n ≡ true → ReachesOn n
   closed_all [] known orderly rows closed n e = closed n (sym (or_false (is_among known n)) ∙ e)
   closed_all (layer ∷ layers) known orderly rows closed n e =
@@ -121,7 +121,7 @@ module _ (T : List (Name × List Name)) where
       (known_push ReachesOn known layer.name closed (closed_row known layer.name layer.content rows.0 parts.first.uses_known closed)) n
       (sym (is_known-cons known layer layers n) ∙ e)
 
-  -- a layer that stands reaches itself
+  -- a layer that is there reaches itself
   pub itself_all : (layers : List Layer) (known : List Name) → AreReachRows layers → ((n : Name) → is_among known n ≡ true → is_reached n n ≡ true) → (n : Name) → is_known known layers n ≡ true → is_reached n n ≡ true
   itself_all [] known rows itself n e = itself n (sym (or_false (is_among known n)) ∙ e)
   itself_all (layer ∷ layers) known rows itself n e =

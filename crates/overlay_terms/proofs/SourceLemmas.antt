@@ -19,7 +19,7 @@ abbrev source_from : List Name → Name → List Name → ℕ → Source
 source_from definitions name [] k = definition_from name definitions 0
 source_from definitions name (b ∷ bs) k = if bytes_eq b name then base_bit k else source_from definitions name bs (k + 1)
 
--- what stands at the numbers from k on is the value of the names, one after the other
+-- each number from k on has the value of the name at its place
 abbrev pub Matches : (Name → Bool) → (ℕ → Bool) → List Name → ℕ → Type 0
 Matches value at [] k = Unit {0}
 Matches value at (n ∷ ns) k = (at k ≡ value n) × Matches value at ns (k + 1)
@@ -54,12 +54,12 @@ module _ (value : Name → Bool) (bits : ℕ → Bool) (known : List Bool) (u : 
   source_definition (n ∷ ns) more k matches h =
       definition_by n k (definition_from u (ns ++ more) (k + 1)) (bytes_eq n u) refl matches.0 (λ e. source_definition ns more (k + 1) matches.1 (or_second (bytes_eq n u) _ h e))
 
--- what stands behind a list is found by its length
+-- what comes after a list is found by its length
 found_behind : (done : List Bool) (x : Bool) (xs : List Bool) → unwrap_or (slice_get (done ++ x ∷ xs) (length done)) false ≡ x
 found_behind [] x xs = refl
 found_behind (d ∷ done) x xs = found_behind done x xs
 
--- the values of names, behind others, match the names
+-- the values of names, after others, match the names
 values_match : (value : Name → Bool) (ns : List Name) (done : List Bool) → Matches value (λ j. unwrap_or (slice_get (done ++ map value ns) j) false) ns (length done)
 values_match value [] done = tt
 values_match value (n ∷ ns) done = (

@@ -49,7 +49,7 @@ module _ {A : Type 0} (absent : A) (row : List (Name × A) → Layer → A) wher
   abbrev with_row : List (Name × A) → Layer → List (Name × A)
   with_row known layer = known ++ (layer.name, row known layer) ∷ []
 
-  -- the table of some layers behind a table
+  -- the table of some layers after a table
   abbrev pub table : List (Name × A) → List Layer → List (Name × A)
   table known layers = fold (λ known layer. known ++ (layer.name, row known layer) ∷ []) known layers
 
@@ -62,7 +62,7 @@ module _ {A : Type 0} (absent : A) (row : List (Name × A) → Layer → A) wher
     pub more : List (Name × A)
     pub is : all ≡ known ++ more
 
-  -- the table of layers behind a table goes on from it
+  -- the table of layers after a table goes on from it
   table_extends : (layers : List Layer) (known : List (Name × A)) → Extends known (table known layers)
   table_extends [] known = record { more = []; is = sym (append-nil known) }
   table_extends (layer ∷ layers) known =

@@ -17,7 +17,7 @@ same_tests true c h k = sym (h refl)
 same_tests false true h k = k refl
 same_tests false false h k = refl
 
--- two tests behind a third that agree where it passes
+-- two tests after a third that agree where it passes
 pub same_behind : (o f g : Bool) → (o ≡ true → f ≡ g) → (o && f) ≡ (o && g)
 same_behind true f g h = h refl
 same_behind false f g h = refl

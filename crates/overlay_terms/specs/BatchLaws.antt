@@ -47,7 +47,7 @@ abbrev pub AcceptedInTurn : Type 0
 AcceptedInTurn =
     (layers : List Layer) (batch : Batch) → (refusal_from 0 layers batch ≡ None) ↔ AllAccepted layers batch
 
--- a batch is refused for the first command that is refused behind accepted ones, whatever comes behind it
+-- a batch is refused for the first command that is refused after accepted ones, whatever comes after it
 abbrev pub FirstIsTold : Type 0
 FirstIsTold =
     (layers : List Layer) (before after : Batch) (command : Command) (reason : Refusal) →
@@ -62,7 +62,7 @@ BatchKeepsExact =
     IsOrderly old.layers → TilesFit old → TilesAreExact old →
     IsOrderly new.layers × TilesFit new × TilesAreExact new
 
--- a batch leaves no more layers than may stand
+-- a batch leaves no more layers than there may be
 abbrev pub BatchLeavesRoom : Type 0
 BatchLeavesRoom =
     (old new : Version) (batch : Batch) → FollowsBatch old batch new →

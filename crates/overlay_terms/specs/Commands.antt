@@ -31,7 +31,7 @@ index_of (layer ∷ layers) name = if bytes_eq layer.name name then 0 else index
 abbrev pub stands : List Layer → Name → Bool
 stands layers name = list_any (λ layer. bytes_eq layer.name name) layers
 
--- whether what stands under a name is an expression
+-- whether the content of a name is an expression
 abbrev pub is_derived : Content → Bool
 is_derived (base rings) = false
 is_derived (derived expression) = true
@@ -62,7 +62,7 @@ abbrev pub refusal_of_put : List Layer → Name → Option Refusal
 refusal_of_put layers name =
     option_or (when (stands_as_derived layers name) not_base) (when (is_crowded layers name) too_many_layers)
 
--- why a definition may not name a name: no layer has it; its layer stands where the defined one does, or behind
+-- why a definition may not name a name: no layer has it; its layer is the defined one, or comes after it
 abbrev pub refusal_of_use : List Layer → Name → Name → Option Refusal
 refusal_of_use layers defined used =
     option_or (when (not (stands layers used)) unknown_layer) (when (nat_le (index_of layers defined) (index_of layers used)) later_layer)
@@ -100,7 +100,7 @@ abbrev pub refusal_at : ℕ → List Layer → Command → Option Refusal
 refusal_at number layers command =
     option_or (refusal_of layers command) (when (number == version_max) version_limit)
 
--- what stands under a name is replaced in its place, or stands last
+-- the content of a name is replaced in its place, or comes last
 abbrev pub with_content : List Layer → Name → Content → List Layer
 with_content layers name content =
     if stands layers name then map (λ (layer : Layer). if bytes_eq layer.name name then record { name = name; content = content } else layer) layers

@@ -25,12 +25,12 @@ IsTileAt cap input (pieces ends) = (length ends ≤ cap) × IsTileOf input.marke
 IsTileAt cap input oversize =
     (ends : List (Point × Point)) × (cap < length ends) × IsTileOf input.marked input.steps input.column ends
 
--- whether pieces stand behind one, each before the next: by the left end, then by the right end
+-- whether pieces come after one, each before the next: by the left end, then by the right end
 abbrev pub is_rising_from : Point × Point → List (Point × Point) → Bool
 is_rising_from a [] = true
 is_rising_from a (b ∷ bs) = is_lt (pair_cmp a b) && is_rising_from b bs
 
--- whether each piece stands before the next
+-- whether each piece comes before the next
 abbrev pub is_rising : List (Point × Point) → Bool
 is_rising [] = true
 is_rising (a ∷ bs) = is_rising_from a bs

@@ -13,7 +13,7 @@ pub record IsWithCommands (start : Version) (batches : List Batch) (version : Ve
 abbrev pub NewestHasCommands : Type 0
 NewestHasCommands = (history : History) → IsHistory history → IsWithCommands history.start (accepted_in history.entries) (newest history)
 
--- the batches of a session are those among all that are told of with its number
+-- the batches of a session are those among all that are listed with its number
 abbrev pub OwnAreAmongAll : Type 0
 OwnAreAmongAll =
     (session : ℕ) (entries : List Entry) → commands_of session entries ≡ map (λ c. c.1) (filter (λ c. c.0 == session) (commands_in entries))

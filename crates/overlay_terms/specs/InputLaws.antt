@@ -1,4 +1,4 @@
--- Laws over inputs: what rings leave behind as segments.
+-- Laws over inputs: the segments that rings leave.
 use Rattle.std.specs.Prelude.{◌≡◌, ℕ, ◌+◌, ◌%◌, ◌<◌, ◌≤◌, IsTrue, List, length, filter, filter_map, count_by, All}
 use Rattle.overlay_terms.specs.Plane.{WholePoint, Segment, same_whole, is_closed, segments_of, InRange}
 use Rattle.overlay_terms.specs.Column.{column_count, touches}
@@ -35,7 +35,7 @@ ClosedIsInput =
     (marked : List Marked) (steps : Steps) (k : ℕ) → k < column_count → steps.bases ≤ layers_max → All (λ m. m.layer < steps.bases) marked → AreClosed marked →
     IsInput (record { column = k; marked = filter (λ m. touches k m.segment) marked; steps = steps })
 
--- where the rings of base layers are rings, and no more layers than may stand, the input of the tile of a layer and column is an input
+-- where the rings of base layers are rings, and no more layers than there may be, the input of the tile of a layer and column is an input
 abbrev pub InputOfIsInput : Type 0
 InputOfIsInput =
     (layers : List Layer) (name : Name) (k : ℕ) → k < column_count → length layers ≤ layers_max → All (λ b. All IsRing b.1) (filter_map base_of layers) →

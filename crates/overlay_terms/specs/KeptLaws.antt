@@ -26,7 +26,7 @@ OnlyReachIsTouched =
     (layers : List Layer) (command : Command) (name : Name) (k : ℕ) → IsOrderly layers → refusal_of layers command ≡ None →
     IsTrue (is_touched layers command name k) → IsTrue (list_any (bytes_eq name) (derived_over layers (name_of command)))
 
--- tiles fit layers: each is of a derived layer that stands, and of a column that there is
+-- tiles fit layers: each is of a derived layer among them, and of a column that there is
 abbrev pub AreFitting : List Layer → List Finished → Type 0
 AreFitting layers tiles =
     (name : Name) (k : ℕ) (tile : Tile) → tile_at tiles name k ≡ Some tile → IsTrue (stands_as_derived layers name) × (k < column_count)
@@ -50,7 +50,7 @@ ExactnessStays =
     (old new : Version) (event : Event) → Follows old event new → IsOrderly old.layers → TilesFit old → TilesAreExact old →
     TilesFit new × TilesAreExact new
 
--- what is published leaves orderly layers orderly, and no more than may stand where there were no more
+-- what is published leaves orderly layers orderly, and no more than there may be where there were no more
 abbrev pub LayersStayOrderly : Type 0
 LayersStayOrderly =
     (old new : Version) (event : Event) → Follows old event new →
@@ -66,7 +66,7 @@ pub record IsExact (version : Version) : Type 0 where
 abbrev pub HistoryIsExact : Type 0
 HistoryIsExact = (history : History) → IsHistory history → IsExact history.start → IsExact (newest history)
 
--- the newest version of a history has no more layers than may stand where its first one has
+-- the newest version of a history has no more layers than there may be where its first one has
 abbrev pub HistoryHasRoom : Type 0
 HistoryHasRoom =
     (history : History) → IsHistory history → length history.start.layers ≤ layers_max → length (newest history).layers ≤ layers_max

@@ -4,7 +4,7 @@ use Rattle.std.specs.List.{list_any, enumerate_from, filter_map}
 use Rattle.overlay_terms.specs.Plane.{WholePoint, Point, Segment, segments_of, is_inside, is_on}
 use Rattle.overlay_terms.specs.Trees.{Tree, truth, leaves, relabel, Source, base_bit, definition, Steps}
 
--- the most layers that stand at a time
+-- the most layers that there are at a time
 abbrev pub layers_max : ℕ
 layers_max = 32
 
@@ -17,7 +17,7 @@ pub data Content : Type 0 where
   base : List (List WholePoint) → Content
   derived : Tree Name → Content
 
--- a layer: what stands under a name
+-- a layer: a name and its content
 pub record Layer : Type 0 where
   pub name : Name
   pub content : Content

@@ -13,7 +13,7 @@ used_names (derived expression) = leaves expression
 abbrev pub is_among : List Name → Name → Bool
 is_among names name = list_any (λ other. bytes_eq other name) names
 
--- layers that stand behind layers of the given names: each has a name of its own and names only those before it
+-- layers that come after layers of the given names: each has a name of its own and names only those before it
 abbrev pub is_orderly_after : List Name → List Layer → Bool
 is_orderly_after known [] = true
 is_orderly_after known (layer ∷ layers) =

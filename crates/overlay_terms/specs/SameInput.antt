@@ -45,7 +45,7 @@ same_marked m n = m.layer == n.layer && same_segment m.segment n.segment
 abbrev pub same_input : Input → Input → Bool
 same_input a b = a.column == b.column && pointwise same_marked a.marked b.marked && same_steps a.steps b.steps
 
--- what a source and a tree are made of, by which two are told apart
+-- what a source and a tree are made of, by which two are compared
 abbrev number_of : Source → ℕ
 number_of (base_bit k) = k
 number_of (definition k) = k

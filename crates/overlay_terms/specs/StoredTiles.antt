@@ -6,7 +6,7 @@ use Rattle.overlay_terms.specs.Layers.{Layer}
 use Rattle.overlay_terms.specs.Commands.{index_of, stands_as_derived}
 use Rattle.overlay_terms.specs.Histories.{Finished, is_formed}
 
--- whether a tile stands before another: its layer earlier, or of one layer its column
+-- whether a tile comes before another: its layer earlier, or of one layer its column
 abbrev pub is_tile_before : List Layer → Finished → Finished → Bool
 is_tile_before layers a b =
     nat_lt (index_of layers a.name) (index_of layers b.name) || (bytes_eq a.name b.name && nat_lt a.column b.column)

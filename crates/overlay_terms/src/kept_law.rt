@@ -17,7 +17,7 @@ pub fn exactness_stays()
     ensures { ExactnessStays }
 {}
 
-/// The layers of the next version are orderly where those of a version are, and no more than may stand where those are no more.
+/// The layers of the next version are orderly where those of a version are, and no more than there may be where those are no more.
 pub fn layers_stay_orderly()
     ensures { LayersStayOrderly }
 {}
@@ -27,7 +27,7 @@ pub fn history_is_exact()
     ensures { HistoryIsExact }
 {}
 
-/// Where a history's first version has no more layers than may stand, so has its newest.
+/// Where a history's first version has no more layers than there may be, so has its newest.
 pub fn history_has_room()
     ensures { HistoryHasRoom }
 {}

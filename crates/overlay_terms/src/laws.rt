@@ -22,7 +22,7 @@ pub fn edge_exactly_on_segments()
     ensures { EdgeExactlyOnSegments }
 {}
 
-/// The order of points over positive denominators is total, and those that it does not tell apart are the same place.
+/// The order of points over positive denominators is total, and those of which neither comes first are the same place.
 pub fn order_is_total()
     ensures { OrderIsTotal }
 {}
@@ -32,7 +32,7 @@ pub fn same_place_same_answer()
     ensures { SamePlaceSameAnswer }
 {}
 
-/// What accepted commands leave has no name twice, and each definition is over earlier layers; there are no more than may stand.
+/// What accepted commands leave has no name twice, and each definition is over earlier layers; they are no more than there may be.
 pub fn accepted_is_orderly()
     ensures { AcceptedIsOrderly }
 {}

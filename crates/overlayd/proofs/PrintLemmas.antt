@@ -3,7 +3,7 @@ use Rattle.std.proofs.Common.{◌≡◌, ◌++◌, ◌∷◌, [], ◌∙◌, ◌
 use Rattle.std.proofs.lemmas.List.{append-nil, length-map, length-take-le, map-append, take_more}
 use Rattle.overlayd.specs.Printing.{session_text, texts_from}
 
--- the texts from a number on, with one more behind them
+-- the texts from a number on, with one more after them
 texts_push : (several : Bool) (number : ℕ) (all : List (List ℕ)) (last : List ℕ)
     → texts_from several number (all ++ last ∷ []) ≡ texts_from several number all ++ session_text several (number + length all) last
 unfolding texts_from

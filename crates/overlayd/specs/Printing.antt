@@ -8,7 +8,7 @@ use Rattle.session_threads.specs.declared.port.Finished.{Finished}
 abbrev pub replies_of : Finished (Vec ℕ Global) → List ℕ
 replies_of finished = finished.writer.items
 
--- the replies of a session, behind a line with its number where there are several
+-- the replies of a session, after a line with its number where there are several
 abbrev pub session_text : Bool → ℕ → List ℕ → List ℕ
 session_text true number replies = codes "# script " ++ decimal number ++ 10 ∷ replies
 session_text false number replies = replies

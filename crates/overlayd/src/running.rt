@@ -19,8 +19,8 @@ use std::thread::Threads;
 use tile_workers::gate::OpenGate;
 
 /// Runs the scripts that the words name, and prints what each session wrote. It says whether every script was read to
-/// its end and the newest version is in the store, where there is one. The fault is one that no session's replies tell:
-/// the store refuses the newest version, the replies can't be printed, or a session had no memory.
+/// its end and the newest version is in the store, where there is one. The fault is one that no session's replies
+/// report: the store refuses the newest version, the replies can't be printed, or a session had no memory.
 pub fn run<Q: Env + Files<File = File> + Threads + Wait + Sync + AllocGlobal>(
     rt: &Q,
     input: Stdin,

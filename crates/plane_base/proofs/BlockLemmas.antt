@@ -7,7 +7,7 @@ use Rattle.overlay_terms.specs.Plane.{Segment}
 use Rattle.plane_base.specs.Bounds.{Holds, Cover}
 use Rattle.plane_base.specs.declared.bounds.Bounds.{Bounds}
 
--- behind the blocks so far, and one more
+-- after the blocks so far, and one more
 pub after_next : (segs rest : List Segment) (i : ℕ) → rest ≡ drop (32 * i) segs → drop 32 rest ≡ drop (32 * (i + 1)) segs
 after_next segs rest i e = ap (drop 32) e ∙ drop-drop 32 (32 * i) segs ∙ ap (λ n. drop n segs) (omega arith)
 
@@ -15,7 +15,7 @@ pub up_to_next : (segs rest : List Segment) (i : ℕ) → rest ≡ drop (32 * i)
 up_to_next segs rest i e =
     ap (λ r. take (32 * i) segs ++ take 32 r) e ∙ sym (take-add (32 * i) 32 segs) ∙ ap (λ n. take n segs) (omega arith)
 
--- a block more at the end, behind whole blocks
+-- a block more at the end, after whole blocks
 cover_more : (bounds : List Bounds) (b : Bounds) (xs ys : List Segment) → length xs ≡ 32 * length bounds → length ys ≤ 32 → Cover bounds xs → AllByRecursion (Holds b) ys → Cover (bounds ++ b ∷ []) (xs ++ ys)
 cover_more [] b xs ys whole few e held =
     rw e (rw (take_all 32 ys few) held, drop_of_length-le ys few)

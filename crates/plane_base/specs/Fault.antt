@@ -12,7 +12,7 @@ code_of (RingShort _) = 5
 code_of TooManySegments = 6
 code_of OutOfMemory = common.code_of faults.OutOfMemory
 
--- the text that is printed behind the number
+-- the text that is printed after the number
 abbrev pub text_of : PlaneFault → List ℕ
 text_of CoordRange = codes "coordinate out of range"
 text_of (RingOpen ring) = codes "ring " ++ (decimal ring ++ codes " open")

@@ -98,7 +98,7 @@ fn is_within_limit(rings: &[Ring]) -> bool
     true
 }
 
-/// Closed rings and their segments, which stand in blocks too.
+/// Closed rings and their segments, which are also kept in blocks.
 #[derive(Debug, Drop)]
 pub struct BaseLayer {
     rings: Vec<Ring>,

@@ -10,8 +10,8 @@ use std::marker::Model;
 /// How many segments a block has; the last one may have fewer.
 pub(crate) const SEGMENTS_PER_BLOCK: usize = 32;
 
-/// A list of segments. Beside it stand the same segments by the x of their left ends, in blocks of 32 with their
-/// ranges of x and y.
+/// A list of segments, and the same segments again by the x of their left ends, in blocks of 32 with their ranges
+/// of x and y.
 #[derive(Debug, Drop)]
 pub struct Blocks {
     segs: Vec<Seg>,
@@ -56,7 +56,7 @@ impl Blocks {
         &self.segs
     }
 
-    /// The same segments by the x of their left ends, behind the ranges of each 32 of them.
+    /// The ranges of each 32 segments, and the same segments by the x of their left ends.
     pub fn ordered(&self) -> (&[Bounds], &[Seg])
         ensures same { IsPermutation self.now result.1.now }
         ensures cover { Cover result.0.now result.1.now }

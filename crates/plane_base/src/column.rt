@@ -1,4 +1,4 @@
-//! The columns of the plane. How many there are and how wide they are stands here alone.
+//! The columns of the plane. How many there are and how wide they are is said here alone.
 ghost use Rattle.std.specs.Prelude.{◌≡◌, ◌≤◌, ◌<◌, ◌*◌, ◌≤ℤ◌, ◌*ℤ◌, ◌<ℤ◌, neg_ℤ, pos, ℕ, ◌+◌, SomeIff, IfSome, IsSome, ◌↔◌};
 ghost use Rattle.overlay_terms.specs.Column.{border, column_count, IsInColumn, IsInPlane};
 ghost use Rattle.overlay_terms.specs.Plane.{denominator_max, InRange};

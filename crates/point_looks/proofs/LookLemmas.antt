@@ -1,4 +1,4 @@
--- What the whole numbers next to a point's coordinates tell of a segment.
+-- What the whole numbers next to a point's coordinates say of a segment.
 use Rattle.std.proofs.Common.{◌≡◌, inl, inr, ℤ, pos, ◌+ℤ◌, ◌-ℤ◌, ◌*ℤ◌, ◌<ℤ◌, ◌≤ℤ◌, refl, sym, ◌∙◌, subst, arith, true, false, Bool, ◌&&◌}
 use Rattle.std.proofs.lemmas.Int.{ints, by_lt_z}
 use Rattle.std.proofs.Math.IntN.{*ℤ_comm, zero-*ℤ}
@@ -74,7 +74,7 @@ less : (a b : ℤ) → pos 0 <ℤ a → b <ℤ pos 0 → (a *ℤ b) <ℤ pos 0
 less a b h k = omega (arith, ints, negative_times b a k h, *ℤ_comm a b)
 
 module _ (s : Segment) (p : Point) where
-  -- a segment that begins behind the point, by x, and one that ends before it
+  -- a segment that begins after the point, by x, and one that ends before it
   pub below_behind : p.x <ℤ (s.left.x *ℤ p.w) → false ≡ is_below s p
   below_behind l = not_true (is_below s p) (λ t.
       let parts = and3_parts (int_le (s.left.x *ℤ p.w) p.x) (int_lt p.x (s.right.x *ℤ p.w)) (int_lt (pos 0) (height_over s p)) t in
@@ -153,7 +153,7 @@ module _ (s : Segment) (p : Point) (positive : pos 0 <ℤ p.w) (after : (s.left.
       let wide = wide_between (omega (arith, ints, wide_left r.from_left low, before)) in
       omega (arith, ints, under wide low lower, r.level))
 
-  -- what is below both ends is below the point where it ends behind it, and does not hold it
+  -- what is below both ends is below the point where it ends after it, and does not hold it
   pub below_higher : (n : ℤ) → IsFloor n p.x p.w → (s.left.y *ℤ p.w) <ℤ p.y → (s.right.y *ℤ p.w) <ℤ p.y → int_lt n s.right.x ≡ is_below s p
   below_higher n h high higher =
       second_decides (int_le (s.left.x *ℤ p.w) p.x) (int_lt p.x (s.right.x *ℤ p.w)) (int_lt (pos 0) (height_over s p)) (int_lt n s.right.x)

@@ -4,7 +4,7 @@ ghost use Rattle.point_looks.specs.Floor.{IsFloor, IsCeil};
 use crate::flooring::{ceil, floor};
 use exact_point::HPoint;
 
-/// A point, and the whole numbers next to its x and y: comparisons with them tell most segments from it.
+/// A point, and the whole numbers next to its x and y: most segments need comparisons with them alone.
 #[derive(Clone, Copy, Debug)]
 pub struct Spot {
     pub(crate) at: HPoint,

@@ -39,7 +39,7 @@ ends_of all = record {
   written = list_all (λ one. was_written one.end) all;
 }
 
--- the fault of which no session's replies tell
+-- the fault of which no session's replies report
 abbrev pub unsaid_by : (run written : Bool) → Option ProgramFault
 unsaid_by false written = Some OutOfMemory
 unsaid_by true false = Some Write
@@ -53,8 +53,8 @@ abbrev pub complete_or : Option ProgramFault → Bool → Result Bool ProgramFau
 complete_or None complete = Ok complete
 complete_or (Some fault) complete = Err fault
 
--- what a run comes to: the store's fault, that replies could not be printed, a session's that no reply tells, the first
--- that applies; else whether the newest version is stored and each script was read to its end
+-- what a run comes to: the store's fault, that replies could not be printed, a session's that no reply reports, the
+-- first that applies; else whether the newest version is stored and each script was read to its end
 abbrev pub conclusion : Result Bool ProgramFault → Bool → Ends → Result Bool ProgramFault
 conclusion (Err fault) printed ends = Err fault
 conclusion (Ok stored) false ends = Err Write
@@ -94,6 +94,6 @@ abbrev pub unstored : Option StoreFault → Result Bool ProgramFault
 unstored None = Ok false
 unstored (Some fault) = Err (Store (told_of fault))
 
--- whether the newest version is where it is to be, and the store's fault where it told one
+-- whether the newest version is where it is to be, and the store's fault where it reported one
 abbrev pub kept_by : {D : Type 0} → Keeping → Closed D → Result Bool ProgramFault
 kept_by keeping closed = if is_kept keeping closed then Ok true else unstored closed.fault

@@ -15,7 +15,7 @@ code_of OutOfMemory = common.code_of faults.OutOfMemory
 code_of Gone = common.code_of faults.Gone
 code_of Write = common.code_of faults.Write
 
--- the text that is printed behind the number
+-- the text that is printed after the number
 abbrev pub text_of : ProgramFault → List ℕ
 text_of Words = common.text_of faults.Words
 text_of Script = common.text_of faults.Read
@@ -24,7 +24,7 @@ text_of OutOfMemory = common.text_of faults.OutOfMemory
 text_of Gone = common.text_of faults.Gone
 text_of Write = common.text_of faults.Write
 
--- the exit status behind a fault: wrong words have one of their own
+-- the exit status after a fault: wrong words have one of their own
 abbrev pub status_of : ProgramFault → ℕ
 status_of Words = 2
 status_of Script = 1

@@ -56,7 +56,7 @@ fn were_written<W>(sessions: &[Finished<W>]) -> bool
 }
 
 /// The end of a run: whether each script was read to its end and the newest version is in the store, where it is to be. A
-/// fault is one that no session's replies tell: the store's, or else that the replies could not be written or that a
+/// fault is one that no session's replies report: the store's, or else that the replies could not be written or that a
 /// session had no memory. What is left of the book is that of the store that the words name.
 pub fn end_run<D>(
     keeping: &Keeping,
@@ -69,7 +69,7 @@ pub fn end_run<D>(
     ensures value { result ≡ conclusion (kept_by keeping.now closed.now) printed ends }
     // Status 0 means that nothing is missing.
     ensures whole { result ≡ Ok true → (is_kept keeping.now closed.now ≡ true) × (printed ≡ true) × (ends.at_end ≡ true) }
-    // Where no fault is told, each session has told its end itself.
+    // Where no fault is reported, each session has reported its end itself.
     ensures told { IfOk result (λ complete. (printed ≡ true) × (ends.run ≡ true) × (ends.written ≡ true)) }
 {
     let stored = has_stored(keeping, closed)?;

@@ -42,7 +42,7 @@ impl ProgramFault {
         }
     }
 
-    /// The exit status behind the fault.
+    /// The exit status after the fault.
     pub fn status(&self) -> u8
         ensures { result ≡ status_of self.now }
     {
@@ -63,7 +63,7 @@ impl ProgramFault {
         }
     }
 
-    /// The text that is printed behind the number.
+    /// The text that is printed after the number.
     pub fn text(&self) -> FaultText
         ensures text { shown result ≡ text_of self.now }
         ensures brief { IsBrief result }

@@ -6,7 +6,7 @@ use std::io::{ErrorKind, Stderr, Stdin, Stdout};
 use std::os::fd::{AsFd, IntoRawFd};
 use std::rt::Files;
 
-/// What stands in the place of a closed stream: it is in every file system, and can neither be read nor written.
+/// What takes the place of a closed stream: it is in every file system, and can neither be read nor written.
 const PLACE: &str = "/";
 
 /// Sees to it that no file which is opened afterwards gets the number of a standard stream that the program was started

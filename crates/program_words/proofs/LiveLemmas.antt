@@ -51,7 +51,7 @@ refused_live words all error is (inr among) other =
     (live_request_in (matches_of live_line (codes "overlay_live" ∷ words))) (kind_of error)
     (subst (λ (them : List Text). IsAmong (kind_of error) (fault_of live_line them)) is among)
 
--- one pair more, of the two texts behind those that make the pairs so far
+-- one pair more, of the two texts after those that make the pairs so far
 pub paths_more : {A : Type 0} (text : A → Text) (d : A) (pairs more : List (String Global × String Global)) (texts : List A) (i : ℕ) (from to : String Global)
     → more ≡ pairs ++ (from, to) ∷ [] → 2 * i + 1 < length texts → string_bytes from ≡ text (get_or texts (2 * i) d) → string_bytes to ≡ text (get_or texts (2 * i + 1) d)
     → paths_of pairs ≡ map text (take (2 * i) texts) → paths_of more ≡ map text (take (2 * (i + 1)) texts)

@@ -1,4 +1,4 @@
--- What the words behind the program's name ask for: `clap` finds what belongs to each option and which words are
+-- What the words after the program's name ask for: `clap` finds what belongs to each option and which words are
 -- scripts, and the limits are tested on that.
 use Rattle.std.specs.Prelude.{ℕ, ◌==◌, nat_le, Bool, true, false, ◌&&◌, ◌||◌, not, if◌then◌else◌, List, [], ◌∷◌, length, map}
 use Rattle.std.specs.Prelude.{Option, Some, None, is_some, unwrap_or, option_and_then, option_map, codes, bytes_eq, string_bytes}
@@ -10,13 +10,13 @@ use Rattle.program_words.specs.declared.keeping.Opening.{Opening}
 use Rattle.program_words.specs.declared.keeping.Opening.TheVariants.{Existing, New, ReadOnly}
 use Rattle.program_words.specs.declared.plan.Plan.{Plan}
 
--- whether a word may stand: one that begins with a hyphen is one of the four options, or the hyphen alone
+-- whether a word is allowed: one that begins with a hyphen is one of the four options, or the hyphen alone
 abbrev pub is_known : Text → Bool
 is_known [] = true
 is_known (b ∷ rest) = not (b == 45) || (let text = b ∷ rest in bytes_eq text (codes "-") || bytes_eq text (codes "--store")
     || bytes_eq text (codes "--create") || bytes_eq text (codes "--workers") || bytes_eq text (codes "--max-blocks"))
 
--- an option of this name, which takes the word behind it as its value
+-- an option of this name, which takes the word after it as its value
 abbrev pub option : Text → Rule
 option name = record (new_rule name) { long = Some name }
 
@@ -78,7 +78,7 @@ request_in rows =
     })) (number_or (first_of (codes "max-blocks") rows) 65536 1048576)) (number_or (first_of (codes "workers") rows) 2 8))
     (opening_of (is_set (first_of (codes "create") rows)) false (is_some (first_of (codes "store") rows)))
 
--- what the words behind the program's name ask for, if each may stand and `clap` has nothing against them
+-- what the words after the program's name ask for, if each is allowed and `clap` has nothing against them
 abbrev pub run_request_of : List Text → Option RunRequest
 run_request_of words =
     let all = codes "overlayd" ∷ words in

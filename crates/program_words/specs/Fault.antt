@@ -10,7 +10,7 @@ abbrev pub code_of : WordFault → ℕ
 code_of Words = common.code_of faults.Words
 code_of OutOfMemory = common.code_of faults.OutOfMemory
 
--- the text that is printed behind the number
+-- the text that is printed after the number
 abbrev pub text_of : WordFault → List ℕ
 text_of Words = common.text_of faults.Words
 text_of OutOfMemory = common.text_of faults.OutOfMemory

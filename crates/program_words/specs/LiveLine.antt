@@ -1,4 +1,4 @@
--- What the words behind the live program's name ask for: a text by one word, or sessions, by what `clap` finds as in
+-- What the words after the live program's name ask for: a text by one word, or sessions, by what `clap` finds as in
 -- CommandLine.
 use Rattle.std.specs.Prelude.{ℕ, ◌==◌, ◌%◌, nat_le, Bool, false, ◌&&◌, ◌||◌, if◌then◌else◌, List, [], ◌∷◌, length, flat_map}
 use Rattle.std.specs.Prelude.{Option, Some, None, is_some, unwrap_or, option_and_then, option_map, codes, bytes_eq, string_bytes}
@@ -12,7 +12,7 @@ use Rattle.program_words.specs.declared.live_plan.Asked.{Asked}
 use Rattle.program_words.specs.declared.live_plan.Asked.TheVariants as asked
 use Rattle.program_words.specs.declared.live_plan.LivePlan.{LivePlan}
 
--- whether a word may stand: as for the other program, and one option more
+-- whether a word is allowed: as for the other program, and one option more
 abbrev pub is_known_live : Text → Bool
 is_known_live text = is_known text || bytes_eq text (codes "--read-only")
 
@@ -49,7 +49,7 @@ live_request_in rows =
     })) (number_or (first_of (codes "max-blocks") rows) 65536 1048576)) (number_or (first_of (codes "workers") rows) 2 8))
     (opening_of (is_set (first_of (codes "create") rows)) (is_set (first_of (codes "read-only") rows)) (is_some (first_of (codes "store") rows)))
 
--- what words ask of a run, if each may stand and `clap` has nothing against them
+-- what words ask of a run, if each is allowed and `clap` has nothing against them
 abbrev pub live_request_of : List Text → Option LiveRequest
 live_request_of words =
     let all = codes "overlay_live" ∷ words in
@@ -61,12 +61,12 @@ pub data Question : Type 0 where
   Version : Question
   Run : LiveRequest → Question
 
--- whether a word stands alone
+-- whether a word is given alone
 abbrev pub is_alone : Text → List Text → Bool
 is_alone text (word ∷ []) = bytes_eq word text
 is_alone text _ = false
 
--- what the words behind the program's name ask for, if they are those of the synopsis
+-- what the words after the program's name ask for, if they are those of the synopsis
 abbrev pub question_of : List Text → Option Question
 question_of words =
     if is_alone (codes "--help") words then Some Help

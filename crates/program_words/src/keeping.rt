@@ -1,4 +1,4 @@
-//! What both programs are told of their store and their workers.
+//! What the words say to both programs of their store and their workers.
 ghost use Rattle.std.specs.Prelude.{◌≤◌, ◌≡◌, ◌≢◌, true, is_some};
 ghost use Rattle.program_words.specs.declared.keeping.Opening.TheVariants.{Existing};
 

@@ -1,4 +1,4 @@
-//! The words behind the names of the two programs, as plans.
+//! The words after the names of the two programs, as plans.
 #![tactic(auto)]
 
 pub mod fault;

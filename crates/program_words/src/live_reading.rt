@@ -17,7 +17,7 @@ use crate::reading::is_known;
 use clap::{ArgMatches, Command, Error};
 use std::alloc::{AllocError, Global};
 
-/// What the words behind the program's name ask for: `--help` or `--version` alone, or `[--store FILE] [--create |
+/// What the words after the program's name ask for: `--help` or `--version` alone, or `[--store FILE] [--create |
 /// --read-only] [--workers N] [--max-blocks N] [IN OUT]...`, in any order. Each other word that begins with a hyphen,
 /// but for the hyphen alone, an option that comes twice or lacks its value, a number outside its limits, a path without
 /// the other of its pair, more than four pairs, and `--create` or `--read-only` without `--store` or beside one another
@@ -61,14 +61,14 @@ fn read_run(alloc: Global, words: &[String]) -> Result<LivePlan, WordFault>
     }
 }
 
-/// Whether each word may stand.
+/// Whether each word is allowed.
 fn all_known(words: &[String]) -> bool
     ensures { result ≡ list_all (λ word. is_known_live (string_bytes word)) words.now }
 {
     words.iter().all(|word| is_known_live(word.as_bytes()))
 }
 
-/// Whether a word may stand: there is one option more than the other program has.
+/// Whether a word is allowed: there is one option more than the other program has.
 fn is_known_live(word: &[u8]) -> bool
     ensures { result ≡ is_known_live word.now }
 {
@@ -84,7 +84,7 @@ fn matched<'a>(alloc: Global, words: &'a [&'a str]) -> Result<ArgMatches<'a>, Er
     line.try_get_matches_from(words)
 }
 
-/// The program's command line, as `clap` is told of it.
+/// The program's command line, as `clap` is given it.
 fn live_line<'a>(alloc: Global) -> Result<Command<'a>, AllocError>
     ensures { IfOk result (λ line. app_of line ≡ live_line) }
 {

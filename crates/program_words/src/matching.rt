@@ -13,7 +13,7 @@ use clap::error::ErrorKind;
 use clap::{Arg, ArgAction, ArgMatches, Error};
 use std::alloc::{AllocError, Global};
 
-/// The words behind a name of the program, as `clap` wants them.
+/// The words after a name of the program, as `clap` wants them.
 pub(crate) fn named<'a>(
     alloc: Global,
     program: &'a str,
@@ -29,7 +29,7 @@ pub(crate) fn named<'a>(
     Ok(all)
 }
 
-/// An option of this name, which takes the word behind it as its value.
+/// An option of this name, which takes the word after it as its value.
 pub(crate) fn option<'a>(alloc: Global, name: &'a str) -> Arg<'a>
     ensures rule { rule_of result ≡ option name.entry.now }
     ensures local { result.global ≡ false }

@@ -4,7 +4,7 @@ use std::env;
 use std::env::Env;
 use std::io::ErrorKind;
 
-/// The words behind the program's name. One that is not UTF-8 is a wrong word.
+/// The words after the program's name. One that is not UTF-8 is a wrong word.
 pub fn own_words<Q: Env + AllocGlobal>(rt: &Q) -> Result<Vec<String>, WordFault> {
     match env::args(rt) {
         Ok(words) => {

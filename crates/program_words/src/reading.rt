@@ -16,7 +16,7 @@ use crate::plan::{BLOCKS_MAX, Plan, SCRIPTS_MAX, WORKERS_MAX};
 use clap::{ArgMatches, Command, Error};
 use std::alloc::{AllocError, Global};
 
-/// What the words behind the program's name ask for: `[--store FILE] [--create] [--workers N] [--max-blocks N]
+/// What the words after the program's name ask for: `[--store FILE] [--create] [--workers N] [--max-blocks N]
 /// [SCRIPT]...`, in any order. Each other word that begins with a hyphen, but for the hyphen alone, an option that
 /// comes twice or lacks its value, a number outside its limits, more than four scripts and `--create` without
 /// `--store` are the fault `Words`.
@@ -34,14 +34,14 @@ pub fn read_words(alloc: Global, words: &[String]) -> Result<Plan, WordFault>
     }
 }
 
-/// Whether each word may stand.
+/// Whether each word is allowed.
 fn all_known(words: &[String]) -> bool
     ensures { result ≡ list_all (λ word. is_known (string_bytes word)) words.now }
 {
     words.iter().all(|word| is_known(word.as_bytes()))
 }
 
-/// Whether a word may stand: one that begins with a hyphen is an option, or the hyphen alone.
+/// Whether a word is allowed: one that begins with a hyphen is an option, or the hyphen alone.
 pub(crate) fn is_known(word: &[u8]) -> bool
     ensures { result ≡ is_known word.now }
 {
@@ -66,7 +66,7 @@ fn matched<'a>(alloc: Global, words: &'a [&'a str]) -> Result<ArgMatches<'a>, Er
     line.try_get_matches_from(words)
 }
 
-/// The program's command line, as `clap` is told of it.
+/// The program's command line, as `clap` is given it.
 fn command_line<'a>(alloc: Global) -> Result<Command<'a>, AllocError>
     ensures { IfOk result (λ line. app_of line ≡ command_line) }
 {
@@ -104,7 +104,7 @@ fn planned(alloc: Global, matches: &ArgMatches<'_>) -> Result<Plan, WordFault>
     })
 }
 
-/// Whether so many scripts may stand.
+/// Whether so many scripts are allowed.
 fn are_few(scripts: usize) -> bool
     ensures value { result ≡ are_few scripts }
     ensures few { IsTrue result → scripts ≤ 4 }

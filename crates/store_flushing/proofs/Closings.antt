@@ -55,7 +55,7 @@ module _ {D : Type 0} (g : Ghosts D) (was now : History) (on : BeginsWith now wa
   exactly_left None stored disk is = tt
   exactly_left (Some f) stored disk is = λ store idle. left (IsFileExactlyIn now) f stored disk is.0 is.1 (exactly_on f store idle)
 
-  -- what was written down is all that the log tells
+  -- what was written down is all that the log reports
   pub told_left : IsHistory now → (newest now).durable ≡ (newest was).durable → (told : List Told) → (o : Option (Flusher D g)) (stored : ℕ) (disk : Option D) → IsLeftOf o stored disk
       → IfSome o (λ f. IfSome disk (λ d. TellsOn g was told f.commit.disk now told d))
   told_left history same told None stored disk is = tt

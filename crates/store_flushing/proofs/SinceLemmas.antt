@@ -1,4 +1,4 @@
--- Which tiles a later version has, and how the numbers of versions tell that none was kept between them.
+-- Which tiles a later version has, and how the numbers of versions say that none was kept between them.
 use Rattle.std.specs.Prelude.{◌≡◌, ℕ, ◌+◌, ◌-◌, ◌≤◌, length, ◌==◌, Bool, true, false, List, [], ◌∷◌, ◌++◌, Option, Some, None, if◌then◌else◌}
 use Rattle.std.proofs.Common.{refl, sym, ◌∙◌, ap, subst, arith, length-append}
 use Rattle.std.specs.List.{cons_option}
@@ -8,7 +8,7 @@ use mathlib.Core.List.{IsPrefix}
 use Rattle.overlay_terms.specs.Batches.{is_touched_by_all}
 use Rattle.overlay_terms.specs.Histories.{Tile, Finished, tile_at, Version, Event, accepted, kept, durable_to, Follows, Entry, AllFollow, last_version}
 use Rattle.book_history.specs.Logs.{IsLog, newest_in}
-use Rattle.store_flushing.specs.Since.{tile_kept, kept_in, number_of, reported_in, HasTilesOf, TilesStay, reports_between, AreFew, NumbersTell}
+use Rattle.store_flushing.specs.Since.{tile_kept, kept_in, number_told, reported_in, HasTilesOf, TilesStay, reports_between, AreFew, NumbersTell}
 use Rattle.store_flushing.proofs.Histories.{follow_rest, last_append, last_rises}
 use Rattle.store_flushing.proofs.ToldLemmas.{none_in}
 
@@ -37,7 +37,7 @@ tiles_stay version (e ∷ es) follow none name k tile there =
 -- ---- of an event the number rises, or it is a tile or a report
 
 one_counted : (old new : Version) (event : Event) (tiles : List Finished) (numbers : List ℕ) → Follows old event new
-    → new.number + length (cons_option (tile_kept event) tiles) + length (cons_option (number_of event) numbers)
+    → new.number + length (cons_option (tile_kept event) tiles) + length (cons_option (number_told event) numbers)
     ≡ old.number + 1 + length tiles + length numbers
 one_counted old new (accepted session batch) tiles numbers follows = omega (arith, follows.number)
 one_counted old new (kept n column t) tiles numbers follows = omega (arith, follows.number)
@@ -49,7 +49,7 @@ counted version [] follow = omega arith
 counted version (e ∷ es) follow =
     omega (arith, counted e.version es follow.1, one_counted version e.version e.event (kept_in es) (reported_in es) follow.0)
 
-one_same : (old new : Version) (event : Event) → Follows old event new → number_of event ≡ None → new.durable ≡ old.durable
+one_same : (old new : Version) (event : Event) → Follows old event new → number_told event ≡ None → new.durable ≡ old.durable
 one_same old new (accepted session batch) follows none = follows.durable
 one_same old new (kept n column t) follows none = follows.durable
 one_same old new (durable_to number) follows none = absurd (cc none)
@@ -58,7 +58,7 @@ same_durable : (version : Version) (entries : List Entry) → AllFollow version 
     → (last_version version entries).durable ≡ version.durable
 same_durable version [] follow none = refl
 same_durable version (e ∷ es) follow none =
-    let both = parts (number_of e.event) (reported_in es) none in
+    let both = parts (number_told e.event) (reported_in es) none in
     same_durable e.version es follow.1 both.1 ∙ one_same version e.version e.event follow.0 both.0
 
 empty : {A : Type 0} (xs : List A) → length xs ≡ 0 → xs ≡ []

@@ -363,7 +363,7 @@ module _ {D : Type 0} (g : Ghosts D) where
 
   -- ---- calls of a keeper
 
-  -- a call that tells no more than was stored as it began
+  -- a call that reports no more than was stored as it began
   pub kept : (was now : History) (s t : Flusher D g) → Flushes g was s now t → (newest now).durable ≤ s.commit.root.version → KeepsTold g was s now t
   kept was now s t run told = record {
     goes_on = run.goes_on;
@@ -374,7 +374,7 @@ module _ {D : Type 0} (g : Ghosts D) where
     by_device = run.by_device;
   }
 
-  -- one that tells and stores nothing more
+  -- one that reports and stores nothing more
   pub kept_on : (was now : History) (s t : Flusher D g) → KeepsTold g was s now t → (newest now).durable ≡ (newest was).durable → t.commit.root.version ≡ s.commit.root.version
       → Flushes g was s now t
   kept_on was now s t call same stored = record {
@@ -400,7 +400,7 @@ module _ {D : Type 0} (g : Ghosts D) where
     by_device = fails_twice s.commit t.commit u.commit first.by_device second.by_device;
   }
 
-  -- all that is told by its end is in each file that a crash may leave at any moment of it
+  -- all that is reported by its end is in each file that a crash may leave at any moment of it
   pub told_is_left : (was now : History) (s t : Flusher D g) → KeepsTold g was s now t → LeavesOnly g s.commit.disk t.commit.disk (IsFileIn now (newest now).durable)
   told_is_left was now s t call =
       widened g s.commit.disk t.commit.disk (IsFileIn now s.commit.root.version) (IsFileIn now (newest now).durable)

@@ -1,4 +1,4 @@
--- How what was told durable stays told.
+-- How what was reported durable stays reported.
 use Rattle.std.proofs.Common.{◌≡◌, ◌⊎◌, inl, inr, ⊎_elim, ℕ, suc, ◌≤◌, List, [], ◌∷◌, ◌++◌, length, drop, map, All, refl, sym, ap, ◌∙◌, subst, arith}
 use Rattle.std.specs.List.{AllByRecursion, Contains, cons_option, slice_index_or}
 use Rattle.std.proofs.lemmas.List.{append-nil, map-append, length-map, get_or-map}
@@ -13,14 +13,14 @@ use Rattle.book_history.proofs.Fronts.{prefix_self, prefix_trans}
 use Rattle.store_flushing.specs.Among.{IsFileIn}
 use Rattle.store_flushing.specs.Laws.{DurableIsReported}
 use Rattle.store_flushing.specs.Storing.{IsStoreOf, KeepsTold}
-use Rattle.store_flushing.specs.Since.{number_of, reported_in}
+use Rattle.store_flushing.specs.Since.{number_told, reported_in}
 use Rattle.store_flushing.specs.Told.{news_in, told_then, told_at, told_in, StaysTold, TellsOn, KeepsTelling}
 use Rattle.store_flushing.specs.declared.keeper.Keeper.{Keeper}
 use Rattle.store_flushing.specs.declared.keeper.told_log.Told.{Told}
 use Rattle.store_flushing.proofs.Histories.{begins_self, file_more, follow_rest, last_append}
 use Rattle.store_flushing.proofs.Storage.{OnlyNow, store_leaves}
 
--- ---- the numbers that entries tell
+-- ---- the numbers that entries report
 
 told_rises : (old new : Version) (event : Event) → Follows old event new → old.durable ≤ new.durable
 told_rises old new (accepted session batch) f = omega (arith, f.durable)
@@ -33,7 +33,7 @@ durable_rises v (e ∷ es) f = omega (arith, told_rises v e.version e.event f.0,
 
 -- none of them is greater than the durable number at the end
 low_by : (top : ℕ) (old new : Version) (event : Event) (rest : List ℕ) → Follows old event new → new.durable ≤ top
-    → AllByRecursion (λ n. n ≤ top) rest → AllByRecursion (λ n. n ≤ top) (cons_option (number_of event) rest)
+    → AllByRecursion (λ n. n ≤ top) rest → AllByRecursion (λ n. n ≤ top) (cons_option (number_told event) rest)
 low_by top old new (accepted session batch) rest f low all = all
 low_by top old new (kept name column tile) rest f low all = all
 low_by top old new (durable_to number) rest f low all = (omega (arith, f.durable, low), all)
@@ -43,8 +43,8 @@ low_in v [] f = tt
 low_in v (e ∷ es) f =
     low_by (last_version e.version es).durable v e.version e.event (reported_in es) f.0 (durable_rises e.version es f.1) (low_in e.version es f.1)
 
--- where as much is durable at the end, none was told
-none_by : (old new : Version) (event : Event) (rest : List ℕ) → Follows old event new → new.durable ≤ old.durable → rest ≡ [] → cons_option (number_of event) rest ≡ []
+-- where as much is durable at the end, none was reported
+none_by : (old new : Version) (event : Event) (rest : List ℕ) → Follows old event new → new.durable ≤ old.durable → rest ≡ [] → cons_option (number_told event) rest ≡ []
 none_by old new (accepted session batch) rest f same none = none
 none_by old new (kept name column tile) rest f same none = none
 none_by old new (durable_to number) rest f same none = absurd (omega (arith, f.risen, f.durable, same))
@@ -56,9 +56,9 @@ none_in v (e ∷ es) f same =
     (none_in e.version es f.1 (omega (arith, told_rises v e.version e.event f.0, same)))
 
 module _ (was now : History) (on : BeginsWith now was) where
-  -- what a longer history tells: what it told, and its news
+  -- what a longer history reports: what it reported, and its news
   entries_on : reported_in now.entries ≡ reported_in was.entries ++ reported_in on.0
-  entries_on = ap (λ (h : History). reported_in h.entries) on.1 ∙ filter_map-append (λ (e : Entry). number_of e.event) was.entries on.0
+  entries_on = ap (λ (h : History). reported_in h.entries) on.1 ∙ filter_map-append (λ (e : Entry). number_told e.event) was.entries on.0
 
   pub told_on : reported_in now.entries ≡ reported_in was.entries ++ news_in was now
   told_on =
@@ -84,15 +84,15 @@ module _ (was now : History) (on : BeginsWith now was) where
       subst (All (λ n. n ≤ top)) news
       (All-weaker (λ n. n ≤ (last_version (newest was) on.0).durable) (λ n. n ≤ top) (λ n le. omega (arith, le, ap (λ (v : Version). v.durable) last_on, low)) (reported_in on.0) all)
 
--- no number that a history tells is greater than what is durable
+-- no number that a history reports is greater than what is durable
 pub all_low : (h : History) (top : ℕ) → IsHistory h → (newest h).durable ≤ top → All (λ n. n ≤ top) (reported_in h.entries)
 all_low h top history low =
     All-weaker (λ n. n ≤ (newest h).durable) (λ n. n ≤ top) (λ n le. omega (arith, le, low)) (reported_in h.entries)
     (All-from_recursion (λ n. n ≤ (newest h).durable) (reported_in h.entries) (low_in h.start h.entries history))
 
--- the durable number at the end is that of the beginning, or was told
+-- the durable number at the end is that of the beginning, or was reported
 told_by : (old new : Version) (event : Event) (rest : List ℕ) (last : ℕ) → Follows old event new → (last ≡ new.durable) ⊎ Contains rest last
-    → (last ≡ old.durable) ⊎ Contains (cons_option (number_of event) rest) last
+    → (last ≡ old.durable) ⊎ Contains (cons_option (number_told event) rest) last
 told_by old new (accepted session batch) rest last f is = ⊎_elim (λ same. inl (same ∙ f.durable)) inr is
 told_by old new (kept name column tile) rest last f is = ⊎_elim (λ same. inl (same ∙ f.durable)) inr is
 told_by old new (durable_to number) rest last f is =
@@ -119,7 +119,7 @@ small_in top told all k d at =
     subst (λ n. n ≤ top) (get_or-map number_in told k d (number_in d) at) (all k (number_in d) (omega (arith, at, length-map told number_in)))
 
 module _ {D : Type 0} (g : Ghosts D) where
-  -- a number stays told, from the disk first on, up to this one
+  -- a number stays reported, from the disk first on, up to this one
   abbrev Stays : History → D → D → Told → Type 0
   Stays history first last t =
       (g.moment first ≤ t.moment) × (t.moment ≤ g.moment last) × ((c : List ℕ) → g.left_since last t.moment c → IsFileIn history t.number c)
@@ -159,7 +159,7 @@ module _ {D : Type 0} (g : Ghosts D) where
         };
   }
 
-  -- news are told, with the disk's moment
+  -- news is reported, with the disk's moment
   pub news_told : (was now : History) (s : Flusher D g) (told more : List Told) → OnlyNow g s → KeepsTold g was s now s → IsHistory now
       → more ≡ told ++ told_at (g.moment s.commit.disk) (news_in was now) → TellsOn g was told s.commit.disk now more s.commit.disk
   news_told was now s told more at call history is_more = subst (λ (l : List Told). TellsOn g was told s.commit.disk now l s.commit.disk) (sym is_more) (record {
@@ -182,11 +182,11 @@ module _ {D : Type 0} (g : Ghosts D) where
         };
   })
 
-  -- of a version alone nothing is told
+  -- of a version alone nothing is reported
   pub none_yet : (start : Version) (disk : D) → StaysTold g (record { start = start; entries = [] }) [] disk disk
   none_yet start disk = record { each = refl; stays = λ k d at. absurd (omega (arith, at)) }
 
-  -- a book that ends tells no more
+  -- a book that ends reports no more
   pub told_at_end : (was now : History) (told : List Told) (disk : D) → BeginsWith now was → IsHistory now → (newest now).durable ≡ (newest was).durable → TellsOn g was told disk now told disk
   told_at_end was now told disk on history same = record {
     goes_on = prefix_self told;

@@ -33,15 +33,15 @@ StoreIsKnown {D = D} g =
     → (newest history).durable ≤ f.commit.root.version
     → Leaves g f.commit.disk (IsFileIn history f.commit.root.version) → IsStoreOf g history f
 
--- at every moment of a keeper's call a crash leaves a version of the history that is no older than what is told durable by
+-- at every moment of a keeper's call a crash leaves a version of the history that is no older than what is reported durable by
 -- its end
 abbrev pub ToldIsLeft : {D : Type 0} → Ghosts D → Type 0
 ToldIsLeft {D = D} g =
     (was now : History) (old new : Flusher D g) → KeepsTold g was old now new
     → LeavesOnly g old.commit.disk new.commit.disk (IsFileIn now (newest now).durable)
 
--- the number that the newest version of a history tells durable is that of its start, or among those that were reported
--- in its entries
+-- the number that the newest version of a history has as durable is that of its start, or among those that were
+-- reported in its entries
 abbrev pub DurableIsReported : Type 0
 DurableIsReported =
     (history : History) → IsHistory history

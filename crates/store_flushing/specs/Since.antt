@@ -17,15 +17,14 @@ tile_kept (durable_to number) = None
 abbrev pub kept_in : List Entry → List Finished
 kept_in entries = filter_map (λ (e : Entry). tile_kept e.event) entries
 
--- the number that an event tells durable
-abbrev pub number_of : Event → Option ℕ
-number_of (accepted session batch) = None
-number_of (kept name column tile) = None
-number_of (durable_to number) = Some number
+-- the number that an event reports durable
+abbrev pub number_told : Event → Option ℕ
+number_told (durable_to number) = Some number
+number_told event = None
 
 -- the numbers that were reported durable in some entries, in order
 abbrev pub reported_in : List Entry → List ℕ
-reported_in entries = filter_map (λ (e : Entry). number_of e.event) entries
+reported_in entries = filter_map (λ (e : Entry). number_told e.event) entries
 
 -- each tile of a later version is the earlier one's
 abbrev pub HasTilesOf : Version → Version → Type 0

@@ -32,7 +32,7 @@ module _ {D : Type 0} (g : Ghosts D) (history : History) where
     pub later : f.commit.root.version ≤ y.held.number
     pub runs : Runs g f.commit x y
 
-  -- what is known of a store, by where its commit stands
+  -- what is known of a store, by how far its commit is
   abbrev pub IsStoreAt : Phase → Flusher D g → Type 0
   IsStoreAt Idle f = Rests f
   IsStoreAt Failed f = Leaves g f.commit.disk (IsFileIn history f.commit.root.version)
@@ -66,7 +66,7 @@ pub record Flushes {D : Type 0} (g : Ghosts D) (was : History) (old : Flusher D 
   pub by_device : FailsByDevice g old.commit new.commit
 
 -- a call of a store's keeper: the history that the reporter has seen goes on, the store is one of it, and it fails by its
--- device alone. What is told durable by the end of the call was stored as it began, and a crash at any moment of it leaves
+-- device alone. What is reported durable by the end of the call was stored as it began, and a crash at any moment of it leaves
 -- a version of the history that is no older than that
 pub record KeepsTold {D : Type 0} (g : Ghosts D) (was : History) (old : Flusher D g) (now : History) (new : Flusher D g)
     : Type 0 where

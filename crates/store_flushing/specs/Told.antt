@@ -1,4 +1,4 @@
--- The numbers that were told durable, each with the disk's moment as it was told.
+-- The numbers that were reported durable, each with the disk's moment as it was reported.
 use Rattle.std.specs.Prelude.{◌≡◌, ℕ, ◌≤◌, List, length, drop, map, All}
 use mathlib.Core.List.{IsPrefix}
 use Rattle.disk_model.specs.declared.disk.Disk.{Ghosts}
@@ -19,15 +19,15 @@ told_in log = log.seen.log
 abbrev pub news_in : History → History → List ℕ
 news_in was now = drop (length (reported_in was.entries)) (reported_in now.entries)
 
--- a number that is told at this moment
+-- a number that is reported at this moment
 abbrev pub told_then : ℕ → ℕ → Told
 told_then moment number = record { number = number; moment = moment }
 
--- numbers that are told at this moment
+-- numbers that are reported at this moment
 abbrev pub told_at : ℕ → List ℕ → List Told
 told_at moment numbers = map (told_then moment) numbers
 
--- the numbers that a history tells durable are those that were written down as they were told, and a crash at the moment of
+-- the numbers that a history reports durable are those that were written down as they were reported, and a crash at the moment of
 -- one, or at any later one, leaves a version of the history that is no older
 pub record StaysTold {D : Type 0} (g : Ghosts D) (history : History) (told : List Told) (old last : D) : Type 0 where
   pub each : reported_in history.entries ≡ map (λ (t : Told). t.number) told

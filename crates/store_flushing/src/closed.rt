@@ -36,7 +36,7 @@ pub struct Closed<D> {
     pub fault: Option<StoreFault>,
     /// The store's disk.
     pub disk: Option<D>,
-    /// What was told durable, and when.
+    /// What was reported durable, and when.
     pub told: ToldLog,
 }
 
@@ -61,7 +61,7 @@ pub fn close<J: BookName, R: Wait + Drop, D: Disk, W: Wait>(
     ensures sessions { All (λ session. HasAllOf result.seen_log.log session) sessions.items }
     ensures none { IfNone flusher ((result.stored ≡ 0) × (result.disk ≡ None)) }
     ensures disk { IfSome flusher (λ f. (result.stored ≡ f.commit.root.version) × (result.disk ≡ Some f.commit.disk)) }
-    // Where the newest version is not stored and the store would not begin its commit, it is told why.
+    // Where the newest version is not stored and the store would not begin its commit, the book is given the reason.
     ensures fault { IfSome result.fault (λ fault. IfSome flusher (λ f. IsUnstoredFor fault f (arc_value result.version))) }
     ensures failed { IfSome flusher (λ f. f.commit.phase ≡ phases.Failed → f.commit.root.version < (arc_value result.version).number
         → result.fault ≡ Some StoreFault.Failed) }
@@ -75,7 +75,7 @@ pub fn close<J: BookName, R: Wait + Drop, D: Disk, W: Wait>(
     ensures exactly { IfSome flusher (λ f. IsStoreOf D.Disk (history_of reporter.log) f → f.commit.phase ≡ phases.Idle
         → IfSome result.disk (λ disk. Leaves D.Disk disk
         (IsFileExactlyIn (history_of result.seen_log.log) result.stored))) }
-    // What was written down as it was told is all that the log tells durable, and it stays told.
+    // What was written down as it was reported is all that the log reports durable, and it stays so.
     ensures written { result.told ≡ told }
     ensures told { IfSome flusher (λ f. IfSome result.disk (λ disk. TellsOn D.Disk (history_of reporter.log) (told_in told) f.commit.disk
         (history_of result.seen_log.log) (told_in result.told) disk)) }

@@ -21,7 +21,7 @@ use version_book::shared::Shared;
 use versions::Version;
 
 /// Commits each version that the book gives, and reports it once it is stored, until the book closes or the device
-/// fails. Meanwhile reporter, store and list are a keeper's: a number told by a reporter alone nobody can write down.
+/// fails. Meanwhile reporter, store and list are a keeper's: what a reporter alone reports nobody can write down.
 pub fn flusher_loop<J: BookName, R: Wait + Drop, D: Disk, W: Wait>(
     rt: &W,
     alloc: Global,
@@ -31,13 +31,13 @@ pub fn flusher_loop<J: BookName, R: Wait + Drop, D: Disk, W: Wait>(
     told: ToldLog,
 ) -> (Reporter, Flusher<D>, ToldLog)
     requires book { reporter.book ≡ J.book }
-    // What this store holds may be told durable, whenever it is told.
+    // What this store holds may be reported durable, whenever it is reported.
     requires stored { HoldsOfStored D.Disk J.stored (history_of reporter.log) flusher }
     ensures flushes { IsStoreOf D.Disk (history_of reporter.log) flusher
         → Flushes D.Disk (history_of reporter.log) flusher (history_of result.0.log) result.1 }
     ensures rests { is_busy result.1.commit.phase ≡ false }
     ensures same { result.0.book ≡ reporter.book }
-    // What it tells durable is written down as it is told, and from that moment on a crash leaves no older version.
+    // What it reports durable is written down at once, and from that moment on a crash leaves no older version.
     ensures told { IsStoreOf D.Disk (history_of reporter.log) flusher
         → TellsOn D.Disk (history_of reporter.log) (told_in told) flusher.commit.disk
         (history_of result.0.log) (told_in result.2) result.1.commit.disk }
@@ -51,8 +51,8 @@ pub fn flusher_loop<J: BookName, R: Wait + Drop, D: Disk, W: Wait>(
 /// fails.
 ///
 /// Where the book refuses to give or to take for want of memory (40, 44), it is asked again. Where the store refuses a
-/// commit (31, 36, 40), the book is told, and it gives the next version after the next accepted command. A device that
-/// fails (30, 35) ends the loop, and the book is told too. At closing the commit under way is ended, and what the book
+/// commit (31, 36, 40), the book hears of it, and gives the next version after the next accepted command. A device that
+/// fails (30, 35) ends the loop, and the book hears of it. At closing the commit under way is ended, and what the book
 /// still gives is committed. Called once more then, when the workers have returned, it commits the tiles that they
 /// finished meanwhile.
 fn flush<J: BookName, R: Wait + Drop, D: Disk, W: Wait>(

@@ -12,7 +12,7 @@ ghost use Rattle.commit_plan.specs.Live.{live_content};
 ghost use Rattle.commit_plan.specs.RecordPlaces.{AreKnown};
 ghost use Rattle.store_flushing.specs.Since.{IsRemembered};
 ghost use Rattle.store_flushing.specs.Storing.{AllReported, IsStoreOf, Keeps};
-ghost use Rattle.store_flushing.specs.ToldFaults.{told_of};
+ghost use Rattle.store_flushing.specs.ToldFaults.{told_fault_of};
 
 pub use crate::flusher_loop::flusher_loop;
 use crate::keeper::told_log::ToldLog;
@@ -35,9 +35,9 @@ pub mod told_log;
 mod version_mark;
 
 /// A store, and the one token that may report what it stores. Both are reached by its calls alone. None of them moves
-/// the disk and reports: so what a session was told durable by the end of a call was stored as the call began, whenever
-/// within it the session was told. What it reports it writes down in the same call, with the disk's moment, and nothing
-/// else can write there.
+/// the disk and reports: so what was reported durable to a session by the end of a call was stored as the call began,
+/// whenever within it that was. What a keeper reports it writes down in the same call, with the disk's moment, and
+/// nothing else can write there.
 pub struct Keeper<D: Disk> {
     reporter: Reporter,
     flusher: Flusher<D>,
@@ -53,7 +53,7 @@ pub struct Keeper<D: Disk> {
 impl<D: Disk> Keeper<D> {
     ghost use Rattle.store_flushing.specs.Told.{KeepsTelling, news_in, told_at, told_in};
 
-    /// A keeper of a reporter, a store, and what was told durable.
+    /// A keeper of a reporter, a store, and what was reported durable.
     pub(crate) fn of(reporter: Reporter, flusher: Flusher<D>, told: ToldLog) -> Keeper<D>
         ensures reporter { result.reporter ≡ reporter }
         ensures flusher { result.flusher ≡ flusher }
@@ -169,7 +169,7 @@ impl<D: Disk> Keeper<D> {
         stepped
     }
 
-    /// Reports what is stored, and writes down what is told so, with the disk's moment. It makes no device call.
+    /// Reports what is stored, and writes down what it reports, with the disk's moment. It makes no device call.
     pub fn report<J: BookName, R: Wait + Drop, W: Wait>(
         &mut self,
         rt: &W,
@@ -194,7 +194,7 @@ impl<D: Disk> Keeper<D> {
         let _ = self.reporter.given();
     }
 
-    /// Tells the book of a fault, and says whether the store can go on after it.
+    /// Reports a fault to the book, and says whether the store can go on after it.
     pub fn tell<J: BookName, R: Wait + Drop, W: Wait>(
         &mut self,
         rt: &W,
@@ -203,7 +203,7 @@ impl<D: Disk> Keeper<D> {
     ) -> bool
         requires { self.old.reporter.book ≡ J.book }
         ensures nothing { self.new ≡ self.old }
-        ensures passes { result ≡ passes (told_of fault) }
+        ensures passes { result ≡ passes (told_fault_of fault) }
     {
         reports::tell(rt, shared, &mut self.reporter, fault)
     }

@@ -20,14 +20,14 @@ pub fn store_is_known<D: Disk>()
     ensures { StoreIsKnown D.Disk }
 {}
 
-/// At every moment of a keeper's call a crash leaves a version of the history that is no older than what is told durable
+/// At every moment of a keeper's call a crash leaves a version of the history that is no older than what is reported durable
 /// by the call's end.
 pub fn told_is_left<D: Disk>()
     ensures { ToldIsLeft D.Disk }
 {}
 
-/// The number that the newest version of a history tells durable is that of its start, or among those that were
-/// reported in its entries: all of these were written down as they were told, where they stay told.
+/// The number that the newest version of a history has as durable is that of its start, or among those that were
+/// reported in its entries: all of these were written down as they were reported, where they stay so.
 pub fn durable_is_reported()
     ensures { DurableIsReported }
 {}
@@ -37,7 +37,7 @@ pub fn tiles_stay()
     ensures { TilesStay }
 {}
 
-/// That none was kept since, three numbers of the two versions tell: how many entries lie between, the version's number,
+/// That none was kept since, three numbers of the two versions say: how many entries lie between, the version's number,
 /// and what is durable.
 pub fn numbers_tell()
     ensures { NumbersTell }

@@ -1,9 +1,9 @@
-//! What the reporter tells the book: that a number is durable, or why the store did not write.
+//! What the reporter reports to the book: that a number is durable, or why the store did not write.
 ghost use Rattle.std.specs.Prelude.{◌≡◌, ◌⊎◌, ◌≤◌};
 ghost use Rattle.overlay_terms.specs.Histories.{BeginsWith, IsHistory, newest};
 ghost use Rattle.book_history.specs.Fault.{passes};
 ghost use Rattle.book_history.specs.Logs.{history_of};
-ghost use Rattle.store_flushing.specs.ToldFaults.{told_of};
+ghost use Rattle.store_flushing.specs.ToldFaults.{told_fault_of};
 
 use commit_plan::fault::StoreFault;
 use std::alloc::Global;
@@ -44,7 +44,7 @@ pub(crate) fn report<J: BookName, R: Wait + Drop, W: Wait>(
     unreachable!()
 }
 
-/// Tells the book of a fault, and says whether the store can go on after it.
+/// Reports a fault to the book, and says whether the store can go on after it.
 pub(crate) fn tell<J: BookName, R: Wait + Drop, W: Wait>(
     rt: &W,
     shared: &Shared<J, R>,
@@ -53,16 +53,16 @@ pub(crate) fn tell<J: BookName, R: Wait + Drop, W: Wait>(
 ) -> bool
     requires { me.old.book ≡ J.book }
     ensures nothing { me.new ≡ me.old }
-    ensures passes { result ≡ passes (told_of fault) }
+    ensures passes { result ≡ passes (told_fault_of fault) }
 {
     let told = told(fault);
     shared.store_failed(rt, me, told);
     told.passes()
 }
 
-/// A fault of a store, as the book is told it.
+/// A fault of a store, as it is reported to the book.
 fn told(fault: StoreFault) -> Told
-    ensures { result ≡ told_of fault }
+    ensures { result ≡ told_fault_of fault }
 {
     match fault {
         StoreFault::Full => Told::Full,

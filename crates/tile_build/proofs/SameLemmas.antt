@@ -14,7 +14,7 @@ use Rattle.tile_laws.proofs.AlikeLists.{alike_at}
 pub same_places : (p q : HPoint) (a b : Point) (t : Bool) → place p ≡ a → place q ≡ b → t ≡ same_hpoint p q → t ≡ same_place a b
 same_places p q a b t e f h = h ∙ is_eq_then _ _ ∙ (λ i. same_place (e i) (f i))
 
--- what stands at a number of a list, and of its images
+-- what is at a number of a list, and of its images
 pub mapped_at : {X Y : Type 0} (f : X → Y) (xs : List X) (i : ℕ) (x : X) → x ≡ get_or xs i x → f x ≡ get_or (map f xs) i (f x)
 mapped_at f xs i x h = ap f h ∙ sym (get_or-map f xs i x)
 

@@ -1,4 +1,4 @@
--- What a tile's building tells beside the tile: the nodes, and the pairs of neighbours that were tested.
+-- What a tile's building reports beside the tile: the nodes, and the pairs of neighbours that were tested.
 use Rattle.std.specs.Prelude.{ℕ, ◌*◌, ◌≤◌, length, All}
 use Rattle.overlay_terms.specs.Plane.{Point}
 use Rattle.overlay_terms.specs.Histories.{IsTileAt}

@@ -1,4 +1,4 @@
--- Tiles of the code as tiles of the definitions, and what a tile tells of a point.
+-- Tiles of the code as tiles of the definitions, and what a tile says of a point.
 use Rattle.std.specs.Prelude.{◌%◌, ◌==◌, ℕ, Bool, List, map, count_by, Option, Some, None}
 use Rattle.overlay_terms.specs.Layers.{Name}
 use Rattle.overlay_terms.specs.Plane.{Point}

@@ -1,5 +1,5 @@
 //! The ends of pieces, by their names. What a name says of its place is not worked out: whole points and segments are
-//! compared as they stand, and only what they leave open asks for exact coordinates.
+//! compared as they are, and only what they leave open asks for exact coordinates.
 ghost use Rattle.std.specs.Prelude.{◌≡◌, ◌↔◌, IsTrue};
 ghost use Rattle.overlay_terms.specs.Column.{is_in_column};
 ghost use Rattle.overlay_terms.specs.Plane.{whole, same_whole, point_cmp, is_on};

@@ -113,7 +113,7 @@ impl Piece {
         is_name_in(column, &self.from)
     }
 
-    /// Whether the piece stands before another: by the left end, then by the right end.
+    /// Whether the piece comes before another: by the left end, then by the right end.
     pub fn is_before(&self, other: &Piece) -> bool
         ensures { result ≡ is_lt (pair_cmp (ends_of self.now) (ends_of other.now)) }
     {

@@ -10,7 +10,7 @@ change_next f [] (suc i) y is = refl
 change_next f (x ∷ xs) zero y is = ap (λ z. f z ∷ xs) is
 change_next f (x ∷ xs) (suc i) y is = ap (λ zs. f x ∷ zs) (change_next f xs i y is)
 
--- the same, where the elements are told by an equation
+-- the same, where the elements are given by an equation
 pub change_at : {A : Type 0} (f : A → A) (xs ys : List A) (i : ℕ) (y z : A) → ys ≡ map f (take i xs) ++ drop i xs → y ≡ get_or ys i y → z ≡ f y
     → set ys i z ≡ map f (take (i + 1) xs) ++ drop (i + 1) xs
 change_at f xs ys i y z is at changed =

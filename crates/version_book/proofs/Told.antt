@@ -1,4 +1,4 @@
--- How the calls that wait end, and what a tile that is handed out is, told from what each finds under the lock.
+-- How the calls that wait end, and what a tile that is handed out is, by what each finds under the lock.
 use Rattle.std.proofs.Common.{◌≡◌, ◌⊎◌, inl, inr, ◌↔◌, ℕ, Bool, true, false, IsTrue, List, Option, Some, None, IfSome, IfNone, Result, Ok, Err, IfOk, IfErr, refl, ap, sym, ◌∙◌, subst}
 use Rattle.std.specs.Prelude.{IsErrAnd, OnErr, OnOk, is_err}
 use mathlib.Core.Bool.{true≢false}
@@ -61,7 +61,7 @@ gone_told (Err f) x v old name is gone = subst (λ y. IsAfterTold v old name (Er
 abbrev refused_for : {F : Type 0} → Refused F → Result ℕ (Refused F)
 refused_for why = Err why
 
--- who is turned away is told why, or that the book is gone
+-- who is turned away gets the reason, or that the book is gone
 pub away_told : {F : Type 0} (log : List Entry) (was now : Known) {why : Refused F} (told : Refused F)
     → IsTurnedAway log was why told now → (refused_for told ≡ Err why) ⊎ (refused_for told ≡ Err Gone)
 away_told log was now told (inl h) = inl (ap refused_for h.0)

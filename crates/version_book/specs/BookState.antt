@@ -1,4 +1,4 @@
--- Where the book stands beside its log.
+-- The book's state beside its log.
 use Rattle.std.specs.Prelude.{◌≡◌, ℕ, ◌+◌, ◌%◌, ◌^◌, Bool, true, false, List, [], Option, Some, None, if◌then◌else◌}
 use Rattle.overlay_terms.specs.Layers.{Name}
 use Rattle.book_history.specs.Fault.{passes}
@@ -12,16 +12,16 @@ abbrev pub left_over : Option ToldFault → Option ToldFault
 left_over (Some fault) = if passes fault then None else Some fault
 left_over None = None
 
--- what stands once the store tells a fault: one that stays for good keeps its place
+-- which fault holds once the store reports one: one that stays for good keeps its place
 abbrev pub told : Option ToldFault → ToldFault → Option ToldFault
 told (Some old) fault = if passes old then Some fault else Some old
 told None fault = Some fault
 
--- the count of news behind this one
+-- the count of news after this one
 abbrev pub next_news : ℕ → ℕ
 next_news news = (news + 1) % 2 ^ 64
 
--- a book begins: no tile is handed out or marked, and the store told of nothing
+-- a book begins: no tile is handed out or marked, and the store reported nothing
 pub record IsFresh (new : BookState) : Type 0 where
   pub held : new.held.list.items ≡ []
   pub fault : new.fault ≡ None
@@ -53,7 +53,7 @@ pub record IsAfterFinish (old : BookState) (name : Name) (column : ℕ) (is_kept
   pub closing : new.closing ≡ old.closing
   pub news : new.news ≡ (if is_kept then next_news old.news else old.news)
 
--- the store told a fault: it stands where none stays for good, and the reporter rests
+-- the store reported a fault: it holds where none stays for good, and the reporter rests
 pub record IsAfterFailure (old : BookState) (fault : ToldFault) (new : BookState) : Type 0 where
   pub fault_told : new.fault ≡ told old.fault fault
   pub resting : new.resting ≡ true

@@ -28,7 +28,7 @@ pub record IsBuilding (version : Version) (state : BookState) (name : Name) : Ty
   pub unmarked : has_mark name state.held.list.items ≡ false
   pub not_closing : state.closing ≡ false
 
--- a wait for a durable number goes on: the store is not so far, it told no fault, and the book is open
+-- a wait for a durable number goes on: the store is not so far, it reported no fault, and the book is open
 pub record IsWriting (version : Version) (state : BookState) (number : ℕ) : Type 0 where
   pub behind : version.durable < number
   pub sound : state.fault ≡ None
@@ -53,7 +53,7 @@ pub record IsBuiltAt (version : Version) (name : Name) (number : ℕ) : Type 0 w
   pub numbered : version.number ≡ number
 
 -- why a wait for the tiles of a layer is refused: no tiles can be asked for; or some are not finished, and either a
--- want of memory is told or the book closes, where it may; or the book is behind
+-- want of memory is reported or the book closes, where it may; or the book is behind
 abbrev pub IsWaitRefused : Bool → Version → Name → BookFault → Type 0
 IsWaitRefused closing version name (fault.Version refused) =
     (wait_refusal version name ≡ Some refused)
@@ -64,7 +64,7 @@ IsWaitRefused closing version name fault.Gone = Unit {0}
 IsWaitRefused closing version name fault.NoStore = ⊥
 IsWaitRefused closing version name (fault.Store refused) = ⊥
 
--- why a wait for a durable number is refused: there is no store; or the number is not durable, and the store told a
+-- why a wait for a durable number is refused: there is no store; or the number is not durable, and the store reported a
 -- fault or the book closes; or the book is behind
 abbrev pub IsSyncRefused : ℕ → Version → BookFault → Type 0
 IsSyncRefused number version (fault.Version refused) = ⊥
@@ -73,8 +73,8 @@ IsSyncRefused number version fault.Gone = Unit {0}
 IsSyncRefused number version fault.NoStore = Unit {0}
 IsSyncRefused number version (fault.Store refused) = version.durable < number
 
--- the same under the lock of a book that has a store: the number is not durable, and the store told this fault, or it
--- told none and the book closes
+-- the same under the lock of a book that has a store: the number is not durable, and the store reported this fault, or it
+-- reported none and the book closes
 abbrev pub IsSyncRefusedAt : BookState → Version → ℕ → BookFault → Type 0
 IsSyncRefusedAt state version number (fault.Version refused) = ⊥
 IsSyncRefusedAt state version number fault.Closing =
@@ -95,7 +95,7 @@ abbrev pub LosesMarks : BookState → Name → BookState → Type 0
 LosesMarks old name new =
     (has_mark name old.held.list.items ≡ true) × HasHeld old (unmarked_of name old.held.list.items) new
 
--- a wait for the tiles of a layer was told how it ends: its marks go where memory ran out, and else nothing changes;
+-- a wait for the tiles of a layer was answered how it ends: its marks go where memory ran out, and else nothing changes;
 -- there are no marks where it ends by closing
 abbrev pub IsAfterTold : Version → BookState → Name → Result ℕ BookFault → BookState → Type 0
 IsAfterTold version old name (Ok number) new = new ≡ old

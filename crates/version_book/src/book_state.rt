@@ -1,4 +1,4 @@
-//! Where the book stands beside its log.
+//! The book's state beside its log.
 ghost use Rattle.std.specs.Prelude.{◌≡◌};
 ghost use Rattle.version_book.specs.HeldTiles.{given_back, unmarked_of};
 ghost use Rattle.version_book.specs.BookState.{HasHeld, IsAfterClosing, IsAfterCommand, IsAfterFailure, IsAfterFinish};
@@ -14,7 +14,7 @@ use std::alloc::Global;
 #[derive(Drop)]
 pub struct BookState {
     pub held: HeldTiles,
-    /// What the store told, while it stands.
+    /// What the store reported, while it holds.
     pub fault: Option<ToldFault>,
     /// Whether the reporter waits for an accepted command.
     pub resting: bool,
@@ -24,7 +24,7 @@ pub struct BookState {
 }
 
 impl BookState {
-    /// No tile is handed out or marked, and the store told of nothing.
+    /// No tile is handed out or marked, and the store reported nothing.
     pub fn new(alloc: Global) -> BookState
         ensures { IsFresh result }
     {
@@ -57,7 +57,7 @@ impl BookState {
         }
     }
 
-    /// The store told a fault.
+    /// The store reported a fault.
     pub fn store_failed(&mut self, fault: ToldFault)
         ensures { IsAfterFailure self.old fault self.new }
     {
@@ -72,7 +72,7 @@ impl BookState {
         self.held.give_back(name, column);
     }
 
-    /// A wait for the tiles of a layer was told of its marks, which go.
+    /// A wait for the tiles of a layer was ended by its marks, which go.
     pub fn unmark_of(&mut self, name: &Name)
         ensures { HasHeld self.old (unmarked_of name.now self.old.held.list.items) self.new }
     {

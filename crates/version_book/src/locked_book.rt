@@ -1,4 +1,4 @@
-//! The book under its lock: the log, and where the book stands beside it.
+//! The book under its lock: the log, and the book's state beside it.
 ghost use Rattle.std.specs.Prelude.{◌≡◌, ◌⊎◌, IsTrue, Err, IfOk, IfErr};
 ghost use mathlib.Core.List.{IsPrefix};
 ghost use Rattle.book_history.specs.Fault.{no_memory};
@@ -33,7 +33,7 @@ pub struct LockedBook<J: BookName, R: Wait + Drop> {
     /// Where the layer stood whose tile was handed out last, and the tile's column by its number: there the next one is looked for
     /// first.
     near: (usize, u8),
-    /// Memory for the next report: what is stored can be told where there is none any more.
+    /// Memory for the next report: what is stored can be reported where there is none any more.
     room: Room,
 }
 

@@ -68,7 +68,7 @@ fn free_at<'a>(
 }
 
 // The same among the columns of a layer, whose row says which tiles are pending. Each is looked at once: from one
-// on, and behind the last from the first on.
+// on, and after the last from the first on.
 fn free_column(
     version: &Version,
     held: &HeldTiles,
@@ -93,7 +93,7 @@ fn free_column(
     None
 }
 
-// The column with this number, where the columns are counted on once more behind the last.
+// The column with this number, where the columns are counted on once more after the last.
 fn column_around(number: u8) -> Column
     requires { number < column_count + column_count }
     ensures ahead { number < column_count → result ≡ number }

@@ -156,9 +156,9 @@ impl<J: BookName, R: Wait + Drop> Shared<J, R> {
         turn.book.take(alloc)
     }
 
-    /// Spends a job with the tile that was built of its input. It says whether the tile was kept, with the log behind
-    /// it, where the tile stands last then; where it was not, that log is the one in which it was not awaited. It goes on
-    /// from the log at which the tile was handed out. Where that cannot be written down, for want of memory, both come
+    /// Spends a job with the tile that was built of its input. It says whether the tile was kept, with the log after
+    /// it, whose last entry is the tile then; where it was not, that log is the one in which it was not awaited. It goes
+    /// on from the log at which the tile was handed out. Where that cannot be written down, for want of memory, both come
     /// back.
     pub fn finish<W: Wait>(
         &self,
@@ -301,7 +301,7 @@ impl<J: BookName, R: Wait + Drop> Shared<J, R> {
         report(&mut turn.book, alloc, me, number)
     }
 
-    /// The store told a fault: the reporter rests until a command is accepted.
+    /// The store reported a fault: the reporter rests until a command is accepted.
     pub fn store_failed<W: Wait>(&self, rt: &W, me: &mut Reporter, fault: ToldFault)
         requires { me.old.book ≡ J.book }
         ensures { me.new ≡ me.old }

@@ -36,13 +36,13 @@ pub(crate) enum TurnKind {
     Finished { layer: Option<Name>, kept: bool },
     /// A tile was given back, and is marked.
     GivenBack,
-    /// A session was told how a wait for a layer's tiles ends, by a fault or by their number.
+    /// A session learnt how a wait for a layer's tiles ends, by a fault or by their number.
     Told { fault: bool },
     /// A session or the reporter looked, and changed nothing.
     Looked,
     /// A number was reported durable.
     Reported,
-    /// The store told a fault.
+    /// The store reported a fault.
     StoreFailed,
     /// The book began to close.
     Closed,
@@ -118,7 +118,7 @@ impl<J: BookName, R: Wait + Drop> Turns<J, R> {
         }
     }
 
-    /// A turn behind a wait.
+    /// A turn after a wait.
     pub fn behind<W: Wait>(&self, rt: &W, awaited: &Awaited<'_>, kind: TurnKind) -> Turn<'_, J, R>
         ensures { ¬ (Waits (newest_in (mutex_guard_value result.book).log) (mutex_guard_value result.book).state awaited.now) }
     {

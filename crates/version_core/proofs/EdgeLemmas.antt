@@ -39,7 +39,7 @@ lowest_length (b ∷ ends) (m ∷ lows) h =
 pub begun : (count : ℕ) (text : List ℕ) → text ≡ codes "edges " ++ (decimal count ++ (10 ∷ [])) → IsBegun count [] text
 begun count text e = record { lows = []; lowest = tt; is = e }
 
--- one line more, behind those before
+-- one line more, after those before
 pub begun_more : (count : ℕ) (ends : List (Point × Point)) (a : Point × Point) (text made of_line : List ℕ) → IsBegun count ends text → IsLineOf a of_line → made ≡ text ++ of_line → IsBegun count (ends ++ a ∷ []) made
 begun_more count ends a text made of_line h line end = let low = line.low in record {
   lows = h.lows ++ low ∷ [];

@@ -12,7 +12,7 @@ use Rattle.version_core.specs.Verdict.{IsVerdict}
 use Rattle.version_core.specs.declared.verifying.Verdict.{Verdict}
 use Rattle.version_core.specs.declared.verifying.Verdict.TheVariants.{Same, Different}
 
--- the comparison with a tile of the input tells whether the held tile is one
+-- the held tile is one exactly where it equals a tile of the input
 told : (input : Input) (held built : Tile) (same : Bool) → IsTileAt pieces_max input built → same ≡ same_tile held built → (IsTrue same → HasPositiveEnds held) → IsTrue same ↔ IsTileAt pieces_max input held
 told input held built same right is positive = (
   λ t. (held_tile input held built (λ alike. positive (is ∙ alike)) right).0 (sym is ∙ t),

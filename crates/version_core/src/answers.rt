@@ -49,7 +49,7 @@ pub trait Answers {
 
 impl Answers for Version {
     /// Where a point lies for a layer, straight from the segments that it reaches: they have to be asked for edges, and
-    /// tell in the same look whether the point is inside. So no tile is asked, finished or not. It takes no memory.
+    /// show in the same look whether the point is inside. So no tile is asked, finished or not. It takes no memory.
     fn locate(&self, name: &Name, query: &QueryPoint) -> Result<Place, VersionFault>
         ensures ok { IfOk result (λ place. location place ≡ answer_at self.now.layers name.now query.now) }
         ensures known { IsOk result ↔ IsTrue (stands self.now.layers name.now) }

@@ -54,8 +54,8 @@ const NOWHERE: Spot = Spot {
     place: u32::MAX,
 };
 
-/// The texts that are kept, of which the oldest gives way to a new one. Each mark has a spot, which tells where the last
-/// text of such a name is: a name without a text is known by it mostly, without a look at the texts.
+/// The texts that are kept, of which the oldest gives way to a new one. Each mark has a spot, which holds where the
+/// last text of such a name is: a name without a text is known by it mostly, without a look at the texts.
 #[derive(Debug, Drop)]
 pub(crate) struct EndTexts {
     kept: Vec<EndText>,
@@ -137,7 +137,7 @@ impl EndTexts {
         }
     }
 
-    /// Puts a text at a place, in the place of the one there or behind all others, and tells whether it could.
+    /// Puts a text at a place, in the place of the one there or after all others, and returns whether it could.
     fn put(&mut self, place: u32, text: EndText) -> bool {
         if let Some(kept) = self.kept.get_mut(place as usize) {
             *kept = text;
@@ -154,7 +154,7 @@ impl EndTexts {
         }
     }
 
-    /// Has the spot of a mark tell of a place.
+    /// Has the spot of a mark name a place.
     fn point_to(&mut self, place: u32, mark: u32) {
         let slot = self.slot_of(mark);
         if let Some(spot) = self.spots.get_mut(slot) {

@@ -88,7 +88,7 @@ impl LineText {
         self.start = put_place(&mut self.bytes, self.start, point);
     }
 
-    /// Puts a whole point before the text. It is in lowest terms as it stands.
+    /// Puts a whole point before the text. It is in lowest terms already.
     pub(crate) fn put_whole(&mut self, point: Pt)
         requires { length self.old ≤ 128 }
         ensures text { self.new ≡ point_text (whole point) ++ self.old }

@@ -50,7 +50,7 @@ impl PlaceText {
     }
 }
 
-/// Puts a place down as `x y w` before a place among the bytes, and tells where it starts.
+/// Puts a place down as `x y w` before a place among the bytes, and returns where it starts.
 pub(crate) fn put_place(bytes: &mut [u8], end: usize, point: &HPoint) -> usize
     requires room { 64 ≤ end }
     requires within { end ≤ length bytes.old }
@@ -65,7 +65,7 @@ pub(crate) fn put_place(bytes: &mut [u8], end: usize, point: &HPoint) -> usize
     put_number(bytes, y - 1, point.x)
 }
 
-/// Puts a number down before a place among the bytes, and tells where it starts.
+/// Puts a number down before a place among the bytes, and returns where it starts.
 pub(crate) fn put_number(bytes: &mut [u8], end: usize, n: i128) -> usize
     requires small { unsigned_abs n ≤ 2 ^ 63 }
     requires room { 20 ≤ end }

@@ -1,4 +1,4 @@
--- A row tells whether each tile of a layer is there.
+-- A row says whether each tile of a layer is there.
 use Rattle.std.specs.Prelude.{◌≡◌, ℕ, ◌<◌, ◌≤◌, Bool, true, false, IsTrue, List, map, slice_get, Option, Some, None, is_some, not, ◌&&◌, ◌==◌, ◌↔◌, if◌then◌else◌}
 use Rattle.std.specs.List.{list_all, range_with_len}
 use Rattle.std.specs.Option.{option_map}
@@ -79,7 +79,7 @@ gone : (o : Option Tile) → is_some o ≡ false → o ≡ None
 gone None e = refl
 gone (Some tile) e = absurd (cc (e))
 
--- whether a tile is pending is told by its layer and the layer's row
+-- whether a tile is pending follows from its layer and the layer's row
 pub pending_by_row : (version : Version) (name : Name) (i k : ℕ) (layer : Layer) (row : List (Option Tile)) (kind has : Bool) → IsVersion version → k < column_count → i ≡ index_of version.layers name → Some layer ≡ slice_get version.layers i
     → row ≡ row_by (tile_at version.tiles layer.name) → kind ≡ is_derived layer.content → has ≡ is_some (get_or row k None) → IsTrue (kind && not has) ↔ IsPending version name k
 pending_by_row version name i k layer row kind has valid near index there is derived told =

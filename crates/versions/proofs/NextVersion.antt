@@ -81,7 +81,7 @@ kept_follows old name input tile held column number durable table made next new 
       durable = same_durable;
     })
 
--- whether an input is the present one tells whether its tile is awaited, where its layer is derived and it is pending
+-- where a layer is derived and a tile of it pending, the tile is awaited exactly where its input is the present one
 pub awaited_by : (version : Version) (name : Name) (input : Input) (layers : List Layer) (same : Bool) → stands_as_derived version.layers name ≡ true → tile_at version.tiles name input.column ≡ None → layers ≡ version.layers → IsTrue same ↔ (input ≡ input_of layers name input.column) → IsTrue same ↔ IsAwaited version name input
 awaited_by version name input layers same derived_layer pending is told =
     let present : input_of layers name input.column ≡ input_of version.layers name input.column = ap (λ ls. input_of ls name input.column) is in (

@@ -1,4 +1,4 @@
--- Why the tiles of a layer cannot be asked for, by what stands under its name.
+-- Why the tiles of a layer cannot be asked for, by what is under its name.
 use Rattle.std.proofs.Common.{◌≡◌, true, not, List, [], Option, Some, None, is_some, refl, ap, sym, ◌∙◌, if◌then◌else◌}
 use Rattle.overlay_terms.specs.Layers.{Name, Content, Layer as Named}
 use Rattle.overlay_terms.specs.Commands.{is_derived, stands, stands_as_base}
@@ -11,7 +11,7 @@ use Rattle.versions.specs.Building.{wait_refusal}
 use Rattle.versions.specs.declared.fault.VersionFault.{VersionFault}
 use Rattle.versions.specs.declared.fault.VersionFault.TheVariants.{Layer}
 
--- the reason, where a content is no expression or stands nowhere
+-- the reason, where a content is no expression or is nowhere
 abbrev pub refusal_by : Option Content → Option VersionFault
 refusal_by None = Some (Layer UnknownLayer)
 refusal_by (Some content) = if not (is_derived content) then Some (Layer NotDerived) else None

@@ -1,4 +1,4 @@
--- What stands in a version.
+-- What is in a version.
 use Rattle.std.specs.Prelude.{◌≡◌, ℕ, []}
 use Rattle.versions.specs.declared.version.VersionContent.{VersionContent}
 use Rattle.versions.specs.declared.version.VersionContent.TheVariants.{Nothing, Tiled}
@@ -11,7 +11,7 @@ abbrev pub laid_by : VersionContent → Laid
 laid_by (Nothing layers) = nothing_laid
 laid_by (Tiled table) = laid table.value
 
--- no layer stands where there is no table
+-- there is no layer where there is no table
 abbrev pub IsBare : VersionContent → Type 0
 IsBare (Nothing layers) = layers ≡ []
 IsBare (Tiled table) = Unit {0}

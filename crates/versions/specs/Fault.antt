@@ -11,7 +11,7 @@ code_of (Layer fault) = book.code_of fault
 code_of Pending = 21
 code_of Oversize = 22
 
--- the text that is printed behind the number
+-- the text that is printed after the number
 abbrev pub text_of : VersionFault → List ℕ
 text_of (Layer fault) = book.text_of fault
 text_of Pending = codes "pending"

@@ -33,7 +33,7 @@ impl VersionFault {
         }
     }
 
-    /// The text that is printed behind the number.
+    /// The text that is printed after the number.
     pub fn text(&self) -> FaultText
         ensures text { shown result ≡ text_of self.now }
         ensures brief { IsBrief result }

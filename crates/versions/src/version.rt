@@ -20,7 +20,7 @@ use std::marker::Model;
 use std::sync::Arc;
 use tile_build::Tile;
 
-/// What stands in a version.
+/// What is in a version.
 #[derive(Debug, Drop)]
 pub enum VersionContent {
     /// No layer. It takes no memory.

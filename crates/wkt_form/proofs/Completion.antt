@@ -84,7 +84,7 @@ nothing_ends : CanEnd nothing
 nothing_ends =
     by_token nothing (polygon_due one) (word (codes "POLYGON")) refl (kinds_more nothing symbols.Polygon (word (codes "POLYGON")) refl) (polygon_due_ends one tt)
 
--- wherever reading stands, the text can be ended
+-- wherever reading is, the text can be ended
 pub can_end : (at : Progress) → IsRight at → CanEnd at
 can_end nothing g = nothing_ends
 can_end members g = members_ends
@@ -107,7 +107,7 @@ walk_second : (f : Frame) (rs : List (List WrittenPoint)) (ps : List WrittenPoin
 walk_second f rs ps x y kinds right =
     ap (λ s. option_and_then (λ next. walk next kinds) (with_kind (second_due f rs ps x) s y)) (number_symbol y right)
 
--- members with a comma between them and a closing bracket behind them
+-- members with a comma between them and a closing bracket after them
 module _ {A : Type 0} (kinds : A → List Kind) (test : A → Bool) (due : List A → Progress) (done : List A → A → Progress) (closed : List A → Progress)
     (member : (before : List A) (a : A) (rest : List Kind) → test a ≡ true → walk (due before) (kinds a ++ rest) ≡ walk (done before a) rest)
     (at_comma : (before : List A) (a : A) (rest : List Kind) → walk (done before a) (comma ∷ rest) ≡ walk (due (before ++ a ∷ [])) rest)

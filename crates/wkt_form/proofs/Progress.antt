@@ -107,7 +107,7 @@ walk at (kind ∷ kinds) = option_and_then (λ next. walk next kinds) (advance a
 
 -- ==== The tokens that are read
 
--- members with a comma behind each, behind an opening bracket
+-- members with a comma after each, after an opening bracket
 abbrev pub opened : List Kind → List (List Kind) → List Kind
 opened front ms = front ++ open_bracket ∷ flat_map (λ m. m ++ comma ∷ []) ms
 
@@ -157,7 +157,7 @@ polygon_kinds_read : (f : Frame) (p : WrittenPolygon) → kinds_read (with_polyg
 polygon_kinds_read one p = refl
 polygon_kinds_read (several ps) p = refl
 
--- a token that can stand there is read behind those that were
+-- a token that can stand there is read after those that were
 pub kinds_more : (at : Progress) (symbol : Symbol) (kind : Kind) → Means symbol kind → IfSome (with_kind at symbol (run_bytes kind)) (λ next. kinds_read next ≡ kinds_read at ++ kind ∷ [])
 kinds_more nothing symbols.Polygon kind e = ap (λ k. k ∷ []) (sym e)
 kinds_more nothing symbols.MultiPolygon kind e = ap (λ k. k ∷ []) (sym e)
@@ -192,7 +192,7 @@ abbrev pub IsFrameRight : Frame → Type 0
 IsFrameRight one = Unit {0}
 IsFrameRight (several ps) = list_all is_polygon_right ps ≡ true
 
--- numbers stand where numbers must, and members where members must
+-- numbers are where numbers must be, and members where members must
 abbrev pub IsRight : Progress → Type 0
 IsRight nothing = Unit {0}
 IsRight members = Unit {0}
@@ -235,7 +235,7 @@ right_more (polygon_end ps p) symbols.Comma kind e g = all_push is_polygon_right
 right_more (polygon_end ps p) symbols.Close kind e g = some_push is_polygon_right ps p g.0 g.1
 right_more at symbol kind e g = tt
 
--- what a walk over tokens keeps: they are read behind those that were, and what is written is right
+-- what a walk over tokens keeps: they are read after those that were, and what is written is right
 abbrev pub Reached : Progress → List Kind → Progress → Type 0
 Reached at kinds next = (kinds_read next ≡ kinds_read at ++ kinds) × IsRight next
 

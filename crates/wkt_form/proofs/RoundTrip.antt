@@ -11,7 +11,7 @@ use Rattle.plane_base.specs.BaseLayer.{ring_fault, first_ring_fault}
 use Rattle.overlay_terms.proofs.Options.{both_absent}
 use Rattle.wkt_form.specs.Number.{is_whole, number_value, is_coordinate}
 use Rattle.wkt_form.specs.Token.{Kind, word, run, open_bracket, close_bracket, comma, Token, is_run_byte, begins, tokens_from}
-use Rattle.wkt_form.specs.Spelling.{listed, point_text, ring_text, wkt_text}
+use Rattle.wkt_form.specs.Spelling.{comma_listed, wkt_point, ring_text, wkt_text}
 use Rattle.wkt_form.specs.Grammar.{WrittenPoint, WrittenPolygon, rings, WrittenText, no_polygons, polygons, parted, bracketed, point_kinds, polygon_kinds, text_kinds, is_point_right, is_polygon_right, is_text_right, point_of, polygon_rings, text_rings, in_upper_case, kinds_of, number_fault}
 use Rattle.wkt_form.specs.Laws.{AreInRange, WrittenReadsBack}
 use Rattle.wkt_form.proofs.TokenLemmas.{Grows, first_is, words_grow, runs_grow}
@@ -30,7 +30,7 @@ record Lexed (bytes : List ℕ) (kinds : List Kind) : Type 0 where
 lexed_nothing : Lexed [] []
 lexed_nothing = record { spelled = λ at. refl; good = λ at. All-nil IsGood }
 
--- one token, and those behind it
+-- one token, and those after it
 lexed_token : (bytes rest : List ℕ) (kind : Kind) (kinds : List Kind) (size : ℕ) → in_upper_case kind ≡ kind → ((at : ℕ) → number_fault (record { at = at; kind = kind }) ≡ None) → ((at : ℕ) → tokens_from at bytes ≡ record { at = at; kind = kind } ∷ tokens_from (at + size) rest) → Lexed rest kinds → Lexed bytes (kind ∷ kinds)
 lexed_token bytes rest kind kinds size upper fault e behind =
     record {
@@ -108,17 +108,17 @@ written_text (ring ∷ layer) = polygons (map written_polygon (ring ∷ layer))
 abbrev IsLexedAs : List ℕ → List Kind → Type 0
 IsLexedAs text kinds = (rest : List ℕ) (behind : List Kind) → begins is_run_byte rest ≡ false → Lexed rest behind → Lexed (text ++ rest) (kinds ++ behind)
 
-lexed_point : (p : WholePoint) → InRange p.x × InRange p.y → IsLexedAs (point_text p) (point_kinds (written_point p))
+lexed_point : (p : WholePoint) → InRange p.x × InRange p.y → IsLexedAs (wkt_point p) (point_kinds (written_point p))
 lexed_point p h rest behind stop e =
     subst (λ bytes. Lexed bytes (point_kinds (written_point p) ++ behind)) (sym (append_assoc (signed_decimal p.x) (codes " " ++ signed_decimal p.y) rest))
     (lexed_number p.x (32 ∷ (signed_decimal p.y ++ rest)) (run (signed_decimal p.y) ∷ behind) h.0 refl
     (lexed_space (signed_decimal p.y ++ rest) (run (signed_decimal p.y) ∷ behind) (lexed_number p.y rest behind h.1 stop e)))
 
 module _ {A : Type 0} (text : A → List ℕ) (kinds : A → List Kind) (P : A → Type 0) (member : (a : A) → P a → IsLexedAs (text a) (kinds a)) where
-  lexed_list : (a : A) (as' : List A) → All P (a ∷ as') → IsLexedAs (listed (map text (a ∷ as'))) (parted (map kinds (a ∷ as')))
+  lexed_list : (a : A) (as' : List A) → All P (a ∷ as') → IsLexedAs (comma_listed (map text (a ∷ as'))) (parted (map kinds (a ∷ as')))
   lexed_list a [] h rest behind stop e = member a (All-head P a [] h) rest behind stop e
   lexed_list a (b ∷ bs) h rest behind stop e =
-      let later = listed (map text (b ∷ bs)) in
+      let later = comma_listed (map text (b ∷ bs)) in
       let later_kinds = parted (map kinds (b ∷ bs)) in
       let tail : Lexed (later ++ rest) (later_kinds ++ behind) = lexed_list b bs (All-tail P a (b ∷ bs) h) rest behind stop e in
       let all : Lexed (text a ++ (44 ∷ 32 ∷ (later ++ rest))) (kinds a ++ (comma ∷ (later_kinds ++ behind))) =
@@ -141,9 +141,9 @@ map_twice f g (x ∷ xs) = ap (λ ys. f (g x) ∷ ys) (map_twice f g xs)
 lexed_ring : (ring : List WholePoint) → IsRingWritable ring → IsLexedAs (ring_text ring) (polygon_kinds (written_polygon ring))
 lexed_ring [] h rest behind stop e = absurd (omega (arith, h.0))
 lexed_ring (p ∷ ps) h rest behind stop e =
-    let points = listed (map point_text (p ∷ ps)) in
+    let points = comma_listed (map wkt_point (p ∷ ps)) in
     let inner : Lexed (points ++ (41 ∷ 41 ∷ rest)) (parted (map (λ q. point_kinds (written_point q)) (p ∷ ps)) ++ (close_bracket ∷ close_bracket ∷ behind)) =
-    lexed_list point_text (λ q. point_kinds (written_point q)) IsPointInRange lexed_point p ps h.1 (41 ∷ 41 ∷ rest) (close_bracket ∷ close_bracket ∷ behind) refl
+    lexed_list wkt_point (λ q. point_kinds (written_point q)) IsPointInRange lexed_point p ps h.1 (41 ∷ 41 ∷ rest) (close_bracket ∷ close_bracket ∷ behind) refl
     (lexed_close (41 ∷ rest) (close_bracket ∷ behind) (lexed_close rest behind e)) in
     let kinds : List Kind = parted (map point_kinds (written_ring (p ∷ ps))) in
     let same : parted (map (λ q. point_kinds (written_point q)) (p ∷ ps)) ++ (close_bracket ∷ close_bracket ∷ behind) ≡ ((kinds ++ close_bracket ∷ []) ++ close_bracket ∷ []) ++ behind =
@@ -154,19 +154,19 @@ lexed_ring (p ∷ ps) h rest behind stop e =
     (subst (Lexed (points ++ (41 ∷ 41 ∷ rest))) same inner) in
     lexed_open _ _ (lexed_open _ _ within)
 
--- behind MULTIPOLYGON and a space
+-- after MULTIPOLYGON and a space
 lexed_multi : (rest : List ℕ) (kinds : List Kind) → Lexed rest kinds → Lexed (codes "MULTIPOLYGON " ++ rest) (word (codes "MULTIPOLYGON") ∷ kinds)
 lexed_multi rest kinds behind = lexed_word (codes "MULTIPOLYGON") (32 ∷ rest) kinds refl (lit< tt) refl refl (lexed_space rest kinds behind)
 
 lexed_layer : (layer : List (List WholePoint)) → All IsRingWritable layer → Lexed (wkt_text layer) (text_kinds (written_text layer))
 lexed_layer [] h = lexed_multi (codes "EMPTY") (word (codes "EMPTY") ∷ []) (lexed_word (codes "EMPTY") [] [] refl (lit< tt) refl refl lexed_nothing)
 lexed_layer (ring ∷ layer) h =
-    let members : Lexed (listed (map ring_text (ring ∷ layer)) ++ (41 ∷ [])) (parted (map (λ r. polygon_kinds (written_polygon r)) (ring ∷ layer)) ++ close_bracket ∷ []) =
+    let members : Lexed (comma_listed (map ring_text (ring ∷ layer)) ++ (41 ∷ [])) (parted (map (λ r. polygon_kinds (written_polygon r)) (ring ∷ layer)) ++ close_bracket ∷ []) =
     lexed_list ring_text (λ r. polygon_kinds (written_polygon r)) IsRingWritable lexed_ring ring layer h (41 ∷ []) (close_bracket ∷ []) refl (lexed_close [] [] lexed_nothing) in
     let same : parted (map (λ r. polygon_kinds (written_polygon r)) (ring ∷ layer)) ≡ parted (map polygon_kinds (map written_polygon (ring ∷ layer))) =
     ap parted (sym (map_twice polygon_kinds written_polygon (ring ∷ layer))) in
-    lexed_multi (40 ∷ (listed (map ring_text (ring ∷ layer)) ++ (41 ∷ []))) (bracketed (map polygon_kinds (map written_polygon (ring ∷ layer))))
-    (lexed_open _ _ (subst (λ ks. Lexed (listed (map ring_text (ring ∷ layer)) ++ (41 ∷ [])) (ks ++ close_bracket ∷ [])) same members))
+    lexed_multi (40 ∷ (comma_listed (map ring_text (ring ∷ layer)) ++ (41 ∷ []))) (bracketed (map polygon_kinds (map written_polygon (ring ∷ layer))))
+    (lexed_open _ _ (subst (λ ks. Lexed (comma_listed (map ring_text (ring ∷ layer)) ++ (41 ∷ [])) (ks ++ close_bracket ∷ [])) same members))
 
 -- ==== A written text is right, and spells its layer
 

@@ -58,7 +58,7 @@ reading_of (ring_end f rs r) z = record { state = states.RingEnd; several = is_s
 reading_of (polygon_end ps p) z = record { state = states.PolygonEnd; several = true; first = z; points = []; rings = flat_map polygon_rings (ps ++ p ∷ []) }
 reading_of (whole text) z = record { state = states.End; several = is_text_several text; first = z; points = []; rings = text_rings text }
 
--- behind the first number of a point its value is kept
+-- after the first number of a point its value is kept
 abbrev pub IsFirst : Progress → ℤ → Type 0
 IsFirst (second_due f rs ps x) z = z ≡ number_value x
 IsFirst at z = Unit {0}
@@ -187,7 +187,7 @@ token_answers at z t i =
 
 -- ==== All tokens
 
--- the reader stops at a token: it cannot stand behind those before it, or it is no coordinate
+-- the reader stops at a token: it cannot stand after those before it, or it is no coordinate
 pub record Stops (at : Progress) (tokens : List Token) (fault : WktFault) : Type 0 where
   pub front : List Token
   pub token : Token
@@ -213,7 +213,7 @@ Outcome at tokens (Err fault) = Stops at tokens fault
 walk_one : (at next : Progress) (kind : Kind) (kinds : List Kind) → advance at kind ≡ Some next → walk at (kind ∷ kinds) ≡ walk next kinds
 walk_one at next kind kinds e = ap (option_and_then (λ n. walk n kinds)) e
 
--- an outcome behind one more token
+-- an outcome after one more token
 one_before : (at next : Progress) (t : Token) (ts : List Token) (r : Result Reading WktFault) → advance at (in_upper_case t.kind) ≡ Some next → number_fault t ≡ None → Outcome next ts r → Outcome at (t ∷ ts) r
 one_before at next t ts (Ok reading) e g end =
     record {

@@ -45,7 +45,7 @@ pub record Grows (test : ℕ → Bool) (make : List ℕ → Kind) : Type 0 where
   pub last : (at b : ℕ) (bs : List ℕ) → test b ≡ true → begins test bs ≡ false → tokens_from at (b ∷ bs) ≡ record { at = at; kind = make (b ∷ []) } ∷ tokens_from (at + 1) bs
   pub longer_is : (b : ℕ) (bs : List ℕ) → longer b (make bs) ≡ make (b ∷ bs)
 
--- the first token and those behind it, where n bytes behind the first belong to it
+-- the first token and those after it, where n bytes after the first belong to it
 abbrev front : (List ℕ → Kind) → ℕ → ℕ → List ℕ → ℕ → List Token
 front make at b bs n = record { at = at; kind = make (b ∷ take n bs) } ∷ tokens_from (at + suc n) (drop n bs)
 

@@ -16,7 +16,7 @@ code_of (RingShort ring) = rings.code_of (plane.RingShort ring)
 code_of TooManySegments = rings.code_of plane.TooManySegments
 code_of OutOfMemory = rings.code_of plane.OutOfMemory
 
--- the text that is printed behind the number
+-- the text that is printed after the number
 abbrev pub text_of : WktFault → List ℕ
 text_of (Syntax at) = codes "wkt syntax at " ++ decimal at
 text_of (NotWhole at) = codes "not whole at " ++ decimal at

@@ -36,6 +36,7 @@ parted (member ∷ next ∷ members) = member ++ comma ∷ parted (next ∷ memb
 abbrev pub bracketed : List (List Kind) → List Kind
 bracketed members = open_bracket ∷ parted members ++ close_bracket ∷ []
 
+-- the tokens by which each is written, without their places
 abbrev pub point_kinds : WrittenPoint → List Kind
 point_kinds p = run p.x ∷ run p.y ∷ []
 
@@ -56,7 +57,7 @@ abbrev pub some_and_all : {A : Type 0} → (A → Bool) → List A → Bool
 some_and_all test [] = false
 some_and_all test (a ∷ as') = list_all test (a ∷ as')
 
--- whether what is written has numbers where numbers stand, and a member where one must be
+-- whether what is written has numbers where numbers must be, and a member where one must be
 abbrev pub is_point_right : WrittenPoint → Bool
 is_point_right p = is_number p.x && is_number p.y
 
@@ -95,6 +96,7 @@ pub record Spells (tokens : List Token) (text : WrittenText) : Type 0 where
   pub right : IsTrue (is_text_right text)
   pub spelled : kinds_of tokens ≡ text_kinds text
 
+-- the tokens are a text
 abbrev pub IsText : List Token → Type 0
 IsText tokens = (text : WrittenText) × Spells tokens text
 

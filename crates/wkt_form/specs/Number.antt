@@ -1,5 +1,5 @@
 -- Numbers as Well-Known Text writes them: an optional sign, digits, and perhaps a point among them or beside them.
-use Rattle.std.specs.Prelude.{ℕ, ℤ, pos, neg_ℤ, ◌+◌, ◌*◌, ◌-◌, ◌==◌, nat_le, int_le, Bool, not, ◌&&◌, ◌||◌, List, [], ◌∷◌, count_by, fold, if◌then◌else◌}
+use Rattle.std.specs.Prelude.{ℕ, ℤ, pos, neg_ℤ, ◌+◌, ◌*◌, ◌-◌, ◌==◌, nat_le, int_le, Bool, false, ◌&&◌, ◌||◌, List, [], ◌∷◌, count_by, fold, if◌then◌else◌}
 use Rattle.std.specs.List.{list_all, list_any, before_first, after_first}
 use Rattle.std.specs.Char.{is_ascii_digit}
 use Rattle.overlay_terms.specs.Plane.{coordinate_max}
@@ -11,7 +11,7 @@ is_sign b = b == 43 || b == 45
 abbrev pub is_point : ℕ → Bool
 is_point b = b == 46
 
--- what stands behind the sign, if there is one
+-- what follows the sign, if there is one
 abbrev pub unsigned : List ℕ → List ℕ
 unsigned [] = []
 unsigned (b ∷ bs) = if is_sign b then bs else b ∷ bs
@@ -25,14 +25,14 @@ is_unsigned bs =
 abbrev pub is_number : List ℕ → Bool
 is_number bs = is_unsigned (unsigned bs)
 
--- the bytes before the point, and behind it; all and none where there is no point
+-- the bytes before the point, and after it; all and none where there is no point
 abbrev pub before_point : List ℕ → List ℕ
 before_point bs = before_first is_point bs
 
 abbrev pub behind_point : List ℕ → List ℕ
 behind_point bs = after_first is_point bs
 
--- whether a number is whole: every digit behind its point is 0
+-- whether a number is whole: every digit after its point is 0
 abbrev pub is_whole : List ℕ → Bool
 is_whole bs = list_all (λ b. b == 48) (behind_point (unsigned bs))
 
@@ -42,10 +42,10 @@ digits_value ds = fold (λ n d. 10 * n + (d - 48)) 0 ds
 
 -- whether a number begins with a minus sign
 abbrev pub is_negative : List ℕ → Bool
-is_negative [] = not (0 == 0)
+is_negative [] = false
 is_negative (b ∷ bs) = b == 45
 
--- the whole number that a number is, without what stands behind its point
+-- the whole number that a number is, without what follows its point
 abbrev pub number_value : List ℕ → ℤ
 number_value bs =
     let size = digits_value (before_point (unsigned bs)) in

@@ -26,7 +26,7 @@ abbrev pub ◌>>=◌ : {A B : Type 0} → Result A WktFault → (A → Result B 
 (Ok a) >>= f = f a
 (Err fault) >>= f = Err fault
 
--- the value of a number whose token stands at an offset
+-- the value of a number whose token is at an offset
 abbrev pub whole_at : ℕ → Number → Result ℤ WktFault
 whole_at at (Whole z) = Ok z
 whole_at at Fraction = Err (faults.NotWhole at)
@@ -39,7 +39,7 @@ with_number r z = by_state r.state where
   by_state states.First = record r { first = z }
   by_state state = record r { points = r.points ++ record { x = r.first; y = z } ∷ [] }
 
--- a closing bracket behind a point ends its ring
+-- a closing bracket after a point ends its ring
 abbrev pub with_close : Reading → Reading
 with_close r = by_state r.state where
   by_state : State → Reading
@@ -53,7 +53,7 @@ with_symbol r at (symbols.Number n) = whole_at at n >>= λ z. Ok (with_number r 
 with_symbol r at symbols.Close = Ok (with_close r)
 with_symbol r at symbol = Ok r
 
--- the state behind a token, or the fault that it cannot stand there
+-- the state after a token, or the fault that it cannot stand there
 abbrev pub state_behind : Reading → code.Token → Result State WktFault
 state_behind r token = by_next (next_state r.state r.several token.symbol) where
   by_next : Option State → Result State WktFault

@@ -4,22 +4,22 @@ use Rattle.std.specs.Fmt.{signed_decimal}
 use Rattle.overlay_terms.specs.Plane.{WholePoint}
 
 -- members parted by a comma and one space
-abbrev pub listed : List (List ℕ) → List ℕ
-listed [] = []
-listed (member ∷ []) = member
-listed (member ∷ next ∷ members) = member ++ (codes ", " ++ listed (next ∷ members))
+abbrev pub comma_listed : List (List ℕ) → List ℕ
+comma_listed [] = []
+comma_listed (member ∷ []) = member
+comma_listed (member ∷ next ∷ members) = member ++ (codes ", " ++ comma_listed (next ∷ members))
 
--- what stands before the member of a number, counted from 0
+-- what comes before the member of a number, counted from 0
 abbrev pub listed_front : ℕ → List ℕ
 listed_front number = if number == 0 then [] else codes ", "
 
-abbrev pub point_text : WholePoint → List ℕ
-point_text p = signed_decimal p.x ++ (codes " " ++ signed_decimal p.y)
+abbrev pub wkt_point : WholePoint → List ℕ
+wkt_point p = signed_decimal p.x ++ (codes " " ++ signed_decimal p.y)
 
 -- a ring as a polygon of its own
 abbrev pub ring_text : List WholePoint → List ℕ
-ring_text points = codes "((" ++ (listed (map point_text points) ++ codes "))")
+ring_text points = codes "((" ++ (comma_listed (map wkt_point points) ++ codes "))")
 
 abbrev pub wkt_text : List (List WholePoint) → List ℕ
 wkt_text [] = codes "MULTIPOLYGON EMPTY"
-wkt_text (ring ∷ rings) = codes "MULTIPOLYGON (" ++ (listed (map ring_text (ring ∷ rings)) ++ codes ")")
+wkt_text (ring ∷ rings) = codes "MULTIPOLYGON (" ++ (comma_listed (map ring_text (ring ∷ rings)) ++ codes ")")

@@ -6,11 +6,11 @@ use Rattle.wkt_form.specs.declared.state.State.TheVariants as states
 use Rattle.wkt_form.specs.declared.token.Symbol.{Symbol}
 use Rattle.wkt_form.specs.declared.token.Symbol.TheVariants as symbols
 
--- behind a polygon: of several more may come
+-- after a polygon: of several more may come
 abbrev pub behind_polygon : Bool → State
 behind_polygon several = if several then states.PolygonEnd else states.End
 
--- where a reader stands behind a symbol, if that can stand there
+-- where a reader is after a symbol, if that can stand there
 abbrev pub next_state : State → Bool → Symbol → Option State
 next_state states.Start several symbols.Polygon = Some states.Polygon
 next_state states.Start several symbols.MultiPolygon = Some states.Members

@@ -1,4 +1,4 @@
--- Tokens as the grammar sees them: three words, numbers with what they are worth, brackets, commas, and what stands nowhere.
+-- Tokens as the grammar sees them: three words, numbers with what they are worth, brackets, commas, and what no text has.
 use Rattle.std.specs.Prelude.{ℕ, ◌==◌, List, Option, Some, None, codes, if◌then◌else◌}
 use Rattle.std.specs.Str.{bytes_eq}
 use Rattle.wkt_form.specs.declared.number.Number.{Number}

@@ -18,6 +18,7 @@ pub record Token : Type 0 where
   pub at : ℕ
   pub kind : Kind
 
+-- digits, signs and points make a run
 abbrev pub is_run_byte : ℕ → Bool
 is_run_byte b = is_ascii_digit b || is_sign b || is_point b
 
@@ -30,10 +31,7 @@ begins test (b ∷ bs) = test b
 abbrev pub longer : ℕ → Kind → Kind
 longer b (word bs) = word (b ∷ bs)
 longer b (run bs) = run (b ∷ bs)
-longer b open_bracket = open_bracket
-longer b close_bracket = close_bracket
-longer b comma = comma
-longer b stray = stray
+longer b kind = kind
 
 abbrev pub first_longer : ℕ → ℕ → List Token → List Token
 first_longer at b [] = []

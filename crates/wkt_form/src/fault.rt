@@ -15,7 +15,7 @@ use thiserror::Error;
 pub enum WktFault {
     /// The offset of the token that cannot stand there, or the length of the text.
     Syntax(usize),
-    /// The offset of a number with a digit behind its point that is not 0.
+    /// The offset of a number with a digit after its point that is not 0.
     NotWhole(usize),
     /// The offset of a number that is no coordinate.
     CoordRange(usize),
@@ -43,7 +43,7 @@ impl WktFault {
         }
     }
 
-    /// The text that is printed behind the number.
+    /// The text that is printed after the number.
     pub fn text(&self) -> FaultText
         ensures text { shown result ≡ text_of self.now }
         ensures brief { IsBrief result }

@@ -14,7 +14,7 @@ const LIMIT: u32 = 2097152;
 #[derive(Clone, Copy, Debug, PartialEq, Eq)]
 pub enum Number {
     Whole(Coordinate),
-    /// A digit behind its point is not 0.
+    /// A digit after its point is not 0.
     Fraction,
     OutOfRange,
 }
@@ -35,7 +35,7 @@ pub fn number_of(run: &[u8]) -> Option<Number>
     Some(Coordinate::new(signed).map_or(Number::OutOfRange, Number::Whole))
 }
 
-/// What stands behind the sign, if there is one.
+/// What follows the sign, if there is one.
 fn unsigned(run: &[u8]) -> &[u8]
     ensures { result.now ≡ unsigned run.now }
 {
@@ -94,7 +94,7 @@ fn whole_digits(digits: &[u8]) -> &[u8]
     &digits[..point_place(digits)]
 }
 
-/// The digits behind the point.
+/// The digits after the point.
 fn fraction_digits(digits: &[u8]) -> &[u8]
     ensures { result.now ≡ behind_point digits.now }
 {

@@ -4,12 +4,12 @@ ghost use Rattle.wkt_form.specs.State.{next_state};
 
 use crate::token::Symbol;
 
-/// Where a reader stands: what it has read, or what must come.
+/// Where a reader is: what it has read, or what must come.
 #[derive(Clone, Copy, Debug, PartialEq, Eq)]
 pub enum State {
     /// Nothing is read.
     Start,
-    /// Behind `MULTIPOLYGON`.
+    /// After `MULTIPOLYGON`.
     Members,
     /// Where a polygon must come.
     Polygon,
@@ -19,17 +19,17 @@ pub enum State {
     First,
     /// Where the second number of a point must come.
     Second,
-    /// Behind a point.
+    /// After a point.
     PointEnd,
-    /// Behind a ring.
+    /// After a ring.
     RingEnd,
-    /// Behind a polygon of several.
+    /// After a polygon of several.
     PolygonEnd,
     /// The text is whole.
     End,
 }
 
-/// Where a reader stands behind a symbol, if that can stand here. Of several polygons more may
+/// Where a reader is after a symbol, if that can stand here. Of several polygons more may
 /// come.
 pub fn next_state(state: State, several: bool, symbol: Symbol) -> Option<State>
     ensures { result ≡ next_state state several symbol }

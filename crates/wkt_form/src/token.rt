@@ -21,7 +21,7 @@ pub enum Symbol {
     Open,
     Close,
     Comma,
-    /// What stands nowhere in a text: another word, a run that is no number, another byte.
+    /// What no text has: another word, a run that is no number, another byte.
     Unknown,
 }
 
@@ -131,7 +131,7 @@ fn past_blanks(bytes: &[u8], at: usize) -> usize
     at + blank_count(&bytes[at..])
 }
 
-/// The first token from an offset on, and the offset behind it.
+/// The first token from an offset on, and the offset after it.
 pub fn token_from(bytes: &[u8], at: usize) -> Option<(Token, usize)>
     requires { at ≤ length bytes.now }
     ensures none { IfNone result (seen_from at (drop at bytes.now) ≡ []) }

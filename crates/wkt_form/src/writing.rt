@@ -1,6 +1,6 @@
 //! Writing a text.
 ghost use Rattle.std.specs.Prelude.{◌≡◌, ◌++◌, map, length, IfOk, OnOk, string_bytes, codes};
-ghost use Rattle.wkt_form.specs.Spelling.{wkt_text, listed, point_text, ring_text, listed_front};
+ghost use Rattle.wkt_form.specs.Spelling.{wkt_text, comma_listed, wkt_point, ring_text, listed_front};
 
 use plane_base::{BaseLayer, Pt, Ring};
 use std::alloc::{AllocError, Global};
@@ -42,14 +42,14 @@ fn push_ring(text: &mut String, points: &[Pt]) -> Result<(), AllocError>
 }
 
 fn push_point(text: &mut String, point: Pt) -> Result<(), AllocError>
-    ensures { OnOk result (string_bytes text.new ≡ string_bytes text.old ++ point_text point) }
+    ensures { OnOk result (string_bytes text.new ≡ string_bytes text.old ++ wkt_point point) }
 {
     let x = point.x();
     let y = point.y();
     write!(text, "{x} {y}")
 }
 
-/// Adds what stands before the member of this number, counted from 0.
+/// Adds what comes before the member of this number, counted from 0.
 fn push_separator(text: &mut String, number: usize) -> Result<(), AllocError>
     ensures { OnOk result (string_bytes text.new ≡ string_bytes text.old ++ listed_front number) }
 {

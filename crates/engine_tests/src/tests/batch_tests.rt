@@ -18,7 +18,7 @@ fn left(alloc: Global, disk: MemDisk) -> Result<(u64, usize), Fail> {
     Ok((engine.number(), engine.layer_count()))
 }
 
-/// Checks what a crash behind so many calls of the commit leaves.
+/// Checks what a crash after so many calls of the commit leaves.
 fn check_left(rt: &impl Abort, found: (u64, usize), calls: usize) {
     let whole = found == (1, 2);
     assert!(rt; whole || found == (0, 0), "behind {calls} calls");

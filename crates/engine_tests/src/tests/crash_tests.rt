@@ -22,7 +22,7 @@ const LAYERS: [&str; 3] = [
     "layers 2\nA MULTIPOLYGON (((0 0, 10 0, 10 10, 0 10, 0 0)))\nB MULTIPOLYGON (((5 5, 15 5, 15 15, 5 15, 5 5)))\n",
 ];
 
-/// The version that a crash behind so many calls of the two commits leaves. The last call but one of each opens a gate,
+/// The version that a crash after so many calls of the two commits leaves. The last call but one of each opens a gate,
 /// and the last syncs it: where the crash leaves the gate open, it is as if that were synced.
 fn left_after(calls: usize, choice: Choice) -> usize {
     let opens = matches!(choice, Choice::New | Choice::Fill(0xA7));
@@ -61,7 +61,7 @@ fn are_left(alloc: Global, disk: &MemDisk, number: usize) -> Result<bool, Fail> 
     Ok(true)
 }
 
-/// Whether a crash behind so many calls of the two commits leaves its version, and so each crash of the recovery.
+/// Whether a crash after so many calls of the two commits leaves its version, and so each crash of the recovery.
 fn recovers(alloc: Global, disk: &MemDisk, calls: usize, choice: Choice) -> Result<bool, Fail> {
     let number = left_after(calls, choice);
     let left = disk.image(CREATED.saturating_add(calls), choice)?;

@@ -16,7 +16,7 @@ const ANSWERS: &[Reply] = &[
     Reply::Refused(35),
 ];
 
-/// An engine over an empty file on a disk whose third call behind those that make the store fails.
+/// An engine over an empty file on a disk whose third call after those that make the store fails.
 fn failing(alloc: Global) -> Result<Machine<FaultDisk<MemDisk>>, Fail> {
     let disk = MemDisk::new(alloc, Vec::new(alloc))?;
     let failing = FaultDisk::new(disk, CREATED as u64 + 2);

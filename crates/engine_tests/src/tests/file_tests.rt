@@ -12,7 +12,7 @@ use test_machines::refused::Refused;
 const FRONTS: [(usize, Damage, u8); 3] = [
     (0, Damage::NotAStore, 32),
     (8191, Damage::NotAStore, 32),
-    // The catalog lies in the block behind.
+    // The catalog lies in the block after.
     (16384, Damage::CatalogPlace, 33),
 ];
 

@@ -41,7 +41,7 @@ const LISTS: &[Lines] = &[
         9,
         &[3, 4, 5],
     )],
-    // A layer that was dropped and put again between two commits keeps its record, behind the others.
+    // A layer that was dropped and put again between two commits keeps its record, after the others.
     &[
         (
             &[Words::Put("A", SQUARE), Words::Put("B", SHIFTED)],
@@ -110,7 +110,7 @@ fn extents_of(alloc: Global, calls: &[Call]) -> Result<Vec<usize>, Fail> {
     Ok(blocks)
 }
 
-/// Makes the steps of a line and a commit, and tells whether the last reply is that it is done.
+/// Makes the steps of a line and a commit, and says whether the last reply is that it is done.
 fn is_done(alloc: Global, engine: &mut Machine<MemDisk>, line: &Line) -> Result<bool, Fail> {
     drive(alloc, engine, line.0)?;
     let last = committed(alloc, engine, line.1)?;
@@ -167,7 +167,7 @@ fn writes_so(alloc: Global, lines: &[Line]) -> Result<bool, Fail> {
     Ok(are_written(alloc, lines, disk.calls())? && is_recovered(alloc, &disk, &layers, has_tile)?)
 }
 
-/// Whether they do behind each of the lines.
+/// Whether they do after each of the lines.
 fn write_so(alloc: Global, lines: &[Line]) -> Result<bool, Fail> {
     for count in 1..=lines.len() {
         if !writes_so(alloc, lines.get(..count).unwrap_or(&[]))? {

@@ -10,7 +10,7 @@ use test_machines::machine::Machine;
 const BODY: &[u8] =
     b"OVLSTORE\0\0\0\x01\0\0\0\0\0\0\0\x01\0\0\0\0\0\0\0\x02\0\0\0\0\0\0\0\x05\0\0\0\x3d\0\0\0\0\0\0\0\0";
 
-/// What opening writes behind the shut gate of slot 0: the same with the next sequence, in its own format.
+/// What opening writes while the gate of slot 0 is shut: the same with the next sequence, in its own format.
 const TWIN: &[u8] =
     b"OVLSTORE\0\0\0\x01\0\0\0\0\0\0\0\x02\0\0\0\0\0\0\0\x02\0\0\0\0\0\0\0\x05\0\0\0\x3d\0\0\0\0\0\0\0\0";
 
@@ -129,14 +129,14 @@ fn an_old_file_opens_with_its_layers_and_is_completed_in_its_own_format(
     Ok(())
 }
 
-/// How many calls the completion makes, and the next commit behind it.
+/// How many calls the completion makes, and the next commit after it.
 const COMPLETION: usize = 2;
 
 const COMMIT: usize = 7;
 
 const ANSWERS: &[&[Reply]] = &[&[Reply::Going; COMMIT - 1], &[Reply::Done(2)]];
 
-/// What stands behind the commit: the new root and its catalog, the records where they were, and the old root.
+/// What is there after the commit: the new root and its catalog, the records where they were, and the old root.
 const COMMITTED: &[Part] = &[
     (0, &[0xA7]),
     (16, NEXT),

@@ -114,7 +114,7 @@ pub fn drive<D: Disk>(
     Ok(engine.drive(alloc, &steps)?)
 }
 
-/// Puts the square A in an engine, makes so many device calls behind it, and gives the answers.
+/// Puts the square A in an engine, makes so many device calls after it, and gives the answers.
 pub fn put_square<D: Disk>(
     alloc: Global,
     engine: &mut Machine<D>,

@@ -33,7 +33,7 @@ fn steps(rt: &impl Abort, alloc: Global) -> Vec<Step> {
     steps
 }
 
-/// Checks that an opening gives the version behind the batch.
+/// Checks that an opening gives the version after the batch.
 fn check_opened(rt: &impl Abort, alloc: Global, disk: MemDisk) {
     let engine = Machine::recover(alloc, disk, 100).expect(rt, "a store");
     assert!(rt; engine.number() == 1);

@@ -1,4 +1,4 @@
-//! A device that stops behind each call of making a store, of a commit and of an opening, or fails in it alone.
+//! A device that stops after each call of making a store, of a commit and of an opening, or fails in it alone.
 use crate::tests::testing::{SQUARE, put};
 use disk_model::disk::Disk;
 use disk_model::image::Choice;
@@ -52,7 +52,7 @@ fn found(rt: &impl Abort, alloc: Global, disk: MemDisk) -> Option<usize> {
     }
 }
 
-/// Checks what a disk that works again is opened as, and so behind a crash.
+/// Checks what a disk that works again is opened as, and so after a crash.
 fn check_left(rt: &impl Abort, alloc: Global, disk: &MemDisk, left: Left) {
     let seen = found(rt, alloc, disk_of(rt, alloc, disk.bytes()));
     assert!(rt; left.contains(&seen));
@@ -77,7 +77,7 @@ fn empty(rt: &impl Abort, alloc: Global) -> MemDisk {
     disk_of(rt, alloc, &[])
 }
 
-/// What a file may be opened as behind so many calls that make a store: the fourth of them opens its gate.
+/// What a file may be opened as after so many calls that make a store: the fourth of them opens its gate.
 fn left_of_making(calls: u64) -> Left {
     if calls < CREATED - 1 {
         return &[None];
@@ -147,7 +147,7 @@ fn disturbed<P: Plan>(
     engine.into_disk().into_disk()
 }
 
-/// What a file may be opened as behind so many calls of that commit: the seventh of them opens the gate.
+/// What a file may be opened as after so many calls of that commit: the seventh of them opens the gate.
 fn left_of_commit(calls: u64) -> Left {
     if calls < COMMITTED - 1 {
         return &[Some(0)];

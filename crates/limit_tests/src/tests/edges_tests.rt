@@ -1,4 +1,4 @@
-//! The edges of a tile as a version tells them that no worker builds tiles for.
+//! The edges of a tile as a version reports them that no worker builds tiles for.
 use crate::tests::testing::{name_of, overlap, with_tile};
 use std::alloc::Global;
 use std::process::Abort;
@@ -19,7 +19,7 @@ const REFUSED: &[(&str, u64, u8)] = &[
     ("Z", 16, 10),
 ];
 
-/// The number of the fault for which edges are refused, and 0 where they are told.
+/// The number of the fault for which edges are refused, and 0 where they are reported.
 fn refusal(rt: &impl Abort, alloc: Global, version: &Version, layer: &str, column: u64) -> u8 {
     match version.edges(alloc, &name_of(rt, alloc, layer), column) {
         Ok(_) => 0,

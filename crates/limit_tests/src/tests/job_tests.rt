@@ -33,7 +33,7 @@ fn steps(rt: &impl Abort, alloc: Global) -> Vec<Step> {
     steps
 }
 
-/// The answers behind the jobs.
+/// The answers after the jobs.
 const LAST: &[Reply] = &[
     Reply::Kept,
     Reply::Stale,

@@ -97,7 +97,7 @@ fn run(rt: &impl Abort, alloc: Global, engine: &mut Machine<MemDisk>, corner: &s
     assert!(rt; replies.ends_with(LAST));
 }
 
-/// Checks that the tile is opened with so many pieces, is told line by line, and is right.
+/// Checks that the tile is opened with so many pieces, is reported line by line, and is right.
 fn check_pieces(rt: &impl Abort, alloc: Global, version: &Version) {
     let name = name_of(rt, alloc, "X");
     match version.tile(&name, 16) {

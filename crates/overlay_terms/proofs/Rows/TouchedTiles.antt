@@ -7,7 +7,7 @@ use Rattle.overlay_terms.specs.Commands.{put, define, remove}
 use Rattle.overlay_terms.specs.Touched.{touched_tiles, reaches_name, derived_over}
 use Rattle.overlay_terms.proofs.Rows.Shared.{square, base_layer, same_layer, made_layer}
 
--- I is A & B, C stands alone, J is I | C, and L is B
+-- I is A & B, C is alone, J is I | C, and L is B
 abbrev pub layers : List Layer
 layers =
     base_layer (codes "A") (square 0 10 ∷ []) ∷ base_layer (codes "B") (square 5 15 ∷ []) ∷ made_layer (codes "I") intersection (codes "A") (codes "B")

@@ -40,7 +40,7 @@ const MEETING: [&str; 7] = [
     "WAIT I\n",
 ];
 
-// Caught: `one_thread_after_another` (in overlay_server/src/threads.rt the workers are run one behind the other, or all
+// Caught: `one_thread_after_another` (in overlay_server/src/threads.rt the workers are run one after the other, or all
 // threads before the sessions begin), where no second worker enters, or no line is answered while the first builds.
 #[test]
 fn workers_build_side_by_side_while_a_session_is_answered(rt: HostRuntime) -> Result<(), Fail> {
@@ -89,7 +89,7 @@ const LATE: [&str; 3] = [
 ];
 
 // Caught: `late_tile_left_out` (in overlay_server/src/hosting.rt `Hosted::run` closes the book without `keep_store`
-// behind the threads): the store's thread has ended before the tile is finished, and the file lacks it.
+// after the threads): the store's thread has ended before the tile is finished, and the file lacks it.
 #[test]
 fn a_tile_that_is_finished_after_the_last_commit_is_in_the_file(
     rt: HostRuntime,

@@ -1,4 +1,4 @@
-//! Servers of ports: where replies go, when they stand there, and that a writer fails for its own session alone.
+//! Servers of ports: where replies go, when they are there, and that a writer fails for its own session alone.
 ghost use Rattle.std.specs.Prelude.{◌<◌, ◌≤◌, length};
 
 use crate::tests::runs::PortsRun;
@@ -73,7 +73,7 @@ fn replies_stand_behind_what_their_writer_held(rt: HostRuntime) -> Result<(), Fa
     Ok(())
 }
 
-/// Compares what stands in the writer of a session, and how it ended.
+/// Compares what is in the writer of a session, and how it ended.
 fn check_session(
     rt: &impl Abort,
     left: &PortsRun<Vec<u8>, MemDisk>,
@@ -88,7 +88,7 @@ fn check_session(
     assert_eq!(rt; left.end(session), Some(end));
 }
 
-// The third line ends behind the 20th byte.
+// The third line ends after the 20th byte.
 #[test]
 fn a_port_has_its_own_limit(rt: HostRuntime) -> Result<(), Fail> {
     let alloc = rt.alloc();
@@ -137,7 +137,7 @@ impl Write for Narrow {
     }
 }
 
-/// By how many writes the first session's writer takes: what stands in it.
+/// By how many writes the first session's writer takes: what is in it.
 const NARROW: &[(usize, &str)] = &[(0, ""), (1, "ok 1\n"), (2, "ok 1\ndurabl")];
 
 /// A port from a script into a writer of so many writes.
@@ -166,7 +166,7 @@ fn narrow_run(
     Ok(left_of(rt, alloc, Some(engine), ports))
 }
 
-/// What stands in the writer of a session.
+/// What is in the writer of a session.
 fn narrow_text(left: &PortsRun<Narrow, MemDisk>, session: usize) -> &[u8] {
     match left.writer(session) {
         Some(writer) => &writer.text,
@@ -174,7 +174,7 @@ fn narrow_text(left: &PortsRun<Narrow, MemDisk>, session: usize) -> &[u8] {
     }
 }
 
-/// Compares what stands in the writer of a session, and how it ended.
+/// Compares what is in the writer of a session, and how it ended.
 fn check_writer(
     rt: &impl Abort,
     left: &PortsRun<Narrow, MemDisk>,
@@ -186,7 +186,7 @@ fn check_writer(
     assert_eq!(rt; left.end(session), Some(end));
 }
 
-/// Compares what stands in the writer that failed, and checks that the other session is whole.
+/// Compares what is in the writer that failed, and checks that the other session is whole.
 fn check_narrow(rt: &impl Abort, left: &PortsRun<Narrow, MemDisk>, text: &str) {
     assert_eq!(rt; left.session_count(), 2);
     check_writer(rt, left, 0, text, SessionEnd::Failed(49));

@@ -14,7 +14,7 @@ const SYNTAX: &str = "error 41 command syntax\n";
 
 const TOO_LONG: &str = "error 42 line too long\n";
 
-/// A reader of some bytes, so many at a read, which fails behind them if it has a fault. It counts
+/// A reader of some bytes, so many at a read, which fails after them if it has a fault. It counts
 /// the reads that failed.
 #[derive(Drop)]
 struct Feed<'a> {
@@ -41,7 +41,7 @@ impl Read for Feed<'_> {
     }
 }
 
-/// A writer that takes six bytes at a write, and so many writes: those behind them fail, or take
+/// A writer that takes six bytes at a write, and so many writes: those after them fail, or take
 /// nothing where there is no fault. It counts the writes that it refused.
 #[derive(Drop)]
 struct Sink {
@@ -77,7 +77,7 @@ fn check_end(rt: &impl Abort, end: SessionEnd, wanted: SessionEnd, failed: u64, 
     assert_eq!(rt; failed, u64::from(is_failed));
 }
 
-/// Compares what was written in a case: the one behind, by or at this number.
+/// Compares what was written in a case: the one after, by or at this number.
 fn check_written(rt: &impl Abort, written: &[u8], text: &[u8], word: &str, number: u64) {
     assert_eq!(rt; written, text, "{word} {number}");
 }
@@ -124,7 +124,7 @@ fn each_line_is_answered_without_its_ending(rt: HostRuntime) {
     }
 }
 
-/// So many bytes of one kind, and an end behind them.
+/// So many bytes of one kind, and an end after them.
 fn long_line(alloc: Global, byte: u8, count: usize, end: &[u8]) -> Result<Vec<u8>, AllocError> {
     let mut line = vec![in alloc; byte; count]?;
     line.extend_from_slice(end)?;

@@ -1,4 +1,4 @@
-//! That what sessions have put is in the store when that is opened again, and what they are told where it fails.
+//! That what sessions have put is in the store when that is opened again, and what is reported to them where it fails.
 use crate::tests::runs::Run;
 use crate::tests::testing::{BLOCKS, empty_disk, expect, reopened, served};
 use disk_model::disk::Disk;
@@ -79,7 +79,7 @@ fn a_sync_is_told_why_nothing_is_stored(rt: HostRuntime) -> Result<(), Fail> {
     let full = first_run(&rt, alloc, empty_disk(alloc)?, 4, PUT_AND_SYNC)?;
     expect(&rt, &full, 0, "ok 1\nerror 31 full\n");
     assert_eq!(rt; full.stored(), 0);
-    // Five calls make the store. The third of the commit behind them fails.
+    // Five calls make the store. The third of the commit after them fails.
     let disk = FaultDisk::new(empty_disk(alloc)?, 7);
     let failed = first_run(&rt, alloc, disk, BLOCKS, PUT_AND_SYNC)?;
     expect(&rt, &failed, 0, "ok 1\nerror 30 device\n");
@@ -93,7 +93,7 @@ fn works_again(disk: Option<StopDisk<MemDisk>>) -> Result<MemDisk, Fail> {
     Ok(disk.ok_or("no disk")?.into_disk())
 }
 
-/// By how many calls the disk passes on before it stops: what a PUT and a SYNC are told, and what is left of the store.
+/// By how many calls the disk passes on before it stops: what a PUT and a SYNC are answered, and what the store has.
 /// The first five calls make the store, and eight commit a layer, of which the seventh opens the gate.
 const STOPS: &[(u64, &str, &str)] = &[
     (5, "ok 1\nerror 30 device\n", "layers 0\n"),

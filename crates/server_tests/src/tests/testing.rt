@@ -23,7 +23,7 @@ use test_machines::machine::Machine;
 /// How many blocks a store of the tests may have.
 pub const BLOCKS: u32 = 200;
 
-/// What the threads of a server tell a test, and each other.
+/// What the threads of a server report to a test, and to each other.
 #[derive(Drop)]
 pub struct Watch {
     /// How many tiles workers have begun.

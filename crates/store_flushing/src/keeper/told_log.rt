@@ -1,4 +1,4 @@
-//! The numbers that were told durable, each with the disk's moment as it was told.
+//! The numbers that were reported durable, each with the disk's moment as it was reported.
 ghost use Rattle.std.specs.Prelude.{◌≡◌, ◌++◌, []};
 ghost use Rattle.book_history.specs.Logs.{history_of};
 ghost use Rattle.store_flushing.specs.Told.{news_in, told_at, told_in};
@@ -10,7 +10,7 @@ use std::fmt;
 use std::snapshot::Snapshot;
 use version_book::reporter::Reporter;
 
-/// A number that was told durable, and the disk's moment as it was told. No value of it is made: it is what a list of
+/// A number that was reported durable, and the disk's moment then. No value of it is made: it is what a list of
 /// them holds for the proofs.
 #[derive(Drop)]
 pub struct Told {
@@ -56,7 +56,7 @@ struct News<'a, D: Disk> {
     flusher: &'a Flusher<D>,
 }
 
-/// What was written down, and behind it the news with the disk's moment.
+/// What was written down, and after it the news with the disk's moment.
 struct WithNews;
 
 impl<'a, D: Disk> Opening<News<'a, D>, Told> for WithNews {
@@ -67,7 +67,7 @@ impl<'a, D: Disk> Opening<News<'a, D>, Told> for WithNews {
     ghost log = { λ n news. told_in news.told.now ++ told_at (D.moment news.flusher.now.commit.disk) (news_in (history_of news.was.now.value.log) (history_of news.reporter.now.log)) };
 }
 
-/// The numbers that were told durable, in order, each with the disk's moment as it was told. It has no bytes, and its
+/// The numbers that were reported durable, in order, each with the disk's moment then. It has no bytes, and its
 /// keeper alone can write it.
 #[derive(Drop)]
 pub struct ToldLog {
@@ -81,7 +81,7 @@ impl fmt::Debug for ToldLog {
 }
 
 impl ToldLog {
-    /// Nothing was told.
+    /// Nothing was reported.
     pub fn none() -> ToldLog
         ensures { told_in result ≡ [] }
     {

@@ -1,4 +1,4 @@
-//! Where a version stands in a history.
+//! Where a version is in a history.
 ghost use Rattle.std.specs.Prelude.{◌≡◌, ◌++◌, ◌≤◌, [], List, length, IsTrue};
 ghost use Rattle.overlay_terms.specs.Histories.{Entry};
 ghost use Rattle.book_history.specs.Logs.{newest_in};
@@ -9,7 +9,7 @@ use version_book::reporter::Reporter;
 use version_book::seen_log::SeenLog;
 use versions::Version;
 
-/// Where a version stands in a history: the log that it ends, its number, and what is durable there.
+/// Where a version is in a history: the log that it ends, its number, and what is durable there.
 #[derive(Drop)]
 pub(super) struct VersionMark {
     seen_log: SeenLog,

@@ -1,4 +1,4 @@
-//! What the reporter tells the book, under the lock.
+//! What the reporter reports to the book, under the lock.
 ghost use Rattle.std.specs.Prelude.{◌≡◌, ◌⊎◌, ◌<◌, length, IfOk, IfErr, Err};
 ghost use Rattle.book_history.specs.Fault.{no_memory};
 ghost use Rattle.book_history.specs.Logs.{newest_in, IsLog};
@@ -42,7 +42,7 @@ pub(crate) fn report<J: BookName, R: Wait + Drop>(
     durable
 }
 
-/// The store told a fault.
+/// The store reported a fault.
 pub(crate) fn store_failed<J: BookName, R: Wait + Drop>(
     locked: &mut LockedBook<J, R>,
     fault: ToldFault,

@@ -1,4 +1,4 @@
-//! What the calls that wait decide by, and what they are told, under the lock.
+//! What the calls that wait decide by, and what they answer, under the lock.
 ghost use Rattle.std.specs.Prelude.{◌≡◌, ◌⊎◌, ◌<◌, ◌≤◌, ◌↔◌, IsTrue, IfOk, IfErr, IfSome, IfNone, Err, IsErrAnd};
 ghost use Rattle.std.specs.Arc.{arc_value};
 ghost use Rattle.book_history.specs.Fault.{no_memory};
@@ -28,7 +28,7 @@ pub(crate) enum Awaited<'a> {
     Built(&'a Name),
     /// That a number is durable.
     Durable(u64),
-    /// News behind those of a count.
+    /// News after those of a count.
     News(u64),
 }
 
@@ -81,7 +81,7 @@ fn is_quiet<J: BookName, R: Wait + Drop>(locked: &LockedBook<J, R>, given: u64) 
     !locked.state.closing && (locked.state.news == given || locked.state.resting)
 }
 
-/// Tells a session how a wait for the tiles of a layer ends. The marks of the layer go where it ends by them.
+/// Reports to a session how a wait for the tiles of a layer ends. The marks of the layer go where it ends by them.
 pub(crate) fn tell_built<J: BookName, R: Wait + Drop>(
     locked: &mut LockedBook<J, R>,
     me: &mut Session,
@@ -112,7 +112,7 @@ pub(crate) fn tell_built<J: BookName, R: Wait + Drop>(
     Err(BookFault::Closing)
 }
 
-/// Tells a session how a wait until a number is durable ends, in a book that has a store.
+/// Reports to a session how a wait until a number is durable ends, in a book that has a store.
 pub(crate) fn tell_durable<J: BookName, R: Wait + Drop>(
     locked: &LockedBook<J, R>,
     me: &mut Session,
@@ -138,7 +138,7 @@ pub(crate) fn tell_durable<J: BookName, R: Wait + Drop>(
     }
 }
 
-/// Tells a session that there is no store.
+/// Reports to a session that there is no store.
 pub(crate) fn tell_no_store<J: BookName, R: Wait + Drop>(
     locked: &LockedBook<J, R>,
     me: &mut Session,

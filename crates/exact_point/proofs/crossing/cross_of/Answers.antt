@@ -66,7 +66,7 @@ returns-in-Equal-clause-none c =
     let level = int_ranked (to_z w64 (of_z w64 c.turn-left.result)) (pos 0) Equal (sym c.in-Equal.is ∙ c.cmp.ensures) in
     λ _. no_turn _ _ (omega (arith, ints, value, level))
 
--- found by search alone: it stands here so that a wrong body is refused without working out what to write
+-- found by search alone; written here so that a wrong body is refused without working out what to write
 pub returns-in-Equal-clause-meets : goal.returns-in-Equal-clause-meets
 returns-in-Equal-clause-meets c = search rules
 

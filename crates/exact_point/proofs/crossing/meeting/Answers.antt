@@ -33,7 +33,7 @@ returns-clause-only c =
     let w : to_z w64 (of_z w64 c.args.left) ≡ turn_of c.args.a.now c.args.b.now = search (rules, c.requires.value) in
     only_crossing _ _ _ _ (place c.part_way.result) t w c.part_way.ensures
 
--- found by search alone: it stands here so that a wrong body is refused without working out what to write
+-- found by search alone; written here so that a wrong body is refused without working out what to write
 pub part_way-requires-clause-t_low : goal.part_way-requires-clause-t_low
 part_way-requires-clause-t_low c = search rules
 

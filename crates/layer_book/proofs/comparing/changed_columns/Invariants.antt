@@ -5,7 +5,7 @@ use Rattle.overlay_terms.specs.SameInput.{same_marked}
 use Rattle.layer_book.specs.Touching.{marked_in}
 use Rattle.layer_book.proofs.comparing.changed_columns.Given as goal
 
--- the columns so far are told
+-- the columns so far are judged
 abbrev pub invariant-loop-number : goal.invariant-loop-number
 invariant-loop-number l = record {
   room : length l.changed ≡ column_count;

@@ -4,7 +4,7 @@ use Rattle.overlay_terms.specs.Column.{column_count, columns, touches}
 use Rattle.overlay_terms.specs.SameInput.{same_segment}
 use Rattle.layer_book.proofs.comparing.differing_columns.Given as goal
 
--- the columns so far are told
+-- the columns so far are judged
 abbrev pub invariant-loop-number : goal.invariant-loop-number
 invariant-loop-number l = record {
   room : length l.differing ≡ column_count;

@@ -4,7 +4,7 @@ use Rattle.overlay_terms.specs.Column.{touches}
 use Rattle.overlay_terms.specs.SameInput.{same_segment}
 use Rattle.layer_book.proofs.comparing.is_same_in.Given as goal
 
--- what is left of both tells whether they are the same
+-- both are the same where what is left of them is
 abbrev pub invariant-loop-seg : goal.invariant-loop-seg
 invariant-loop-seg l = record {
   within : l.next ≤ length l.old;

@@ -4,7 +4,7 @@ use Rattle.layer_expr.specs.Reader.{state_of}
 use Rattle.layer_expr.proofs.ReadingLemmas.{IsAt}
 use Rattle.layer_expr.proofs.reading.read_expr.Given as goal
 
--- the tokens so far can stand there, and the reader stands behind them
+-- the tokens so far can stand there, and the reader is after them
 abbrev pub invariant-loop-lexeme : goal.invariant-loop-lexeme
 invariant-loop-lexeme l = record {
   within : l.at ≤ length l.bytes;

@@ -6,7 +6,7 @@ use Rattle.layer_expr.specs.StepList.{reached, numbered_steps, source_among}
 use Rattle.layer_expr.proofs.NumberedLemmas.{relabelled}
 use Rattle.layer_expr.proofs.step_list.are_numbered.Given as goal
 
--- what is left of both tells whether they are the same
+-- what is left of both decides whether they are the same
 abbrev pub invariant-loop-layer : goal.invariant-loop-layer
 invariant-loop-layer l =
     pointwise same_definition (map step_tree l.definitions) (numbered_steps (reached l.layers)).definitions

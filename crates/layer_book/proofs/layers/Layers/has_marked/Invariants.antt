@@ -9,7 +9,7 @@ use Rattle.layer_book.proofs.SameMarks.{marked_from}
 use Rattle.layer_book.proofs.HavingLemmas.{from_index}
 use Rattle.layer_book.proofs.layers.Layers.has_marked.Given as goal
 
--- what is left of both tells whether they are the same
+-- both are the same where what is left of them is
 abbrev pub invariant-loop-i : goal.invariant-loop-i
 invariant-loop-i l = record {
   few : l.number ≤ l.i;

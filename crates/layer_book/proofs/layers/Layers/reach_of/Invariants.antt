@@ -5,7 +5,7 @@ use Rattle.layer_book.proofs.Closing.{IsClosedFrom}
 use Rattle.layer_book.proofs.MarkedReach.{AreReached}
 use Rattle.layer_book.proofs.layers.Layers.reach_of.Given as goal
 
--- the asked layer is marked, what marked layers behind name is, and nothing that is not reached
+-- the asked layer is marked, what marked layers after it name is, and nothing that is not reached
 abbrev pub invariant-loop-i : goal.invariant-loop-i
 invariant-loop-i l = record {
   room : length l.wanted ≡ 32;

@@ -4,7 +4,7 @@ use Rattle.layer_book.specs.Command.{command}
 use Rattle.layer_book.specs.Sketch.{sketched}
 use Rattle.layer_book.proofs.layers.Layers.refusal_of_all.Given as goal
 
--- no command so far is refused; those that are left tell
+-- no command so far is refused: the answer is that of those that are left
 abbrev pub invariant-loop-change : goal.invariant-loop-change
 invariant-loop-change l = record {
   count : l.place ≡ l.change-index;

@@ -4,7 +4,7 @@ use Rattle.tile_build.specs.Tile.{finished_of}
 use Rattle.layer_tiles.specs.Table.{laid, tiles_in, IsLaid}
 use Rattle.layer_tiles.proofs.table.Table.filled.Given as goal
 
--- the table has the tiles so far, and those to come stand behind them
+-- the table has the tiles so far, and those to come are after them
 abbrev pub invariant-loop-tile : goal.invariant-loop-tile
 invariant-loop-tile l = record {
   all : l.yielded ++ into_iter_items l.tile-iterator ≡ into_iter_items l.initial.tile-iterator;

@@ -19,6 +19,6 @@ invariant_of-result c =
     let all = take_all c.loop-ring.ring-index c.deref-ring-items.result.now c.loop-ring-test.false ∙ c.deref-ring-items.ensures.value in
     (sound, search rules, are_rings c.args.rings.items sound (subst (All PointsInRange) all c.loop-ring.invariant.in_range))
 
--- found by search alone: it stands here so that a wrong body is refused without working out what to write
+-- found by search alone; written here so that a wrong body is refused without working out what to write
 pub returns-then-not-is_within_limit-clause-refused : goal.returns-then-not-is_within_limit-clause-refused
 returns-then-not-is_within_limit-clause-refused c = search rules

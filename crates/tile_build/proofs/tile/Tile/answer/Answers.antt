@@ -15,6 +15,6 @@ returns-in-Pieces c =
     ∙ ap (λ (ps : List NamedPiece). count_by (is_pair_below q) (map ends_of ps) % 2 == 1) c.deref.ensures.value in
     ap (λ (b : Bool). Some b) odd ∙ ap (λ (t : Tile). answer_of (tile_of t) q) (sym c.in-Pieces.is)
 
--- found by search alone: it stands here so that a wrong body is refused without working out what to write
+-- found by search alone: it is written here so that a wrong body is refused without working out what to write
 pub returns-in-Oversize : goal.returns-in-Oversize
 returns-in-Oversize c = search rules

@@ -1,4 +1,4 @@
--- As few entries lie between two versions as their numbers tell, so no tile was kept between.
+-- As few entries lie between two versions as their numbers say, so no tile was kept between.
 use Rattle.std.proofs.Common.{◌≤◌, length, ap, ◌∙◌, subst, arith}
 use Rattle.std.proofs.lemmas.Bool.{leb-true, le-leb}
 use mathlib.Core.List.{IsPrefix}
