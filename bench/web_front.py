@@ -13,7 +13,7 @@ import urllib.request
 from collections.abc import Iterator
 from typing import Any
 
-import overlay_client
+from web import overlay_client
 
 from bench import TOP
 

@@ -20,13 +20,8 @@ from dataclasses import dataclass, field
 from fractions import Fraction
 from typing import BinaryIO, TextIO
 
-import ending
-import features
-import limits
-import scale as scales
-import sessions
-import wkt
-from sessions import Session, Unusable
+from . import ending, features, limits, scale as scales, sessions, wkt
+from .sessions import Session, Unusable
 
 TOP = pathlib.Path(__file__).resolve().parent.parent
 LIVE, BATCHED = "overlay_live", "overlayd"
@@ -384,7 +379,3 @@ def run(parser: argparse.ArgumentParser, arguments: list[str], write: Writer, ou
     words = parser.parse_args(arguments)
     target, told = output or sys.stdout, errors or sys.stderr
     return worked(lambda: map_of(words, parser, many), lambda found: write(found, words, target, told), told)
-
-
-if __name__ == "__main__":
-    limits.tell(__doc__)

@@ -8,16 +8,12 @@ from collections.abc import Iterator
 from dataclasses import dataclass
 from fractions import Fraction
 
-import asking
-import layering
-import limits
-import progress
-import sessions
-import to_rings
-from areas import area_of_all
-from layering import Group
-from maps import bending, box_pairs, jobs, planning, rounds, task_form
-from maps.whole_maps import Box, WholeMap
+from . import asking, layering, limits, progress, sessions
+from .areas import area_of_all
+from .commands import to_rings
+from .layering import Group
+from .maps import bending, box_pairs, jobs, planning, rounds, task_form
+from .maps.whole_maps import Box, WholeMap
 
 ASKED = "asked"
 RUN_MAX = 100  # pairs of layers that one script can have
@@ -133,7 +129,3 @@ def overlapping(program: str, groups: list[Group]) -> list[Overlap]:
     except (rounds.ProgramEnded, rounds.ProgramRefused) as fault:
         raise sessions.Unusable(str(fault)) from fault
     return sorted(found, key=lambda one: (-one.area, one.first, one.second))
-
-
-if __name__ == "__main__":
-    limits.tell(__doc__)

@@ -6,13 +6,10 @@ A module for to_script.py; it is no tool of its own.
 import re
 from collections.abc import Iterator
 
-import features
-import layering
-import limits
-import map_reading
-from features import Feature, FeaturesFault, Table
-from layering import Group, Store
-from rounding import Polygon
+from . import features, layering, limits, map_reading
+from .features import Feature, FeaturesFault, Table
+from .layering import Group, Store
+from .rounding import Polygon
 
 Source = tuple[int, str]
 Described = dict[Source, map_reading.Described]
@@ -65,7 +62,3 @@ def collection_name(stem: str, taken: set[str]) -> str:
     names = layering.Names()
     names.taken = taken
     return names.give(fitted if fitted[: limits.NAME_MAX] not in taken else f"{fitted[: limits.NAME_MAX - 9]}_features")
-
-
-if __name__ == "__main__":
-    limits.tell(__doc__)

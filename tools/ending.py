@@ -14,7 +14,6 @@ import traceback
 from collections.abc import Callable
 from typing import NoReturn, TextIO
 
-import limits
 
 INTERRUPTED = 130  # as shells tell it of a program that was stopped from the keyboard
 TEXT_MAX = 200
@@ -97,7 +96,3 @@ def run(main: Callable[[list[str]], int]) -> NoReturn:
         drop_rest()
         status = 1
     sys.exit(status)
-
-
-if __name__ == "__main__":
-    limits.tell(__doc__)

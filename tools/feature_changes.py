@@ -12,15 +12,11 @@ from decimal import Decimal
 from fractions import Fraction
 from typing import Any
 
-import features
-import layering
-import limits
-import rounding
-import wkt
-from features import Change, Feature, Held, Table
-from map_reading import Refused
-from rounding import Polygon, Ring
-from scale import Scale
+from . import features, layering, limits, rounding, wkt
+from .features import Change, Feature, Held, Table
+from .map_reading import Refused
+from .rounding import Polygon, Ring
+from .scale import Scale
 
 
 class ChangeFault(ValueError):
@@ -232,7 +228,3 @@ def has_room(part: str, rings: Sequence[Ring]) -> bool:
 def text_of(rings: Sequence[Ring]) -> str:
     """The text of a layer, each ring as a polygon, as LAYERS has them."""
     return wkt.write([[ring] for ring in rings])
-
-
-if __name__ == "__main__":
-    limits.tell(__doc__)

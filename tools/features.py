@@ -32,10 +32,9 @@ from dataclasses import dataclass, replace
 from decimal import Decimal
 from typing import Any
 
-import layering
-import limits
-from rounding import Polygon, Ring
-from writing import write_durably as write_durably
+from . import layering
+from .rounding import Polygon, Ring
+from .writing import write_durably as write_durably
 
 ID = re.compile(r"[A-Za-z0-9_.-]{1,64}")
 ID_MAX = 2**53
@@ -391,7 +390,3 @@ def ids_for(given: Sequence[Any]) -> Iterator[int | str]:
     """The ids of features: the source's where each has one of its own, else their places, from 1."""
     own = all(map(is_id, given)) and len({str(one) for one in given}) == len(given)
     yield from given if own else range(1, len(given) + 1)
-
-
-if __name__ == "__main__":
-    limits.tell(__doc__)

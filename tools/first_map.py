@@ -1,4 +1,3 @@
-#!/usr/bin/env python3
 """Makes a store of a map and shows it: fits, makes the store, starts the front, and prints its address.
 
     ./overlay city.geojson
@@ -38,11 +37,9 @@ import webbrowser
 from collections.abc import Iterable, Mapping
 from typing import TextIO
 
-import asking
-import ending
-import sessions
-import to_script
-from describing import Described
+from . import asking, ending, sessions
+from .commands import to_script
+from .describing import Described
 
 FRONT = asking.TOP / "web" / "overlay_web.py"
 NAMED = "both"
@@ -318,7 +315,3 @@ def main(arguments: list[str], output: TextIO | None = None, errors: TextIO | No
     except (sessions.Unusable, OSError) as fault:
         print(fault if isinstance(fault, sessions.Unusable) else ending.told(fault.filename or "overlay", fault), file=errors)
         return 1
-
-
-if __name__ == "__main__":
-    ending.run(main)

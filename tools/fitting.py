@@ -8,10 +8,9 @@ from collections.abc import Iterable
 from dataclasses import dataclass
 from fractions import Fraction
 
-import limits
-import map_reading
-from map_reading import Shape
-from scale import Scale, decimal_digits, decimals
+from . import limits, map_reading
+from .map_reading import Shape
+from .scale import Scale, decimal_digits, decimals
 
 MARGIN = Fraction(101, 100)  # room for an origin that is rounded
 COARSE = 1000  # a move of more than a part of so many of the extent is told
@@ -92,7 +91,3 @@ def faults(collapsed: int, outside: int, furthest: Fraction, box: Box, scale: Sc
         found.append(f"coordinates move by up to {float(furthest):.3g}, more than a {COARSE}th of the extent, "
                      f"{float(2 * box.half()):.3g}")
     return found
-
-
-if __name__ == "__main__":
-    limits.tell(__doc__)

@@ -16,10 +16,7 @@ import tempfile
 from collections.abc import Iterator
 from typing import NamedTuple
 
-import ending
-import limits
-import scale as scales
-import writing
+from . import ending, scale as scales, writing
 
 TABLE = "a table with a column of Well-Known Text"
 # By the end of a name: what the form is called, where it does not begin as one of MAGIC.
@@ -213,7 +210,3 @@ def write(path: pathlib.Path, geojson: str, has_crs: bool) -> None:
         made = pathlib.Path(folder, path.name)
         ran([*words, str(made), "/vsistdin/"], geojson.encode())
         writing.write_all({path: made.read_bytes()})
-
-
-if __name__ == "__main__":
-    limits.tell(__doc__)

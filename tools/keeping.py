@@ -10,10 +10,7 @@ from collections.abc import Iterable, Mapping
 from dataclasses import replace
 from decimal import Decimal
 
-import asking
-import limits
-import scale as scales
-import sessions
+from . import asking, scale as scales, sessions
 
 
 ENDS = (".scale.json", ".features.json", ".names.csv")
@@ -73,7 +70,3 @@ def check(output: pathlib.Path, beside: Mapping[pathlib.Path, bytes]) -> None:
         if meaning_of(path, stands) != meaning_of(path, data):
             raise StoreStands(f"{stores[0]} is a store, and {path} says what its numbers mean: it would say something "
                               "else; take another name, or move the store away")
-
-
-if __name__ == "__main__":
-    limits.tell(__doc__)

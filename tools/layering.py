@@ -10,11 +10,9 @@ from collections.abc import Iterator
 from dataclasses import dataclass, field
 from fractions import Fraction
 
-import limits
-import rounding
-import wkt
-from maps import box_pairs
-from rounding import Polygon, Ring
+from . import limits, rounding, wkt
+from .maps import box_pairs
+from .rounding import Polygon, Ring
 
 Box = tuple[int, int, int, int]
 
@@ -238,7 +236,3 @@ def expression_of(number: int, features: int) -> str:
 
 def area_of(group: Group) -> Fraction:
     return rounding.area_of(group.polygons)
-
-
-if __name__ == "__main__":
-    limits.tell(__doc__)

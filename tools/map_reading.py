@@ -15,10 +15,7 @@ from decimal import Decimal
 from fractions import Fraction
 from typing import Any
 
-import gdal_files
-import limits
-import scale as scales
-import wkt
+from . import gdal_files, scale as scales, wkt
 
 COLLECTIONS = ("FeatureCollection", "GeometryCollection")
 MARK = "\x1e"  # before each object of a text sequence, where they are not told by their lines
@@ -213,7 +210,3 @@ def content(name: str, layer: str | None = None) -> bytes:
     if form:
         return gdal_files.as_geojson(path, layer).encode()
     return path.read_bytes() if given is None else given
-
-
-if __name__ == "__main__":
-    limits.tell(__doc__)

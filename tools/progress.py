@@ -11,7 +11,6 @@ import time
 from collections.abc import Callable, Iterable, Iterator
 from typing import Any, TextIO, TypeVar
 
-import limits
 
 BEGIN_SECONDS, SECONDS_BETWEEN = 1.0, 5.0
 SECONDS_BETWEEN_TASKS = 10  # two plain lines
@@ -102,7 +101,3 @@ def over(items: Iterable[Item], what: str, total: int) -> Iterator[Item]:
         for item in items:
             yield item
             told.step()
-
-
-if __name__ == "__main__":
-    limits.tell(__doc__)

@@ -25,7 +25,7 @@ from decimal import Decimal
 from fractions import Fraction
 from typing import Any
 
-import limits
+from . import limits
 
 CRS84 = "OGC:CRS84"
 NUMBER = re.compile(r"[-+]?(?:[0-9]{1,20}(?:\.[0-9]{0,30})?|\.[0-9]{1,30})(?:[eE][-+]?[0-9]{1,2})?")
@@ -185,7 +185,3 @@ def beside(path: pathlib.Path) -> pathlib.Path:
 
 def with_digits(scale: Scale, digits: int | None) -> Scale:
     return scale if digits is None else replace(scale, digits=digits)
-
-
-if __name__ == "__main__":
-    limits.tell(__doc__)

@@ -10,9 +10,8 @@ from dataclasses import dataclass
 from decimal import Decimal
 from typing import Any
 
-import limits
-import wkt
-from replies import reply_length
+from . import limits, wkt
+from .replies import reply_length
 
 COLUMNS = limits.COLUMNS
 EXPONENT_MAX = 100  # a number with a greater one is no coordinate
@@ -344,7 +343,3 @@ def pieces_of(session: Session, layer: str) -> tuple[list[Piece], list[tuple[int
         else:
             pieces.extend(answer)
     return pieces, missing
-
-
-if __name__ == "__main__":
-    limits.tell(__doc__)

@@ -11,9 +11,8 @@ import gc
 from collections.abc import Iterable, Iterator
 from dataclasses import dataclass
 
-import limits
-import sessions
-from sessions import Corner, Piece
+from . import sessions
+from .sessions import Corner, Piece
 
 BLOCK_MAX = 512
 # A, B, C with A X + B Y + C W > 0 above a piece (B is 0 where it is vertical), and the piece's number.
@@ -246,7 +245,3 @@ def swept(pieces: list[Piece]) -> Boundary:
         else:
             sweep.turn_at(corner, by_angle(pieces, starts), stops, is_top)
     return sweep.found
-
-
-if __name__ == "__main__":
-    limits.tell(__doc__)

@@ -8,7 +8,6 @@ from collections.abc import Callable, Iterable
 from decimal import Decimal, InvalidOperation
 from typing import Any
 
-import limits
 
 TOKEN = re.compile(r"\s*(?:([A-Za-z]+)|([-+]?(?:\d+\.?\d*|\.\d+)(?:[eE][-+]?\d+)?)|([(),;=]))")
 
@@ -132,7 +131,3 @@ def write(polygons: Iterable[Any], spell: Callable[[Any], str] = str) -> str:
     if not texts:
         return "MULTIPOLYGON EMPTY"
     return "POLYGON " + texts[0] if len(texts) == 1 else "MULTIPOLYGON (" + ", ".join(texts) + ")"
-
-
-if __name__ == "__main__":
-    limits.tell(__doc__)

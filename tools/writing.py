@@ -13,7 +13,6 @@ import uuid
 from collections.abc import Iterator, Mapping
 from typing import TextIO
 
-import limits
 
 OWN = uuid.uuid4().hex  # of this process, among those of all machines that write in a folder
 
@@ -96,7 +95,3 @@ def write_durably(path: pathlib.Path, text: str) -> None:
         os.fsync(folder)
     finally:
         os.close(folder)
-
-
-if __name__ == "__main__":
-    limits.tell(__doc__)

@@ -15,9 +15,9 @@ import waitress  # type: ignore[import]
 from waitress.channel import HTTPChannel  # type: ignore[import]
 from waitress.task import ErrorTask  # type: ignore[import]
 
-from front import HEADERS, Front, refusal
-from serving import ANSWER_SECONDS, CONNECTIONS_MOST, LINE_MOST, QUIET_SECONDS, REQUEST_SECONDS, THREADS
-from web_request import BODY_MOST
+from .front import HEADERS, Front, refusal
+from .serving import ANSWER_SECONDS, CONNECTIONS_MOST, LINE_MOST, QUIET_SECONDS, REQUEST_SECONDS, THREADS
+from .web_request import BODY_MOST
 
 
 class Refusal(ErrorTask):

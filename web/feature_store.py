@@ -13,21 +13,16 @@ from collections.abc import Callable, Mapping, Sequence
 from dataclasses import dataclass
 from typing import NamedTuple
 
-import features  # of tools/
-import layering  # of tools/
-import rounding  # of tools/
-import simple  # of tools/
-import wkt  # of tools/
-from feature_changes import Plan, carried_out  # of tools/
-from features import Feature, Held, Outline, Table
-from kept_values import Kept
-from layer_store import KEPT_MOST, PATIENCE, LayerStore
-from overlay_client import Point, Refused
-from rescue import NotWritten
-from rounding import Polygon
-from shapes import Feature as Shape
-from shapes import area_of
-from views import Busy, View
+from tools import features, layering, rounding, simple, wkt
+from tools.feature_changes import Plan, carried_out
+from tools.features import Feature, Held, Outline, Table
+from tools.rounding import Polygon
+from .kept_values import Kept
+from .layer_store import KEPT_MOST, PATIENCE, LayerStore
+from .overlay_client import Point, Refused
+from .rescue import NotWritten
+from .shapes import Feature as Shape, area_of
+from .views import Busy, View
 
 
 NOT_ACCEPTED = (Refused, NotWritten, Busy)

@@ -14,15 +14,15 @@ import time
 from collections.abc import Callable, Iterator, Mapping, Sequence
 from typing import NamedTuple, cast
 
-import limits  # of tools/
-import shapes
-from joining import Joiners, TooLarge
-from kept_values import Kept
-from map_scale import MapScale
-from overlay_client import Ended, Piece, Refused, Server, Session, number_of
-from rescue import NotWritten, Rescue
-from scratch import Scratch
-from views import Hold, Listed, View, listed
+from tools import limits
+from . import shapes
+from .joining import Joiners, TooLarge
+from .kept_values import Kept
+from .map_scale import MapScale
+from .overlay_client import Ended, Piece, Refused, Server, Session, number_of
+from .rescue import NotWritten, Rescue
+from .scratch import Scratch
+from .views import Hold, Listed, View, listed
 
 PIECES_MOST = 200_000
 KEPT_MOST = 500_000

@@ -5,14 +5,14 @@ from __future__ import annotations
 import re
 from typing import cast
 
-import limits  # of tools/
-from feature_store import FeatureStore, State
-from layer_store import LayerStore
-from overlay_client import LARGEST_BATCH, NAME, OUT_OF_RANGE, Piece, Point, Refused, Session
-from shapes import text_of
-from systems import Systems
-from views import Busy, View
-from web_request import Answer, Problem, Request, json_answer
+from tools import limits
+from .feature_store import FeatureStore, State
+from .layer_store import LayerStore
+from .overlay_client import LARGEST_BATCH, NAME, OUT_OF_RANGE, Piece, Point, Refused, Session
+from .shapes import text_of
+from .systems import Systems
+from .views import Busy, View
+from .web_request import Answer, Problem, Request, json_answer
 
 DEFINITION_MOST = 2000
 

@@ -8,9 +8,8 @@ from __future__ import annotations
 import re
 from fractions import Fraction
 
-import limits  # of tools/
-import scale as scales  # of tools/
-from overlay_client import Point
+from tools import limits, scale as scales
+from .overlay_client import Point
 
 CRS84 = "http://www.opengis.net/def/crs/OGC/1.3/CRS84"
 EPSG = "http://www.opengis.net/def/crs/EPSG/0/"

@@ -35,7 +35,7 @@ from __future__ import annotations
 import contextlib
 import fcntl
 import functools
-import importlib
+import importlib.util
 import json
 import os
 import pathlib
@@ -492,17 +492,22 @@ def is_pending(reply: Reply) -> bool:
 
 
 def tools(name: str) -> Any:
-    """A module of tools/, which stands beside the folder of this file, or as overlay_client_tools beside the file."""
-    here = pathlib.Path(__file__).resolve().parent
-    for folder in (here.parent / "tools", here / "overlay_client_tools"):
-        if (folder / "to_rings.py").is_file() and str(folder) not in sys.path:
-            sys.path.append(str(folder))
-    return importlib.import_module(name)
+    """A module of tools/: of the package beside web/, or as pip installs it. Where this file alone is on Python's path, the
+    folder of the tools beside its own is taken in by that name."""
+    package = "tools" if __package__ else "overlay_client_tools"
+    if not __package__ and importlib.util.find_spec(package) is None:
+        folder = pathlib.Path(__file__).resolve().parent.parent / "tools"
+        spec = importlib.util.spec_from_file_location(package, folder / "__init__.py")
+        if spec is None or spec.loader is None:
+            raise ImportError(f"{folder}: no tools")
+        sys.modules[package] = module = importlib.util.module_from_spec(spec)
+        spec.loader.exec_module(module)
+    return importlib.import_module(f"{package}.{name}")
 
 
 def rings_of(pieces: list[Piece]) -> list[list[Ring]]:
     """The polygons that pieces of a whole boundary bound, by tools/to_rings.py."""
-    to_rings = tools("to_rings")
+    to_rings = tools("commands.to_rings")
 
     return [
         [[(Fraction(x, w), Fraction(y, w)) for x, y, w in ring.corners] for ring in polygon]

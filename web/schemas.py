@@ -5,7 +5,7 @@ from __future__ import annotations
 from collections.abc import Iterable, Mapping
 from typing import Any
 
-import limits  # of tools/
+from tools import limits
 
 Value = dict[str, Any]
 NAME = "^[A-Za-z][A-Za-z0-9_]{0,31}$"

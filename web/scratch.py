@@ -7,8 +7,8 @@ import os
 import threading
 from collections.abc import Sequence
 
-from overlay_client import Ended, Piece, Refused, Server, Session
-from views import Busy
+from .overlay_client import Ended, Piece, Refused, Server, Session
+from .views import Busy
 
 
 class Scratch:

@@ -16,8 +16,8 @@ from http import HTTPStatus
 from typing import Any
 from wsgiref import simple_server
 
-from front import CHANGES_MOST, HEADERS, SLOW_MOST, Front, refusal
-from web_request import BODY_MOST, Answer
+from .front import CHANGES_MOST, HEADERS, SLOW_MOST, Front, refusal
+from .web_request import BODY_MOST, Answer
 
 THREADS = SLOW_MOST + CHANGES_MOST + 4
 CONNECTIONS_MOST = 200
@@ -49,7 +49,7 @@ def serve(front: Front, host: str, port: int) -> None:
     if not 0 <= port <= PORT_MOST:
         raise Unheard(host, port, f"a port is 0 to {PORT_MOST}")
     try:
-        import by_waitress
+        from . import by_waitress
     except ImportError:
         serve_by_threads(front, host, port)
         return

@@ -12,9 +12,9 @@ from decimal import Decimal
 from fractions import Fraction
 from typing import Any, NamedTuple, Protocol
 
-from map_scale import CRS84, MapScale
-from overlay_client import Point
-from shapes import Box, edge_meets, edges_of, holds, homogeneous
+from .map_scale import CRS84, MapScale
+from .overlay_client import Point
+from .shapes import Box, edge_meets, edges_of, holds, homogeneous
 
 DEGREE_DIGITS = 10
 """Behind the point of a degree: a hundredth of a millimetre."""

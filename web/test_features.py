@@ -18,18 +18,16 @@ from collections.abc import Iterator
 from dataclasses import replace
 from typing import Any
 
-import features  # of tools/
-import map_scale
-import scale as scales  # of tools/
-import testing
-import to_script  # of tools/
-from feature_store import FeatureStore, Unlike
-from front import Front
-from layer_store import LayerStore
-from overlay_client import Server
-from scratch import Scratch
-from systems import Projection, Systems
-from testing import Client, folder
+from tools import features, scale as scales
+from tools.commands import to_script
+from . import map_scale, testing
+from .feature_store import FeatureStore, Unlike
+from .front import Front
+from .layer_store import LayerStore
+from .overlay_client import Server
+from .scratch import Scratch
+from .systems import Projection, Systems
+from .testing import Client, folder
 
 WEST = [[0, 0], [10, 0], [10, 10], [5, 10], [0, 10], [0, 0]]
 LAKE = [[2, 2], [4, 2], [4, 4], [2, 4], [2, 2]]

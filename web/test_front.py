@@ -10,12 +10,12 @@ from decimal import Decimal
 from fractions import Fraction
 from typing import Any
 
-import limits  # of tools/
-import testing
-from shapes import Box
-from test_shapes import Place, meets
-from testing import BAR, SHIFTED, SQUARE, TOP, TRIANGLE, FrontCase
-from views import View
+from tools import limits
+from . import testing
+from .shapes import Box
+from .test_shapes import Place, meets
+from .testing import BAR, SHIFTED, SQUARE, TOP, TRIANGLE, FrontCase
+from .views import View
 
 ROOT = f"http://{testing.HOST}"
 

@@ -12,9 +12,9 @@ import unittest
 from collections.abc import Iterator
 from typing import Any
 
-import schemas
-from test_features import MOVED, Case, feature
-from testing import SHIFTED, SQUARE, FrontCase, Told
+from . import schemas
+from .test_features import MOVED, Case, feature
+from .testing import SHIFTED, SQUARE, FrontCase, Told
 
 METHODS = {"get", "put", "post", "delete", "options", "head", "patch", "trace"}
 WHERE = {"query", "path", "header", "cookie"}
@@ -245,7 +245,7 @@ class Judges(unittest.TestCase):
     def test_the_other_judge_finds_them_too(self) -> None:
         if judge() is None:
             self.skipTest("no openapi_spec_validator: pip install openapi-spec-validator")
-        import openapi
+        from . import openapi
 
         good = openapi.document("t", "http://127.0.0.1", True, openapi.Described("m", {}))
         judge().validate(good)
@@ -253,7 +253,7 @@ class Judges(unittest.TestCase):
             judge().validate({**good, "paths": {**good["paths"], "/x": {"get": {"responses": {}, "parameters": [{}]}}}})
 
     def test_faults_of_a_description_are_found(self) -> None:
-        import openapi
+        from . import openapi
 
         good = openapi.document("t", "http://127.0.0.1", True, openapi.Described("m", schemas.properties_of([{"a": 1}], "area")))
         self.assertEqual(list(Document(good).faults()), [])

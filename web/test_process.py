@@ -22,13 +22,10 @@ from collections.abc import Callable, Iterator
 from typing import Any
 from wsgiref import simple_server
 
-import overlay_web
-import serving
-import testing
-from overlay_client import Server
-from testing import SQUARE
-
-WEB = pathlib.Path(overlay_web.__file__).resolve().parent
+from . import serving, testing
+from .commands import overlay_web
+from .overlay_client import Server
+from .testing import SQUARE
 
 
 def started(*words: str | pathlib.Path) -> subprocess.Popen[str]:
@@ -37,10 +34,10 @@ def started(*words: str | pathlib.Path) -> subprocess.Popen[str]:
     code = (
         "import signal, sys; signal.signal(signal.SIGINT, signal.default_int_handler); "
         "sys.modules['waitress'] = None; sys.argv[0] = 'overlay_web.py'; "
-        f"sys.path.insert(0, {str(WEB)!r}); import overlay_web; sys.exit(overlay_web.main(sys.argv[1:]))"
+        "from web.commands import overlay_web; sys.exit(overlay_web.main(sys.argv[1:]))"
     )
     given = [sys.executable, "-c", code, "--program", testing.PROGRAM, "--port", "0", *map(str, words)]
-    return subprocess.Popen(given, stdout=subprocess.PIPE, stderr=subprocess.PIPE, text=True, start_new_session=True)
+    return subprocess.Popen(given, cwd=testing.TOP, stdout=subprocess.PIPE, stderr=subprocess.PIPE, text=True, start_new_session=True)
 
 
 @contextlib.contextmanager

@@ -6,10 +6,10 @@ import importlib.util
 import unittest
 from typing import Any
 
-from map_scale import CRS84
-from systems import Projection, Systems, Unplaced, Unprojected, by_pyproj
-from test_features import EAST, MOVED, WEST, Case, feature
-from testing import FrontCase, map_scale
+from .map_scale import CRS84
+from .systems import Projection, Systems, Unplaced, Unprojected, by_pyproj
+from .test_features import EAST, MOVED, WEST, Case, feature
+from .testing import FrontCase, map_scale
 
 OWN = "http://www.opengis.net/def/crs/EPSG/0/30169"
 

@@ -11,10 +11,10 @@ from collections import deque
 from collections.abc import Callable, Iterable, Iterator, Mapping, Sequence
 from typing import NamedTuple
 
-import limits  # of tools/
-import shapes
-from kept_values import Kept
-from overlay_client import OVERSIZE, UNKNOWN_LAYER, Layer, Piece, Point, Refused, Session, edges_lines, is_pending
+from tools import limits
+from . import shapes
+from .kept_values import Kept
+from .overlay_client import OVERSIZE, UNKNOWN_LAYER, Layer, Piece, Point, Refused, Session, edges_lines, is_pending
 
 
 class Busy(Exception):

@@ -9,7 +9,7 @@ from collections.abc import Mapping
 from fractions import Fraction
 from typing import Any, NamedTuple
 
-from map_scale import exact
+from .map_scale import exact
 
 BODY_MOST = 1 << 20
 WORDS_MOST = 32

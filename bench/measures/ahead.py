@@ -14,8 +14,8 @@ import time
 from collections.abc import Callable, Iterator
 
 from bench.counting import Words
-import limits
-from overlay_client import COLUMNS, Piece, Server, Session, edges_lines
+from tools import limits
+from web.overlay_client import COLUMNS, Piece, Server, Session, edges_lines
 
 Pairs = list[tuple[str, str, list[int]]]
 Way = Callable[[Session, Pairs], Iterator[list[Piece]]]

@@ -21,7 +21,7 @@ from collections.abc import Sequence
 
 from bench.counting import Words
 from bench.tile_texts import Point, closed, text_of
-from limits import COLUMN_WIDTH, LAYERS_MAX, STEPS_MAX
+from tools.limits import COLUMN_WIDTH, LAYERS_MAX, STEPS_MAX
 
 MARGIN = 16
 

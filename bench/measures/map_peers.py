@@ -149,7 +149,7 @@ def boxes_that_meet(folder: pathlib.Path) -> int:
     """Pairs of boxes with a common part that has an area."""
     from fractions import Fraction
 
-    from maps import gdal_maps, numpy_pairs, numpy_planning
+    from tools.maps import gdal_maps, numpy_pairs, numpy_planning
 
     boxes = [numpy_planning.boxes_of(gdal_maps.read(str(folder / f"{kind}.gpkg"), Fraction(1000), None, None, False).whole)
              for kind in ("parcels", "zones")]

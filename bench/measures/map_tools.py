@@ -17,10 +17,10 @@ import tempfile
 import time
 from collections.abc import Callable, Iterator
 
-import to_rings
 from bench import TOP
 from bench.counting import Words
-from sessions import Piece
+from tools.commands import to_rings
+from tools.sessions import Piece
 
 Ring = list[tuple[int, int]]
 SIDE = 1000  # rings apart from each other in a row

@@ -24,7 +24,7 @@ from bench import tile_texts
 from bench.counting import Words
 from bench.measures import serving, tiles
 from bench.tile_texts import Layer
-from limits import COLUMNS, COORDINATE_MAX
+from tools.limits import COLUMNS, COORDINATE_MAX
 
 HERE = pathlib.Path(__file__).resolve().parent
 COMPILE = "g++ -std=c++17 -O2 -DNDEBUG -w".split()

@@ -23,7 +23,7 @@ from bench import unproved
 from bench.counting import Words
 from bench.processor_time import processor
 from bench.reference import read_store
-from limits import COLUMNS, COORDINATE_MAX, LAYERS_MAX, column_begin
+from tools.limits import COLUMNS, COORDINATE_MAX, LAYERS_MAX, column_begin
 
 HERE = pathlib.Path(__file__).resolve().parent
 BLOCK = 4096

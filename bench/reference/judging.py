@@ -22,7 +22,7 @@ from typing import Any
 
 from bench.counting import Words, counted
 from bench.reference import model
-from limits import COLUMNS
+from tools.limits import COLUMNS
 
 UNJUDGED = {30, 31, 35, 36, 40, 43, 44}
 

@@ -24,11 +24,11 @@ from typing import Any, NamedTuple
 
 from bench import TOP
 from bench.counting import Words
-from limits import (
+from tools.limits import (
     BATCH_MAX, COLUMN_WIDTH, COLUMNS, COORDINATE_MAX, GRID_MAX, LAYERS_MAX, LINE_MAX, NAME_MAX, PIECES_MAX, STEP_MAX,
     STEPS_MAX, TOKENS_MAX, WEIGHT_MAX,
 )
-from replies import reply_length
+from tools.replies import reply_length
 
 TEXTS = {
     1: "wkt syntax at #", 2: "not whole at #", 3: "coordinate out of range at #", 4: "ring # open", 5: "ring # short",

@@ -21,7 +21,7 @@ from typing import Any, NamedTuple, Union
 
 from bench import TOP
 from bench.counting import Words, checked
-from limits import (
+from tools.limits import (
     COLUMN_WIDTH, COLUMNS, COORDINATE_MAX, LAYERS_MAX, NAME_MAX, PIECES_MAX, STEPS_MAX, TOKENS_MAX,
 )
 

@@ -29,8 +29,8 @@ from typing import Any, NamedTuple
 from bench.counting import Kept, Words, counted
 from bench.reference import judging, model, read_store
 from bench.trials import stress
-from limits import COLUMNS
-from replies import reply_length
+from tools.limits import COLUMNS
+from tools.replies import reply_length
 
 SESSIONS = 4
 PATIENCE = 60

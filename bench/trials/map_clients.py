@@ -41,7 +41,7 @@ from bench.counting import Tries, Words  # noqa: E402
 from bench.reference import read_store  # noqa: E402
 from bench.trials.maps import loaded  # noqa: E402
 from bench.web_front import TOP, asked  # noqa: E402
-from limits import COLUMN_WIDTH, COORDINATE_MAX  # noqa: E402
+from tools.limits import COLUMN_WIDTH, COORDINATE_MAX
 
 try:
     from qgis import core as qgis

@@ -32,10 +32,10 @@ except ImportError as fault:
         sys.exit(0)
     sys.exit(f"{fault}: apt-get install python3-shapely python3-numpy, and run this by /usr/bin/python3")
 
-import overlay_maps  # noqa: E402
-from maps import geojson_maps, numpy_pairs, numpy_planning, running  # noqa: E402
-from maps.whole_maps import Box, Ring, WholeMap  # noqa: E402
-from testing import slabs  # noqa: E402
+from tools.commands import overlay_maps
+from tools.maps import geojson_maps, numpy_pairs, numpy_planning, running
+from tools.maps.whole_maps import Box, Ring, WholeMap
+from tools.testing import slabs
 
 CLOSE = 1e-9
 KINDS = ("GEOS fails", "GEOS alone says overlap", "the tool alone says overlap", "areas differ")

@@ -23,15 +23,9 @@ from dataclasses import dataclass, field
 from fractions import Fraction
 from typing import Any
 
-import checking
-import limits
-import map_reading
-import rounding
-import scale as scales
-import sessions
-import wkt
 from bench import TOP
 from bench.counting import Words
+from tools import checking, limits, map_reading, rounding, scale as scales, sessions, wkt
 
 PYTHON = "/usr/bin/python3"  # the one that has Debian's packages
 NEEDED = {"gdal-bin": ["ogr2ogr", "--version"], "python3-shapely": [PYTHON, "-c", "import shapely"]}

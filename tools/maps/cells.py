@@ -7,13 +7,13 @@ from collections.abc import Iterable, Iterator
 from dataclasses import dataclass
 from fractions import Fraction
 
-import limits
-from maps import box_pairs
-from maps.drawing_in import Drawn, Plain, Wanted, is_inside
-from maps.slots import CORE_MAX, Laid, ring_of, steps_of
-from maps.task_form import ALONE, COMMON, GAPS
-from maps.whole_maps import NOWHERE, Box, Ring
-from sessions import Piece
+from .. import limits
+from ..sessions import Piece
+from . import box_pairs
+from .drawing_in import Drawn, Plain, Wanted, is_inside
+from .slots import CORE_MAX, Laid, ring_of, steps_of
+from .task_form import ALONE, COMMON, GAPS
+from .whole_maps import NOWHERE, Box, Ring
 
 MANY = 100  # of more boxes the pairs are found by grids
 HALVES_AT_ONCE = 4096
@@ -182,7 +182,3 @@ class Parting:
             some, self._waiting = self._waiting[-HALVES_AT_ONCE:], self._waiting[:-HALVES_AT_ONCE]
             for (job, _), near in zip(some, self.drawing.of_boxes([wanted for _, wanted in some]), strict=True):
                 yield from self._parts(job, near, True)
-
-
-if __name__ == "__main__":
-    limits.tell(__doc__)

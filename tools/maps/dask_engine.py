@@ -20,13 +20,14 @@ from itertools import islice
 from typing import Any
 from urllib.parse import urlsplit
 
-from maps import engines, rounds, tasks
-from maps.engines import TRIES, Engine, TaskFault
-from maps.tasks import TaskFolder, Work
+from . import engines, rounds, tasks
+from .engines import TRIES, Engine, TaskFault
+from .tasks import TaskFolder, Work
 
 IN_HAND = 3  # tasks a thread of a worker: what is done, what waits, what is on its way
 WORKERS_WITHIN = 30  # seconds
-TOOLS = pathlib.Path(__file__).resolve().parent.parent
+TOP = pathlib.Path(__file__).resolve().parents[2]
+SENT = ("tools/*.py", "tools/maps/*.py", "tools/commands/__init__.py", "tools/commands/to_rings.py", "web/__init__.py", "web/overlay_client.py")
 NEEDED = ("--dask needs Dask: apt-get install python3-distributed, and run this by /usr/bin/python3; "
           "--jobs N needs nothing")
 
@@ -98,11 +99,9 @@ def is_open_to_all(address: str) -> bool:
 def packed(folder: pathlib.Path) -> pathlib.Path:
     """The modules that a task needs, as one file that workers import."""
     made = folder / "overlay_maps_modules.zip"
-    sources = [*TOOLS.glob("*.py"), *(TOOLS / "maps").glob("*.py"), rounds.WEB / "overlay_client.py"]
     with zipfile.ZipFile(made, "w") as file:
-        for source in sources:
-            if source.name != "tests.py":
-                file.write(source, source.relative_to(TOOLS) if TOOLS in source.parents else source.name)
+        for source in (path for pattern in SENT for path in TOP.glob(pattern) if not path.is_symlink()):
+            file.write(source, source.relative_to(TOP))
     return made
 
 

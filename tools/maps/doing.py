@@ -14,19 +14,16 @@ import tempfile
 from collections.abc import Iterable, Iterator
 from typing import Any
 
-import asking
-import ending
-import limits
-import progress
-from maps import dask_engine, engines, spooled, tasks, windows, work
-from maps.dask_engine import DaskFault
-from maps.engines import Engine, TaskFault
-from maps.task_form import Found, Task
-from maps.tasks import FolderFault, TaskFolder
-from maps.whole_maps import MapFault
-from maps.windows import ByWindows
-from maps.work import ByProgram
-from sessions import Unusable
+from .. import asking, ending, progress
+from ..sessions import Unusable
+from . import dask_engine, engines, spooled, tasks, windows, work
+from .dask_engine import DaskFault
+from .engines import Engine, TaskFault
+from .task_form import Found, Task
+from .tasks import FolderFault, TaskFolder
+from .whole_maps import MapFault
+from .windows import ByWindows
+from .work import ByProgram
 
 INPUTS = ("first", "second")  # the words that name maps
 # What no task knows of.
@@ -159,7 +156,3 @@ def told_faults(folder: pathlib.Path | None) -> Iterator[None]:
         raise Unusable(f"{fault}{kept}") from fault
     except OSError as fault:
         raise Unusable(ending.told(fault.filename or folder or tempfile.gettempdir(), fault)) from fault
-
-
-if __name__ == "__main__":
-    limits.tell(__doc__)

@@ -15,9 +15,8 @@ A ring that is left with one point lies in one half-plane.
 from collections.abc import Iterator, Sequence
 from typing import NamedTuple
 
-import limits
-from maps.task_form import GAPS, Task
-from maps.whole_maps import Box, Point, Ring
+from .task_form import GAPS, Task
+from .whole_maps import Box, Point, Ring
 
 LEFT, RIGHT, UNDER, OVER = 1, 2, 4, 8
 
@@ -133,7 +132,3 @@ def is_inside(rings: Sequence[Ring], x: int, y: int) -> bool:
                 rise = (by - ay) * (x - ax) - (y - ay) * (bx - ax)
                 odd ^= (rise < 0) if bx > ax else (rise > 0)
     return odd
-
-
-if __name__ == "__main__":
-    limits.tell(__doc__)

@@ -13,9 +13,9 @@ import signal
 from collections.abc import Callable, Generator, Iterable, Iterator
 from concurrent.futures.process import BrokenProcessPool
 
-import progress
-from maps import deaths, tasks
-from maps.tasks import FolderFault, TaskFolder, Work
+from .. import progress
+from . import deaths, tasks
+from .tasks import FolderFault, TaskFolder, Work
 
 Engine = Callable[[Work, TaskFolder, Iterable[int]], Iterator[int]]
 

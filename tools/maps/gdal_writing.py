@@ -14,12 +14,10 @@ from pathlib import Path
 from typing import Any
 from xml.sax.saxutils import escape, quoteattr, unescape
 
-import ending
-import limits
-import writing
-from maps.gdal_maps import modules
-from maps.whole_maps import MapFault
-from sessions import Unusable
+from .. import ending, writing
+from ..sessions import Unusable
+from .gdal_maps import modules
+from .whole_maps import MapFault
 
 Piece = tuple[Mapping[str, Any], bytes]
 """Properties, and Well-Known Binary of a multipolygon."""
@@ -213,7 +211,3 @@ def write(path: str, pieces: Iterable[Piece], crs: str | None, part_max: int = P
     finally:
         own.drop()
     return own.count
-
-
-if __name__ == "__main__":
-    limits.tell(__doc__)

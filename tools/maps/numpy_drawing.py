@@ -8,10 +8,9 @@ from typing import Any
 
 import numpy as np
 
-import limits
-from maps.drawing_in import LEFT, OVER, RIGHT, UNDER, Drawn, Plain
-from maps.task_form import GAPS, Task
-from maps.whole_maps import Ring
+from .drawing_in import LEFT, OVER, RIGHT, UNDER, Drawn, Plain
+from .task_form import GAPS, Task
+from .whole_maps import Ring
 
 POINTS_AT_ONCE = 400_000
 Numbers = np.ndarray
@@ -187,7 +186,3 @@ def drawn_jobs(flat: Flat, jobs: range) -> Iterator[Drawn]:
         features[part].append(ring)
     for job, (core, frame, is_plain) in enumerate(zip(points.cores.tolist(), frames.tolist(), plain.tolist())):
         yield Drawn(tuple(core), tuple(frame), features[begins[job] : begins[job + 1]], is_plain)
-
-
-if __name__ == "__main__":
-    limits.tell(__doc__)

@@ -9,10 +9,9 @@ from fractions import Fraction
 
 import numpy as np
 
-import limits
-import rounding
-from maps.bending import EDGE_MAX, Longest, way_points
-from maps.whole_maps import FARTHEST, MapFault, Told, WholeMap, numbers
+from .. import rounding
+from .bending import EDGE_MAX, Longest, way_points
+from .whole_maps import FARTHEST, MapFault, Told, WholeMap, numbers
 
 Numbers = np.ndarray
 SPLIT = float(2**27 + 1)
@@ -186,7 +185,3 @@ def bend_long(rings: Rings, factor: Fraction, bend: bool, told: Told, called: Ca
     told.bent = len(long)
     if len(long):
         rings.bend(long)
-
-
-if __name__ == "__main__":
-    limits.tell(__doc__)

@@ -5,13 +5,12 @@ from itertools import islice
 
 import numpy as np
 
-import limits
-from maps.drawing_in import Drawn, wanted_of
-from maps.numpy_drawing import Flat, Numbers, Points
-from maps.slots import CORE_MAX
-from maps.task_form import Task
-from maps.whole_maps import Ring
-from maps.windows import ByWindows, Refused, drawn_of, layer_of, near, output_of
+from .drawing_in import Drawn, wanted_of
+from .numpy_drawing import Flat, Numbers, Points
+from .slots import CORE_MAX
+from .task_form import Task
+from .whole_maps import Ring
+from .windows import ByWindows, Refused, drawn_of, layer_of, near, output_of
 
 HEAD_WORDS = 21  # of 32 bits: core, frame and origin of 64 bits, and how many rings follow
 POINT_WORDS = 4
@@ -112,7 +111,3 @@ def layers_of(output: bytes, origins: Numbers) -> Iterator[list[Ring] | None]:
     for end in rings.tolist():
         yield [points[begins[at] : closes[at]] for at in range(ring, end)]
         ring = end
-
-
-if __name__ == "__main__":
-    limits.tell(__doc__)

@@ -6,12 +6,12 @@ from fractions import Fraction
 from functools import reduce
 from typing import NamedTuple
 
-import limits
-from maps import box_pairs
-from maps.cells import halved
-from maps.drawing_in import spared
-from maps.task_form import NOBODY, Task
-from maps.whole_maps import Box, Ring, WholeMap
+from .. import limits
+from . import box_pairs
+from .cells import halved
+from .drawing_in import spared
+from .task_form import NOBODY, Task
+from .whole_maps import Box, Ring, WholeMap
 
 JOBS_OF_TASK = 4000
 POINTS_OF_TASK = 400_000
@@ -177,7 +177,3 @@ def near_rings(rings: Iterable[Ring], core: Box) -> Iterator[Ring]:
         kept, _ = spared(ring, core)
         if len(kept) > 1:
             yield kept
-
-
-if __name__ == "__main__":
-    limits.tell(__doc__)

@@ -8,17 +8,12 @@ import pathlib
 from collections.abc import Callable, Iterable, Iterator
 from typing import TextIO
 
-import asking
-import ending
-import gdal_files
-import limits
-import scale as scales
-import writing
-from maps import doing, gdal_maps, geojson_maps
-from maps.task_form import Found, Task
-from maps.whole_maps import MapFault, ReadMap, Told
-from rounding import shown
-from sessions import Unusable
+from .. import asking, ending, gdal_files, scale as scales, writing
+from ..rounding import shown
+from ..sessions import Unusable
+from . import doing, gdal_maps, geojson_maps
+from .task_form import Found, Task
+from .whole_maps import MapFault, ReadMap, Told
 
 Say = Callable[[str], None]
 DEGREES = {"EPSG:4326": scales.CRS84}
@@ -144,7 +139,3 @@ def is_one(path: pathlib.Path, other: pathlib.Path) -> bool:
     if path.exists() and not path.is_file():
         return False
     return path.resolve() == other.resolve() or (path.exists() and other.exists() and path.samefile(other))
-
-
-if __name__ == "__main__":
-    limits.tell(__doc__)

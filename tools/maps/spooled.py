@@ -10,8 +10,7 @@ import weakref
 from collections.abc import Sequence
 from typing import IO, overload
 
-import limits
-from maps.whole_maps import WholeMap
+from .whole_maps import WholeMap
 
 BUFFER = 1 << 22
 
@@ -130,7 +129,3 @@ def moved(begins: Sequence[int], by: int) -> bytes:
     import numpy
 
     return (numpy.frombuffer(begins, numpy.int64)[1:] + by).tobytes()
-
-
-if __name__ == "__main__":
-    limits.tell(__doc__)

@@ -14,7 +14,7 @@ from collections.abc import Iterable, Iterator, Sequence
 from dataclasses import dataclass, field
 from fractions import Fraction
 
-from maps.whole_maps import Box, WholeMap, numbers
+from .whole_maps import Box, WholeMap, numbers
 
 COMMON, ALONE, GAPS = "common", "alone", "gaps"
 OVERLAPS, TOUCHES, ALONE_TOLD, GAP = "overlaps", "touches", "alone", "gap"

@@ -11,14 +11,14 @@ from fractions import Fraction
 
 import numpy as np
 
-from maps import (box_pairs, drawing_in, geojson_maps, jobs, numpy_drawing, numpy_maps, numpy_pairs, numpy_planning,
+from ..maps import (box_pairs, drawing_in, geojson_maps, jobs, numpy_drawing, numpy_maps, numpy_pairs, numpy_planning,
                   numpy_windows, planning, rounds, windows)
-from maps.drawing_in import Plain
-from maps.task_form import ALONE, COMMON, GAPS, Task
-from maps.whole_maps import MapFault, ReadMap, Told
-from testing.common import InFolder, Programs
-from testing.map_steps import sees
-from testing.random_maps import Maps, random_maps
+from ..maps.drawing_in import Plain
+from ..maps.task_form import ALONE, COMMON, GAPS, Task
+from ..maps.whole_maps import MapFault, ReadMap, Told
+from .common import InFolder, Programs
+from .map_steps import sees
+from .random_maps import Maps, random_maps
 
 MANY = 30
 

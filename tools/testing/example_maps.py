@@ -9,8 +9,8 @@ from collections.abc import Callable
 from decimal import Decimal
 from fractions import Fraction
 
-from testing import plain, slabs
-from testing.common import TOP
+from ..testing import plain, slabs
+from .common import TOP
 
 FACTOR = 1000
 Inside = Callable[[list[bool]], bool]

@@ -8,17 +8,10 @@ import unittest.mock
 from dataclasses import replace
 from typing import Any
 
-import asking
-import dump_store
-import features
-import layering
-import sessions
-import simple
-import to_geojson
-import to_script
-import which
-from features import Change, FeaturesFault
-from testing.common import InFolder, WithProgram, outcome
+from .. import asking, features, layering, sessions, simple
+from ..commands import dump_store, to_geojson, to_script, which
+from ..features import Change, FeaturesFault
+from .common import InFolder, WithProgram, outcome
 
 WEST = [[0, 0], [10, 0], [10, 10], [5, 10], [0, 10], [0, 0]]
 EAST = [[10, 0], [20, 0], [20, 10], [10, 10], [10, 0]]

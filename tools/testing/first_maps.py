@@ -12,10 +12,9 @@ import unittest.mock
 import urllib.request
 from typing import Any
 
-import first_map
-import map_reading
-from testing.common import TOP, WithProgram, outcome, path
-from testing.feature_files import EAST, ISLE, MAP, WEST, collection, feature
+from .. import first_map, map_reading
+from .common import TOP, WithProgram, outcome, path
+from .feature_files import EAST, ISLE, MAP, WEST, collection, feature
 
 OVER = [[5, 5], [25, 5], [25, 6], [5, 6], [5, 5]]
 

@@ -10,12 +10,10 @@ import unittest.mock
 from fractions import Fraction
 from typing import Any
 
-import layering
-import limits
-import rounding
-import to_script
-from testing.common import SQUARE, InFolder, on_file, outcome
-from testing.plain import below, on, segments_of
+from .. import layering, limits, rounding
+from ..commands import to_script
+from .common import SQUARE, InFolder, on_file, outcome
+from .plain import below, on, segments_of
 
 Ring = list[tuple[int, int]]
 

@@ -7,14 +7,14 @@ from collections.abc import Callable, Iterable, Iterator
 from fractions import Fraction
 from unittest import mock
 
-from maps import (auditing, bending, box_pairs, cells, drawing_in, exact_area, jobs, map_checks, planning, rounds,
+from ..maps import (auditing, bending, box_pairs, cells, drawing_in, exact_area, jobs, map_checks, planning, rounds,
                   sewing, slots, tables, touching, windows)
-from maps.task_form import ALONE, COMMON, Found, Row, ShapeOf, Task
-from maps.whole_maps import Box, Point, Ring, WholeMap
-from sessions import Piece, Unusable
-from testing import plain, slabs
-from testing.common import Programs
-from testing.random_maps import random_maps, wrong_answers
+from ..maps.task_form import ALONE, COMMON, Found, Row, ShapeOf, Task
+from ..maps.whole_maps import Box, Point, Ring, WholeMap
+from ..sessions import Piece, Unusable
+from ..testing import plain, slabs
+from .common import Programs
+from .random_maps import random_maps, wrong_answers
 
 SEEDS = 6
 

@@ -10,10 +10,10 @@ import unittest
 from typing import Any
 from unittest import mock
 
-import overlay_maps
-import writing
-from maps import boundaries, doing, exact_area
-from testing.common import InFolder, Programs, outcome
+from .. import writing
+from ..commands import overlay_maps
+from ..maps import boundaries, doing, exact_area
+from .common import InFolder, Programs, outcome
 
 Position = list[float]
 

@@ -9,16 +9,12 @@ from decimal import Decimal
 from fractions import Fraction
 from typing import Any
 
-import sessions
-import to_geojson
-import to_rings
-import to_script
-import which
-import wkt
-from to_rings import turn
-from testing.common import WithProgram, outcome, path
-from testing.layouts import geojson, zigzag
-from testing.plain import OPERATIONS, area_twice, below, on, overlay, segments_of
+from .. import sessions, wkt
+from ..commands import to_geojson, to_rings, to_script, which
+from ..commands.to_rings import turn
+from .common import WithProgram, outcome, path
+from .layouts import geojson, zigzag
+from .plain import OPERATIONS, area_twice, below, on, overlay, segments_of
 
 COUNTIES = path("data", "north_carolina.geojson")
 ICELAND = [path("data", f"iceland_{scale}.geojson") for scale in ("110m", "50m")]

@@ -5,7 +5,7 @@ import pathlib
 import re
 import subprocess
 
-from testing.common import SECONDS, TOP, Programs, WithProgram
+from .common import SECONDS, TOP, Programs, WithProgram
 
 PAGES = ("tasks.md", "beside-geos.md")
 PAGES_OF_LIVE = ("maps.md",)

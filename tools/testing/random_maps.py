@@ -5,13 +5,13 @@ from dataclasses import dataclass
 from fractions import Fraction
 from unittest import mock
 
-import limits
-from maps import cells, jobs, planning, rounds
-from maps.drawing_in import Plain
-from maps.task_form import COMMON, TOUCHES, Task
-from maps.whole_maps import WholeMap
-from testing import slabs
-from testing.slabs import Point, Ring
+from .. import limits
+from ..maps import cells, jobs, planning, rounds
+from ..maps.drawing_in import Plain
+from ..maps.task_form import COMMON, TOUCHES, Task
+from ..maps.whole_maps import WholeMap
+from ..testing import slabs
+from .slabs import Point, Ring
 
 Key = tuple[int, ...]
 """The number of a feature, and of another where a part is common."""

@@ -8,16 +8,9 @@ import unittest.mock
 import xml.etree.ElementTree
 from types import ModuleType
 
-import asking
-import dump_store
-import refused
-import sessions
-import to_geojson
-import to_rings
-import to_script
-import to_svg
-import which
-from testing.common import SQUARE, InFolder, WithProgram, content, outcome
+from .. import asking, sessions
+from ..commands import dump_store, refused, to_geojson, to_rings, to_script, to_svg, which
+from .common import SQUARE, InFolder, WithProgram, content, outcome
 
 # T without what is left of x = 1 is T in two thirds: 4/3 of an area, with corners at 1/3 and 5/3.
 TRIANGLE = "PUT T POLYGON ((0 0, 3 1, 0 2, 0 0))\n"
@@ -265,7 +258,7 @@ class OverStores(WithProgram):
 
     def test_no_program(self) -> None:
         script = self.file("plan.txt", CUT)
-        nowhere = unittest.mock.patch("asking.TOP", pathlib.Path("/nowhere"))
+        nowhere = unittest.mock.patch("tools.asking.TOP", pathlib.Path("/nowhere"))
         with nowhere, unittest.mock.patch.dict("os.environ", PATH=""):
             status, output, errors = outcome(to_rings, script)
         self.assertEqual((status, output), (1, ""))
@@ -311,7 +304,7 @@ class ProgramsThatAreFound(InFolder):
             place.parent.mkdir(parents=True, exist_ok=True)
             place.write_text("#!/bin/sh\n")
             place.chmod(0o700)
-        with unittest.mock.patch("asking.TOP", top), unittest.mock.patch.dict("os.environ", PATH=str(path)):
+        with unittest.mock.patch("tools.asking.TOP", top), unittest.mock.patch.dict("os.environ", PATH=str(path)):
             for place in places:
                 self.assertEqual(asking.found_program((asking.LIVE, asking.BATCHED)), str(place))
                 place.unlink()
