@@ -14,7 +14,6 @@ from __future__ import annotations
 import argparse
 import csv
 import pathlib
-import resource
 import subprocess
 import sys
 import tempfile
@@ -24,6 +23,7 @@ from typing import Any, NamedTuple
 
 from bench import TOP
 from bench.counting import Words
+from bench.processor_time import processor
 
 PYTHON = "/usr/bin/python3"
 Table = dict[tuple[str, str], float]
@@ -85,13 +85,12 @@ class Run(NamedTuple):
 
 
 def timed(words: list[str], table: pathlib.Path) -> Run:
-    before, begin = resource.getrusage(resource.RUSAGE_CHILDREN), time.monotonic()
+    before, begin = processor(), time.monotonic()
     done = subprocess.run(["/usr/bin/time", "-f", "%M", *words], capture_output=True, text=True, check=False)
-    after = resource.getrusage(resource.RUSAGE_CHILDREN)
+    seconds, clock = processor() - before, time.monotonic() - begin
     if done.returncode:
         raise RuntimeError(done.stderr.strip().splitlines()[-3])
-    seconds = after.ru_utime + after.ru_stime - before.ru_utime - before.ru_stime
-    return Run(seconds, time.monotonic() - begin, int(done.stderr.split()[-1]) // 1024, read_table(table))
+    return Run(seconds, clock, int(done.stderr.split()[-1]) // 1024, read_table(table))
 
 
 def read_table(path: pathlib.Path) -> Table:

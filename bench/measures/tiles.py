@@ -17,13 +17,10 @@ import subprocess
 import tempfile
 from collections.abc import Iterable
 
-from bench import unproved
 from bench.counting import Words
+from bench.measures import turns
 from bench.processor_time import processor
 from bench.tile_texts import Draws, Layer, Point, closed, lines_of
-
-HERE = pathlib.Path(__file__).resolve().parent
-
 
 # Families for times: two layers of so many edges each in column 16
 
@@ -190,8 +187,7 @@ def main() -> None:
     words = parser.words()
     with tempfile.TemporaryDirectory() as name:
         folder = pathlib.Path(name)
-        programs = [program.resolve() for program in words.programs]
-        measure(programs or [unproved.built(HERE / "tiles", folder, checked=False)], folder)
+        measure(turns.programs_of(words.programs, "tiles", folder), folder)
 
 
 if __name__ == "__main__":
