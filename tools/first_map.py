@@ -8,7 +8,7 @@ The features of one map are numbered over few layers and served with their names
 `name`, or by the first that tells them apart; --name-by says another. --with adds further maps on the same scale: each
 is a layer of its file's name then, and `both` is what all of them have in common.
 
-It writes CITY.txt, CITY.db and what goes with them in --folder (default: where it is called). A store that stands there
+It writes CITY.txt, CITY.db and what goes with them in --folder (default: where it is called). A store that is there
 is served as it is; --again makes it anew. One without its CITY.txt, which this did not make, one of another map of the
 same name, and one that another program has, as a front that runs, are refused and stay. Where one store does not
 suffice each has a front of its own. A browser is opened where there is a screen, but for --no-browser. The front runs
@@ -37,7 +37,7 @@ import webbrowser
 from collections.abc import Iterable, Mapping
 from typing import TextIO
 
-from . import asking, ending, sessions
+from . import asking, ending, scale as scales, sessions
 from .commands import to_script
 from .describing import Described
 
@@ -60,13 +60,13 @@ def words_of(arguments: list[str]) -> argparse.Namespace:
     parser = argparse.ArgumentParser(description=__doc__, formatter_class=argparse.RawDescriptionHelpFormatter)
     parser.add_argument("map", metavar="MAP", type=pathlib.Path, help="GeoJSON, Well-Known Text, or what GDAL reads")
     parser.add_argument("--with", metavar="MAP", dest="others", type=pathlib.Path, action="append", default=[],
-                        help="a further map on the same scale; may stand several times")
+                        help="a further map on the same scale; may be given several times")
     parser.add_argument("--name-by", metavar="PROPERTY", help="what the features are called by")
-    parser.add_argument("--crs", help="the name of the coordinates, where the files do not say it")
+    parser.add_argument("--crs", type=scales.crs, help="the name of the coordinates, where the files do not say it")
     parser.add_argument("--source-layer", metavar="NAME", help="the layer of files that have several, as GeoPackages")
     parser.add_argument("--folder", type=pathlib.Path, default=pathlib.Path(), help="where the store is made")
     parser.add_argument("--again", action="store_true",
-                        help="make a store anew that stands there; what was changed in it since is lost")
+                        help="make a store anew that is there; what was changed in it since is lost")
     parser.add_argument("--writable", action="store_true", help="let the page and HTTP change the map")
     parser.add_argument("--port", type=int, default=8080, help="of the first front; 0 for one that is free (default 8080)")
     parser.add_argument("--no-browser", action="store_true", help="open no browser")
@@ -113,7 +113,8 @@ def made_scripts(words: argparse.Namespace, output: pathlib.Path, errors: TextIO
         status = to_script.main(script_words(words, output), told, told)
     except to_script.Stopped as fault:
         raise Unmade(2, str(fault)) from fault
-    print(told.getvalue().replace(f"{output.parent}/", "").rstrip("\n"), file=errors)
+    lines = told.getvalue().replace(f"{output.parent}/", "").splitlines()
+    print("\n".join(line.partition("; overlayd --store ")[0] for line in lines), file=errors)
     scripts = scripts_of(output)
     if status == 2 or not scripts:
         raise Unmade(max(status, 1), f"{words.map}: no store is made")
@@ -167,8 +168,8 @@ def stores_for(words: argparse.Namespace, program: str, errors: TextIO) -> tuple
         check_maps(words, there)
     if there and not words.again:
         older = any(path.stat().st_mtime > there[0].stat().st_mtime for path in (words.map, *words.others))
-        age = ", and is older than its map" if older else ""
-        print(f"{', '.join(map(str, there))}: it stands{age}, and is served as it is; --again makes it anew", file=errors)
+        age = ", older than its map" if older else ""
+        print(f"{', '.join(map(str, there))}: made before{age}, and served as it is; --again makes it anew", file=errors)
         return there, 0
     if not os.access(words.folder, os.W_OK | os.X_OK):
         raise Unmade(1, f"{words.folder}: nothing can be written in it; say another --folder")
@@ -197,7 +198,7 @@ def check_maps(words: argparse.Namespace, there: list[pathlib.Path]) -> None:
     given = (words.map, *words.others)
     for path in given:
         if not path.exists():
-            raise Unmade(2, f"{path}: no such file; the store that stands is shown by overlay_web.py --store {there[0]}")
+            raise Unmade(2, f"{path}: no such file; the store of that name is shown by overlay_web.py --store {there[0]}")
     for path, other in zip(given, maps_of(there[0].with_suffix(".txt"))):
         if other.exists() and not other.samefile(path):
             raise Unmade(2, f"{there[0]}: it was made of {other}; say another --folder, or move it away")
@@ -219,10 +220,10 @@ def hold(words: argparse.Namespace, stem: str, held: contextlib.ExitStack) -> No
         if not re.fullmatch(rf"{re.escape(stem)}(\.[0-9]+)?\.db", path.name):
             continue
         if not path.with_suffix(".txt").is_file():
-            raise Unmade(2, f"{path}: it stands without the {path.stem}.txt that it was made of; say another --folder, "
+            raise Unmade(2, f"{path}: the {path.stem}.txt that it was made of is not there; say another --folder, "
                             "or move it away")
         if not words.again:
-            raise Unmade(2, f"{path}: it stands, and others of its map do not; --again makes all of them anew")
+            raise Unmade(2, f"{path}: others of its map are not there; --again makes all of them anew")
         try:
             fcntl.flock(held.enter_context(path.open("rb")), fcntl.LOCK_EX | fcntl.LOCK_NB)
         except BlockingIOError as fault:

@@ -32,6 +32,10 @@ class Box:
         return (-180 <= self.least[0] and self.greatest[0] <= 180 and -90 <= self.least[1]
                 and self.greatest[1] <= 90 and self.digits != 0)
 
+    def is_round_the_earth(self) -> bool:
+        """Whether the numbers can be degrees at all, also those of a map that goes on beyond 180."""
+        return max(map(abs, (self.least[0], self.greatest[0]))) <= 360 and -90 <= self.least[1] and self.greatest[1] <= 90
+
 
 def box_of(shapes: Iterable[Shape]) -> Box | None:
     """The box of all positions that can be read; None where there are none."""

@@ -167,12 +167,7 @@ def crs_of(value: dict[str, Any]) -> str | None:
     member = value.get("crs")
     properties = member.get("properties") if isinstance(member, dict) else None
     name = properties.get("name") if isinstance(properties, dict) else None
-    if not isinstance(name, str):
-        return None
-    if re.fullmatch(r"(urn:ogc:def:crs:)?OGC:(1\.3)?:?CRS84", name):
-        return scales.CRS84
-    found = re.fullmatch(r"(?:urn:ogc:def:crs:EPSG:[0-9.]*:|EPSG:)([0-9]+)", name)
-    return f"EPSG:{found[1]}" if found else name
+    return (scales.crs_called(name) or name) if isinstance(name, str) else None
 
 
 def number_of(given: Any) -> Fraction:

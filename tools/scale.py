@@ -13,6 +13,7 @@ numbers are those of a plane that is nowhere on the earth.
 A module for the tools; it is no tool of its own.
 """
 
+import argparse
 import contextlib
 import json
 import math
@@ -60,6 +61,22 @@ def decimal_digits(number: Fraction) -> int | None:
     while rest % 5 == 0:
         rest, fives = rest // 5, fives + 1
     return max(twos, fives) if rest == 1 else None
+
+
+def crs_called(name: str) -> str | None:
+    """The coordinates that a name is of: OGC:CRS84, or EPSG: and a number; None of any other name."""
+    if re.fullmatch(r"(urn:ogc:def:crs:)?OGC:(1\.3)?:?CRS84", name, re.IGNORECASE):
+        return CRS84
+    found = re.fullmatch(r"(?:urn:ogc:def:crs:EPSG:[0-9.]*:|EPSG:)([0-9]{1,9})", name, re.IGNORECASE)
+    return f"EPSG:{found[1]}" if found else None
+
+
+def crs(word: str) -> str:
+    """The coordinates that a word of a command line names."""
+    found = crs_called(word.strip())
+    if found is None:
+        raise argparse.ArgumentTypeError(f"{word}: OGC:CRS84, or EPSG: and a number, as EPSG:25832")
+    return found
 
 
 def decimals(number: Fraction | int, digits: int) -> str:

@@ -7,6 +7,7 @@ or goes in between; and what the server itself refuses is told as the front tell
 from __future__ import annotations
 
 import contextlib
+import errno
 import io
 import socket
 import socketserver
@@ -36,7 +37,14 @@ class Unheard(Exception):
     """Why nobody can listen at an address."""
 
     def __init__(self, host: str, port: int, reason: object) -> None:
-        super().__init__(f"{host} port {port}: {reason}")
+        super().__init__(f"{host} port {port}: {told_of(reason)}")
+
+
+def told_of(reason: object) -> str:
+    """A reason in words; where another program listens, with what to do."""
+    if isinstance(reason, OSError) and reason.errno == errno.EADDRINUSE:
+        return "another program listens there; say another --port, or 0 for a free one"
+    return str(isinstance(reason, OSError) and reason.strerror or reason)
 
 
 def told(host: str, port: int) -> None:

@@ -194,8 +194,8 @@ class Processes(unittest.TestCase):
         with socket.create_server(("127.0.0.1", 0)) as other:
             taken = other.getsockname()[1]
             tries: list[tuple[list[str | pathlib.Path], str]] = [
-                (["--writable", "--port", str(taken)], f"127.0.0.1 port {taken}: "),
-                (["--store", self.store, "--port", str(taken)], f"127.0.0.1 port {taken}: "),
+                (["--writable", "--port", str(taken)], f"127.0.0.1 port {taken}: another program listens there; say another --port"),
+                (["--store", self.store, "--port", str(taken)], f"127.0.0.1 port {taken}: another program listens there; say another --port"),
                 (["--writable", "--port", "65536"], "127.0.0.1 port 65536: a port is 0 to 65535"),
                 (["--store", self.store, "--host", "192.0.2.1"], "192.0.2.1 port 0: "),  # an address of documents
                 (["--store", self.store, "--host", "a b"], "a b port 0: "),

@@ -59,6 +59,7 @@ from ..map_reading import Refused, Shape
 from ..scale import Scale
 
 
+DEGREES = (scales.CRS84, "EPSG:4326")
 NAMED_MAX = 10  # so many properties are told
 
 
@@ -162,15 +163,17 @@ def listed(properties: list[str]) -> str:
 
 def crs_for(words: argparse.Namespace, names: set[str | None], box: fitting.Box | None) -> str | None:
     """The name of the coordinates: the one given, else that of the files, else degrees where they may be."""
-    given = {name for name in names if name}
-    if words.crs:
-        return str(words.crs)
+    given = {words.crs} if words.crs else {name for name in names if name}
     if len(given) > 1:
         raise Stopped(f"files of different coordinates: {', '.join(sorted(given))}; bring them to one, as by ogr2ogr -t_srs, "
                       "or say by --crs which one all of them have")
-    if given:
-        return given.pop()
-    return scales.CRS84 if box and box.is_within_degrees() else None
+    if not given:
+        return scales.CRS84 if box and box.is_within_degrees() else None
+    crs = str(given.pop())
+    if crs in DEGREES and box and not box.is_round_the_earth():
+        x, y = (fitting.shown(number) for number in box.greatest)
+        raise Stopped(f"{crs} is longitude and latitude, and {x} {y} is none; say by --crs what it is, as EPSG:25832")
+    return crs
 
 
 def scale_for(words: argparse.Namespace, box: fitting.Box | None, crs: str | None) -> Scale:
@@ -190,9 +193,8 @@ def scale_for(words: argparse.Namespace, box: fitting.Box | None, crs: str | Non
     factor = factor or Fraction(1)
     factor_y = words.factor_y or factor
     x, y = origin or (Fraction(0), Fraction(0))
-    degrees = crs in (scales.CRS84, "EPSG:4326")
     stem = words.output.stem if words.output else pathlib.Path(words.files[0]).stem
-    return Scale(factor, factor_y, (x, y), words.title or stem, words.unit or ("degree" if degrees else "1"), crs,
+    return Scale(factor, factor_y, (x, y), words.title or stem, words.unit or ("degree" if crs in DEGREES else "1"), crs,
                  scales.enough_digits(max(factor, factor_y)))
 
 
@@ -460,7 +462,7 @@ def words_of(arguments: list[str]) -> argparse.Namespace:
     parser.add_argument("--output", metavar="NAME.txt", type=pathlib.Path, help="in the place of standard output")
     parser.add_argument("--title", help="for the scale's file (default: the output's name)")
     parser.add_argument("--unit", help="of the world's numbers (default: degree for degrees, else 1)")
-    parser.add_argument("--crs", help="the name of the world's coordinates, as EPSG:2263 (default: what the files say)")
+    parser.add_argument("--crs", type=scales.crs, help="the name of the world's coordinates, as EPSG:2263 (default: what the files say)")
     words = parser.parse_args(arguments)
     if any(factor is not None and factor <= 0 for factor in (words.factor, words.factor_y)):
         parser.error("a factor is greater than 0")

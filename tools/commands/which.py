@@ -220,10 +220,18 @@ def shortened(typed: str) -> str:
     return told if len(told) <= TYPED_MAX else told[:TYPED_MAX] + " .."
 
 
-def texts(points: list[Point], corners: list[Corner | None], answers: Iterator[Answer]) -> Iterator[tuple[str, bool]]:
+def out_of_range(scale: Scale) -> str:
+    """What is said of a point beyond the plane: how far that goes, since x and y are easily taken for one another."""
+    ends = [scale.world((sign * limits.COORDINATE_MAX, sign * limits.COORDINATE_MAX, 1)) for sign in (-1, 1)]
+    x, y = (" to ".join(scales.decimals(number, scale.digits) for number in along) for along in zip(*ends))
+    return f"point out of range: x is {x}, y {y}"
+
+
+def texts(points: list[Point], corners: list[Corner | None], answers: Iterator[Answer], scale: Scale
+          ) -> Iterator[tuple[str, bool]]:
     """The line of each point, and whether it is answered; only those that have corners were asked."""
     for point, corner in zip(points, corners, strict=True):
-        answer = Answer(fault=point.fault or "point out of range") if corner is None else next(answers)
+        answer = Answer(fault=point.fault or out_of_range(scale)) if corner is None else next(answers)
         if answer.fault:
             yield f"error\t{shortened(point.typed)}: {answer.fault}", False
         else:
@@ -278,7 +286,7 @@ def work(words: argparse.Namespace, output: TextIO, errors: TextIO) -> int:
     for text in told:
         print(text, file=errors)
     status = 0
-    for text, is_answered in texts(points, corners, (joined(list(own)) for own in zip(*found, strict=True))):
+    for text, is_answered in texts(points, corners, (joined(list(own)) for own in zip(*found, strict=True)), scale):
         print(text, file=output)
         status = status if is_answered else 1
     return status

@@ -115,7 +115,21 @@ class Fitting(InFolder):
         ):
             told = self.sidecar(text, "--factor", 100)
             self.assertEqual((told["crs"], told["unit"]), (crs, unit))
-        self.assertEqual(self.sidecar(lonlat, "--factor", 100, "--crs", "EPSG:4258")["crs"], "EPSG:4258")
+        for word in ("EPSG:4258", "epsg:4258", "urn:ogc:def:crs:EPSG::4258"):
+            self.assertEqual(self.sidecar(lonlat, "--factor", 100, "--crs", word)["crs"], "EPSG:4258")
+
+    def test_coordinates_that_are_none_or_others_are_refused(self) -> None:
+        metres = self.file("metres.geojson", geojson(("b", [[square(500000, 5800000, 9)]]), crs="EPSG:25832"))
+        for word in ("nonsense", "25832", "EPSG:"):
+            with self.assertRaises(SystemExit) as ended, unittest.mock.patch("sys.stderr"):
+                outcome(to_script, metres, "--crs", word)
+            self.assertEqual(ended.exception.code, 2)
+        none = "is longitude and latitude, and 500009 5800009 is none; say by --crs what it is, as EPSG:25832"
+        self.assertEqual(outcome(to_script, metres, "--fit", "--crs", "EPSG:4326"), (2, "", f"EPSG:4326 {none}\n"))
+        called = self.file("called.geojson", geojson(("b", [[square(500000, 5800000, 9)]]), crs="urn:ogc:def:crs:OGC:1.3:CRS84"))
+        self.assertEqual(outcome(to_script, called, "--fit"), (2, "", f"OGC:CRS84 {none}\n"))
+        beyond = self.file("beyond.geojson", geojson(("b", [[square(179, 7, 9)]]), crs="EPSG:4326"))
+        self.assertEqual(outcome(to_script, beyond, "--fit")[0], 0)
 
     def test_a_second_map_by_the_scale_of_the_first(self) -> None:
         self.sidecar(geojson(("a", [[square(5000, 7000, 9)]]), crs="EPSG:2263"), "--fit")
