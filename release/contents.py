@@ -46,7 +46,7 @@ TEXTS = ("README.md", "docs/*.md", "docs/*.png", "docs/*.svg", "tools/README.md"
          "tools/data/*", "web/README.md", "examples/**/*")
 FIRST_LINE = re.compile(rb"\A#!/usr/bin/env python3\n")
 NAMES = {pathlib.PurePath(path).stem: name for name, path in COMMANDS.items() if path.endswith(".py")}
-# A tool as it is called from a clone; where its name alone stands in quotes, that is a file's name in code.
+# A tool as it is called from a clone; where its name alone is in quotes, that is a file's name in code.
 CALLED = re.compile(rf"(?P<file>([\"'])(?:{'|'.join(NAMES)})\.py\2)|"
                     rf"(?<![\w/])(?:python3 )?(?:(?:tools|web)/)?(?P<tool>{'|'.join(NAMES)})\.py\b")
 FIRST_MAP = re.compile(r"(?<![\w.])\./overlay(?= )")
@@ -100,7 +100,7 @@ def sources(top: pathlib.Path = TOP) -> Iterator[Entry]:
 
 
 def documents(top: pathlib.Path = TOP) -> Iterator[Entry]:
-    """What is read: as it stands here, with what the commands are called, and that no licence is given."""
+    """What is read: as it is here, with what the commands are called, and that no licence is given."""
     for path in files(TEXTS, top):
         yield Entry(f"{DOCUMENTS}/{path.relative_to(top).as_posix()}", path.read_bytes())
     yield Entry(f"{DOCUMENTS}/INSTALLED.md", installed())

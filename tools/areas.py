@@ -13,7 +13,7 @@ from .sessions import Corner
 
 DIGITS_MAX = 60  # a fraction with more is written where it is asked for
 WORKED_MAX = 2**16  # so many bits of denominators are added up unasked
-BITS = 512  # of an area that is not exact, behind the point
+BITS = 512  # of an area that is not exact, after the point
 Term = tuple[int, int]  # a fraction
 
 

@@ -33,7 +33,7 @@ def tables(stores: list[Store], described: Described, stem: str, name_by: str | 
 
 
 def groups_of(store: Store) -> Iterator[tuple[int | None, list[str], Group]]:
-    """What stands under one name in a store: its number where it is coded, its layers, and itself."""
+    """What is under one name in a store: its number where it is coded, its layers, and itself."""
     for number, group in enumerate(store.features, 1):
         yield number, layering.bits_of(number), group
     if not store.features:

@@ -11,12 +11,12 @@ NAME.features.json beside NAME.db says it, and to_script.py writes it beside NAM
 `id` is the source's where all of its features have one of their own, else its place in the source, from 1. `number` is
 that of --coded. `layers` are the layers that hold the feature; at the top, of each of them the base layers that it is
 of. `rings` are its polygons, each an outer ring and its holes, and of each ring a digest, or the digests of its runs
-with + between. What a ring is stands in the store alone, so a file that is not of a store is found out: each layer has
+with + between. What a ring is the store alone says, so a file that is not of a store is found out: each layer has
 exactly the rings of its features.
 
 A change of a feature is written here before the store has it, under `pending`: {"of": 1, "feature": {..}}, `of` null
 for a new one, `feature` null for one that goes. The store's layers say whether it was made. So after a stop at any
-moment the file and the store say together which features stand.
+moment the file and the store say together which features there are.
 
 A module for the tools and for web/; it is no tool of its own.
 """
@@ -209,7 +209,7 @@ def differing(table: Table, layer: str, lacking: Counter[str], foreign: Counter[
 
 
 def resolved(table: Table, held: Held, of: object) -> Table:
-    """The features that stand in a store: with the pending change where its layers have it, else without."""
+    """The features that are in a store: with the pending change where its layers have it, else without."""
     if table.pending:
         after = table.changed(table.pending)
         if unlike(after, held) is None:  # before it, a layer that it makes anew is not there
@@ -363,7 +363,7 @@ class Outline:
 
 
 def outlines(table: Table, held: Held) -> list[Outline]:
-    """The features that stand in a store, each with its polygons."""
+    """The features that are in a store, each with its polygons."""
     rings, found = found_rings(held), []
     for feature in table.features:
         polygons = outline(feature, rings)

@@ -14,7 +14,7 @@ same name, and one that another program has, as a front that runs, are refused a
 suffice each has a front of its own. A browser is opened where there is a screen, but for --no-browser. The front runs
 until it is interrupted.
 
-Status 0: ended by SIGTERM or an interrupt, or all of it made by --only-make; 1: a feature was refused, which is told, and
+Status 0: ended by SIGTERM or an interrupt, or all of it made by --only-make; 1: a feature was refused, which is reported, and
 the rest made by --only-make, a line was refused, a program is not there, another has the store, or a front ended by a
 fault; 2: wrong words, a file that cannot be read, or one that would be written over.
 """
@@ -127,7 +127,7 @@ def made_scripts(words: argparse.Namespace, output: pathlib.Path, errors: TextIO
 
 
 def scripts_of(output: pathlib.Path) -> list[pathlib.Path]:
-    """The scripts that stand for an output: itself, or NAME.1.txt, NAME.2.txt .."""
+    """The scripts of an output: itself, or NAME.1.txt, NAME.2.txt .."""
     if output.is_file():
         return [output]
     numbered = {int(path.stem.rpartition(".")[2]): path for path in output.parent.glob(f"{output.stem}.*{output.suffix}")
@@ -160,7 +160,7 @@ def make_store(script: pathlib.Path, program: str) -> None:
 
 
 def stores_for(words: argparse.Namespace, program: str, errors: TextIO) -> tuple[list[pathlib.Path], int]:
-    """The stores of a map, and the status of making them. They are made in a folder of their own, so that none stands
+    """The stores of a map, and the status of making them. They are made in a folder of their own, so that none is
     half made."""
     stem = "_and_".join(re.sub(r"[^A-Za-z0-9]+", "_", path.stem).strip("_") or "map" for path in (words.map, *words.others))
     there = stores_of(words.folder / f"{stem}.txt")
@@ -193,7 +193,7 @@ def stores_for(words: argparse.Namespace, program: str, errors: TextIO) -> tuple
 
 
 def check_maps(words: argparse.Namespace, there: list[pathlib.Path]) -> None:
-    """Refuses a map that is not there, of which nobody knows whether the store that stands is of it, and one that is
+    """Refuses a map that is not there, of which nobody knows whether the store that is there is of it, and one that is
     another than the store was made of."""
     given = (words.map, *words.others)
     for path in given:
@@ -238,7 +238,7 @@ def check_targets(words: argparse.Namespace, targets: list[pathlib.Path]) -> Non
 
 
 def stores_of(output: pathlib.Path) -> list[pathlib.Path]:
-    """The stores that stand for an output."""
+    """The stores of an output."""
     found = [script.with_suffix(".db") for script in scripts_of(output)]
     return found if all(path.is_file() for path in found) else []
 
@@ -251,7 +251,7 @@ def has_screen(environment: Mapping[str, str]) -> bool:
 
 
 def started(words: argparse.Namespace, store: pathlib.Path, port: int, program: str) -> tuple[subprocess.Popen[str], str]:
-    """A front over a store, and the address that it tells when it listens."""
+    """A front over a store, and the address that it prints when it listens."""
     given = [sys.executable, str(FRONT), "--store", str(store), "--program", program, "--port", str(port)]
     front = subprocess.Popen(given + ["--writable"] * words.writable, stdout=subprocess.PIPE, text=True,
                              start_new_session=True)

@@ -13,12 +13,12 @@ from .map_reading import Shape
 from .scale import Scale, decimal_digits, decimals
 
 MARGIN = Fraction(101, 100)  # room for an origin that is rounded
-COARSE = 1000  # a move of more than a part of so many of the extent is told
+COARSE = 1000  # a move of more than a part of so many of the extent is reported
 
 
 @dataclass(frozen=True)
 class Box:
-    """The least and greatest coordinates of a map, and the most digits that stand behind a point; None for no end."""
+    """The least and greatest coordinates of a map, and the most digits after a point; None for no end."""
 
     least: tuple[Fraction, Fraction]
     greatest: tuple[Fraction, Fraction]
@@ -28,7 +28,7 @@ class Box:
         return max((high - low) / 2 for low, high in zip(self.least, self.greatest))
 
     def is_within_degrees(self) -> bool:
-        """Whether the numbers may be longitude and latitude: in their range, with digits behind the point."""
+        """Whether the numbers may be longitude and latitude: in their range, with digits after the point."""
         return (-180 <= self.least[0] and self.greatest[0] <= 180 and -90 <= self.least[1]
                 and self.greatest[1] <= 90 and self.digits != 0)
 

@@ -48,7 +48,7 @@ class GdalFault(ValueError):
 
 
 def form_of(path: pathlib.Path, begin: bytes) -> str | None:
-    """What a file is where GDAL is to read it, by how it begins, and by its name alone where that tells nothing; None of
+    """What a file is where GDAL is to read it, by how it begins, and by its name alone where that says nothing; None of
     GeoJSON and Well-Known Text."""
     if OWN.match(begin):
         return None
@@ -63,7 +63,7 @@ def is_table(begin: bytes) -> bool:
 
 
 class Opened(NamedTuple):
-    """How GDAL is to open a file: by which name, with which options, and as which of its forms; all where none stands
+    """How GDAL is to open a file: by which name, with which options, and as which of its forms; all where none is named
     here."""
 
     name: str

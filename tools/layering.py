@@ -1,6 +1,6 @@
 """Lays polygons out over layers and stores: splits exactly what is too long, and numbers features in coded layers.
 
-A ring is cut into runs, each closed through the ring's first point: the chords stand twice, so that by even-odd the
+A ring is cut into runs, each closed through the ring's first point: the chords occur twice, so that by even-odd the
 runs joined by ^ are the ring, with no new corner and nothing rounded.
 
 A module for to_script.py; it is no tool of its own.
@@ -19,7 +19,7 @@ Box = tuple[int, int, int, int]
 
 @dataclass
 class Group:
-    """What is to stand under one name: polygons, those of each source, what rounding did to them, and its number where
+    """What is to be under one name: polygons, those of each source, what rounding did to them, and its number where
     it is coded. A source is a file's number and what a feature is called there."""
 
     wish: str

@@ -111,7 +111,7 @@ def in_range(ring: Ring) -> None:
 
 
 def is_flat(ring: Ring) -> bool:
-    """Whether all points of a ring stand on one line."""
+    """Whether all points of a ring are on one line."""
     first = ring[0]
     other = next((point for point in ring if point != first), first)
     across, up = other[0] - first[0], other[1] - first[1]

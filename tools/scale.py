@@ -3,10 +3,10 @@
     {"title": "Boroughs", "factor": 10, "factor_y": 10, "origin": [985000, 189000], "unit": "ft", "crs": "EPSG:2263",
      "digits": 5}
 
-Where to_script.py wrote it, `layers` has of each store's base layers a digest, by which tools tell that a store beside
+Where to_script.py wrote it, `layers` has of each store's base layers a digest, by which tools see that a store beside
 it has other ones.
 
-world = stored / factor + origin, for x and for y; `digits` is how many stand behind the point where a number of the
+world = stored / factor + origin, for x and for y; `digits` is how many stand after the point where a number of the
 world is written. Numbers are exact: one that a double cannot hold is written as a text. Without `crs` (null) the
 numbers are those of a plane that is nowhere on the earth.
 
@@ -54,7 +54,7 @@ def number(text: str) -> Fraction:
 
 
 def decimal_digits(number: Fraction) -> int | None:
-    """How many digits behind the point spell a number exactly; None where no number of them does."""
+    """How many digits after the point spell a number exactly; None where no number of them does."""
     rest, twos, fives = number.denominator, 0, 0
     while rest % 2 == 0:
         rest, twos = rest // 2, twos + 1
@@ -80,7 +80,7 @@ def crs(word: str) -> str:
 
 
 def decimals(number: Fraction | int, digits: int) -> str:
-    """A fraction with so many digits behind the point, halves to even, zeros at the end dropped."""
+    """A fraction with so many digits after the point, halves to even, zeros at the end dropped."""
     scaled = round(number * 10**digits)
     text = str(abs(scaled)).rjust(digits + 1, "0")
     whole, rest = text[: len(text) - digits], text[len(text) - digits :].rstrip("0")
@@ -108,7 +108,7 @@ def spelled(number: Fraction) -> str:
     """A number as JSON has it: its digits, in quotes where a reader's double would lose some of them."""
     digits = decimal_digits(number)
     if digits is None or digits > 30 or abs(number) >= 10**20:
-        raise ScaleFault(f"{number} has no end behind the point, or too many digits: a file cannot say it")
+        raise ScaleFault(f"{number} has no end after the point, or too many digits: a file cannot say it")
     text = decimals(number, digits)
     return text if Fraction(str(float(text))) == number else f'"{text}"'
 

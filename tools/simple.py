@@ -28,7 +28,7 @@ class Edge(NamedTuple):
 
 
 def is_plain(polygons: list[Polygon]) -> bool:
-    """Whether all rings stand apart from each other and from themselves, outer ones outside, holes in theirs."""
+    """Whether all rings are apart from each other and from themselves, outer ones outside, holes in theirs."""
     points = [point for polygon in polygons for ring in polygon for point in ring[1:]]
     if len(set(points)) < len(points) or meets_itself(polygons):
         return False

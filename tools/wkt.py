@@ -21,7 +21,7 @@ class Reader:
 
     def __init__(self, text: str) -> None:
         self.text, self.at = text, 0
-        self.systems: dict[str, None] = {}  # the numbers that stand behind SRID=, as keys
+        self.systems: dict[str, None] = {}  # the numbers after SRID=, as keys
         self.kind: int | None = None
         self.word: Any = None
         self.advance()
@@ -61,7 +61,7 @@ class Reader:
         return numbers
 
     def nested(self) -> list[Any]:
-        """Positions in brackets of any depth; of a MULTIPOINT some stand in brackets of their own."""
+        """Positions in brackets of any depth; of a MULTIPOINT some are in brackets of their own."""
         if self.kind == 1 and self.word.upper() == "EMPTY":
             self.advance()
             return []
@@ -97,7 +97,7 @@ class Reader:
 
 
 def read_all(text: str) -> list[tuple[str, list[Any]]]:
-    """The geometries of a text, one behind the other; an SRID before one is passed over."""
+    """The geometries of a text, one after the other; an SRID before one is passed over."""
     return read_with_systems(text)[0]
 
 

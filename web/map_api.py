@@ -29,7 +29,7 @@ class MapApi:
             with store.view() as view:
                 version, durable, count = view.version, store.durable, cast("int | None", len(view.layers))
                 state = self.maps.state(view) if self.maps else None
-        except (Busy, TimeoutError):  # what is lost is told all the same
+        except (Busy, TimeoutError):  # what is lost is reported all the same
             version, durable, count = store.version, store.durable, None
         return json_answer(
             {

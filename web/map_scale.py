@@ -28,7 +28,7 @@ def exact(text: object) -> Fraction:
 
 
 def rounded(over: int, under: int, digits: int) -> int | float:
-    """over / under with so many digits behind the point, halves to even; a whole number where there are none."""
+    """over / under with so many digits after the point, halves to even; a whole number where there are none."""
     power = int(10**digits)
     near, rest = divmod(over * power, under)
     near += 2 * rest > under or (2 * rest == under and near % 2 == 1)

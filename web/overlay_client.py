@@ -18,7 +18,7 @@ with the number and the text that docs/COMMANDS.md has; a program or a session t
 does not come in time, as TimeoutError, and its session is lent again once it has come. A text that would be another
 line, or none, is a `ValueError` before anything is sent.
 
-In the world's coordinates, which `map.scale.json` beside `map.db` tells, and with the features of `map.features.json`:
+In the world's coordinates, which `map.scale.json` beside `map.db` gives, and with the features of `map.features.json`:
 
         session.put("plot", server.text_of(polygon))            # anything with __geo_interface__, as of shapely
         shapely.geometry.shape(server.shape_of(session.rings("rest")))
@@ -26,7 +26,7 @@ In the world's coordinates, which `map.scale.json` beside `map.db` tells, and wi
         geopandas.GeoDataFrame.from_features(counties)
         counties.put(37, polygon, {"name": "Wake"})             # one batch of the layers that hold it, durable
 
-It needs the standard library alone. Rings, coordinates of the world and features use tools/, which stands beside the
+It needs the standard library alone. Rings, coordinates of the world and features use tools/, which lies beside the
 folder of this file, or was installed with it.
 """
 
@@ -91,7 +91,7 @@ def gone() -> Ended:
 
 
 class Layer(NamedTuple):
-    """A layer as LAYERS tells it: a base layer has a text, a derived one a definition, and the other is None."""
+    """A layer as LAYERS has it: a base layer has a text, a derived one a definition, and the other is None."""
 
     name: str
     text: str | None
@@ -541,7 +541,7 @@ class MapFeature(Shape):
 class Features:
     """The features of a store's map, by the file of features beside it (docs/FEATURES.md): read, and changed one by one.
 
-    They are those that stand at the time of each call. A change is durable when its call returns; one that cannot be
+    They are those that there are at the time of each call. A change is durable when its call returns; one that cannot be
     made is a ValueError that says why.
     """
 
@@ -550,7 +550,7 @@ class Features:
         self._of, self._changes, self._texts = tools("features"), tools("feature_changes"), tools("feature_texts")
 
     def _standing(self) -> tuple[Any, dict[str, Any], list[str]]:
-        """The table as it stands, the rings of the base layers, and the names of all layers."""
+        """The table as it is, the rings of the base layers, and the names of all layers."""
         layers = self._session.layers()
         held = {layer.name: self._of.rings_of_text(layer.text) for layer in layers if layer.text is not None}
         return self._of.resolved(self._of.read(self.path), held, self.path), held, [layer.name for layer in layers]
@@ -767,7 +767,7 @@ class Server:
         return (self.slow if slow else self.quick).lend(timeout)
 
     def close(self, timeout: float = 60) -> tuple[int, str]:
-        """Ends all sessions, upon which the program commits and ends. Its exit status and what it told of faults.
+        """Ends all sessions, upon which the program commits and ends. Its exit status and what it reported of faults.
 
         A program that has not ended after so many seconds is killed.
         """

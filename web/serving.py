@@ -1,7 +1,7 @@
 """Runs the front: by waitress where it is installed, else by the standard library; each with so many threads.
 
 By either a request has an end from its first byte to its last, and an answer from its first to its last, whatever comes
-or goes in between; and what the server itself refuses is told as the front tells it.
+or goes in between; and what the server itself refuses is reported as the front says it.
 """
 
 from __future__ import annotations
@@ -52,7 +52,7 @@ def told(host: str, port: int) -> None:
 
 
 def serve(front: Front, host: str, port: int) -> None:
-    """Answers questions until it is ended by a signal. It tells its address on standard output when it listens."""
+    """Answers questions until it is ended by a signal. It prints its address on standard output when it listens."""
     host = "127.0.0.1" if host == "localhost" else host
     if not 0 <= port <= PORT_MOST:
         raise Unheard(host, port, f"a port is 0 to {PORT_MOST}")

@@ -1,4 +1,4 @@
-"""Tests of the client against the built program. What it has to say stands in docs/COMMANDS.md."""
+"""Tests of the client against the built program. What it has to say is in docs/COMMANDS.md."""
 
 from __future__ import annotations
 

@@ -483,7 +483,7 @@ class Stops(unittest.TestCase):
         return place / "plan.db"
 
     def steps(self, at: int) -> contextlib.ExitStack:
-        """Has the step of this number, from 0, stopped: even ones before they are done, odd ones behind that."""
+        """Has the step of this number, from 0, stopped: even ones before they are done, odd ones after that."""
         passed = itertools.count()
 
         def pass_or_stop() -> None:
@@ -511,7 +511,7 @@ class Stops(unittest.TestCase):
                                      [False, True, True, True, True, True, True, True]), method)
 
     def stopped(self, store: pathlib.Path, method: str, place: str, body: object, at: int) -> bool:
-        """Whether a change that is stopped at a step stands afterwards; one that was answered must."""
+        """Whether a change that is stopped at a step is there afterwards; one that was answered must."""
         with opened(store) as (client, server, _):
             before = client.get("/collections/plan/items")["features"]
             answered = False

@@ -156,7 +156,7 @@ class Processes(unittest.TestCase):
             self.assertEqual((status, value["version"]), (503, 3))
             status, told = self.ended(run)
             self.assertEqual(status, 1)
-            self.assertIn("the store is not written any more: error 30 device; a copy stands in its place", told)
+            self.assertIn("the store is not written any more: error 30 device; a copy is in its place", told)
         with running("--store", self.store, "--writable") as (run, address):
             status = asked(address, "GET", "/status")[1]
             self.assertEqual((status["version"], status["durable"], status["layers"], status["lost"]), (2, 2, 3, []))

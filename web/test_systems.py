@@ -15,7 +15,7 @@ OWN = "http://www.opengis.net/def/crs/EPSG/0/30169"
 
 
 def to_degrees(xs: Any, ys: Any) -> tuple[list[float], list[float]]:
-    """A projection that is easily told: x / 8 is the longitude, 30 + y / 16 the latitude."""
+    """A projection that is easily worked out: x / 8 is the longitude, 30 + y / 16 the latitude."""
     if any(x > 1000 for x in xs):
         raise Unplaced("too far")
     return [x / 8 for x in xs], [30 + y / 16 for y in ys]

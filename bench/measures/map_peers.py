@@ -3,9 +3,9 @@
     /usr/bin/python3 -m bench.measures.map_peers LIVE [--parcels N] [--zones N] [--lattice] [--folder FOLDER] [--only PEER]..
 
 LIVE is the built overlay_live. The maps are those of bench/map_making.py. Each peer reads both files and writes a table
-of the pairs whose common part has an area; of each are told processor seconds and memory of the whole run, how many
+of the pairs whose common part has an area; of each are reported processor seconds and memory of the whole run, how many
 pairs it has, and how these differ from ours. Needs python3-gdal, -numpy, -shapely, -geopandas, -rtree and, for
-PostGIS, postgresql-15-postgis-3; a peer that is not there is left out, and told. All is done once, on one processor at a
+PostGIS, postgresql-15-postgis-3; a peer that is not there is left out, and reported. All is done once, on one processor at a
 time.
 """
 

@@ -1,11 +1,11 @@
-"""A plain, slow model of the book of layers, as docs/COMMANDS.md tells it: beside the program, not of it.
+"""A plain, slow model of the book of layers, as docs/COMMANDS.md has it: beside the program, not of it.
 
 python3 -m bench.reference.model SCRIPT
 python3 -m bench.reference.model --test
 
 The first prints the replies of one script over an empty book without a store, where all tiles are finished at once:
 SYNC is refused by 46, and EDGES and VERIFY never by 21. The second runs the scripts of examples/ and compares (but for
-`error 21 pending`, which tells of tiles alone, and the tiles of the dense grid, which are too large for counting).
+`error 21 pending`, which is of tiles alone, and the tiles of the dense grid, which are too large for counting).
 
 All is by counting over all segments, in whole numbers and fractions. What was once worked out for a layer's meaning is
 kept under a key.

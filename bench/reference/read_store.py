@@ -1,4 +1,4 @@
-"""Reads a store's file as docs/FORMAT.md tells it, and by nothing else: beside the program, not of it.
+"""Reads a store's file as docs/FORMAT.md says it, and by nothing else: beside the program, not of it.
 
 python3 -m bench.reference.read_store FILE
 python3 -m bench.reference.read_store --test
@@ -431,7 +431,7 @@ def layer_line(name: bytes, content: Any) -> str:
 
 
 def reading(data: bytes) -> list[str]:
-    """The lines that tell what a file stands for."""
+    """The lines that say what a file stands for."""
     root = find_root(data)
     listing = formed(4, read_catalog, record_at(data, root.catalog, 3), root.format)
     layers, tiles = read_layers(data, listing)
@@ -493,7 +493,7 @@ def vectors_of(page: str) -> list[bytes]:
 
 
 def six_blocks(vectors: list[bytes]) -> bytes:
-    """The file of six blocks that the page tells."""
+    """The file of six blocks that the page describes."""
     first, empty, base, catalog, second, _, tile = vectors
     gate = bytes([GATE_OPEN]) + bytes(15)
     blocks = [gate + first, gate + second, empty, base, catalog, tile]

@@ -29,7 +29,7 @@ Counts = dict[str, list[int]]  # by what is asked: how many answers were looked 
 
 
 def planted(live: str) -> int:
-    """How many of the faults that tools/testing/map_steps.py plants in the steps are not found; each is told."""
+    """How many of the faults that tools/testing/map_steps.py plants in the steps are not found; each is reported."""
     Programs.live = live
     names = unittest.defaultTestLoader.getTestCaseNames(map_steps.Planted)
     missed = 0

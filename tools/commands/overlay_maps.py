@@ -4,9 +4,9 @@
     tools/overlay_maps.py overlay parcels.geojson zones.geojson --factor 1000 --out pieces.csv --pieces pieces.geojson
     tools/overlay_maps.py check   parcels.geojson --factor 1000 --a-id nr --out overlaps.csv --gaps gaps.geojson
 
-Coordinates become whole numbers once, the nearest to x * FACTOR; the largest move is told. All after that is exact:
+Coordinates become whole numbers once, the nearest to x * FACTOR; the largest move is reported. All after that is exact:
 whether two features overlap, only touch or do neither, and the area that they have in common, which is written as a
-decimal whose distance from the exact area is told (--exact adds the fraction). Insides are even-odd over all rings of a
+decimal whose distance from the exact area is reported (--exact adds the fraction). Insides are even-odd over all rings of a
 feature. ../examples/maps.md goes through it.
 
 pairs    features of both maps that overlap or touch

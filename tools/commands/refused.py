@@ -1,4 +1,4 @@
-"""Tells which lines of a script were refused, each with its number.
+"""Says which lines of a script were refused, each with its number.
 
     overlayd --store map.db map.txt > replies.txt
     tools/refused.py map.txt replies.txt

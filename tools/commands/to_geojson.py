@@ -12,14 +12,14 @@ area in the world's unit, rounded in `area` and, as a fraction, in `area_exact`:
 comes back from them through to_script.py with the same scale.
 
 --features writes the features of the source in the place of layers, by NAME.features.json beside the store or the
-script NAME.*: each with its own properties, its id, its outline whole, also where it stands in several layers or parts,
+script NAME.*: each with its own properties, its id, its outline whole, also where it is in several layers or parts,
 and with its area, which is called `area_` where the source has an `area`. An outline that crosses or touches itself is
 written as the boundary of its even-odd inside.
 
 --output writes the file whole or not at all; a GeoPackage (.gpkg) or a FlatGeobuf (.fgb) where gdal-bin is installed.
 What is read, and NAME.scale.json, NAME.features.json and NAME.names.csv of a store or a script, are not written over.
 
-Status 0: all layers or features are written; 1: a line of the script was refused (each is told), a layer has no rings
+Status 0: all layers or features are written; 1: a line of the script was refused (each is reported), a layer has no rings
 to give, or the output cannot be written; 2: a word is refused.
 """
 
@@ -103,7 +103,7 @@ def parser_of() -> argparse.ArgumentParser:
 
 def feature_collection(words: argparse.Namespace, parser: argparse.ArgumentParser,
                        errors: TextIO) -> tuple[str, scales.Scale]:
-    """The features of the source, as they stand in a store or in the layers of a script."""
+    """The features of the source, as they are in a store or in the layers of a script."""
     asking.check_words(words, parser)
     if words.layer or words.replies or words.questions or words.top:
         parser.error("--features are those of a script or a store, all of them, and the program is asked")

@@ -1,9 +1,9 @@
-"""Joins the boundary of a layer into rings with exact corners, and tells their areas.
+"""Joins the boundary of a layer into rings with exact corners, and gives their areas.
 
     python3 tools/to_rings.py --store map.db --layer I
     python3 tools/to_rings.py script.txt --layer I --areas
 
-The inside is on the left of each ring: outer rings run counter-clockwise, holes clockwise. It is told by even-odd: a
+The inside is on the left of each ring: outer rings run counter-clockwise, holes clockwise. It is found by even-odd: a
 place is inside where an odd number of pieces are below it. No ring passes a place twice: where boundaries touch, each
 ring stays with its own inside and is parted there. Corners on a straight line are dropped, those at the borders of
 columns among them. The text is rounded to --digits; --exact writes the fractions:
@@ -18,7 +18,7 @@ with --exact:
     area 8.333333 25/3
 
 Coordinates and areas are those of the world where a scale is there. A base layer has the boundary of its even-odd
-inside. Status 0: all rings are written; 1: a line of the script was refused (each is told), a column is missing or
+inside. Status 0: all rings are written; 1: a line of the script was refused (each is reported), a column is missing or
 oversize, a reply is of another form, or the output cannot be written.
 """
 

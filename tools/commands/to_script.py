@@ -6,25 +6,25 @@
     tools/to_script.py plan.wkt --factor 100 --origin 500000 4600000 > plan.txt
 
 A coordinate x becomes the whole number nearest to (x - X) * FACTOR, the greater one of two that are as near. Standard
-error tells what was rounded, by how much in the given unit, merged and refused, and of which feature or text of a file,
+error says what was rounded, by how much in the given unit, merged and refused, and of which feature or text of a file,
 counted from 1. Each file is a layer, or with --name-by each value of the property (features without it make one of the
 file's name). Names are cut to 32 bytes; letters lose their marks, other characters become `_`, and of names that are
 then the same the later ones get a number.
 
 Without --factor, --origin, --scale and --fit the factor is 1 where that fits: where rings collapse, or coordinates move
-by more than a 1000th of the extent, or are out of range, nothing is written, and the words to type are told.
+by more than a 1000th of the extent, or are out of range, nothing is written, and the words to type are reported.
 
 --fit     factor and origin from the box of the data: the least factor by which nothing is rounded, else the greatest
           of 1, 2 and 5 times a power of ten that is in range. A ring that is smaller than a whole number there is left
-          out, and told.
+          out, and reported.
 --split   what has more than 2,048 steps is spread over several layers NAME_1 .. joined by ^ under its name, exactly: a
           long ring is cut into runs, each closed by a chord through the ring's first point, and the chords cancel.
           Price: LOCATE says `edge` on a chord, too.
---union   where polygons of one layer overlap, what they cover is inside: those that overlap stand in layers of their
+--union   where polygons of one layer overlap, what they cover is inside: those that overlap are in layers of their
           own, joined by |. Without it a layer is even-odd.
 --coded   features are numbered from 1, and layer b0, b1 .. holds those whose number has that bit, so that 7 layers
           carry 127 features. NAME.names.csv has numbers, names, the expression of each feature, and areas;
-          tools/which.py tells names by it. Where features overlap their numbers are mixed: --check tells which pairs
+          tools/which.py finds names by it. Where features overlap their numbers are mixed: --check says which pairs
           do, and the area that they have in common, the largest first, as the program has it exactly.
 --output  NAME.txt is the script, NAME.scale.json says what its numbers mean, for the other tools and for web/, and
           NAME.features.json has the features of GeoJSON with all their properties (docs/FEATURES.md).
@@ -60,7 +60,7 @@ from ..scale import Scale
 
 
 DEGREES = (scales.CRS84, "EPSG:4326")
-NAMED_MAX = 10  # so many properties are told
+NAMED_MAX = 10  # so many properties are reported
 
 
 class Stopped(Exception):
@@ -86,7 +86,7 @@ class Reader:
         self.refusals = self.collapsed = self.outside = 0
 
     def refuse(self, label: str, reason: str) -> None:
-        """Tells a refusal. That at a fitted scale a ring is too small for it is none, but told."""
+        """Reports a refusal. That at a fitted scale a ring is too small for it is none, but reported."""
         is_small = reason.endswith(rounding.COLLAPSED)
         self.refusals += not (is_small and self.fitted)
         self.collapsed += is_small
@@ -118,7 +118,7 @@ class Reader:
 
 
 def content(name: str, layer: str | None) -> str:
-    """The text of a file, or of standard input for -; where it is a store the words to type are told."""
+    """The text of a file, or of standard input for -; where it is a store the words to type are reported."""
     data = map_reading.content(name, layer)
     if asking.begins_as_store(data):
         raise Stopped(f"{name}: a store, and no map; its layers as a script: dump_store.py {name}, as GeoJSON: "
@@ -199,7 +199,7 @@ def scale_for(words: argparse.Namespace, box: fitting.Box | None, crs: str | Non
 
 
 def check_scale(reader: Reader, box: fitting.Box | None, scale: Scale, given: bool) -> list[str]:
-    """What to tell of a scale that does not fit the map; it stops all where it was not given."""
+    """What to report of a scale that does not fit the map; it stops all where it was not given."""
     wrong = fitting.faults(reader.collapsed, reader.outside, reader.furthest(), box, scale) if box else []
     if not wrong or not box:
         return []
@@ -214,7 +214,7 @@ def check_scale(reader: Reader, box: fitting.Box | None, scale: Scale, given: bo
 
 
 class Planner:
-    """Makes layers and stores of groups, and tells what they became."""
+    """Makes layers and stores of groups, and says what they became."""
 
     def __init__(self, words: argparse.Namespace, refuse: Callable[[str, str], None]) -> None:
         self.words, self.refuse = words, refuse
@@ -282,7 +282,8 @@ class Planner:
         chords = sum(layout.chords for layout in store.layouts)
         told = f"; LOCATE says edge on {chords} chords" if chords else ""
         names = f"{store.layouts[0].name} to {store.layouts[-1].name}"
-        self.told.append(f"{len(store.features)} features in layers {names}, {min(steps)} to {max(steps)} steps each, "
+        span = " to ".join(map(str, sorted({min(steps), max(steps)})))
+        self.told.append(f"{len(store.features)} features in layers {names}, {span} steps each, "
                          f"{store.count()} layers in all{told}; {tally.text()}")
 
 
@@ -357,7 +358,7 @@ def scale_text(words: argparse.Namespace, stores: list[Store], scale: Scale) -> 
 
 @dataclass
 class Beside:
-    """Files that say what the numbers of scripts mean, the scale first, and what to tell of each."""
+    """Files that say what the numbers of scripts mean, the scale first, and what to report of each."""
 
     texts: dict[pathlib.Path, bytes] = field(default_factory=dict)
     told: list[str] = field(default_factory=list)
@@ -401,7 +402,7 @@ def check_output(words: argparse.Namespace, scripts: list[pathlib.Path], files: 
 
 
 def write_files(words: argparse.Namespace, stores: list[Store], scale: Scale, described: Described) -> list[str]:
-    """Writes the scripts and what goes with them, whole or not at all, and tells how to make stores of them."""
+    """Writes the scripts and what goes with them, whole or not at all, and says how to make stores of them."""
     scripts, files, told = scripts_of(words.output, stores), beside(words, stores, scale, described), []
     texts = {}
     for script, store in zip(scripts, stores):
@@ -417,7 +418,7 @@ def write_files(words: argparse.Namespace, stores: list[Store], scale: Scale, de
 
 
 def overlaps(words: argparse.Namespace, stores: list[Store], scale: Scale, say: Callable[[str], None]) -> int:
-    """Tells which features overlap, and by how much, the largest area first: 1 where some do, or nobody can say."""
+    """Says which features overlap, and by how much, the largest area first: 1 where some do, or nobody can say."""
     features_of_all = [group for store in stores for group in store.features]
     try:
         program = words.program or asking.found_program((asking.LIVE, asking.BATCHED))
@@ -434,7 +435,7 @@ def overlaps(words: argparse.Namespace, stores: list[Store], scale: Scale, say: 
 
 
 def told_area(area: Fraction) -> str:
-    """An area with two digits behind the point, or where it is small with three that are not 0."""
+    """An area with two digits after the point, or where it is small with three that are not 0."""
     return scales.decimals(area, max(2, 2 - math.floor(math.log10(area))))
 
 
@@ -457,7 +458,7 @@ def words_of(arguments: list[str]) -> argparse.Namespace:
     parser.add_argument("--split", action="store_true", help="spread what is too long for a layer over several")
     parser.add_argument("--union", action="store_true", help="polygons of one layer may overlap")
     parser.add_argument("--coded", action="store_true", help="number the features over few layers (needs --output)")
-    parser.add_argument("--check", action="store_true", help="tell which features of --coded overlap, and by how much")
+    parser.add_argument("--check", action="store_true", help="say which features of --coded overlap, and by how much")
     parser.add_argument("--program", metavar="PATH", help="the program that --check asks (default: as the other tools)")
     parser.add_argument("--output", metavar="NAME.txt", type=pathlib.Path, help="in the place of standard output")
     parser.add_argument("--title", help="for the scale's file (default: the output's name)")

@@ -3,12 +3,12 @@
     python3 tools/to_svg.py --store map.db --layer I > picture.svg
     python3 tools/to_svg.py script.txt --layer I > picture.svg
 
-The base layers are those that the layer's definition reaches, filled by even-odd. Above each column stands its number
+The base layers are those that the layer's definition reaches, filled by even-odd. Above each column is its number
 and how many pieces its tile has. With --grid N, or where the replies hold a GRID of the layer, its points are drawn:
 full where in, a ring where edge, small where out. Where a scale is there, a bar of it and the corners of the picture
-are told. Coordinates of the picture are rounded to a hundredth of a unit.
+are reported. Coordinates of the picture are rounded to a hundredth of a unit.
 
-Status 0: the picture is whole; 1: it is not, or a line of the script was refused (each is told), there is none, or it
+Status 0: the picture is whole; 1: it is not, or a line of the script was refused (each is reported), there is none, or it
 cannot be written.
 """
 
@@ -32,7 +32,7 @@ LINE = 18
 
 
 class View:
-    """The part of the plane that is shown, and where it stands in the picture."""
+    """The part of the plane that is shown, and where it is in the picture."""
 
     def __init__(self, points: list[Any], width: int) -> None:
         if not points:
@@ -58,7 +58,7 @@ class View:
 
 
 def number(value: float) -> str:
-    """Two digits behind the point, zeros at the end dropped."""
+    """Two digits after the point, zeros at the end dropped."""
     text = f"{value:.2f}".rstrip("0").rstrip(".")
     return "0" if text == "-0" else text
 

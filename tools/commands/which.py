@@ -1,13 +1,13 @@
-"""Tells which layers, or which features of coded layers, have a point.
+"""Says which layers, or which features of coded layers, have a point.
 
     tools/which.py --store map.db 7 7
     tools/which.py --store nc.db -78.64 35.77
     tools/which.py --store nc.db --names nc.names.csv --points points.txt
 
-Where NAME.features.json lies beside a store NAME.* of coded layers, the answers of layers b0, b1 .. are told as the
+Where NAME.features.json lies beside a store NAME.* of coded layers, the answers of layers b0, b1 .. become the
 names of its features, also where features overlap; it must be of the store. With --names they spell the number of the
 feature in the table that to_script.py --coded wrote. Else, and with --layers, the layers are those that no definition
-names, and each that has the point is told. --store may stand once for each store of a map, in their order. The point is
+names, and each that has the point is named. --store may be given once for each store of a map, in their order. The point is
 in coordinates of the world where a scale is there; where it cannot be asked exactly the nearest one that can is asked,
 and told. A store is read and not changed.
 
@@ -38,7 +38,7 @@ from ..sessions import Corner, Session, Unusable
 
 OUTSIDE = 0
 BLANKS = dict.fromkeys(map(ord, "\t\n\v\f\r\x1c\x1d\x1e\x85\u2028\u2029"), " ")  # what ends a line or a column
-TYPED_MAX = 80  # so much of a point that was typed is told
+TYPED_MAX = 80  # so much of a point that was typed is reported
 Numbered = Table | dict[int, str] | None  # the features of coded layers, the names of their numbers, or plain layers
 
 
@@ -65,7 +65,7 @@ class Answer:
 
 
 def of_layers(names: list[str], answers: list[str]) -> Answer:
-    """The answer of layers that stand for themselves."""
+    """The answer of layers that are no bits."""
     told = list(zip(names, answers, strict=True))
     edge = [name for name, answer in told if answer == "edge"]
     return Answer([name for name, answer in told if answer == "in"], edge or None)
@@ -147,7 +147,7 @@ def names_of(session: Session, table: Numbered, store: pathlib.Path) -> list[str
 
 
 def standing(session: Session, table: Table, store: pathlib.Path) -> Table:
-    """The features of a table as they stand in a store, which must be the one of the table."""
+    """The features of a table as they are in a store, which must be the one of the table."""
     try:
         return features.resolved(table, features.held_rings(session.base), features.beside(store))
     except FeaturesFault as fault:
@@ -156,7 +156,7 @@ def standing(session: Session, table: Table, store: pathlib.Path) -> Table:
 
 def answers_of(program: str, store: pathlib.Path, table: Numbered, points: list[Corner],
                check: Callable[[pathlib.Path, Session], None]) -> list[Answer]:
-    """The answers of one store for all points; check is told its session."""
+    """The answers of one store for all points; check is given its session."""
     session = sessions.read(b"LAYERS\n", asking.store_replies(program, store, b"LAYERS\n"), 0)
     check(store, session)
     if isinstance(table, Table):
@@ -204,7 +204,7 @@ def read_points(words: argparse.Namespace) -> list[Point]:
 
 
 def question(x: Fraction, y: Fraction, scale: Scale, say: Callable[[str], None]) -> Corner | None:
-    """The numbers of LOCATE for a point, None where it is out of range; what is not asked exactly is told."""
+    """The numbers of LOCATE for a point, None where it is out of range; what is not asked exactly is reported."""
     corner = scale.question(x, y)
     if max(abs(corner[0]), abs(corner[1])) > limits.COORDINATE_MAX * corner[2]:
         return None
@@ -245,7 +245,7 @@ def parser_of() -> argparse.ArgumentParser:
                         help="a store; it is not changed")
     told = parser.add_mutually_exclusive_group()
     told.add_argument("--names", metavar="FILE", type=pathlib.Path, help="NAME.names.csv of to_script.py --coded")
-    told.add_argument("--layers", action="store_true", help="tell layers, also where features are known")
+    told.add_argument("--layers", action="store_true", help="name layers, also where features are known")
     parser.add_argument("--points", metavar="FILE", type=pathlib.Path,
                         help="a point on each line; blank lines and # lines are passed over; - is standard input")
     parser.add_argument("--scale", metavar="FILE", type=pathlib.Path,

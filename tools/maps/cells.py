@@ -1,6 +1,6 @@
 """A job as it fits slots: whole where it does, else in cells, each half of a larger one.
 
-A cell that no edge meets has one answer, which is told without the program: nothing, or the whole cell.
+A cell that no edge meets has one answer, which is known without the program: nothing, or the whole cell.
 """
 
 from collections.abc import Iterable, Iterator
@@ -90,7 +90,7 @@ def in_layers(features: list[list[Ring]], core: Box) -> list[list[Ring]]:
 
 
 def united(features: list[list[Ring]], core: Box) -> list[list[Ring]]:
-    """Layers whose union is that of the features. Where they are too many, features that stand twice are taken once."""
+    """Layers whose union is that of the features. Where they are too many, features that occur twice are taken once."""
     live = [rings for rings in features if rings]
     layers = in_layers(live, core)
     return layers if len(layers) < LAYERS_OF_JOB else in_layers(without_repeats(live), core)

@@ -1,7 +1,7 @@
 """Does tasks by workers of Dask: of a cluster that is made on this machine, or of a scheduler at an address.
 
 Dask's scheduler runs whatever Python it is sent. So a cluster of this machine speaks TLS with keys of its own where
-python3-cryptography is there, and an address beyond the loopback is told where it is without TLS.
+python3-cryptography is there, and an address beyond the loopback is reported where it is without TLS.
 """
 
 import contextlib
@@ -27,7 +27,8 @@ from .tasks import TaskFolder, Work
 IN_HAND = 3  # tasks a thread of a worker: what is done, what waits, what is on its way
 WORKERS_WITHIN = 30  # seconds
 TOP = pathlib.Path(__file__).resolve().parents[2]
-SENT = ("tools/*.py", "tools/maps/*.py", "tools/commands/__init__.py", "tools/commands/to_rings.py", "web/__init__.py", "web/overlay_client.py")
+SENT = ("tools/*.py", "tools/maps/*.py", "tools/commands/__init__.py", "tools/commands/to_rings.py", "web/__init__.py",
+        "web/overlay_client.py")  # what a worker elsewhere needs
 NEEDED = ("--dask needs Dask: apt-get install python3-distributed, and run this by /usr/bin/python3; "
           "--jobs N needs nothing")
 

@@ -1,7 +1,7 @@
 """Draws features in round a core: what lies off the core is brought near, and inside the core nothing changes.
 
 The core is a closed box. Off it are four half-planes: left, right, under, over. A step between two points that lie in
-one of them meets no point of the core, and whether it passes under a point of the core is told by that half-plane
+one of them meets no point of the core, and whether it passes under a point of the core is decided by that half-plane
 alone. So each point of the core, whole or fraction, is on an edge of the drawn rings, and inside them by even-odd,
 exactly where it is so of the given rings, where
 

@@ -36,7 +36,7 @@ def modules(path: str) -> tuple[Any, Any, Any]:
 
 @dataclass
 class Flat:
-    """Features one behind the other: xs and ys of all points, the closing point of each ring among them."""
+    """Features one after the other: xs and ys of all points, the closing point of each ring among them."""
 
     path: str = ""
     ids: list[str] = field(default_factory=list)
@@ -141,7 +141,7 @@ class Source:
         return f"{name}:{code}" if name and code else str(system.ExportToWkt())
 
     def batches(self) -> Iterator[Flat]:
-        """The polygons of the layer, so many features at once; others are left out, and told."""
+        """The polygons of the layer, so many features at once; others are left out, and reported."""
         flat = Flat(self.path)
         for feature in self._features():
             self._add(flat, feature)

@@ -50,7 +50,7 @@ class Reading:
         self.seen = 0  # features, those among them that are left out
 
     def feature(self, shapes: list[Shape]) -> None:
-        """Takes in one feature. What of it is no polygon is left out, and told."""
+        """Takes in one feature. What of it is no polygon is left out, and reported."""
         self.seen += 1
         polygons: list[Any] = []
         left_out = len(self.told.skipped)

@@ -28,7 +28,7 @@ def spans(begins: Numbers, counts: Numbers) -> Numbers:
 
 
 class Flat:
-    """Both maps of a task one behind the other, and the features of its jobs, by their places in them."""
+    """Both maps of a task one after the other, and the features of its jobs, by their places in them."""
 
     def __init__(self, task: Task) -> None:
         own, other = task.own_map, task.other_map
@@ -65,7 +65,7 @@ class Flat:
 
 
 class Points:
-    """Points with the ring, the part and the job of each; the points of a ring stand one behind the other."""
+    """Points with the ring, the part and the job of each; the points of a ring lie one after the other."""
 
     def __init__(self, flat: Flat, jobs: range) -> None:
         begin, end = flat.part_at[jobs.start], flat.part_at[jobs.stop]

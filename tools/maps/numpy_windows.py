@@ -63,7 +63,7 @@ def input_bytes(points: Points, frames: Numbers, parts: Numbers) -> bytes:
 
 
 def write_heads(words: Numbers, points: Points, frames: Numbers, at: Numbers, rings: Numbers, parts: Numbers) -> None:
-    """Core, frame, origin and the number of rings of each part, where they stand."""
+    """Core, frame, origin and the number of rings of each part, where they are."""
     jobs = points.job_of_part[parts]
     by_axis, frame = [0, 2, 1, 3], frames[jobs]
     head = np.concatenate([points.cores[jobs][:, by_axis], frame[:, by_axis], middles(frame)], axis=1)
@@ -91,7 +91,7 @@ DIGITS = bytes(place if chr(place) in "-0123456789" else 32 for place in range(2
 
 
 def layers_of(output: bytes, origins: Numbers) -> Iterator[list[Ring] | None]:
-    """The rings of each line of the program's output, back where they are of the map, or nothing where it tells that a
+    """The rings of each line of the program's output, back where they are of the map, or nothing where it says that a
     layer would have too many steps."""
     if b"error" in output:
         for line, origin in zip(output.decode().splitlines(), origins.tolist()):

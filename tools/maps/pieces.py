@@ -1,7 +1,7 @@
 """Writes pieces of maps: GeoJSON by Python alone, other files by GDAL. Coordinates are the doubles nearest to exact
 ones.
 
-A rounded polygon may touch or cross itself by a rounding; the areas that stand beside it are those of the exact one.
+A rounded polygon may touch or cross itself by a rounding; the areas beside it are those of the exact one.
 """
 
 import json

@@ -53,7 +53,7 @@ def places(boxes: Sequence[Box]) -> list[int]:
 
 
 def spread(number: int) -> int:
-    """The bits of a number, each with a zero behind it."""
+    """The bits of a number, each with a zero after it."""
     for shift, mask in SPREADS:
         number = (number | number << shift) & mask
     return number
@@ -121,7 +121,7 @@ def gap_jobs(whole: WholeMap, boxes: Sequence[Box]) -> Iterator[Job]:
 
 
 def tasks_of(question: Question, jobs: Iterable[Job]) -> Iterator[Task]:
-    """The tasks, each of so many jobs as stand behind each other and have so many points together."""
+    """The tasks, each of so many jobs as follow each other and have so many points together."""
     held: list[Job] = []
     weight = 0
     for job in jobs:

@@ -61,7 +61,7 @@ class Program:
         self._defined: dict[int, str] = {}
 
     def boundaries(self, asked: Iterable[Round]) -> Iterator[list[Piece] | None]:
-        """Of each round the boundary pieces in its columns; nothing where a column has more than the program tells.
+        """Of each round the boundary pieces in its columns; nothing where a column has more than the program gives.
 
         Rounds are taken ahead of what is given, and all have to be read.
         """

@@ -17,11 +17,11 @@ from .whole_maps import MapFault, ReadMap, Told
 
 Say = Callable[[str], None]
 DEGREES = {"EPSG:4326": scales.CRS84}
-NAMED_MAX = 10  # so many features are named where something is told of them
+NAMED_MAX = 10  # so many features are named where something is reported of them
 
 
 def read_map(path: str, id_field: str | None, words: argparse.Namespace, say: Say, layer: str | None = None) -> ReadMap:
-    """A map, and what reading did to it told. What begins neither as GeoJSON nor as Well-Known Text is read by GDAL."""
+    """A map, and what reading did to it is reported. What begins neither as GeoJSON nor as Well-Known Text is read by GDAL."""
     if form_of(path):
         read = gdal_maps.read(path, words.factor, id_field, layer, words.bend)
     elif layer is not None:

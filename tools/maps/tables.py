@@ -15,7 +15,7 @@ HEADS = ["a", "b", "area", "width", "relation"]
 
 
 class Units:
-    """How areas of whole units are told in those of the world: with digits behind the point that tell a thousandth of a
+    """How areas of whole units are reported in those of the world: with digits after the point that spell a thousandth of a
     square unit."""
 
     def __init__(self, factor: Fraction) -> None:

@@ -130,7 +130,7 @@ class Rounding(InFolder):
         found = []
         for _ in range(source.randint(1, 2)):
             size = source.choice([0.0008, 0.01, 1, 700 if source.random() < 0.05 else 2])
-            # Of an even last digit, as of half a unit the text may tell another one than the double.
+            # Of an even last digit, as of half a unit the text may have another one than the double.
             ring = [[self.number(source, size), self.number(source, size)]
                     for _ in range(source.randint(3, 6))]
             found.append([*ring, ring[0]])
@@ -156,7 +156,7 @@ class Rounding(InFolder):
             np.array([outer for _, outer in rings]), counts, Fraction(1000), bend, told), told, None))
 
     def told(self, read: Callable[[], ReadMap]) -> object:
-        """The points and what was told of them, or that the map is refused."""
+        """The points and what was reported of them, or that the map is refused."""
         try:
             got = read()
         except MapFault as fault:

@@ -1,4 +1,4 @@
-"""Tests of a first map in one word: a store is made of files, and a front tells its address."""
+"""Tests of a first map in one word: a store is made of files, and a front prints its address."""
 
 import fcntl
 import json

@@ -102,7 +102,7 @@ class Unforeseen(InFolder):
             done = self.call(tool)
             self.assertEqual((done.returncode, done.stdout), (1, ""), tool.name)
             self.assertEqual(done.stderr, f"{tool.name}: KeyError: 'odd\\nthing' (<string>, line 2): a defect of this "
-                                          "tool; python3 -X dev tells more\n")
+                                          "tool; python3 -X dev shows more\n")
         self.assertIn("Traceback", self.call(tools[0], "-X", "dev").stderr)
 
     def test_a_tool_that_is_stopped_from_the_keyboard(self) -> None:

@@ -35,7 +35,7 @@ def geojson(*features: tuple[str, list[list[Ring]]], crs: str | None = None) -> 
 
 
 def odd_segments(rings: list[Ring]) -> set[Any]:
-    """The segments that stand an odd number of times."""
+    """The segments that occur an odd number of times."""
     counts = collections.Counter(segments_of(rings))
     return {segment for segment, count in counts.items() if count % 2}
 
@@ -50,7 +50,7 @@ class Fitting(InFolder):
     def test_degrees_at_factor_1_are_an_error_with_words_that_work(self) -> None:
         status, output, errors = on_file(to_script, self.degrees)
         self.assertEqual((status, output), (2, ""))
-        # Half of 5.7677 degrees goes 363,600 times into 2^20; 4 digits stand behind the points.
+        # Half of 5.7677 degrees goes 363,600 times into 2^20; 4 digits are after the points.
         self.assertEqual(errors, "at factor 1, origin 0 0: coordinates move by up to 0.473, more than a 1000th of the "
                                  "extent, 5.77; to be fitted: --factor 10000 --origin -78.66 35.08, or --fit\n")
         words = errors.split("fitted: ")[1].split(", or")[0].split()
@@ -156,7 +156,7 @@ class Fitting(InFolder):
 
     def test_a_store_is_not_written_over(self) -> None:
         file = self.file("plan.wkt", self.degrees)
-        for slot in (0, 4096):  # of either slot the magic stands 16 bytes behind its begin
+        for slot in (0, 4096):  # of either slot the magic stands 16 bytes after its beginning
             store = bytes(slot + 16) + b"OVLSTORE" + bytes(8192 - slot - 24)
             for name in ("map.db", "map.scale.json", "map.names.csv"):
                 kept = self.file(name, store)
@@ -225,7 +225,7 @@ class Fitting(InFolder):
         file = self.file("plan.wkt", SQUARE)
         status, _, errors = outcome(to_script, file, "--factor", "1/3", "--output", self.folder / "out.txt")
         self.assertEqual(status, 2)
-        self.assertIn("1/3 has no end behind the point", errors)
+        self.assertIn("1/3 has no end after the point", errors)
 
 
 class Splitting(InFolder):

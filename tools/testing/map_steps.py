@@ -301,7 +301,7 @@ class Planted(WithLive):
 
 
 def told_up_to(most: int) -> Callable[[rounds.Program, Iterable[rounds.Round]], Iterator[list[Piece] | None]]:
-    """The `boundaries` of a program that tells no more pieces than so many."""
+    """The `boundaries` of a program that gives no more pieces than so many."""
     def boundaries(program: rounds.Program, asked: Iterable[rounds.Round]) -> Iterator[list[Piece] | None]:
         for pieces in BOUNDARIES(program, asked):
             yield None if pieces is not None and len(pieces) > most else pieces

@@ -170,7 +170,7 @@ def rectangle(left: int, low: int, right: int, high: int) -> str:
 
 class Overlaps(WithProgram):
     def checked(self, *texts: str, words: tuple[object, ...] = ("--factor", 1)) -> tuple[int, list[str]]:
-        """The status of --check, and the lines that it tells, which are the same by each program."""
+        """The status of --check, and the lines that it prints, which are the same by each program."""
         file = self.file("plan.wkt", " ".join(f"POLYGON (({text}))" for text in texts))
         given = [file, "--coded", "--check", *words, "--output", self.folder / "plan.txt"]
         found = [outcome(to_script, *given, "--program", program) for program in self.readers()]

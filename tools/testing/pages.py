@@ -1,4 +1,4 @@
-"""The pages of examples/: each command of their console blocks writes what stands below it."""
+"""The pages of examples/: each command of their console blocks writes what is below it."""
 
 import os
 import pathlib
@@ -23,7 +23,7 @@ def commands_of(text: str) -> list[tuple[str, str]]:
 
 class Pages(WithProgram):
     def environment(self) -> dict[str, str]:
-        """The folder has what the pages ask for, and the program stands on the path."""
+        """The folder has what the pages ask for, and the program is on the path."""
         programs = self.folder / "programs"
         programs.mkdir()
         for program in filter(None, (Programs.batched, Programs.live)):

@@ -21,7 +21,7 @@ class Terminal(io.StringIO):
 
 
 class Bar:
-    """What stands for a bar of tqdm."""
+    """What takes the place of a bar of tqdm."""
 
     monitor_interval = 10
     made: list["Bar"] = []
@@ -39,7 +39,7 @@ class Bar:
 
 class Progresses(unittest.TestCase):
     def lines(self, terminal: io.StringIO, times: list[float]) -> list[str]:
-        """What is told where tqdm is not installed, at these times of the begin and of each step."""
+        """What is reported where tqdm is not installed, at these times of the begin and of each step."""
         clock = iter([time for time in times for _ in (0, 1)][1:])
         with unittest.mock.patch.dict("sys.modules", tqdm=None):
             with progress.Progress("work", 10 * len(times), terminal, lambda: next(clock)) as told:

@@ -25,7 +25,7 @@ class Maps:
     wholes: list[WholeMap]
 
     def planned(self, kind: str) -> tuple[list[planning.Job], dict[Key, Fraction]]:
-        """The jobs of a kind, and the area that each row has to tell."""
+        """The jobs of a kind, and the area that each row has to have."""
         a, b = map(planning.boxes_of, self.wholes)
         if kind == COMMON:
             found = planning.common_jobs(a, b, touching=True)

@@ -1,4 +1,4 @@
-"""Tests of to_rings.py: rings of answers that stand in fixtures/, and of answers that a program gives."""
+"""Tests of to_rings.py: rings of answers of fixtures/, and of answers that a program gives."""
 
 import io
 import pathlib

@@ -1,4 +1,4 @@
-"""Tests of what goes with a script: a store that stands keeps the scale and the names that it was made with."""
+"""Tests of what goes with a script: a store keeps the scale and the names that it was made with."""
 
 import json
 import pathlib

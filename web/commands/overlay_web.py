@@ -9,8 +9,8 @@ passwords before it. map.scale.json beside map.db, as tools/to_script.py writes 
 web/README.md has more.
 
 Status 0: ended by SIGTERM or an interrupt; 1: the store could not be opened, nobody can listen at the address,
-overlay_live has ended by itself or by a fault or answers no more, or a copy of the store stands in its place after a
-write failed, each of which is told: begin it anew; 2: wrong words.
+overlay_live has ended by itself or by a fault or answers no more, or a copy of the store is in its place after a
+write failed, each of which is reported: begin it anew; 2: wrong words.
 """
 
 from __future__ import annotations
@@ -120,7 +120,7 @@ def systems_of(words: argparse.Namespace, scale: MapScale) -> Systems:
 
 
 def hosts_of(words: argparse.Namespace) -> set[str]:
-    """The names that stand in the Host of a good question."""
+    """The names in the Host of a good question."""
     host = words.host.lower()
     own = f"[{host}]" if ":" in host else host
     return {own, *(LOOPBACK if is_loopback(host) else ()), *(name.lower() for name in words.name)}
