@@ -1,4 +1,4 @@
-"""A module for oapif.py, browser.py and web_load.py: a store of real shapes, a running front, Debian's packages."""
+"""A module for trials of the front, browser.py, map_clients.py and others: a store of real shapes, a running front, Debian's packages."""
 
 from __future__ import annotations
 
@@ -13,7 +13,7 @@ import urllib.request
 from collections.abc import Iterator
 from typing import Any
 
-import overlay_client
+from web import overlay_client
 
 from bench import TOP
 

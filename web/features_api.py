@@ -12,12 +12,12 @@ from collections.abc import Callable, Sequence
 from fractions import Fraction
 from typing import Any, NamedTuple
 
-from layer_store import LayerStore
-from map_scale import CRS84
-from shapes import Box, homogeneous
-from systems import Item, Placed, Systems
-from views import View
-from web_request import GEOJSON, Answer, Problem, Request, json_answer, link
+from .layer_store import LayerStore
+from .map_scale import CRS84
+from .shapes import Box, homogeneous
+from .systems import Item, Placed, Systems
+from .views import View
+from .web_request import GEOJSON, Answer, Problem, Request, json_answer, link
 
 ITEMS_USUAL, ITEMS_MOST = 1000, 10000
 OFFSET_MOST = 10**9
@@ -58,7 +58,7 @@ class FeaturesApi:
         )
 
     def api(self, request: Request) -> Answer:
-        import openapi
+        from . import openapi
 
         made = openapi.document(self.scale.title, request.root, self.store.writable, self.described())
         return json_answer(made, OPENAPI)

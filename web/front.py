@@ -1,4 +1,4 @@
-"""The front as a WSGI application: who may ask, which page answers, and how a refusal is told."""
+"""The front as a WSGI application: who may ask, which page answers, and how a refusal is reported."""
 
 from __future__ import annotations
 
@@ -12,17 +12,17 @@ from collections.abc import Callable, Iterable, Mapping
 from http import HTTPStatus
 from typing import Any, NamedTuple
 
-from feature_store import FeatureStore, Unlike
-from features_api import ITEM_WORDS, FeaturesApi
-from joining import TooLarge
-from layer_store import Changed, LayerStore, NotDurable, Pending, Protected
-from map_api import MapApi
-from map_features import MapFeatures
-from overlay_client import Ended, Refused
-from rescue import AGAIN, NotWritten
-from systems import Systems, Unplaced
-from views import Busy
-from web_request import JSON, Answer, Problem, Request, json_answer
+from .feature_store import FeatureStore, Unlike
+from .features_api import ITEM_WORDS, FeaturesApi
+from .joining import TooLarge
+from .layer_store import Changed, LayerStore, NotDurable, Pending, Protected
+from .map_api import MapApi
+from .map_features import MapFeatures
+from .overlay_client import Ended, Refused
+from .rescue import AGAIN, NotWritten
+from .systems import Systems, Unplaced
+from .views import Busy
+from .web_request import JSON, Answer, Problem, Request, json_answer
 
 PAGE = pathlib.Path(__file__).resolve().parent / "page"
 LEAFLET = pathlib.Path("/usr/share/javascript/leaflet")
@@ -37,7 +37,7 @@ HEADERS = {
     "Content-Security-Policy": "default-src 'none'; script-src 'self'; style-src 'self'; img-src 'self' data:; "
     "connect-src 'self'; form-action 'none'; base-uri 'none'; frame-ancestors 'none'",
 }
-# What overlay_live refuses by what was asked for, by what stands, and by what the machine or the store cannot do.
+# What overlay_live refuses by what was asked for, by what there is, and by what the machine or the store cannot do.
 NOT_FOUND, CONFLICT = (10, 23), (11, 12, 13, 14, 15, 16, 21, 22)
 UNABLE = (30, 31, 35, 36, 40, 43, 44, 46)
 
@@ -45,7 +45,7 @@ Start = Callable[[str, list[tuple[str, str]]], object]
 
 
 class Route(NamedTuple):
-    """A page: its method and path, the words that may stand in its question, and whether it may have to wait."""
+    """A page: its method and path, the words that its question may have, and whether it may have to wait."""
 
     method: str
     path: str
@@ -144,9 +144,9 @@ class Front:
             return refusal(503, 503, str(fault), {"Retry-After": f"{AGAIN:.0f}"})
         except (Ended, OSError, TimeoutError) as fault:
             return refusal(503, 503, f"the store does not answer: {fault}")
-        except Exception:  # a fault of the front's own: it goes on, and the fault is told where it runs
+        except Exception:  # a fault of the front's own: it goes on, and the fault is reported where it runs
             traceback.print_exc()
-            return refusal(500, 500, "the front has a fault, which it has told on its standard error")
+            return refusal(500, 500, "the front has a fault, which it has reported on its standard error")
 
     def root(self, environ: Mapping[str, Any]) -> str:
         """The address that was asked. A foreign name, as a page gets that gives its own name this address, is refused."""
@@ -178,7 +178,7 @@ class Front:
             origin, parts = request.header("origin"), urllib.parse.urlsplit(request.root)
             if site in ("cross-site", "same-site") or origin not in ("", f"{parts.scheme}://{parts.netloc}"):
                 raise Problem(403, "another site's page may change nothing")
-        if site == "cross-site" and route.path != "/":  # a link to the page itself may stand anywhere
+        if site == "cross-site" and route.path != "/":  # a link to the page itself may be anywhere
             raise Problem(403, "another site's page may ask nothing")
         for word, value in request.words.items():
             if word not in (*route.words, "f"):

@@ -8,19 +8,18 @@ from decimal import Decimal
 from fractions import Fraction
 from typing import Any
 
-import feature_changes  # of tools/
-import features  # of tools/
-from feature_changes import ChangeFault, GeometryFault, Given, Plan  # of tools/
-from feature_store import Drawn, FeatureStore, State
-from features import FeaturesFault, Outline  # of tools/
-from features_api import FeaturesApi
-from layer_store import Changed
-from map_scale import MapScale
-from openapi import Described
-from schemas import properties_of
-from shapes import Box, box_round
-from systems import Placed, Systems, Unplaced
-from web_request import GEOJSON, Answer, Problem, Request, json_answer, link
+from tools import feature_changes, features
+from tools.feature_changes import ChangeFault, GeometryFault, Given, Plan
+from tools.features import FeaturesFault, Outline
+from .feature_store import Drawn, FeatureStore, State
+from .features_api import FeaturesApi
+from .layer_store import Changed
+from .map_scale import MapScale
+from .openapi import Described
+from .schemas import properties_of
+from .shapes import Box, box_round
+from .systems import Placed, Systems, Unplaced
+from .web_request import GEOJSON, Answer, Problem, Request, json_answer, link
 
 EDITING = ("http://www.opengis.net/spec/ogcapi-features-4/1.0/conf/create-replace-delete",
            "http://www.opengis.net/spec/ogcapi-features-4/1.0/conf/optimistic-locking")

@@ -5,8 +5,8 @@ from __future__ import annotations
 from collections.abc import Iterable
 from typing import NamedTuple
 
-from features_api import ITEMS_MOST, ITEMS_USUAL
-from schemas import NAME, SCHEMAS, Value, array, ref, shaped
+from .features_api import ITEMS_MOST, ITEMS_USUAL
+from .schemas import NAME, SCHEMAS, Value, array, ref, shaped
 
 GEOJSON, JSON = "application/geo+json", "application/json"
 ID = r"^[A-Za-z0-9_.-]{1,64}$"

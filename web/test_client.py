@@ -1,4 +1,4 @@
-"""Tests of the client against the built program. What it has to say stands in docs/COMMANDS.md."""
+"""Tests of the client against the built program. What it has to say is in docs/COMMANDS.md."""
 
 from __future__ import annotations
 
@@ -15,12 +15,10 @@ from collections.abc import Callable
 from fractions import Fraction
 from typing import Any, BinaryIO, cast
 
-import limits  # of tools/
-import overlay_client
-import replies  # of tools/
-import testing
-from overlay_client import Boundary, Ended, Layer, Refused, Reply, Server, Session, edges_lines
-from testing import BAR, SHIFTED, SQUARE, TRIANGLE
+from tools import limits, replies
+from . import overlay_client, testing
+from .overlay_client import Boundary, Ended, Layer, Refused, Reply, Server, Session, edges_lines
+from .testing import BAR, SHIFTED, SQUARE, TRIANGLE
 
 
 def running(**words: Any) -> Server:

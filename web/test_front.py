@@ -10,12 +10,12 @@ from decimal import Decimal
 from fractions import Fraction
 from typing import Any
 
-import limits  # of tools/
-import testing
-from shapes import Box
-from test_shapes import Place, meets
-from testing import BAR, SHIFTED, SQUARE, TOP, TRIANGLE, FrontCase
-from views import View
+from tools import limits
+from . import testing
+from .shapes import Box
+from .test_shapes import Place, meets
+from .testing import BAR, SHIFTED, SQUARE, TOP, TRIANGLE, FrontCase
+from .views import View
 
 ROOT = f"http://{testing.HOST}"
 
@@ -276,7 +276,7 @@ class Iceland(FrontCase):
 
 
     def test_what_is_refused_is_told_beside_it(self) -> None:
-        """Each form of the page, and its head, has a place of its own for what is told, and the scripts know these."""
+        """Each form of the page, and its head, has a place of its own for what is reported, and the scripts know these."""
         folder = TOP / "web/page"
         parts = re.split(r"<(?=section|header|footer)", (folder / "map.html").read_text(encoding="utf-8"))
         places = {place: part for part in parts for place in re.findall(r'id="(told[a-z-]*)"', part)}
@@ -293,7 +293,7 @@ class Iceland(FrontCase):
 
 
 class Changes(FrontCase):
-    """A front that is writable, of a plane with two numbers behind the point."""
+    """A front that is writable, of a plane with two numbers after the point."""
 
     scale = {"title": "Plane", "factor": 100, "origin": [500, 0], "unit": "m", "crs": "EPSG:32633", "digits": 4}
     square = {"type": "Polygon", "coordinates": [[[500, 0], [500.1, 0], [500.1, 0.1], [500, 0.1], [500, 0]]]}

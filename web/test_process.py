@@ -22,13 +22,10 @@ from collections.abc import Callable, Iterator
 from typing import Any
 from wsgiref import simple_server
 
-import overlay_web
-import serving
-import testing
-from overlay_client import Server
-from testing import SQUARE
-
-WEB = pathlib.Path(overlay_web.__file__).resolve().parent
+from . import serving, testing
+from .commands import overlay_web
+from .overlay_client import Server
+from .testing import SQUARE
 
 
 def started(*words: str | pathlib.Path) -> subprocess.Popen[str]:
@@ -37,10 +34,10 @@ def started(*words: str | pathlib.Path) -> subprocess.Popen[str]:
     code = (
         "import signal, sys; signal.signal(signal.SIGINT, signal.default_int_handler); "
         "sys.modules['waitress'] = None; sys.argv[0] = 'overlay_web.py'; "
-        f"sys.path.insert(0, {str(WEB)!r}); import overlay_web; sys.exit(overlay_web.main(sys.argv[1:]))"
+        "from web.commands import overlay_web; sys.exit(overlay_web.main(sys.argv[1:]))"
     )
     given = [sys.executable, "-c", code, "--program", testing.PROGRAM, "--port", "0", *map(str, words)]
-    return subprocess.Popen(given, stdout=subprocess.PIPE, stderr=subprocess.PIPE, text=True, start_new_session=True)
+    return subprocess.Popen(given, cwd=testing.TOP, stdout=subprocess.PIPE, stderr=subprocess.PIPE, text=True, start_new_session=True)
 
 
 @contextlib.contextmanager
@@ -159,7 +156,7 @@ class Processes(unittest.TestCase):
             self.assertEqual((status, value["version"]), (503, 3))
             status, told = self.ended(run)
             self.assertEqual(status, 1)
-            self.assertIn("the store is not written any more: error 30 device; a copy stands in its place", told)
+            self.assertIn("the store is not written any more: error 30 device; a copy is in its place", told)
         with running("--store", self.store, "--writable") as (run, address):
             status = asked(address, "GET", "/status")[1]
             self.assertEqual((status["version"], status["durable"], status["layers"], status["lost"]), (2, 2, 3, []))
@@ -197,8 +194,8 @@ class Processes(unittest.TestCase):
         with socket.create_server(("127.0.0.1", 0)) as other:
             taken = other.getsockname()[1]
             tries: list[tuple[list[str | pathlib.Path], str]] = [
-                (["--writable", "--port", str(taken)], f"127.0.0.1 port {taken}: "),
-                (["--store", self.store, "--port", str(taken)], f"127.0.0.1 port {taken}: "),
+                (["--writable", "--port", str(taken)], f"127.0.0.1 port {taken}: another program listens there; say another --port"),
+                (["--store", self.store, "--port", str(taken)], f"127.0.0.1 port {taken}: another program listens there; say another --port"),
                 (["--writable", "--port", "65536"], "127.0.0.1 port 65536: a port is 0 to 65535"),
                 (["--store", self.store, "--host", "192.0.2.1"], "192.0.2.1 port 0: "),  # an address of documents
                 (["--store", self.store, "--host", "a b"], "a b port 0: "),

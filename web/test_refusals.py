@@ -14,15 +14,13 @@ import unittest
 import unittest.mock
 from collections.abc import Callable
 
-import front
-import layer_store
-import testing
-from layer_store import LayerStore
-from overlay_client import Ended, Refused, Server
-from scratch import Scratch
-from testing import SHIFTED, SQUARE, Client, FrontCase, Told
-from views import View
-from web_request import BODY_MOST
+from . import front, layer_store, testing
+from .layer_store import LayerStore
+from .overlay_client import Ended, Refused, Server
+from .scratch import Scratch
+from .testing import SHIFTED, SQUARE, Client, FrontCase, Told
+from .views import View
+from .web_request import BODY_MOST
 
 GEOMETRY = {"type": "Polygon", "coordinates": [[[0, 0], [9, 0], [9, 9], [0, 0]]]}
 

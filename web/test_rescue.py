@@ -8,14 +8,13 @@ import threading
 import unittest
 import unittest.mock
 
-import rescue
-import testing
-from front import Front
-from layer_store import LayerStore
-from overlay_client import Refused, Server
-from rescue import Rescue, put_copy
-from scratch import Scratch
-from testing import SQUARE, Client
+from . import rescue, testing
+from .front import Front
+from .layer_store import LayerStore
+from .overlay_client import Refused, Server
+from .rescue import Rescue, put_copy
+from .scratch import Scratch
+from .testing import SQUARE, Client
 
 
 class Copies(unittest.TestCase):

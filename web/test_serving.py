@@ -14,10 +14,9 @@ from collections.abc import Iterable, Iterator
 from typing import Any
 from wsgiref import simple_server
 
-import front
-import serving
-from testing import SQUARE, FrontCase, wait_until
-from web_request import BODY_MOST
+from . import front, serving
+from .testing import SQUARE, FrontCase, wait_until
+from .web_request import BODY_MOST
 
 HEAD = b"GET /status HTTP/1.1\r\nHost: 127.0.0.1\r\n"
 
@@ -186,7 +185,7 @@ class Signals(unittest.TestCase):
 @unittest.skipUnless(importlib.util.find_spec("waitress"), "no waitress: apt-get install python3-waitress")
 class ByWaitress(ServerCase):
     def begin(self, request_seconds: float, answer_seconds: float) -> None:
-        import by_waitress
+        from . import by_waitress
 
         make_ends = functools.partial(by_waitress.Ends, seconds=(request_seconds, answer_seconds))
         server = by_waitress.server_of(self.front, "127.0.0.1", 0, make_ends)

@@ -8,13 +8,10 @@ import unittest
 from decimal import ROUND_HALF_EVEN, Decimal
 from fractions import Fraction
 
-import limits  # of tools/
-import map_scale
-import scale as scales  # of tools/
-import shapes
-import testing
-from map_scale import exact, rounded
-from shapes import Box, Feature, text_of
+from tools import limits, scale as scales
+from . import map_scale, shapes, testing
+from .map_scale import exact, rounded
+from .shapes import Box, Feature, text_of
 
 Place = tuple[Fraction, Fraction]
 

@@ -6,16 +6,16 @@ import importlib.util
 import unittest
 from typing import Any
 
-from map_scale import CRS84
-from systems import Projection, Systems, Unplaced, Unprojected, by_pyproj
-from test_features import EAST, MOVED, WEST, Case, feature
-from testing import FrontCase, map_scale
+from .map_scale import CRS84
+from .systems import Projection, Systems, Unplaced, Unprojected, by_pyproj
+from .test_features import EAST, MOVED, WEST, Case, feature
+from .testing import FrontCase, map_scale
 
 OWN = "http://www.opengis.net/def/crs/EPSG/0/30169"
 
 
 def to_degrees(xs: Any, ys: Any) -> tuple[list[float], list[float]]:
-    """A projection that is easily told: x / 8 is the longitude, 30 + y / 16 the latitude."""
+    """A projection that is easily worked out: x / 8 is the longitude, 30 + y / 16 the latitude."""
     if any(x > 1000 for x in xs):
         raise Unplaced("too far")
     return [x / 8 for x in xs], [30 + y / 16 for y in ys]

@@ -16,12 +16,12 @@ import urllib.parse
 from collections.abc import Callable, Iterator, Mapping
 from typing import Any, NamedTuple
 
-import scale as scales  # of tools/
-from front import Front
-from layer_store import LayerStore
-from map_scale import MapScale
-from overlay_client import Server
-from scratch import Scratch
+from tools import scale as scales
+from .front import Front
+from .layer_store import LayerStore
+from .map_scale import MapScale
+from .overlay_client import Server
+from .scratch import Scratch
 
 PROGRAM = "overlay_live"
 HOST = "127.0.0.1:8080"

@@ -22,7 +22,7 @@ from collections.abc import Iterator, Sequence
 from bench.counting import Words, checked
 from bench.measures import peers, tiles
 from bench.tile_texts import Layer, closed
-from limits import COLUMNS
+from tools.limits import COLUMNS
 
 SHAPES = [("star", 64), ("parcels", 64), ("sliver", 64), ("star", 512), ("parcels", 512)]
 SQUARES = [[closed([(low, low), (low + 10, low), (low + 10, low + 10), (low, low + 10)])] for low in (0, 5)]

@@ -7,7 +7,7 @@ PROGRAM is overlay_live. A client in C (live.c) sends a line when the reply to t
 
 - LOCATE over an outline of 2,000 steps and over a built layer, beside the pipe alone, and SpatiaLite and PostGIS where
   they are there (--install gets them), whose answers are compared.
-- PUT, and SYNC behind it, with a store in FOLDER, beside the same writes and syncs in C (sync.c).
+- PUT, and SYNC after it, with a store in FOLDER, beside the same writes and syncs in C (sync.c).
 - Replies a second of four sessions, beside four pipes in C; memory before and after a million lines.
 """
 

@@ -1,6 +1,6 @@
-"""A module for edges.py, locating.py and versions.py: several programs over one file of cases, in turns.
+"""A module for measures: the programs that are timed, and several of them over one file of cases, in turns.
 
-It gives the least time of each; all have to answer the same.
+`least_times` gives the least time of each; all have to answer the same.
 """
 
 from __future__ import annotations
@@ -10,9 +10,21 @@ import subprocess
 from collections.abc import Callable, Sequence
 from typing import TypeVar
 
+from bench import unproved
+
+HERE = pathlib.Path(__file__).resolve().parent
 ROUNDS = 5
 Times = dict[tuple[int, str, str], float]  # by the place of the program, the case and what was timed
 Found = TypeVar("Found")
+
+
+def programs_of(named: Sequence[pathlib.Path], source: str, place: pathlib.Path) -> list[pathlib.Path]:
+    """The programs that were named, or where none was the one of this folder, built unproved and without checks in a folder of
+    its own: no file of the measure is written over it."""
+    if named:
+        return [program.resolve() for program in named]
+    (place / "built").mkdir()
+    return [unproved.built(HERE / source, place / "built", checked=False)]
 
 
 def least_times(

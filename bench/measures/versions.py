@@ -15,11 +15,9 @@ import pathlib
 import tempfile
 from collections.abc import Iterator
 
-from bench import unproved
 from bench.counting import Words
 from bench.measures import turns
 
-HERE = pathlib.Path(__file__).resolve().parent
 REACH = 1 << 20
 
 
@@ -58,12 +56,10 @@ def told(words: list[str]) -> tuple[str, str, list[tuple[str, float]]]:
 
 def main() -> None:
     parser = Words(__doc__)
-    parser.add_argument("--built", action="append", default=[])
+    parser.add_argument("--built", type=pathlib.Path, action="append", default=[])
     words = parser.words()
     with tempfile.TemporaryDirectory() as folder:
-        programs = [pathlib.Path(one).resolve() for one in words.built]
-        if not programs:
-            programs = [unproved.built(HERE / "versions", folder, checked=False)]
+        programs = turns.programs_of(words.built, "versions", pathlib.Path(folder))
         file = pathlib.Path(folder) / "cases"
         file.write_text("".join(cases()))
         least, seen = turns.least_times(programs, file, told)

@@ -62,7 +62,7 @@ def put(link: http.client.HTTPConnection, i: int) -> bool:
 
 
 def client(address: str, ask: Ask, end: float, place: int, told: multiprocessing.SimpleQueue[Found | str]) -> None:
-    """Asks until the end, and tells how long each answer took."""
+    """Asks until the end, and says how long each answer took."""
     link = http.client.HTTPConnection(urllib.parse.urlsplit(address).netloc, timeout=60)
     found: Found = []
     try:

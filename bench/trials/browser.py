@@ -38,7 +38,7 @@ STEP = 23
 
 
 class Browser:
-    """Chromium without a window, over its debugging pipe: commands to descriptor 3, what it tells from 4, each ended by 0."""
+    """Chromium without a window, over its debugging pipe: commands to descriptor 3, what it says comes from 4, each ended by 0."""
 
     def __init__(self, folder: pathlib.Path) -> None:
         (to_in, to_out), (from_in, from_out) = os.pipe(), os.pipe()

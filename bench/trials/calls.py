@@ -22,12 +22,12 @@ from bench.counting import Words
 HERE = pathlib.Path(__file__).resolve().parent
 # A call that is wrong on purpose: its first growth refused is right, its second has changed what it was called on.
 WRONG_CALL = "wrong call 1 1 1"
-# What else is wrong on purpose: the program tells how many there are, and how many of them were told as wrong.
+# What else is wrong on purpose: the program says how many there are, and how many of them were reported as wrong.
 SPOILED = ["lists", "books", "sessions", "servers"]
 
 
 def are_told(line: str) -> bool:
-    """Whether there are wrong lists, books, sessions and servers, and each is told as wrong."""
+    """Whether there are wrong lists, books, sessions and servers, and each is reported as wrong."""
     words = line.split()[1:]
     return words[::3] == SPOILED and all(cases == told != "0" for cases, told in zip(words[1::3], words[2::3]))
 

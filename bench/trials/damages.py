@@ -237,7 +237,7 @@ def programs(folder: pathlib.Path, given: list[pathlib.Path]) -> list[pathlib.Pa
 
 
 def lists(words: list[pathlib.Path], files: dict[str, bytes], of: str = "") -> int:
-    """Prints what a program tells of its lists, keeps the stores that it shows, and counts what is wrong."""
+    """Prints what a program says of its lists, keeps the stores that it shows, and counts what is wrong."""
     done = subprocess.run(words, stdout=subprocess.PIPE, check=True, text=True)
     wrong = 0
     for line in done.stdout.splitlines():

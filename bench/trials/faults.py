@@ -3,10 +3,10 @@
 python3 -m bench.trials.faults PROGRAM [--live] [--seconds N]
 python3 -m bench.trials.faults --test
 
-The program loads faults.c, which lets a call on the store's file or folder fail, or that one and all behind it: with
+The program loads faults.c, which lets a call on the store's file or folder fail, or that one and all after it: with
 nothing done, half a write done, interrupted, or the device full. A sync that fails loses what was written since the
 last one, or half of each write. Each run ends; its replies are the model's, but for 30 by SYNC; the store holds a
-version no older than what was told durable, and opens. A program that leaves out a sync is seen. Status 1: a line of
+version no older than what was reported durable, and opens. A program that leaves out a sync is seen. Status 1: a line of
 the table is wrong.
 """
 
@@ -22,7 +22,7 @@ from typing import Any
 from bench.counting import Words, counted
 from bench.trials import refusal_cases, refusal_tables, refused_runs, refusing
 
-# What the shim leaves out of a right program, by the number that it is told.
+# What the shim leaves out of a right program, by the number that it is given.
 LEFT_OUT = {1: "no sync of the store is made", 2: "no sync of the folder is made"}
 KINDS = ["nothing done", "half a write", "half a write told, or interrupted", "full"]
 
@@ -61,7 +61,7 @@ def fail(words: argparse.Namespace, folder: pathlib.Path) -> tuple[int, int]:
     return right, wrong
 
 
-# A writer that syncs its folder, goes on behind each other call that fails, and prints those.
+# A writer that syncs its folder, goes on after each call that fails, and prints those.
 CALLS = """
 import os, sys
 def told(call, *words):
@@ -112,7 +112,7 @@ def left(library: pathlib.Path, folder: pathlib.Path, first: int, kind: int) -> 
 
 
 def test() -> int:
-    """Looks whether the shim fails the call that it is told and loses what it has to, and what refusals may be told."""
+    """Looks whether the shim fails the call that it is given and loses what it has to, and what refusals may be reported."""
     passed, failed = refusal_cases.test(refusing.device)
     with tempfile.TemporaryDirectory() as place:
         folder = pathlib.Path(place)

@@ -11,7 +11,7 @@ written by Part 4. Not of the gate.
 
 It needs gdal-bin, python3-gdal, python3-shapely, python3-pyproj, python3-owslib, python3-qgis and qgis-providers of
 Debian; packages with maps are loaded into FOLDER by apt-get download. Where QGIS is not there its part is left out, and
-that is told. Status 0 and a last line `N passed, 0 failed`, or what fell.
+that is reported. Status 0 and a last line `N passed, 0 failed`, or what fell.
 """
 
 from __future__ import annotations
@@ -41,7 +41,7 @@ from bench.counting import Tries, Words  # noqa: E402
 from bench.reference import read_store  # noqa: E402
 from bench.trials.maps import loaded  # noqa: E402
 from bench.web_front import TOP, asked  # noqa: E402
-from limits import COLUMN_WIDTH, COORDINATE_MAX  # noqa: E402
+from tools.limits import COLUMN_WIDTH, COORDINATE_MAX
 
 try:
     from qgis import core as qgis
@@ -89,7 +89,7 @@ Found = dict[Any, Feature]
 
 @dataclass
 class Rounding:
-    """How far a corner was moved at most along an axis, and how many digits an area has, as a map's making tells it."""
+    """How far a corner was moved at most along an axis, and how many digits an area has, as a map's making says it."""
 
     moved: float
     digits: int

@@ -18,7 +18,7 @@ WRITE = "error 49 write"
 EARLY, LATE = "early", "late"
 CUT = {3: None, 4: None}
 CLOSING = "error 43 closing"
-# What may be told by a run of these lines, by what was refused: the replies that differ or lack, by their places,
+# What may be reported by a run of these lines, by what was refused: the replies that differ or lack, by their places,
 # whether something was refused, what is on standard error (None: nothing, with status 1), and whether that is right.
 CASES: dict[Allows, list[tuple[Any, int, str | None, bool]]] = {
     one_growth: [
@@ -80,7 +80,7 @@ CASES: dict[Allows, list[tuple[Any, int, str | None, bool]]] = {
 }
 
 
-# Two scripts, and what may be told of them: how many replies each has (None: nothing is printed), what is on standard
+# Two scripts, and what may be reported of them: how many replies each has (None: nothing is printed), what is on standard
 # error, and whether that is right.
 PAIR = Scenario("two", [[f"PUT A {SQUARE}", "HELLO"], ["HELLO", "HELLO"]], 1)
 BAD = "error 41 command syntax"

@@ -20,8 +20,7 @@ from collections.abc import Callable
 from bench import proved, unproved
 from bench.counting import Words
 from bench.tile_texts import Draws, Layer, Point, closed, lines_of
-from limits import COLUMN_WIDTH as WIDTH
-from limits import COLUMNS, COORDINATE_MAX
+from tools.limits import COLUMNS, COLUMN_WIDTH as WIDTH, COORDINATE_MAX
 
 HERE = pathlib.Path(__file__).resolve().parent
 

@@ -6,8 +6,8 @@ import subprocess
 import sys
 import unittest
 
-import ending
-from testing.common import SECONDS, SQUARE, InFolder, path
+from .. import ending
+from .common import SECONDS, SQUARE, InFolder, path
 
 COUNT = 20000
 LONG = "PUT A x\n" + "".join(f"DROP L{place}\n" for place in range(COUNT))

@@ -7,8 +7,8 @@ import sys
 import time
 from dataclasses import dataclass
 
-import progress
-from maps import dask_engine, engines, tasks
+from .. import progress
+from ..maps import dask_engine, engines, tasks
 
 
 @dataclass(frozen=True)

@@ -6,7 +6,7 @@ from collections.abc import Callable
 from fractions import Fraction
 from typing import Any
 
-import limits
+from .. import limits
 
 
 Place = tuple[Fraction, Fraction]
