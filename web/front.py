@@ -149,7 +149,7 @@ class Front:
             return refusal(500, 500, "the front has a fault, which it has reported on its standard error")
 
     def root(self, environ: Mapping[str, Any]) -> str:
-        """Refuses a foreign name in Host, as a page gets that gives its own name this address; gives the asked address."""
+        """Looks at Host: the address that was asked. A foreign name, which a page may give this address, is refused."""
         host = str(environ.get("HTTP_HOST", "")).lower()
         found = re.fullmatch(r"(\[[0-9a-f:.]{2,45}\]|[a-z0-9._-]{1,253})(:[0-9]{1,5})?", host)
         if not found or found[1] not in self.hosts:
