@@ -36,7 +36,6 @@ sys.dont_write_bytecode = True
 HERE = pathlib.Path(__file__).resolve().parent
 
 import contents  # noqa: E402
-import packing  # noqa: E402
 import pages  # noqa: E402
 from packing import Entry  # noqa: E402
 

@@ -1,4 +1,4 @@
-"""Makes a store of a map and shows it: fits, makes the store, starts the front, and prints its address.
+"""Makes a store of a map, starts a web front over it, and prints its address.
 
     ./overlay city.geojson
     ./overlay parcels.geojson --with zones.geojson
@@ -9,12 +9,12 @@ The features of one map are numbered over few layers and served with their names
 is a layer of its file's name then, and `both` is what all of them have in common.
 
 It writes CITY.txt, CITY.db and what goes with them in --folder (default: where it is called). A store that is there
-is served as it is; --again makes it anew. One without its CITY.txt, which this did not make, one of another map of the
-same name, and one that another program has, as a front that runs, are refused and stay. Where one store does not
-suffice each has a front of its own. A browser is opened where there is a screen, but for --no-browser. The front runs
-until it is interrupted.
+is served as it is; --again makes it anew, unless a program has it open, as a running front. A store of another map of
+the same name, or one without the CITY.txt that it was made of, is refused and left as it is. Where one store does not
+suffice each has a front of its own. A browser is opened where there is a screen, but for --no-browser. Ctrl-C ends the
+front.
 
-Status 0: ended by SIGTERM or an interrupt, or all of it made by --only-make; 1: a feature was refused, which is reported, and
+Status 0: ended by Ctrl-C or SIGTERM, or all of it made by --only-make; 1: a feature was refused, which is reported, and
 the rest made by --only-make, a line was refused, a program is not there, another has the store, or a front ended by a
 fault; 2: wrong words, a file that cannot be read, or one that would be written over.
 """

@@ -2,7 +2,6 @@
 
 from __future__ import annotations
 
-import json
 import pathlib
 import re
 import threading
@@ -22,7 +21,7 @@ from .overlay_client import Ended, Refused
 from .rescue import AGAIN, NotWritten
 from .systems import Systems, Unplaced
 from .views import Busy
-from .web_request import JSON, Answer, Problem, Request, json_answer
+from .web_request import Answer, Problem, Request, json_answer
 
 PAGE = pathlib.Path(__file__).resolve().parent / "page"
 LEAFLET = pathlib.Path("/usr/share/javascript/leaflet")

@@ -28,7 +28,7 @@ from collections.abc import Callable
 from fractions import Fraction
 from typing import TextIO
 
-from .. import ending, scale as scales
+from .. import scale as scales
 from ..maps import doing, map_checks, overlays, questions, running, work
 from ..maps.engines import TasksLeft
 from ..maps.rounds import ProgramEnded, ProgramRefused

@@ -13,7 +13,7 @@ import pathlib
 import sys
 from typing import TextIO
 
-from .. import asking, ending, sessions
+from .. import asking, sessions
 
 
 def main(arguments: list[str], output: TextIO | None = None, errors: TextIO | None = None) -> int:

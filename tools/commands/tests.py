@@ -14,7 +14,6 @@ import pathlib
 import sys
 import unittest
 
-from .. import ending
 from ..testing.common import Programs
 
 MODULES = (

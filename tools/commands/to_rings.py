@@ -27,7 +27,7 @@ import functools
 from collections.abc import Iterator
 from typing import Any, TextIO
 
-from .. import areas, asking, ending, sessions, wkt
+from .. import areas, asking, sessions, wkt
 from ..areas import Ring
 from ..asking import Map
 from ..scale import Scale, decimals, spelled_exactly

@@ -19,7 +19,7 @@ import sys
 from collections.abc import Callable
 from typing import Any, TextIO
 
-from .. import asking, ending, limits, scale as scales, sessions
+from .. import asking, limits, scale as scales, sessions
 from ..asking import Map
 from ..sessions import Corner, Grid, Piece, Session
 from . import to_rings

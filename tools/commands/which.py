@@ -7,17 +7,17 @@
 Where NAME.features.json lies beside a store NAME.* of coded layers, the answers of layers b0, b1 .. become the
 names of its features, also where features overlap; it must be of the store. With --names they spell the number of the
 feature in the table that to_script.py --coded wrote. Else, and with --layers, the layers are those that no definition
-names, and each that has the point is named. --store may be given once for each store of a map, in their order. The point is
-in coordinates of the world where a scale is there; where it cannot be asked exactly the nearest one that can is asked,
-and told. A store is read and not changed.
+names, and each that has the point is named. --store may be given once for each store of a map, in their order. The
+point is in coordinates of the world where a scale is there, x (longitude) first. Where it cannot be asked exactly, the
+nearest one that can is asked, and reported. A store is read and not changed.
 
 A file of points has one on each line, two numbers apart by blanks, a comma or a semicolon; blank lines and those that
 begin with # are passed over.
 
-For each point a line: the name, or names with a tab between, or nothing where no layer or feature has it; behind `edge`
-and a tab, where it lies on a segment, those that it may belong to: of coded layers all whose numbers fit, the
-neighbours among them; behind `error` and a tab, where it cannot be answered, the point as it was typed and the reason,
-while all others are answered. Within a name, or what was typed, a tab or the end of a line is a blank.
+Each point has a line: a name, several with tabs between, or nothing where no layer or feature has it. Where it lies on
+a segment the line is `edge`, a tab, and the names that it may belong to: of coded layers all whose numbers fit, the
+neighbours among them. Where it cannot be answered the line is `error`, a tab, the point as it was typed and the reason;
+all others are answered. Within a name, or what was typed, a tab or the end of a line is a blank.
 
 Status 0: all points are answered; 1: one is not, or the output cannot be written.
 """

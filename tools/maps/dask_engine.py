@@ -20,7 +20,7 @@ from itertools import islice
 from typing import Any
 from urllib.parse import urlsplit
 
-from . import engines, rounds, tasks
+from . import engines
 from .engines import TRIES, Engine, TaskFault
 from .tasks import TaskFolder, Work
 

@@ -4,9 +4,7 @@ While the program builds one round its caller prepares the next: two sets of lay
 by the client of web/overlay_client.py.
 """
 
-import pathlib
 import subprocess
-import sys
 from collections import deque
 from collections.abc import Iterable, Iterator
 from dataclasses import dataclass
