@@ -79,23 +79,12 @@ if file and told(os.fsync, folder):
 """
 # The number of the call that fails and how, what fails for the writer, and what it leaves.
 LEFT = [
-    (0, 0, "", b"fouless"),
-    (1, 0, "open", None),
-    (3, 0, "fsync", None),
-    (3, 2, "", b"fouless"),
-    (4, 0, "pwrite", bytes(3) + b"less"),
-    (4, 1, "pwrite", b"fo" + bytes(1) + b"less"),
-    (4, 2, "", b"fo" + bytes(1) + b"less"),
-    (5, 0, "fdatasync", bytes(3) + b"less"),
-    (5, 1, "fdatasync", b"fo" + bytes(1) + b"less"),
-    (5, 2, "", b"fouless"),
-    (6, 0, "pwrite", b"four"),
-    (6, 1, "pwrite", b"foule"),
-    (7, 0, "fdatasync", b"four"),
-    (7, 1, "fdatasync", b"foule" + bytes(2)),
-    (7, 2, "", b"fouless"),
-    (7, 3, "fdatasync", b"four"),
-    (8, 0, "", b"fouless"),
+    (0, 0, "", b"fouless"), (1, 0, "open", None), (3, 0, "fsync", None), (3, 2, "", b"fouless"),
+    (4, 0, "pwrite", bytes(3) + b"less"), (4, 1, "pwrite", b"fo" + bytes(1) + b"less"),
+    (4, 2, "", b"fo" + bytes(1) + b"less"), (5, 0, "fdatasync", bytes(3) + b"less"),
+    (5, 1, "fdatasync", b"fo" + bytes(1) + b"less"), (5, 2, "", b"fouless"), (6, 0, "pwrite", b"four"),
+    (6, 1, "pwrite", b"foule"), (7, 0, "fdatasync", b"four"), (7, 1, "fdatasync", b"foule" + bytes(2)),
+    (7, 2, "", b"fouless"), (7, 3, "fdatasync", b"four"), (8, 0, "", b"fouless"),
 ]
 
 
