@@ -24,7 +24,7 @@ from bench.trials import refusal_cases, refusal_tables, refused_runs, refusing
 
 # What the shim leaves out of a right program, by the number that it is given.
 LEFT_OUT = {1: "no sync of the store is made", 2: "no sync of the folder is made"}
-KINDS = ["nothing done", "half a write", "half a write told, or interrupted", "full"]
+KINDS = ["nothing done", "half a write", "half a write reported, or interrupted", "full"]
 
 
 def is_found(words: argparse.Namespace, library: pathlib.Path, folder: pathlib.Path, left_out: int) -> bool:
@@ -55,7 +55,7 @@ def fail(words: argparse.Namespace, folder: pathlib.Path) -> tuple[int, int]:
                 if kind == 2 and rest:
                     continue  # a call that is interrupted for ever is asked for ever
                 table = refusal_tables.run_in_turn(runner, "FAIL", {"REST": rest, "KIND": kind}, calls, refusing.device)
-                refusal_tables.print_table(runner, what + (", and all behind" if rest else ""), calls, table)
+                refusal_tables.print_table(runner, what + (", and all after" if rest else ""), calls, table)
                 right += not table.wrong
                 wrong += bool(table.wrong)
     return right, wrong
