@@ -20,13 +20,8 @@ from bench import TOP
 PROGRAM = TOP / "crates/overlay_live/out/overlay_live"
 DEBIAN_PYTHON = "/usr/bin/python3"
 SCALE = {
-    "title": "Iceland at two scales",
-    "factor": 42262,
-    "factor_y": 100000,
-    "origin": [-19, 65],
-    "unit": "degree",
-    "crs": "OGC:CRS84",
-    "digits": 7,
+    "title": "Iceland at two scales", "factor": 42262, "factor_y": 100000, "origin": [-19, 65], "unit": "degree",
+    "crs": "OGC:CRS84", "digits": 7,
 }
 DEFINITIONS = {"both": "iceland_110m & iceland_50m", "one": "iceland_110m ^ iceland_50m"}
 

@@ -217,7 +217,7 @@ def scale_of(words: argparse.Namespace, parser: argparse.ArgumentParser) -> tupl
 
 def check_words(words: argparse.Namespace, parser: argparse.ArgumentParser) -> None:
     if (words.script is None) == (words.store is None):
-        parser.error("either a SCRIPT or --store FILE")
+        parser.error("either a SCRIPT or --store FILE; a layer is named by --layer")
     if words.store and words.replies:
         parser.error("--replies are those of a SCRIPT")
 

@@ -34,9 +34,7 @@ def uncollected() -> Iterator[None]:
 def turn(a: Corner, b: Corner, c: Corner) -> int:
     """Greater than 0 where c lies to the left of the line from a to b, less where to the right, 0 on it."""
     return (
-        a[0] * (b[1] * c[2] - b[2] * c[1])
-        - a[1] * (b[0] * c[2] - b[2] * c[0])
-        + a[2] * (b[0] * c[1] - b[1] * c[0])
+        a[0] * (b[1] * c[2] - b[2] * c[1]) - a[1] * (b[0] * c[2] - b[2] * c[0]) + a[2] * (b[0] * c[1] - b[1] * c[0])
     )
 
 

@@ -30,8 +30,7 @@ SLOW_MOST, CHANGES_MOST = 12, 4
 """How many questions that may wait, and how many changes, are answered at once; the front has more threads."""
 KINDS = {".html": "text/html; charset=utf-8", ".js": "text/javascript", ".css": "text/css", ".png": "image/png"}
 HEADERS = {
-    "X-Content-Type-Options": "nosniff",
-    "Referrer-Policy": "no-referrer",
+    "X-Content-Type-Options": "nosniff", "Referrer-Policy": "no-referrer",
     "Cross-Origin-Resource-Policy": "same-origin",
     "Content-Security-Policy": "default-src 'none'; script-src 'self'; style-src 'self'; img-src 'self' data:; "
     "connect-src 'self'; form-action 'none'; base-uri 'none'; frame-ancestors 'none'",
@@ -72,13 +71,8 @@ class Front:
     not only in the store's."""
 
     def __init__(
-        self,
-        store: LayerStore,
-        hosts: Iterable[str] = LOOPBACK,
-        base: str | None = None,
-        leaflet: pathlib.Path = LEAFLET,
-        maps: FeatureStore | None = None,
-        systems: Systems | None = None,
+        self, store: LayerStore, hosts: Iterable[str] = LOOPBACK, base: str | None = None,
+        leaflet: pathlib.Path = LEAFLET, maps: FeatureStore | None = None, systems: Systems | None = None,
     ) -> None:
         self.store, self.leaflet = store, leaflet
         self.base = base.rstrip("/") if base else None
@@ -91,8 +85,7 @@ class Front:
         name, number = "([A-Za-z][A-Za-z0-9_]{0,31})", "([A-Za-z0-9_.-]{1,64})"
         layer = f"/collections/{name}"
         routes = [
-            Route("GET", "/", self.first),
-            Route("GET", "/api", features.api),
+            Route("GET", "/", self.first), Route("GET", "/api", features.api),
             Route("GET", "/conformance", features.conformance),
             Route("GET", "/collections", features.collections, slow=True),
             Route("GET", layer, features.collection, slow=True),
@@ -100,12 +93,9 @@ class Front:
             Route("GET", f"{layer}/items/{number}", features.item, ("crs",), slow=True),
             Route("GET", f"{layer}/locate", of_map.locate, ("x", "y")),
             Route("GET", "/locate", of_map.locate_all, ("x", "y")),
-            Route("GET", f"{layer}/tiles", of_map.tiles, ("columns",)),
-            Route("GET", "/status", of_map.status),
-            Route("PUT", layer, of_map.put, slow=True),
-            Route("DELETE", layer, of_map.drop, slow=True),
-            Route("POST", "/batch", of_map.batch, slow=True),
-            Route("GET", r"/([a-z]+\.(?:js|css))", self.page_file),
+            Route("GET", f"{layer}/tiles", of_map.tiles, ("columns",)), Route("GET", "/status", of_map.status),
+            Route("PUT", layer, of_map.put, slow=True), Route("DELETE", layer, of_map.drop, slow=True),
+            Route("POST", "/batch", of_map.batch, slow=True), Route("GET", r"/([a-z]+\.(?:js|css))", self.page_file),
             Route("GET", r"/leaflet/([a-z.-]+\.(?:js|css)|images/[a-z0-9-]+\.png)", self.leaflet_file),
         ]
         self.features = features
@@ -215,10 +205,8 @@ class Front:
 def editing(features: MapFeatures, items: str, item: str) -> list[Route]:
     """The pages by which single features are changed."""
     return [
-        Route("POST", items, features.create, slow=True),
-        Route("OPTIONS", items, features.methods),
-        Route("PUT", item, features.replace, slow=True),
-        Route("DELETE", item, features.remove, slow=True),
+        Route("POST", items, features.create, slow=True), Route("OPTIONS", items, features.methods),
+        Route("PUT", item, features.replace, slow=True), Route("DELETE", item, features.remove, slow=True),
         Route("OPTIONS", item, features.methods),
     ]
 

@@ -79,16 +79,8 @@ class LayerStore:
     """
 
     def __init__(
-        self,
-        server: Server,
-        scratch: Scratch,
-        scale: MapScale,
-        *,
-        version: int,
-        kept: bool,
-        writable: bool,
-        rescue: Rescue | None = None,
-        end: Callable[[str], None] = lambda reason: None,
+        self, server: Server, scratch: Scratch, scale: MapScale, *, version: int, kept: bool, writable: bool,
+        rescue: Rescue | None = None, end: Callable[[str], None] = lambda reason: None,
     ) -> None:
         self.scale, self.kept, self.writable = scale, kept, writable
         self.version = self.durable = version

@@ -33,22 +33,13 @@ class MapApi:
             version, durable, count = store.version, store.durable, None
         return json_answer(
             {
-                "title": self.scale.title,
-                "version": version,
-                "durable": durable if store.kept else None,
-                "lost": store.lost(),
-                "writable": store.writable,
-                "layers": count,
-                "map": state.table.collection if state else None,
-                "map_revision": state.revision if state else None,
-                "name_by": state.table.name_by if state else None,
-                "columns": self.scale.columns(),
-                "crs": self.scale.crs,
-                "storage": self.systems.storage,
-                "y_first": bool(self.systems.projection and self.systems.projection.y_first),
-                "unit": self.scale.unit,
-                "geographic": self.scale.is_geographic(),
-                "limits": self.scale.limits(),
+                "title": self.scale.title, "version": version, "durable": durable if store.kept else None,
+                "lost": store.lost(), "writable": store.writable, "layers": count,
+                "map": state.table.collection if state else None, "map_revision": state.revision if state else None,
+                "name_by": state.table.name_by if state else None, "columns": self.scale.columns(),
+                "crs": self.scale.crs, "storage": self.systems.storage,
+                "y_first": bool(self.systems.projection and self.systems.projection.y_first), "unit": self.scale.unit,
+                "geographic": self.scale.is_geographic(), "limits": self.scale.limits(),
             }
         )
 

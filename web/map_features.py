@@ -43,9 +43,7 @@ class MapItem:
     def geojson(self) -> dict[str, object]:
         feature, drawn = self._outline.feature, self._drawn()
         return {
-            "type": "Feature",
-            "id": feature.id,
-            "properties": {**feature.properties, self._area_name: drawn.area},
+            "type": "Feature", "id": feature.id, "properties": {**feature.properties, self._area_name: drawn.area},
             "geometry": geometry_of(feature.kind, drawn),
         }
 
@@ -96,12 +94,8 @@ class MapFeatures(FeaturesApi):
     def _map(self, request: Request, state: State) -> dict[str, object]:
         at = f"{request.root}/collections/{self.maps.name}"
         made: dict[str, object] = {
-            "id": self.maps.name,
-            "title": self.scale.title if self.scale.scale.title else self.maps.name,
-            "itemType": "feature",
-            "revision": state.revision,
-            "definition": None,
-            "features": len(state.outlines),
+            "id": self.maps.name, "title": self.scale.title if self.scale.scale.title else self.maps.name,
+            "itemType": "feature", "revision": state.revision, "definition": None, "features": len(state.outlines),
             "description": f"{len(state.outlines)} features with their properties",
             "links": [link(at, "self"), link(f"{at}/items", "items", GEOJSON)],
         }

@@ -46,8 +46,7 @@ class MapScale:
         # world = (n * a + w * b) / (w * c) in whole numbers, of x and of y.
         self._whole = [
             (
-                factor.denominator * begin.denominator,
-                begin.numerator * factor.numerator,
+                factor.denominator * begin.denominator, begin.numerator * factor.numerator,
                 factor.numerator * begin.denominator,
             )
             for factor, begin in zip((scale.factor, scale.factor_y), scale.origin)

@@ -140,9 +140,7 @@ def schemas_of(described: Described | None) -> dict[str, Value]:
         return SCHEMAS
     listed = {**SCHEMAS["featureCollection"]["properties"], "features": array(ref("mapFeature"))}
     return {
-        **SCHEMAS,
-        "mapProperties": described.properties,
-        "mapFeature": shaped("Feature", ref("mapProperties")),
+        **SCHEMAS, "mapProperties": described.properties, "mapFeature": shaped("Feature", ref("mapProperties")),
         "mapFeatures": {**SCHEMAS["featureCollection"], "properties": listed},
     }
 
@@ -154,9 +152,6 @@ def document(title: str, root: str, writable: bool, described: Described | None 
         for path, operations in some.items():
             paths.setdefault(path, {}).update({method: one.value() for method, one in operations.items()})
     return {
-        "openapi": "3.0.3",
-        "info": {"title": title, "version": "1.0"},
-        "servers": [{"url": root}],
-        "paths": paths,
+        "openapi": "3.0.3", "info": {"title": title, "version": "1.0"}, "servers": [{"url": root}], "paths": paths,
         "components": {"parameters": PARAMETERS, "schemas": schemas_of(described)},
     }

@@ -694,16 +694,9 @@ class Server:
     """
 
     def __init__(
-        self,
-        store: str | os.PathLike[str] | None = None,
-        *,
-        create: bool = False,
-        read_only: bool = False,
-        sessions: int = 1,
-        workers: int | None = None,
-        max_blocks: int | None = None,
-        program: str | os.PathLike[str] = "overlay_live",
-        timeout: float | None = None,
+        self, store: str | os.PathLike[str] | None = None, *, create: bool = False, read_only: bool = False,
+        sessions: int = 1, workers: int | None = None, max_blocks: int | None = None,
+        program: str | os.PathLike[str] = "overlay_live", timeout: float | None = None,
     ) -> None:
         if not 1 <= sessions <= MOST_SESSIONS:
             raise ValueError(f"a process has 1 to {MOST_SESSIONS} sessions")
@@ -803,12 +796,8 @@ def started(words: list[str], sessions: int, timeout: float | None) -> tuple[sub
             own.append(Session(open(line_out, "wb", 0), open(reply_in, "rb", 0), timeout))
         # In a session of its own it does not get the interrupt that a terminal sends to all: its end is close.
         process = subprocess.Popen(
-            words + [f"/dev/fd/{descriptor}" for descriptor in given],
-            stdin=subprocess.DEVNULL,
-            stdout=subprocess.DEVNULL,
-            stderr=subprocess.PIPE,
-            pass_fds=given,
-            start_new_session=True,
+            words + [f"/dev/fd/{descriptor}" for descriptor in given], stdin=subprocess.DEVNULL,
+            stdout=subprocess.DEVNULL, stderr=subprocess.PIPE, pass_fds=given, start_new_session=True,
         )
     except BaseException:
         for session in own:

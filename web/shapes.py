@@ -100,9 +100,7 @@ class Feature:
     def geojson(self) -> dict[str, object]:
         properties = {"corners": sum(map(len, self.rings)), "holes": len(self.rings) - 1, "area": self.area}
         return {
-            "type": "Feature",
-            "id": self.number,
-            "properties": properties,
+            "type": "Feature", "id": self.number, "properties": properties,
             "geometry": {"type": "Polygon", "coordinates": [ring + ring[:1] for ring in self.positions]},
         }
 

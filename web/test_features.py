@@ -43,10 +43,8 @@ def feature(kind: str, coordinates: Any, properties: object) -> dict[str, Any]:
 
 
 MAP = [
-    feature("Polygon", [WEST, LAKE], OF_WEST),
-    feature("Polygon", [EAST], {"name": "East"}),
-    feature("MultiPolygon", ISLES, {"name": "Isles"}),
-    feature("Polygon", [BOW], {"name": "Bow"}),
+    feature("Polygon", [WEST, LAKE], OF_WEST), feature("Polygon", [EAST], {"name": "East"}),
+    feature("MultiPolygon", ISLES, {"name": "Isles"}), feature("Polygon", [BOW], {"name": "Bow"}),
 ]
 DEEP: Any = 1
 for _ in range(90):

@@ -51,19 +51,12 @@ def found(value: dict[str, Any], document: dict[str, Any]) -> dict[str, Any]:
 
 class Iceland(FrontCase):
     lines = (
-        *put_lines(),
-        "DEFINE both = iceland_110m & iceland_50m",
-        "DEFINE one = iceland_110m ^ iceland_50m",
+        *put_lines(), "DEFINE both = iceland_110m & iceland_50m", "DEFINE one = iceland_110m ^ iceland_50m",
         "DEFINE none = one & both",
     )
     scale = {
-        "title": "Iceland",
-        "factor": 42262,
-        "factor_y": 100000,
-        "origin": [-19, 65],
-        "unit": "degree",
-        "crs": "OGC:CRS84",
-        "digits": 7,
+        "title": "Iceland", "factor": 42262, "factor_y": 100000, "origin": [-19, 65], "unit": "degree",
+        "crs": "OGC:CRS84", "digits": 7,
     }
 
     def polygons(self, name: str) -> list[list[list[Place]]]:
@@ -101,14 +94,8 @@ class Iceland(FrontCase):
         document = self.client.get("/api")
         self.assertEqual((document["openapi"], document["servers"]), ("3.0.3", [{"url": ROOT}]))
         words = {
-            "bbox": "-20,63,-18,64",
-            "limit": "2",
-            "offset": "1",
-            "datetime": "2020-01-01/..",
-            "x": "-19",
-            "y": "65",
-            "crs": "http://www.opengis.net/def/crs/OGC/1.3/CRS84",
-            "columns": "16,17",
+            "bbox": "-20,63,-18,64", "limit": "2", "offset": "1", "datetime": "2020-01-01/..", "x": "-19", "y": "65",
+            "crs": "http://www.opengis.net/def/crs/OGC/1.3/CRS84", "columns": "16,17",
         }
         words["bbox-crs"], words["f"] = words["crs"], "json"
         words["revision"] = self.client.get("/collections/both")["revision"]
@@ -218,9 +205,7 @@ class Iceland(FrontCase):
             found,
             {
                 "places": {"iceland_110m": "in", "iceland_50m": "in", "both": "in", "one": "out", "none": "out"},
-                "asked": [0, 0, 1],
-                "point": [-19, 65],
-                "exact": True,
+                "asked": [0, 0, 1], "point": [-19, 65], "exact": True,
             },
         )
         self.assertEqual(self.client.get("/collections/one/locate?x=-19&y=65")["place"], "out")
@@ -281,9 +266,7 @@ class Iceland(FrontCase):
         parts = re.split(r"<(?=section|header|footer)", (folder / "map.html").read_text(encoding="utf-8"))
         places = {place: part for part in parts for place in re.findall(r'id="(told[a-z-]*)"', part)}
         for place, beside in (
-            ("told", 'id="status"'),
-            ("told-layers", 'id="layers"'),
-            ("told-define", 'id="define"'),
+            ("told", 'id="status"'), ("told-layers", 'id="layers"'), ("told-define", 'id="define"'),
             ("told-asking", 'id="asking"'),
         ):
             self.assertIn(beside, places[place])
@@ -327,8 +310,7 @@ class Changes(FrontCase):
 
     def test_a_batch_is_one_version_or_none(self) -> None:
         commands = [
-            {"put": "A", "geometry": self.square},
-            {"put": "B", "geometry": self.square},
+            {"put": "A", "geometry": self.square}, {"put": "B", "geometry": self.square},
             {"define": "I", "definition": "A - B"},
         ]
         self.assertEqual(self.client.change("/batch", "POST", {"commands": commands})["version"], self.began + 1)

@@ -121,8 +121,7 @@ class Processes(unittest.TestCase):
         with running("--store", self.store, "--writable") as (run, address):
             asked(address, "GET", "/status")
             found = [
-                pid
-                for pid in children(run.pid)
+                pid for pid in children(run.pid)
                 if f"--store\0{self.store}" in pathlib.Path(f"/proc/{pid}/cmdline").read_text()
             ]
             self.assertEqual(len(found), 1)
@@ -133,8 +132,7 @@ class Processes(unittest.TestCase):
         with running("--store", self.store, "--writable") as (run, address):
             self.assertEqual(asked(address, "GET", "/collections/A/items")[0], 200)
             found = [
-                pid
-                for pid in children(run.pid)
+                pid for pid in children(run.pid)
                 if pathlib.Path(f"/proc/{pid}/cmdline").read_text().startswith(f"{testing.PROGRAM}\0/dev/fd/")
             ]
             self.assertEqual(len(found), 1)
@@ -147,8 +145,7 @@ class Processes(unittest.TestCase):
         with running("--store", self.store, "--writable", "--program", program) as (run, address):
             self.assertEqual(asked(address, "PUT", "/collections/N", b'{"definition": "I"}')[1]["durable"], 2)
             (pid,) = [
-                pid
-                for pid in children(run.pid)
+                pid for pid in children(run.pid)
                 if f"--store\0{self.store}" in pathlib.Path(f"/proc/{pid}/cmdline").read_text()
             ]
             resource.prlimit(pid, resource.RLIMIT_FSIZE, (0, resource.RLIM_INFINITY))
@@ -208,16 +205,9 @@ class Processes(unittest.TestCase):
 
     def test_words(self) -> None:
         for line in (
-            "--store map.db --writable --host 0.0.0.0",
-            "--writable --host ::",
-            "",
-            "--create",
-            "--store map.db --create",
-            "--writable --host map.example.org",
-            "--colour",
-            "--store map.db --base map.example.org",
-            "--store map.db --base http://[",
-            "--store map.db --base http://",
+            "--store map.db --writable --host 0.0.0.0", "--writable --host ::", "", "--create",
+            "--store map.db --create", "--writable --host map.example.org", "--colour",
+            "--store map.db --base map.example.org", "--store map.db --base http://[", "--store map.db --base http://",
             "--store map.db --base https://map.example.org:port",
         ):
             with running(*line.split()) as (run, _):
@@ -228,8 +218,7 @@ class Processes(unittest.TestCase):
         words = overlay_web.words_of(["--store", "map.db", "--host", "127.0.0.2"])
         self.assertEqual(overlay_web.hosts_of(words), {"127.0.0.2", "127.0.0.1", "localhost", "[::1]"})
         self.assertTrue(
-            overlay_web.is_loopback("127.8.8.8")
-            and overlay_web.is_loopback("::1")
+            overlay_web.is_loopback("127.8.8.8") and overlay_web.is_loopback("::1")
             and overlay_web.is_loopback("localhost")
         )
         self.assertFalse(overlay_web.is_loopback("localhost.example") or overlay_web.is_loopback("0.0.0.0"))

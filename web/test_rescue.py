@@ -71,12 +71,7 @@ class Rescues(unittest.TestCase):
         scratch = self.enterContext(Scratch(program, 60))
         self.ended, self.reasons = threading.Event(), list[str]()
         self.store = LayerStore(
-            self.server,
-            scratch,
-            testing.map_scale(),
-            version=0,
-            kept=True,
-            writable=True,
+            self.server, scratch, testing.map_scale(), version=0, kept=True, writable=True,
             rescue=Rescue(self.path, program, self.end),
         )
         self.addCleanup(self.store.close)

@@ -127,10 +127,8 @@ class ServerCase(FrontCase):
         put = HEAD.replace(b"GET /status", b"PUT /collections/N") + b"Content-Type: application/json\r\n"
         for sent, statuses in (
             (b"GET /" + b"a" * 200_000 + b" HTTP/1.1\r\n\r\n", {414, 431}),
-            (HEAD + b"X: " + b"a" * 200_000 + b"\r\n\r\n", {431}),
-            (HEAD + b"X: a\r\n" * 20_000 + b"\r\n", {431}),
-            (b"GET /status HTTP/x\r\n\r\n", {400, 403}),
-            (put + b"Content-Length: -1\r\n\r\n", {400, 411}),
+            (HEAD + b"X: " + b"a" * 200_000 + b"\r\n\r\n", {431}), (HEAD + b"X: a\r\n" * 20_000 + b"\r\n", {431}),
+            (b"GET /status HTTP/x\r\n\r\n", {400, 403}), (put + b"Content-Length: -1\r\n\r\n", {400, 411}),
             (put + b"Content-Length: 3000000\r\n\r\n" + b" " * 3_000_000, {413}),
             (put + b"Content-Length: %d\r\n\r\n" % (BODY_MOST + 1) + b" " * (BODY_MOST + 1), {413}),
             (put + b"Content-Length: 5\r\n\r\n{\"a\":", {400}),

@@ -100,12 +100,8 @@ class Client:
         parts = urllib.parse.urlsplit(path)
         data = body if isinstance(body, bytes) else b"" if body is None else json.dumps(body).encode()
         environ = {
-            "REQUEST_METHOD": method,
-            "PATH_INFO": urllib.parse.unquote(parts.path),
-            "QUERY_STRING": parts.query,
-            "HTTP_HOST": HOST,
-            "wsgi.url_scheme": "http",
-            "wsgi.input": io.BytesIO(data),
+            "REQUEST_METHOD": method, "PATH_INFO": urllib.parse.unquote(parts.path), "QUERY_STRING": parts.query,
+            "HTTP_HOST": HOST, "wsgi.url_scheme": "http", "wsgi.input": io.BytesIO(data),
         }
         if body is not None:
             environ |= {"CONTENT_TYPE": "application/json", "CONTENT_LENGTH": str(len(data))}
@@ -114,8 +110,7 @@ class Client:
         made = b"".join(self.front(environ, lambda status, lines: told.append((status, dict(lines)))))
         status, lines = told[0]
         return Told(
-            int(status.split()[0]),
-            lines,
+            int(status.split()[0]), lines,
             json.loads(made) if "json" in lines.get("Content-Type", "") and made else made,
         )
 

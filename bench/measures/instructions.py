@@ -92,10 +92,8 @@ def test() -> int:
     layers = dict(cases())
     asked = script(SQUARES, 2, 3, 17)
     checks = [
-        (len(layers), len(SHAPES) + 1),
-        (len([line for line in asked if line.startswith("WAIT ")]), 2),
-        (asked.count("EDGES I0 16"), 3),
-        ("EDGES I0 17" in asked, False),
+        (len(layers), len(SHAPES) + 1), (len([line for line in asked if line.startswith("WAIT ")]), 2),
+        (asked.count("EDGES I0 16"), 3), ("EDGES I0 17" in asked, False),
         (row("x", [(1000000, 500000), (2000000, 250000)]), "| x | 1.000, 2.000 | 0.500, 0.250 | 1.50 times |"),
         (row("x", [(1000000, 500000)]), "| x | 1.000 | 0.500 |  |"),
     ]

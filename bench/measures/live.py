@@ -245,11 +245,11 @@ def commits(program: str, client: Client, folder: pathlib.Path, count: int) -> I
         with served([program, "--store", str(store), "--create"], 1) as (_, [pair]):
             times = client.ask(pair, lines)
         if times.replies[-1] != f"durable {count}":
-            raise Peer(f"the last SYNC told {times.replies[-1]}")
+            raise Peer(f"the last SYNC answered {times.replies[-1]}")
         yield f"PUT of {steps:,} steps, with a store", told(Times(times.taken[::2], [])), f"{count:,} lines"
         mean = 1e6 * runs.commit_of_c(count, blocks)
         beside = f"writes of {blocks} blocks and three syncs in C: {spelled(mean)} in the mean"
-        yield "SYNC behind each", told(Times(times.taken[1::2], [])), beside
+        yield "SYNC after each", told(Times(times.taken[1::2], [])), beside
 
 
 def together(program: str, client: Client, count: int) -> tuple[str, str, str]:

@@ -141,8 +141,7 @@ def by_both(programs: list[pathlib.Path], folder: pathlib.Path) -> None:
             *swept, (paired, size) = in_turns(runs)
             print(
                 f"{name} {edges}, {size} pieces: by the pass {milliseconds(time for time, _ in swept)}; by all pairs"
-                f" {1000 * paired:.2f} ms, {paired / swept[0][0]:.1f} times as long",
-                flush=True,
+                f" {1000 * paired:.2f} ms, {paired / swept[0][0]:.1f} times as long", flush=True,
             )
 
 

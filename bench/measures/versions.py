@@ -42,8 +42,7 @@ def cases() -> Iterator[str]:
     """The text that the program reads."""
     wide = [polygon([(-REACH, 0), (REACH, 0), (x, 99)]) for x in (0, 1)]
     for name, times, texts in (
-        ("three-steps", 2000, wide),
-        ("2048-steps-one-corner", 50, [star(2048, False), star(2048, True)]),
+        ("three-steps", 2000, wide), ("2048-steps-one-corner", 50, [star(2048, False), star(2048, True)]),
     ):
         yield "\n".join([name, str(times), *texts]) + "\n"
 

@@ -402,8 +402,7 @@ def turns_of(replies: list[list[Reply]]) -> int:
 def cut_off(asked: list[list[Request]], replies: list[list[Reply]]) -> list[Request]:
     """The commands that may have been accepted though their sessions were cut off before the replies."""
     return [
-        requests[len(answers)]
-        for requests, answers in zip(asked, replies)
+        requests[len(answers)] for requests, answers in zip(asked, replies)
         if len(answers) < len(requests) and isinstance(requests[len(answers)], CHANGES)
     ]
 

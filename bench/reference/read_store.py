@@ -443,10 +443,8 @@ def vector_checks(vectors: list[bytes]) -> list[tuple[Any, ...]]:
     """What was read of each vector of a record, and what the page says that it is."""
     square = [[(0, 0), (10, 0), (10, 10), (0, 10), (0, 0)]]
     return [
-        (read_catalog(vectors[1]), []),
-        (read_base(vectors[2]), square),
-        (read_catalog(vectors[3]), [Listed(b"A", Extent(3, 44), None)]),
-        (read_definition(vectors[5]), ("&", "A", "B")),
+        (read_catalog(vectors[1]), []), (read_base(vectors[2]), square),
+        (read_catalog(vectors[3]), [Listed(b"A", Extent(3, 44), None)]), (read_definition(vectors[5]), ("&", "A", "B")),
         (read_tile(vectors[6], 32), 1),
     ]
 

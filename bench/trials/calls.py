@@ -46,7 +46,7 @@ def main() -> int:
     print(f"lines {len(rows)}, growths refused {growths}, runs {runs}: 40 {out}, 30 {device}, inside a list {inside}, "
           f"its own answer {own}, other {other}")
     is_told = call == WRONG_CALL and are_told(spoiled)
-    print(f"what is wrong on purpose ({call}; {spoiled}) is told as wrong: {'yes' if is_told else 'no'}")
+    print(f"what is wrong on purpose ({call}; {spoiled}) is reported as wrong: {'yes' if is_told else 'no'}")
     return 1 if other or done.returncode or not is_told else 0
 
 

@@ -24,7 +24,7 @@ from bench.trials import refusal_cases, refusal_tables, refused_runs, refusing
 
 # What the shim leaves out of a right program, by the number that it is given.
 LEFT_OUT = {1: "no sync of the store is made", 2: "no sync of the folder is made"}
-KINDS = ["nothing done", "half a write", "half a write told, or interrupted", "full"]
+KINDS = ["nothing done", "half a write", "half a write reported, or interrupted", "full"]
 
 
 def is_found(words: argparse.Namespace, library: pathlib.Path, folder: pathlib.Path, left_out: int) -> bool:
@@ -55,7 +55,7 @@ def fail(words: argparse.Namespace, folder: pathlib.Path) -> tuple[int, int]:
                 if kind == 2 and rest:
                     continue  # a call that is interrupted for ever is asked for ever
                 table = refusal_tables.run_in_turn(runner, "FAIL", {"REST": rest, "KIND": kind}, calls, refusing.device)
-                refusal_tables.print_table(runner, what + (", and all behind" if rest else ""), calls, table)
+                refusal_tables.print_table(runner, what + (", and all after" if rest else ""), calls, table)
                 right += not table.wrong
                 wrong += bool(table.wrong)
     return right, wrong
@@ -79,23 +79,12 @@ if file and told(os.fsync, folder):
 """
 # The number of the call that fails and how, what fails for the writer, and what it leaves.
 LEFT = [
-    (0, 0, "", b"fouless"),
-    (1, 0, "open", None),
-    (3, 0, "fsync", None),
-    (3, 2, "", b"fouless"),
-    (4, 0, "pwrite", bytes(3) + b"less"),
-    (4, 1, "pwrite", b"fo" + bytes(1) + b"less"),
-    (4, 2, "", b"fo" + bytes(1) + b"less"),
-    (5, 0, "fdatasync", bytes(3) + b"less"),
-    (5, 1, "fdatasync", b"fo" + bytes(1) + b"less"),
-    (5, 2, "", b"fouless"),
-    (6, 0, "pwrite", b"four"),
-    (6, 1, "pwrite", b"foule"),
-    (7, 0, "fdatasync", b"four"),
-    (7, 1, "fdatasync", b"foule" + bytes(2)),
-    (7, 2, "", b"fouless"),
-    (7, 3, "fdatasync", b"four"),
-    (8, 0, "", b"fouless"),
+    (0, 0, "", b"fouless"), (1, 0, "open", None), (3, 0, "fsync", None), (3, 2, "", b"fouless"),
+    (4, 0, "pwrite", bytes(3) + b"less"), (4, 1, "pwrite", b"fo" + bytes(1) + b"less"),
+    (4, 2, "", b"fo" + bytes(1) + b"less"), (5, 0, "fdatasync", bytes(3) + b"less"),
+    (5, 1, "fdatasync", b"fo" + bytes(1) + b"less"), (5, 2, "", b"fouless"), (6, 0, "pwrite", b"four"),
+    (6, 1, "pwrite", b"foule"), (7, 0, "fdatasync", b"four"), (7, 1, "fdatasync", b"foule" + bytes(2)),
+    (7, 2, "", b"fouless"), (7, 3, "fdatasync", b"four"), (8, 0, "", b"fouless"),
 ]
 
 

@@ -35,13 +35,13 @@ def tables(runner: refused_runs.Runner, calls: int, step: int, every: bool) -> I
         yield "one growth", refusal_tables.run_all(runner, "REFUSE", spread(calls, step, 0), one_growth)
     for each in (2, 3, 100) if every else ():
         table = refusal_tables.run_all(runner, "REFUSE", spread(calls, 7 * step, each), many_growths, True)
-        yield f"and each {each} behind", table
+        yield f"and each {each} after", table
 
 
 def from_each_on(runner: refused_runs.Runner, calls: int) -> Iterator[tuple[str, refusal_tables.Table]]:
     """The table of runs of a scenario in which memory never comes back from a growth on. They end by themselves."""
     settings = [{"FIRST": number, "EACH": 1} for number in range(1, calls + refusal_tables.MARGIN)]
-    yield "one growth, and all behind", refusal_tables.run_all(runner, "REFUSE", settings, many_growths)
+    yield "one growth, and all after", refusal_tables.run_all(runner, "REFUSE", settings, many_growths)
 
 
 def refuse(words: argparse.Namespace, folder: pathlib.Path) -> tuple[int, int]:

@@ -216,7 +216,7 @@ class Judge:
         some place in the history, or none, so that all replies are right.
         """
         if number < self.durable:
-            raise judging.Wrong(f"version {self.durable} was told durable, and the store has {number}")
+            raise judging.Wrong(f"version {self.durable} was reported durable, and the store has {number}")
         for lane in self.lanes:
             while len(lane.asked) > 1:
                 lane.asked.pop()
@@ -559,7 +559,7 @@ def stressed(words: argparse.Namespace, folder: pathlib.Path) -> tuple[int, int]
         failed = 1
     print(
         f"runs ended by kill {whole.kills}, by themselves {whole.ends}; accepted {whole.history.last()}, and "
-        f"{whole.lost} lost by kills that nobody was told durable; replies judged {sum(whole.replies.values())}: "
+        f"{whole.lost} lost by kills that were reported durable to nobody; replies judged {sum(whole.replies.values())}: "
         + ", ".join(f"{kind} {count}" for kind, count in sorted(whole.replies.items()))
     )
     return passed, failed

@@ -36,7 +36,7 @@ def judge_output(scenario: Scenario, outcome: Outcome, allows: Allows) -> Judged
 
 
 def is_silent(outcome: Outcome) -> bool:
-    """Whether a run told by its status alone that something was refused."""
+    """Whether a run shows by its status alone that something was refused."""
     return outcome.status == 1 and outcome.fault == ""
 
 
@@ -55,7 +55,7 @@ def check_memory(told: list[Told]) -> None:
     for session, place, code in told:
         word = word_of(session, place)
         if code == 40 and (word == "LOCATE" or word == "SYNC" and not session.has_store):
-            raise judging.Wrong(f"40 is told of a {word}, which takes no memory")
+            raise judging.Wrong(f"40 is reported of a {word}, which takes no memory")
 
 
 def told_outside(outcome: Outcome, judged: Judged | None) -> tuple[list[Told], list[Told], int | None]:
@@ -73,14 +73,14 @@ def told_outside(outcome: Outcome, judged: Judged | None) -> tuple[list[Told], l
     line = FAULT_LINE.fullmatch(outcome.fault)
     fault = int(line[1]) if line else None
     if outcome.counts[1] == 0 and (lines or syncs or outcome.status == 1):
-        raise judging.Wrong("nothing was refused, and a refusal is told")
+        raise judging.Wrong("nothing was refused, and a refusal is reported")
     return lines, syncs, fault
 
 
 def only(codes: set[int], allowed: set[int]) -> None:
     """Looks that no other numbers are reported than those that may be."""
     if not set(codes) <= allowed:
-        raise judging.Wrong(f"{sorted(codes)} are told, {sorted(allowed)} may be")
+        raise judging.Wrong(f"{sorted(codes)} are reported, {sorted(allowed)} may be")
 
 
 def cut(judged: Judged | None) -> list[Session]:
@@ -99,11 +99,11 @@ def check_cut(outcome: Outcome, judged: Judged | None, fault: int | None) -> Non
     if fault == 49 and judged and not sessions:
         raise judging.Wrong("49 is told, and each line is answered")
     if fault != 49 and any(session.replies for session in sessions):
-        raise judging.Wrong(f"a session is cut off behind a reply, and {fault} is told")
+        raise judging.Wrong(f"a session is cut off after a reply, and {fault} is reported")
     if judged is None and outcome.sessions == 1 and fault != 49 and not outcome.is_early:
-        raise judging.Wrong(f"no replies, though the session had begun, and {fault} is told")
+        raise judging.Wrong(f"no replies, though the session had begun, and {fault} is reported")
     if judged is None and outcome.sessions > 1 and fault != 40:
-        raise judging.Wrong(f"nothing is printed of {outcome.sessions} sessions, and {fault} is told")
+        raise judging.Wrong(f"nothing is printed of {outcome.sessions} sessions, and {fault} is reported")
 
 
 def replies_behind(session: Session, place: int, word: str) -> list[list[str]]:
@@ -129,7 +129,7 @@ def check_closed(session: Session, place: int) -> None:
     """Looks that no command after a 43 is accepted, or refused by what stands after 43."""
     for asked, reply in zip(session.asked[place + 1 :], session.replies[place + 1 :]):
         if isinstance(asked, judging.CHANGES) and judging.code_of(reply) not in (40, 43):
-            raise judging.Wrong(f"a command behind 43 is answered by {reply[0]}")
+            raise judging.Wrong(f"a command after 43 is answered by {reply[0]}")
 
 
 def but_closing(outcome: Outcome, judged: Judged | None, told: list[Told], fault: int | None) -> list[Told]:
@@ -154,13 +154,13 @@ def one_growth(outcome: Outcome, judged: Judged | None) -> None:
     check_cut(outcome, judged, fault)
     is_store = bool(syncs) or is_silent(outcome)
     if len(lines) + is_store + (fault is not None) > 1:
-        raise judging.Wrong(f"one growth is told by {len(lines)} lines, {len(syncs)} SYNCs and as {fault} at the end")
+        raise judging.Wrong(f"one growth is reported by {len(lines)} lines, {len(syncs)} SYNCs and as {fault} at the end")
     for session, place, _ in syncs:
         for other, behind, _ in syncs:
             if other is session and behind > place and any(
                 reply[0].startswith("ok ") for reply in session.replies[place:behind]
             ):
-                raise judging.Wrong("a SYNC behind an accepted command tells of a growth before it")
+                raise judging.Wrong("a SYNC after an accepted command reports a growth before it")
 
 
 def many_growths(outcome: Outcome, judged: Judged | None) -> None:
@@ -186,7 +186,7 @@ def device(outcome: Outcome, judged: Judged | None) -> None:
     if judged is None and not outcome.is_early:
         raise judging.Wrong("no replies, though the store was opened before a call failed")
     if any(replies_behind(session, place, "durable ") for session, place, _ in syncs):
-        raise judging.Wrong("durable is told behind a SYNC that told 30")
+        raise judging.Wrong("durable is reported behind a SYNC that told 30")
 
 
 def history_before(scenario: Scenario) -> History:
@@ -214,7 +214,7 @@ def check_lost(outcome: Outcome, made: int) -> None:
     """
     is_write = outcome.fault.startswith("error 49 ")
     if outcome.sessions > 1 and not outcome.fault.startswith("error 40 ") or outcome.sessions == 1 and not is_write:
-        raise judging.Wrong(f"no replies, though sessions ran, and `{outcome.fault.strip()}` is told as the reason")
+        raise judging.Wrong(f"no replies, though sessions ran, and `{outcome.fault.strip()}` is reported as the reason")
     if is_write and made > 1:
         raise judging.Wrong("no replies, though more than one line was run")
 

@@ -196,7 +196,7 @@ def parts_of(at: int, data: bytes) -> Iterator[list[Write]]:
 
 
 def files_of(synced: bytes, writes: list[Write], draw: random.Random) -> Iterator[tuple[list[Write], int]]:
-    """The files that a stop may leave of writes behind a sync: what is laid into the synced bytes, and the length."""
+    """The files that a stop may leave of writes after a sync: what is laid into the synced bytes, and the length."""
     length = len(laid(synced, writes))
     for chosen in sets_of(len(writes), draw):
         yield [writes[n] for n in chosen], 0
@@ -396,7 +396,7 @@ def replay(words: argparse.Namespace, folder: pathlib.Path) -> int:
     durable = sum(reply[0].startswith("durable ") for reply in replies)
     counts = following.counts
     print(f"writes {counts['writes']}, syncs {counts['syncs']}", end=", ")
-    print(f"versions {versions.history.last()}, durable told {durable}")
+    print(f"versions {versions.history.last()}, durable {durable}")
     tries = Tries(following.epochs, 1)
     print(f"files made {tries.made}, different {len(tries.files)}", flush=True)
     wrong, lost, count = tries.judge(versions, words.program, folder, words.most)

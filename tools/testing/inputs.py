@@ -105,6 +105,15 @@ class Unforeseen(InFolder):
                                           "tool; python3 -X dev shows more\n")
         self.assertIn("Traceback", self.call(tools[0], "-X", "dev").stderr)
 
+    def test_a_tool_that_is_stopped_while_it_is_imported(self) -> None:
+        code = ("import importlib, runpy, sys\n"
+                "def stopped(name): raise KeyboardInterrupt\n"
+                "importlib.import_module = stopped\n"
+                "sys.argv = ['tools/which.py']\n"
+                "runpy.run_path('tools/which.py', run_name='__main__')\n")
+        done = subprocess.run([sys.executable, "-c", code], cwd=TOP, capture_output=True, text=True, check=False, timeout=SECONDS)
+        self.assertEqual((done.returncode, done.stdout, done.stderr), (ending.INTERRUPTED, "", ""))
+
     def test_a_tool_that_is_stopped_from_the_keyboard(self) -> None:
         code = "from tools import ending\ndef main(words): raise KeyboardInterrupt\nending.run(main)\n"
         done = subprocess.run([sys.executable, "-c", code], cwd=TOP, capture_output=True, text=True, check=False, timeout=SECONDS)

@@ -65,15 +65,11 @@ def words_of(arguments: Sequence[str]) -> argparse.Namespace:
     )
     parser.add_argument("--create", action="store_true", help="make the store anew")
     parser.add_argument(
-        "--scale",
-        metavar="FILE",
-        type=pathlib.Path,
+        "--scale", metavar="FILE", type=pathlib.Path,
         help="what its whole numbers mean (default: NAME.scale.json beside the store, if it is there)",
     )
     parser.add_argument(
-        "--features",
-        metavar="FILE",
-        type=pathlib.Path,
+        "--features", metavar="FILE", type=pathlib.Path,
         help="the features of the map that its layers hold (default: NAME.features.json beside the store, if it is there)",
     )
     parser.add_argument("--no-features", action="store_true", help="serve layers alone")
@@ -149,13 +145,8 @@ def opened(words: argparse.Namespace, ending: Ending) -> Iterator[tuple[Server, 
     with contextlib.ExitStack() as open_ones:
         server = open_ones.enter_context(
             Server(
-                words.store,
-                create=words.create,
-                read_only=reads,
-                sessions=MOST_SESSIONS,
-                workers=words.workers,
-                program=words.program,
-                timeout=PATIENCE,
+                words.store, create=words.create, read_only=reads, sessions=MOST_SESSIONS, workers=words.workers,
+                program=words.program, timeout=PATIENCE,
             )
         )
         scratch = open_ones.enter_context(Scratch(words.program, JOINING))
@@ -167,13 +158,7 @@ def opened(words: argparse.Namespace, ending: Ending) -> Iterator[tuple[Server, 
                 version = one.sync()
         rescue = Rescue(words.store, words.program, ending.end) if words.store and not reads else None
         store = LayerStore(
-            server,
-            scratch,
-            scale,
-            version=version,
-            kept=bool(words.store),
-            writable=words.writable,
-            rescue=rescue,
+            server, scratch, scale, version=version, kept=bool(words.store), writable=words.writable, rescue=rescue,
             end=ending.end,
         )
         open_ones.callback(store.close)
