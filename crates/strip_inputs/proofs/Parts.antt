@@ -5,11 +5,12 @@ use Rattle.std.proofs.lemmas.Int.{ints}
 use Rattle.std.proofs.lemmas.Bool.{and_parts, and_from, false≢true}
 use Rattle.overlay_terms.specs.Plane.{Segment}
 use Rattle.overlay_terms.specs.Column.{border, touches}
-use Rattle.overlay_terms.specs.Layers.{Name, Layer, Marked, segments_in_reach, steps_in_reach}
-use Rattle.overlay_terms.specs.Tiles.{Input, input_of}
+use Rattle.overlay_terms.specs.Layers.{Marked}
+use Rattle.overlay_terms.specs.Trees.{Steps}
+use Rattle.overlay_terms.specs.Tiles.{Input}
 use Rattle.overlay_terms.proofs.InputNumbers.{le_true, lt_true, true_le, true_lt}
 use Rattle.crossing_sweep.specs.StripInput.{Span, StripInput, part}
-use Rattle.strip_inputs.specs.Strips.{meets, kept_in, narrowed, strip_input_of, PartsArePresent}
+use Rattle.strip_inputs.specs.Strips.{meets, kept_in}
 
 -- borders rise with their numbers
 pub borders_rise : (j k : ℕ) → j ≤ k → border j ≤ℤ border k
@@ -46,11 +47,9 @@ pub column_of_strip : (strip : Span) (k : ℕ) (marked : List Marked) → strip.
 column_of_strip strip k marked from to =
     filtered_twice (λ (m : Marked). touches k m.segment) (λ (m : Marked). meets strip m.segment) (λ m h. touching_meets strip k m.segment from to h) marked
 
-pub parts_are_present : PartsArePresent
-parts_are_present layers name input strip k same from to = λ i. record { column = k; marked = marks i; steps = (same i).steps }
+pub part_of_strip : (strip : Span) (marked : List Marked) (steps : Steps) (input : StripInput) → input ≡ record { strip = strip; marked = kept_in strip marked; steps = steps }
+    → (k : ℕ) → strip.first ≤ k → k ≤ strip.last → part input k ≡ record { column = k; marked = filter (λ m. touches k m.segment) marked; steps = steps }
+part_of_strip strip marked steps input is k from to = λ i. record { column = k; marked = marks i; steps = (is i).steps }
   where
-    marks : filter (λ (m : Marked). touches k m.segment) input.marked ≡ filter (λ (m : Marked). touches k m.segment) (segments_in_reach layers name)
-    marks =
-        sym (column_of_strip strip k input.marked from to)
-        ∙ ap (λ (j : StripInput). filter (λ (m : Marked). touches k m.segment) j.marked) same
-        ∙ column_of_strip strip k (segments_in_reach layers name) from to
+    marks : filter (λ (m : Marked). touches k m.segment) input.marked ≡ filter (λ (m : Marked). touches k m.segment) marked
+    marks = ap (λ (j : StripInput). filter (λ (m : Marked). touches k m.segment) j.marked) is ∙ column_of_strip strip k marked from to

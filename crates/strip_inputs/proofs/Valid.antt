@@ -1,5 +1,5 @@
 -- Of closed segments those that have a point in a strip are its input, and so are those of an input in a narrower one.
-use Rattle.std.proofs.Common.{◌≡◌, ℕ, ◌+◌, ◌<◌, ◌≤◌, ℤ, pos, ◌*ℤ◌, ◌<ℤ◌, ◌≤ℤ◌, Bool, true, List, filter, length, refl, ap, sym, subst, ◌∙◌, arith}
+use Rattle.std.proofs.Common.{◌≡◌, ℕ, ◌+◌, ◌<◌, ◌≤◌, ℤ, pos, ◌*ℤ◌, ◌<ℤ◌, ◌≤ℤ◌, Bool, true, List, filter, map, length, refl, ap, sym, subst, ◌∙◌, arith}
 use Rattle.std.specs.Prelude.{◌%◌, ◌==◌, ◌&&◌, int_le, int_lt, IsTrue, All, count_by}
 use Rattle.std.specs.Ordering.{int_eq}
 use Rattle.std.proofs.lemmas.Int.{ints}
@@ -14,7 +14,8 @@ use Rattle.overlay_terms.specs.Layers.{layers_max, Marked}
 use Rattle.overlay_terms.specs.TileLaws.{ends_at, IsProper, IsInput, AreClosed}
 use Rattle.overlay_terms.proofs.InputNumbers.{left_most, le_true, lt_true, true_le, true_lt}
 use Rattle.overlay_terms.proofs.InputLists.{count_kept_all}
-use Rattle.arrange.specs.Marked.{segments_max}
+use Rattle.arrange.specs.Marked.{marked_of}
+use Rattle.arrange.specs.declared.marked_seg.MarkedSeg.{MarkedSeg}
 use Rattle.crossing_sweep.specs.StripInput.{Span, is_in_strip, StripInput, part, strip_of, IsStripInput}
 use Rattle.strip_inputs.specs.Strips.{meets, kept_in}
 use Rattle.strip_inputs.proofs.Parts.{borders_rise}
@@ -152,19 +153,8 @@ module _ (input : StripInput) (k : ℕ) (valid : IsStripInput input) (from : inp
     even = part_valid.even;
   }
 
--- ---- the input of one column alone, made of what an input has there
-module _ (input : StripInput) (k : ℕ) (strip : Span) (marked : List Marked) (steps : Steps) (is_strip : strip ≡ record { first = k; last = k }) (is_marked : marked ≡ kept_in strip input.marked) (is_steps : steps ≡ input.steps) where
-  pub alone_is : record { strip = strip; marked = marked; steps = steps } ≡ strip_of (part input k)
-  alone_is = λ i. record { strip = is_strip i; marked = (is_marked ∙ ap (λ s. kept_in s input.marked) is_strip) i; steps = is_steps i }
-
-  pub alone_valid : IsStripInput input → length input.marked ≤ segments_max → input.strip.first ≤ k → k ≤ input.strip.last → IsStripInput (record { strip = strip; marked = marked; steps = steps }) × (length marked ≤ segments_max)
-  alone_valid valid few from to = (
-    subst IsStripInput (sym alone_is) (part_valid input k valid from to),
-    fewer (length marked) (length (kept_in strip input.marked)) (length input.marked) (ap length is_marked) (kept_few (λ (m : Marked). meets strip m.segment) input.marked) few,
-  )
-    where
-      kept_few : {X : Type 0} (p : X → Bool) (xs : List X) → length (filter p xs) ≤ length xs
-      kept_few p xs = omega (arith, length-filter p xs, count_by-le-length p xs)
-
-      fewer : (a b c : ℕ) → a ≡ b → b ≤ c → c ≤ segments_max → a ≤ segments_max
-      fewer a b c e h l = omega (arith, e, h, l)
+-- of what is held in the form of the code, the segments that touch a column are its part
+pub held_part : (input : StripInput) (k : ℕ) (strip : Span) (lent held : List MarkedSeg) (steps : Steps) → lent ≡ held → record { strip = strip; marked = map marked_of held; steps = steps } ≡ input
+    → record { column = k; marked = filter (λ m. touches k m.segment) (map marked_of lent); steps = steps } ≡ part input k
+held_part input k strip lent held steps same is =
+    ap (λ (ms : List MarkedSeg). part (record { strip = strip; marked = map marked_of ms; steps = steps }) k) same ∙ ap (λ (i : StripInput). part i k) is

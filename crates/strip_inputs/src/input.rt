@@ -1,14 +1,12 @@
 //! The input of a strip.
-ghost use Rattle.std.specs.Prelude.{◌≡◌, ◌≤◌, ◌<◌, All, map, length, IfOk};
-ghost use Rattle.overlay_terms.specs.Layers.{layers_max, marked_segments};
-ghost use Rattle.overlay_terms.specs.TileLaws.{IsInput};
-ghost use Rattle.arrange.specs.Marked.{marked_of, segments_max};
-ghost use Rattle.crossing_sweep.specs.StripInput.{part, strip_of, IsStripInput};
+ghost use Rattle.std.specs.Prelude.{◌≡◌, ◌≤◌, ℕ, map, length, IfOk};
+ghost use Rattle.overlay_terms.specs.Layers.{marked_segments};
+ghost use Rattle.arrange.specs.Marked.{kept_in as kept_in_column};
+ghost use Rattle.crossing_sweep.specs.StripInput.{part, IsStripInput};
 ghost use Rattle.strip_inputs.specs.Strips.{kept_in, IsColumnOf};
 
 use crate::gathering::add_segments;
-use crate::meeting::meets;
-use arrange::MarkedSeg;
+use arrange::{MarkedSeg, TileInput};
 use crossing_sweep::{PassInput, Strip};
 use layer_expr::StepList;
 use plane_base::{BaseLayer, Column};
@@ -48,7 +46,11 @@ impl StripInput {
         steps: StepList,
     ) -> Result<StripInput, AllocError>
         requires { length bases.now ≡ steps.bases }
-        ensures { IfOk result (λ input. input ≡ record { strip = strip; marked = kept_in strip (marked_segments (map (λ b. b.now) bases.now)); steps = steps }) }
+        ensures ok { IfOk result (λ input. input ≡ record { strip = strip; marked = kept_in strip (marked_segments (map (λ b. b.now) bases.now)); steps = steps }) }
+        ensures strip { IfOk result (λ input. input.strip ≡ strip) }
+        // The part of each column is what `TileInput::of` gathers there.
+        ensures part { IfOk result (λ input. (k : ℕ) → strip.first ≤ k → k ≤ strip.last
+            → part input k ≡ record { column = k; marked = kept_in_column k (marked_segments (map (λ b. b.now) bases.now)); steps = steps }) }
     {
         // The strip's columns are in order, and there are so many: the type rests on that.
         let _ = strip.last().number();
@@ -70,21 +72,6 @@ impl StripInput {
         self.strip
     }
 
-    pub fn marked(&self) -> &[MarkedSeg]
-        ensures value { map marked_of result.now ≡ self.now.marked }
-        ensures few { length self.now.marked ≤ segments_max }
-        ensures valid { IsStripInput self.now }
-    {
-        &self.marked
-    }
-
-    pub fn steps(&self) -> &StepList
-        ensures value { result.now ≡ self.now.steps }
-        ensures valid { IsStripInput self.now }
-    {
-        &self.steps
-    }
-
     /// The same, lent for a pass over the strip.
     pub fn pass(&self) -> PassInput<'_>
         ensures { result ≡ self.now }
@@ -92,36 +79,11 @@ impl StripInput {
         PassInput::of_strip(self.strip, &self.marked, &self.steps)
     }
 
-    /// The input of one of its columns alone, in memory of its own: a strip of this column.
-    pub fn column_part(&self, alloc: Global, column: Column) -> Result<StripInput, AllocError>
+    /// The input of the tile of one of its columns, in memory of its own.
+    pub fn column_input(&self, alloc: Global, column: Column) -> Result<TileInput, AllocError>
         requires { IsColumnOf self.now column }
-        ensures ok { IfOk result (λ input. input ≡ strip_of (part self.now column)) }
-        ensures valid { IfOk result (λ _. IsInput (part self.now column)) }
+        ensures { IfOk result (λ input. input ≡ part self.now column) }
     {
-        let strip = Strip::new(column, column);
-        let marked = marked_in(alloc, strip, &self.marked)?;
-        let steps = self.steps.try_copy(alloc)?;
-        Ok(StripInput {
-            strip,
-            marked,
-            steps,
-        })
+        TileInput::of_marked(alloc, column, &self.marked, &self.steps)
     }
-}
-
-/// Those of marked segments that have a point in a strip.
-fn marked_in(
-    alloc: Global,
-    strip: Strip,
-    marked: &[MarkedSeg],
-) -> Result<Vec<MarkedSeg>, AllocError>
-    ensures { IfOk result (λ kept. map marked_of kept.items ≡ kept_in strip (map marked_of marked.now)) }
-{
-    let mut kept = Vec::new(alloc);
-    for one in marked {
-        if meets(strip, one.seg) {
-            kept.push(*one)?;
-        }
-    }
-    Ok(kept)
 }

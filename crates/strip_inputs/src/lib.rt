@@ -3,8 +3,6 @@
 
 mod gathering;
 pub mod input;
-pub mod laws;
 mod meeting;
 
 pub use input::StripInput;
-pub use meeting::meets;

@@ -7,7 +7,7 @@ use crossing_sweep::Strip;
 use plane_base::Seg;
 
 /// Whether a segment has a point in a strip.
-pub fn meets(strip: Strip, seg: Seg) -> bool
+pub(crate) fn meets(strip: Strip, seg: Seg) -> bool
     ensures value { result ≡ meets strip seg }
     ensures proper { IsProper seg }
 {

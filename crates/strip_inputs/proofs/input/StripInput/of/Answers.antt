@@ -1,5 +1,7 @@
-use Rattle.std.proofs.Common.{◌≡◌, ◌<◌, ◌≤◌, length, ap, subst, ◌∙◌, arith}
+use Rattle.std.proofs.Common.{◌≡◌, ◌<◌, ◌≤◌, length, map, ap, subst, ◌∙◌, arith}
 use Rattle.overlay_terms.specs.Column.{column_count}
+use Rattle.overlay_terms.specs.Layers.{marked_segments}
+use Rattle.strip_inputs.proofs.Parts.{part_of_strip}
 use Rattle.strip_inputs.proofs.Gathered.{made_more, made_whole, made_input, made_few}
 use Rattle.strip_inputs.proofs.input.StripInput.of.Goals as goal
 
@@ -18,8 +20,14 @@ invariant_of-result c =
     let made = made_whole c.args.strip c.loop-layer.layer c.args.bases.now _ full c.loop-layer.invariant in
     (made_input c.args.strip c.args.bases.now _ c.args.steps in_order known few c.requires made, made_few c.args.strip c.args.bases.now _ c.args.steps.bases few c.requires made)
 
-pub returns : goal.returns
-returns c =
+pub returns-clause-ok : goal.returns-clause-ok
+returns-clause-ok c =
     let full : length c.args.bases.now ≤ c.loop-layer.layer = omega arith in
     let made = made_whole c.args.strip c.loop-layer.layer c.args.bases.now _ full c.loop-layer.invariant in
     ap (λ ms. record { strip = c.args.strip; marked = ms; steps = c.args.steps }) made.kept
+
+pub returns-clause-part : goal.returns-clause-part
+returns-clause-part c =
+    let full : length c.args.bases.now ≤ c.loop-layer.layer = omega arith in
+    let made = made_whole c.args.strip c.loop-layer.layer c.args.bases.now _ full c.loop-layer.invariant in
+    part_of_strip c.args.strip (marked_segments (map (λ b. b.now) c.args.bases.now)) c.args.steps _ (ap (λ ms. record { strip = c.args.strip; marked = ms; steps = c.args.steps }) made.kept)
