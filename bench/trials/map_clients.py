@@ -20,6 +20,7 @@ import contextlib
 import json
 import os
 import pathlib
+import random
 import re
 import subprocess
 import sys
@@ -40,7 +41,7 @@ from bench import web_front  # noqa: E402
 from bench.counting import Tries, Words  # noqa: E402
 from bench.reference import read_store  # noqa: E402
 from bench.trials.maps import loaded  # noqa: E402
-from bench.web_front import TOP, asked  # noqa: E402
+from bench.web_front import TOP, asked, sent  # noqa: E402
 from tools.limits import COLUMN_WIDTH, COORDINATE_MAX
 
 try:
@@ -239,8 +240,7 @@ def fronts_of(stores: list[pathlib.Path], program: str, *words: str) -> Iterator
 def made_stores(source: Source, path: pathlib.Path, folder: pathlib.Path,
                 program: str) -> tuple[list[pathlib.Path], Rounding]:
     """The stores of a map by `./overlay`, and its rounding as that told it."""
-    words = [*source.words, "--folder", folder, "--program", program, "--only-make", "--name-by", source.key]
-    told = ran(sys.executable, TOP / "overlay", path, *words)
+    told = web_front.first_map(path, folder, program, "--name-by", source.key, *source.words)
     stores = sorted(folder.glob("*.db"), key=lambda store: [*map(int, re.findall(r"\.(\d+)\.db", store.name))])
     (scale,) = folder.glob("*.scale.json")
     found = MOVED.search(told)
@@ -281,9 +281,26 @@ def try_map(tries: Tries, source: Source, folder: pathlib.Path, program: str) ->
                 continue
             found: Found = {}
             for address, store in zip(addresses, stores):
-                found |= found_in(address, collection_of(store))
+                own = found_in(address, collection_of(store))
+                if how == "ogr2ogr":
+                    wrong = wrong_boxes(address, collection_of(store), own, source.key)
+                    tries.that(not wrong, f"{store.stem}: 100 boxes of degrees have the features that GEOS has there {wrong[:3]}")
+                found |= own
             check_client(tries, f"{source.name} by {how}", wanted, found, placed, told)
     check_place(tries, source, path, place, placed, told)
+
+
+def wrong_boxes(address: str, collection: str, found: Found, key: str) -> list[tuple[float, ...]]:
+    """The boxes among 100 drawn ones for which the front has other features than GEOS finds there."""
+    chance, wrong = random.Random(1), []
+    west, south, east, north = geometry.GeometryCollection([one.shape for one in found.values()]).bounds
+    for _ in range(100):
+        x, y, part = chance.uniform(west, east), chance.uniform(south, north), chance.choice([0.0001, 0.01, 0.1, 0.5])
+        box = x, y, min(180.0, x + part * (east - west)), min(90.0, y + part * (north - south) * chance.choice([0.3, 1]))
+        items = asked(f"{address}collections/{collection}/items?limit=10000&bbox={','.join(map(str, box))}")["features"]
+        there = {name for name, one in found.items() if one.shape.intersects(geometry.box(*box))}
+        wrong += [box] if {one["properties"][key] for one in items} != there else []
+    return wrong
 
 
 def check_place(tries: Tries, source: Source, path: pathlib.Path, folder: pathlib.Path, placed: Found,
@@ -301,17 +318,6 @@ def check_place(tries: Tries, source: Source, path: pathlib.Path, folder: pathli
 
 
 # ---- editing
-
-
-def sent(method: str, place: str, body: str | None, revision: str = "") -> tuple[int, Any]:
-    """A change by Part 4, with its status and its answer."""
-    headers = {"Content-Type": "application/geo+json", **({"If-Match": revision} if revision else {})}
-    request = urllib.request.Request(place, body.encode() if body else None, headers, method=method)
-    try:
-        with urllib.request.urlopen(request, timeout=120) as answer:
-            return answer.status, json.load(answer)
-    except urllib.error.HTTPError as fault:
-        return fault.code, json.load(fault)
 
 
 def revision_of(place: str) -> str:

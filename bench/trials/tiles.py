@@ -3,9 +3,10 @@
 python3 -m bench.trials.tiles [PROGRAM]
 
 Builds the program of bench/trials/tiles over tile_build, tile_by_pairs and layer_book, unproved (minutes); PROGRAM is
-one that was built before. 2,000 inputs from fixed seeds, a quarter of them at full coordinates, most with edges that touch, overlap, stand upright or are cut by a
-border of the column. Of each the tiles of `build` and `build_counted` are compared by their ends with that of
-`build_by_pairs`, where the cap is 0, one below the size of the tile, and its size. Status 1: one differs.
+one that was built before. 2,000 inputs from fixed seeds, a quarter of them at full coordinates, most with edges that
+touch, overlap, stand upright or are cut by a border of the column. Of each the tiles of `build` and `build_counted` are
+compared by their ends with that of `build_by_pairs`, where the cap is 0, one below the size of the tile, and its size.
+Status 1: one differs.
 """
 
 from __future__ import annotations
