@@ -411,6 +411,22 @@ def edited(tries: Tries, store: pathlib.Path, program: str) -> set[int]:
         return columns_of(store, geometry.shape(before[identity]["geometry"])) | columns_of(store, again["Moved"].shape)
 
 
+def try_layers(tries: Tries, folder: pathlib.Path, program: str) -> None:
+    """What GDAL copies of derived layers, whose outlines are exact, beside what the client has of them."""
+    store = web_front.iceland(folder, program)
+    with web_front.overlay_client.Server(store, read_only=True, program=program) as server, server.session() as one:
+        wanted = {name: geometry.shape(server.shape_of(one.rings(name))) for name in web_front.DEFINITIONS}
+    with fronts_of([store], program) as (address,):
+        for name, shape in wanted.items():
+            target = folder / f"{name}.gpkg"
+            ran("ogr2ogr", "-f", "GPKG", target, f"OAPIF:{address}", name)
+            data = gdal.OpenEx(str(target))
+            parts = [wkb.loads(bytes(each.GetGeometryRef().ExportToWkb())) for each in data.GetLayer(0)]
+            count, area = len(getattr(shape, "geoms", [shape])), sum(part.area for part in parts)
+            tries.that(len(parts) == count and abs(area - shape.area) < 1e-9,
+                       f"{name}, a derived layer, by ogr2ogr: {len(parts)} of {count} polygons, area {area:.9f} of {shape.area:.9f}")
+
+
 def try_owslib(tries: Tries, folder: pathlib.Path, program: str) -> None:
     """What owslib can ask, and change where it has calls for that."""
     place = folder / "owslib"
@@ -462,6 +478,7 @@ def main() -> int:
                 try_map(tries, source, folder, words.program)
         if qgis:
             try_edits(tries, folder, words.program)
+        try_layers(tries, folder, words.program)
         try_owslib(tries, folder, words.program)
     return tries.end()
 
