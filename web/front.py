@@ -138,7 +138,7 @@ class Front:
             return refusal(500, 500, "the front has a fault, which it has reported on its standard error")
 
     def root(self, environ: Mapping[str, Any]) -> str:
-        """The address that was asked. A foreign name, as a page gets that gives its own name this address, is refused."""
+        """Looks at Host: the address that was asked. A foreign name, which a page may give this address, is refused."""
         host = str(environ.get("HTTP_HOST", "")).lower()
         found = re.fullmatch(r"(\[[0-9a-f:.]{2,45}\]|[a-z0-9._-]{1,253})(:[0-9]{1,5})?", host)
         if not found or found[1] not in self.hosts:
@@ -160,6 +160,7 @@ class Front:
         )
 
     def _check(self, request: Request, route: Route) -> None:
+        """Refuses what another site's page asks, a change where none may be made, and words that the page has not."""
         site = request.header("sec-fetch-site").strip().lower()
         if route.method not in ("GET", "OPTIONS"):
             if not self.store.writable:

@@ -119,7 +119,7 @@ def page(house: House, tables: Tables) -> str:
     every = sum(len(module.definitions) for (crate, _), module in house.modules.items() if crate in house.crates)
     table = ["| Call | Definitions | Lines | Files | Of the kit (lines) | What it is |", f"|{'---|' * 6}", *rows]
     head = tables.head.replace("@CONTRACT@", "\n".join(f"    {line}" for line in quoted(house, tables.calls[0])))
-    head = head.replace("@LINKS@", links(told)).replace("@WITHOUT@", left_out(told))
+    head = head.replace("@LINKS@", links(told)).replace("@WITHOUT@", left_out(told)).replace("@PINS@", pinned(house))
     tail = f"\nOf {every:,} definitions in `crates/*/specs`.\n"
     return "\n".join([head, "", *table, tail, *promised(told, listed), *parts, types(house, met)])
 
@@ -144,6 +144,15 @@ def links(told: Told) -> str:
         path = f"../crates/{link.crate}/specs/{link.module}.antt"
         given, taken = (", ".join(f"`{title}`" for title in titles) for titles in (link.given, link.taken))
         lines.append(f"| [`{link.title}`]({path}) | {given} | {taken} |")
+    return "\n".join(lines)
+
+
+def pinned(house: House) -> str:
+    """The table of definitions that a law says whole."""
+    lines = ["| Definition | Law | What it says |", "|---|---|---|"]
+    for key, pin in house.pins.items():
+        path = f"../crates/{key[0]}/specs/{key[1].replace('.', '/')}.antt"
+        lines.append(f"| [`{key[2]}`]({path}) | [`{pin.law}`](../crates/{pin.file}) | `{house.stated(key)}` |")
     return "\n".join(lines)
 
 

@@ -6,7 +6,7 @@ import pathlib
 import re
 
 from believing.house import Cut, File, House, Key
-from believing.page import Told, of_kit, quoted, reached_by, seen_as, sentence_of
+from believing.page import Told, quoted, reached_by, seen_as, sentence_of
 
 FOLDER = pathlib.Path("docs/believe")
 
@@ -22,11 +22,13 @@ def text(told: Told, title: str) -> str:
     calls, reach = told.row(title)
     row, cut = told.row_of(title), told.cut(title)
     mine = house.mine(reach.keys)
-    count = f"{len(mine)} definitions, {house.lines(mine, cut):,} lines"
-    lines = [f"What to believe of: {title} ({count})", "",
+    kit = house.of_kit(reach.keys)
+    count = f"({len(mine)} definitions, {house.lines(mine, cut):,} lines), over {len(kit)} of the kit ({house.lines(kit):,} lines)"
+    lines = [f"What to believe of: {title} {count}", "",
              "`.ci/believe --text` wrote this from the sources. docs/BELIEVE.md says how to read it. First the contracts,",
-             "then the definitions on which they rest: each stands after those that it rests on, or beside them in one",
-             "file.", ""]
+             "then the definitions on which they rest, lowest first: each comes after those that it rests on, or beside them",
+             "in one file. At the end are the kit's definitions that these name, and the types of the sources, each with the",
+             "fields that these name: to be looked up.", ""]
     for head, parts in [("Left out are these promises, which stand beside (docs/BELIEVE.md); their words are not defined here:", row.without),
                         ("Of the contracts this row has these promises alone; the words of others are not defined here:", row.only)]:
         if parts:
@@ -38,7 +40,7 @@ def text(told: Told, title: str) -> str:
     for file, names in house.in_order(mine):
         lines += definitions(house, file, names, cut)
     lines += proved(told, reach.keys)
-    lines += rest(house, reach.keys, sorted(link.title for link in reach.links))
+    lines += rest(house, reach.keys, sorted(link.title for link in reach.links), cut, "\n".join(lines))
     return "\n".join(lines)
 
 
@@ -78,14 +80,19 @@ def definitions(house: House, file: File, names: list[str], cut: Cut) -> list[st
     return lines
 
 
-def rest(house: House, keys: set[Key], links: list[str]) -> list[str]:
-    """What a text names and does not print."""
+def rest(house: House, keys: set[Key], links: list[str], cut: Cut, said: str) -> list[str]:
+    """What a text is looked up in: link words, the kit's definitions and types, with the fields that the text names."""
+    lines = ["==== Link words, which calls hand to one another", "", *links, ""] if links else []
+    for file, names in house.in_order(house.of_kit(keys)):
+        lines += [f"==== Of the kit: {file[0]} {file[1]}", ""]
+        for name in names:
+            lines += [*house.shown((*file, name)), ""]
     kinds = sorted({key[1:] for key in keys if not key[0]}, key=lambda kind: (house.crates[kind[0]], kind[1]))
-    parts = [("Link words, which calls hand to one another", links), ("Words of the kit", of_kit(house, keys)),
-             ("Types of the sources, and what their values are seen as",
-              [f"{crate} {seen_as(house, crate, name)}" for crate, name in kinds])]
-    lines: list[str] = []
-    for head, told in parts:
-        if told:
-            lines += [f"==== {head}", "", *told, ""]
+    seen = [f"{crate} {seen_as(house, crate, name)}" for crate, name in kinds if house.model(crate, name)]
+    lines += ["==== Types with a model, and what their values are seen as", "", *seen, ""] if seen else []
+    fields = set(re.findall(r"\.(\w+)", said))
+    for crate, name in kinds:
+        shown = [] if house.model(crate, name) else house.declared(crate, name, fields, cut)
+        if shown:
+            lines += [f"==== A type of {crate}: {name}", "", *shown, ""]
     return lines
