@@ -169,7 +169,7 @@ def questions(program: str, client: Client, count: int) -> Iterator[tuple[str, s
         with served([client.program, "echo"]) as (_, [pair]):
             found["pipe"].add(client.ask(pair, lines["A"]))
     own = statistics.median(found["pipe"].p50)
-    for name, what in (("A", f"an outline of {STEPS:,} steps"), ("D", f"a built layer of two such")):
+    for name, what in (("A", f"an outline of {STEPS:,} steps"), ("D", "a built layer of two such")):
         ratio = statistics.median(found[name].p50) / own
         beside = f"the pipe's own: {found['pipe'].told()}; of p50 {ratio:.2f} times"
         yield f"LOCATE of {what}, {count:,} lines one at a time", found[name].told(), beside

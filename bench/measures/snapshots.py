@@ -15,8 +15,8 @@ import subprocess
 import sys
 import tempfile
 
+from bench import unproved
 from bench.counting import Words
-from bench.measures import turns
 
 HERE = pathlib.Path(__file__).resolve().parent
 
@@ -32,7 +32,7 @@ def main() -> int:
     parser.add_argument("program", type=pathlib.Path, nargs="?")
     words = parser.words()
     with tempfile.TemporaryDirectory() as folder:
-        (program,) = turns.programs_of([words.program] if words.program else [], "snapshots", pathlib.Path(folder))
+        program = unproved.program_of(words.program, HERE / "snapshots", folder, checked=False)
         lock = pathlib.Path(folder) / "lock"
         subprocess.run(["gcc", "-O2", "-pthread", "-o", lock, HERE / "lock.c"], check=True)
         alone, beside = best([program])

@@ -19,12 +19,8 @@ Found = TypeVar("Found")
 
 
 def programs_of(named: Sequence[pathlib.Path], source: str, place: pathlib.Path) -> list[pathlib.Path]:
-    """The programs that were named, or where none was the one of this folder, built unproved and without checks in a folder of
-    its own: no file of the measure is written over it."""
-    if named:
-        return [program.resolve() for program in named]
-    (place / "built").mkdir()
-    return [unproved.built(HERE / source, place / "built", checked=False)]
+    """The programs that were named, or where none was the one of this folder, built unproved and without checks."""
+    return [unproved.program_of(one, HERE / source, place, checked=False) for one in named or [None]]
 
 
 def least_times(

@@ -515,9 +515,7 @@ def features(browser: Browser, address: str, picture: pathlib.Path, size: tuple[
 
 def visit_features(browser: Browser, words: argparse.Namespace, folder: pathlib.Path, tries: Tries) -> None:
     """Looks at a front over North Carolina, as wide as on a desk and as narrow as on a telephone."""
-    given = [sys.executable, web_front.TOP / "overlay", web_front.TOP / "tools/data/north_carolina.geojson"]
-    given += ["--folder", folder, "--only-make", "--program", words.program]
-    subprocess.run(list(map(str, given)), check=True, stderr=subprocess.DEVNULL)
+    web_front.first_map(web_front.TOP / "tools/data/north_carolina.geojson", folder, words.program)
     pictures, running = words.pictures or folder, {"program": words.program, "python": words.python}
     with web_front.front("--store", folder / "north_carolina.db", **running) as address:
         features(browser, address, pictures / "features.png", SIZE, tries)

@@ -37,7 +37,7 @@ def main() -> int:
     parser.add_argument("program", type=pathlib.Path, nargs="?")
     words = parser.words()
     with tempfile.TemporaryDirectory() as folder:
-        program = words.program.resolve() if words.program else unproved.built(HERE / "calls", folder)
+        program = unproved.program_of(words.program, HERE / "calls", folder)
         done = subprocess.run([program], stdout=subprocess.PIPE, text=True)
     *table, call, spoiled = done.stdout.splitlines()
     print("\n".join(table))

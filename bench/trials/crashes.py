@@ -30,7 +30,7 @@ def main() -> int:
     words = parser.words()
     with tempfile.TemporaryDirectory() as place:
         folder = pathlib.Path(place)
-        program = words.program.resolve() if words.program else unproved.built(HERE / "crashes", folder)
+        program = unproved.program_of(words.program, HERE / "crashes", folder)
         paths = old_files.written(folder)
         numbers = [str(one) for one in (words.first, words.lists, words.steps, words.lives)]
         return subprocess.run([program, *numbers, *paths.values()], stdin=subprocess.DEVNULL, check=False).returncode
