@@ -1,5 +1,5 @@
 -- Words of a command line: they ask by the synopsis for what is picked of the rows that `clap` finds.
-use Rattle.std.proofs.Common.{◌≡◌, ◌≢◌, ◌⊎◌, ℕ, suc, ◌≤◌, refl, sym, ap, ap₂, subst, ◌∙◌, inl, inr, List, [], ◌∷◌, ◌++◌, length, map, fold, Bool, true, false, not, ◌||◌, ◌&&◌, ◌==◌, IsTrue, Option, Some, None, is_some, unwrap_or, codes, bytes_eq, flat_map, if◌then◌else◌, arith}
+use Rattle.std.proofs.Common.{◌≡◌, ◌≢◌, ℕ, suc, ◌≤◌, refl, sym, ap, subst, ◌∙◌, inl, inr, List, [], ◌∷◌, ◌++◌, length, map, fold, Bool, true, false, not, ◌||◌, ◌&&◌, ◌==◌, IsTrue, Option, Some, None, is_some, unwrap_or, codes, bytes_eq, flat_map, if◌then◌else◌, arith}
 use Rattle.std.proofs.lemmas.Bool.{and_from, and_parts, cases_Bool, or_cases, true≢false}
 use Rattle.std.proofs.lemmas.Option.{cond_some, none-some, same_Some}
 use Rattle.std.proofs.lemmas.Slice.Eq.{bytes_eq-Decides}
@@ -9,8 +9,8 @@ use Rattle.clap.specs.Faults.{check_fault}
 use Rattle.clap.specs.Simple.{Shape}
 use Rattle.clap.specs.Walk.{Row, Rule, Text, all_of, first_of, is_empty, with_default}
 use Rattle.clap.specs.Walk as clap
-use Rattle.program_words.proofs.Line.{Found, IsLine, at, fits, options, parts_fault, parts_rows, reads, rows_at_end, total}
-use Rattle.program_words.proofs.Rows.{IsOnce, fit_parts, flags_are, flags_fit, is_flag, joined, look_parts, no_faults, nothing_given, once_from, paths_are, texts, turned, values_are}
+use Rattle.program_words.proofs.Line.{IsLine, at, fits, options, parts_fault, parts_rows, reads, rows_at_end, total}
+use Rattle.program_words.proofs.Rows.{fit_parts, flags_are, is_flag, joined, look_parts, no_faults, nothing_given, once_from, paths_are, texts, turned, values_are}
 use Rattle.program_words.proofs.Asking.{both_flags, count, few_flags, few_listed, few_number, first_look, first_text, from_flags, from_listed, from_number, harmless, has, is_false, kept_defaults, set_defaults, to_flags, to_listed, to_number}
 use Rattle.program_words.specs.CommandLine.{is_set, number_or, opening_of}
 use Rattle.program_words.specs.Synopsis.{Asks, LinePart, RunRequest, Word, option, flag, path, flag_of, flags_of, is_plain, path_of, value_for, words_of}
@@ -159,7 +159,7 @@ module _ (s : Shape) (flags : List Word) (id : Word) (l : IsLine s flags id) (d 
         → (filter_map flag_of parts ≡ flags_of r.opening) × (r.opening ≢ Existing → IsTrue (is_some r.store))
     opened_by reads r create all few seen p =
         let given : opening_of (is_set (first_of (codes "create") (rows_of_parts parts))) reads (is_some (first_of (codes "store") (rows_of_parts parts)))
-            ≡ opening_of (has (codes "create") (filter_map flag_of parts)) (has (codes "read-only") (filter_map flag_of parts)) (is_some r.store) =
+        ≡ opening_of (has (codes "create") (filter_map flag_of parts)) (has (codes "read-only") (filter_map flag_of parts)) (is_some r.store) =
         λ i. opening_of (flag_found (codes "create") create i) (seen i) (is_some (p.store i)) in
         to_flags (filter_map flag_of parts) all (is_some r.store) r.opening (few_given (codes "create") create) few (sym given ∙ p.opening)
 
@@ -188,7 +188,7 @@ module _ (s : Shape) (flags : List Word) (id : Word) (l : IsLine s flags id) (d 
         let flags_here : filter_map flag_of parts ≡ flags_of r.opening = ap (filter_map flag_of) (sym same) ∙ a.opening in
         let made : is_set (first_of (codes "create") (rows_of_parts parts)) ≡ has (codes "create") (flags_of r.opening) = flag_found (codes "create") create ∙ ap (has (codes "create")) flags_here in
         let given : opening_of (is_set (first_of (codes "create") (rows_of_parts parts))) reads (is_some (first_of (codes "store") (rows_of_parts parts)))
-            ≡ opening_of (has (codes "create") (flags_of r.opening)) (has (codes "read-only") (flags_of r.opening)) (is_some r.store) =
+        ≡ opening_of (has (codes "create") (flags_of r.opening)) (has (codes "read-only") (flags_of r.opening)) (is_some r.store) =
         λ i. opening_of (made i) (seen i) (is_some (store i)) in
         record {
           opening = given ∙ from_flags r.opening (is_some r.store) a.named;
@@ -213,8 +213,11 @@ module _ (s : Shape) (flags : List Word) (id : Word) (l : IsLine s flags id) (d 
             (few_number (filter_map (value_for (codes "max-blocks")) a.parts) 65536 1048576 r.max_blocks a.max_blocks) key is)
         | inr unlike ↦ elim (cases_Bool (list_any (bytes_eq key) flags)) [
           | inl is ↦ subst (λ (xs : List Text). length xs ≤ 1) (sym (flags_are s flags id key l is a.parts fit))
-              (omega (arith, length_texts key (filter_map flag_of a.parts),
-              subst (λ (xs : List Word). count key xs ≤ 1) (sym a.opening) (few_flags key r.opening)))
+              (omega (
+                arith,
+                length_texts key (filter_map flag_of a.parts),
+                subst (λ (xs : List Word). count key xs ≤ 1) (sym a.opening) (few_flags key r.opening),
+              ))
           | inr other ↦ subst (λ (xs : List Text). length xs ≤ 1) (sym (nothing_given flags id key unlike other apart a.parts fit)) (omega arith)
         ]
       ]

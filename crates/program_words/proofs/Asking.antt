@@ -1,21 +1,21 @@
 -- What the synopsis says that words ask for is what `clap` finds of them, within the limits.
-use Rattle.std.proofs.Common.{◌≡◌, ◌≢◌, ◌⊎◌, ℕ, suc, ◌≤◌, ◌+◌, refl, sym, ap, ap₂, subst, ◌∙◌, inl, inr, List, [], ◌∷◌, ◌++◌, length, map, fold, Bool, true, false, not, ◌&&◌, ◌||◌, ◌==◌, IsTrue, Option, Some, None, is_some, unwrap_or, codes, bytes_eq, flat_map, if◌then◌else◌, arith}
-use Rattle.std.proofs.lemmas.Bool.{and_from, and_parts, cases_Bool, le-leb, leb-true, or_cases, or_right, true≢false}
+use Rattle.std.proofs.Common.{◌≡◌, ◌≢◌, ◌⊎◌, ℕ, ◌≤◌, refl, sym, ap, ap₂, subst, ◌∙◌, inl, inr, List, [], ◌∷◌, length, fold, Bool, true, false, not, ◌&&◌, ◌||◌, IsTrue, Option, Some, None, codes, bytes_eq, if◌then◌else◌, arith}
+use Rattle.std.proofs.lemmas.Bool.{and_parts, cases_Bool, le-leb, leb-true, or_cases, or_right, true≢false}
 use Rattle.std.proofs.lemmas.Bool.Decides.{nat_tests}
 use Rattle.std.proofs.lemmas.Option.{cond_some, none-some, option_and_then_some, same_Some}
 use Rattle.std.proofs.lemmas.Slice.Eq.{bytes_eq-Decides}
-use Rattle.std.specs.List.{filter, filter_map, list_all, list_any}
+use Rattle.std.specs.List.{filter, list_all, list_any}
 use Rattle.std.specs.Prelude.{find, nat_le, option_and_then, option_map, option_to_list, slice_get}
 use Rattle.clap.specs.Faults.{check_fault, default_fault, defaults_fault, given_default_fault, level_fault, settle_fault, walk_fault}
 use Rattle.clap.specs.Kinds.{Kinds, or_else}
 use Rattle.clap.specs.Simple.{Shape}
 use Rattle.clap.specs.Walk.{Row, Rule, Text, all_of, default_rows, first_of, has_row, is_empty, nothing_held, reading_by, with_default}
 use Rattle.clap.specs.Walk as clap
-use Rattle.program_words.proofs.Line.{IsLine, at, fits, options, or_else_nil, parts_fault, parts_rows, rows_at_end, total}
-use Rattle.program_words.proofs.Rows.{IsOnce, flags_are, has_look, is_flag, joined, look_other, look_parts, look_same, none_of, paths_are, texts, turned, values_are}
+use Rattle.program_words.proofs.Line.{at, or_else_nil, rows_at_end, total}
+use Rattle.program_words.proofs.Rows.{has_look, is_flag, look_other, look_same, none_of, texts}
 use Rattle.program_words.specs.CommandLine.{is_set, number_or, opening_of}
 use Rattle.program_words.specs.Number.{word_number}
-use Rattle.program_words.specs.Synopsis.{IsNumber, LinePart, RunRequest, Word, option, flag, path, flag_of, flags_of, is_plain, path_of, value_for}
+use Rattle.program_words.specs.Synopsis.{IsNumber, Word, flags_of}
 use Rattle.program_words.specs.declared.keeping.Opening.{Opening}
 use Rattle.program_words.specs.declared.keeping.Opening.TheVariants.{Existing, New, ReadOnly}
 
@@ -84,11 +84,13 @@ set_rows id key a (v ∷ []) rows is none =
   where
     nothing : all_of id rows ≡ None
     nothing = none_of (all_of id rows) (sym (has_look id rows) ∙ none)
+
     word : v ≡ codes "false"
     word = elim (or_cases (is_empty (v ∷ [])) (is_false (v ∷ [])) is) [
       | inl empty ↦ absurd (true≢false (sym empty ∙ none_empty v []))
       | inr e ↦ (bytes_eq-Decides v (codes "false")).0 e
     ]
+
     here : is_set (first_text (all_of id (default_rows id (reading_by a) (v ∷ []) rows))) ≡ is_set (first_text (all_of id rows))
     here =
         ap (λ (o : Option (List Text)). is_set (first_text o)) (look_same id (reading_by a) _ (v ∷ []) rows)
@@ -241,9 +243,9 @@ to_number [] usual most n few e = sym (same_Some usual n e)
 to_number (text ∷ []) usual most n few e =
     option_and_then_some (λ (m : ℕ). if nat_le 1 m && nat_le m most then Some m else None) (word_number text) n e
     (λ m is within.
-        let both = cond_some (nat_le 1 m && nat_le m most) m n within in
-        let tests = and_parts (nat_le 1 m) (nat_le m most) both.0 in
-        (is ∙ ap Some both.1, subst (λ (k : ℕ). 1 ≤ k) both.1 (leb-true 1 m tests.0), subst (λ (k : ℕ). k ≤ most) both.1 (leb-true m most tests.1)))
+    let both = cond_some (nat_le 1 m && nat_le m most) m n within in
+    let tests = and_parts (nat_le 1 m) (nat_le m most) both.0 in
+    (is ∙ ap Some both.1, subst (λ (k : ℕ). 1 ≤ k) both.1 (leb-true 1 m tests.0), subst (λ (k : ℕ). k ≤ most) both.1 (leb-true m most tests.1)))
 to_number (text ∷ next ∷ texts) usual most n few e = absurd (omega arith)
 
 pub from_number : (xs : List Word) (usual most n : ℕ) → IsNumber xs usual most n → number_or (slice_get xs 0) usual most ≡ Some n

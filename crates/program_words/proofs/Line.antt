@@ -1,5 +1,5 @@
 -- A command line of options, flags and paths, as `clap` reads it: a walk over words finds their parts, or a fault.
-use Rattle.std.proofs.Common.{◌≡◌, ◌⊎◌, ℕ, suc, refl, sym, ap, ap₂, subst, ◌∙◌, inl, inr, List, [], ◌∷◌, ◌++◌, length, Bool, true, false, not, ◌&&◌, ◌||◌, ◌==◌, Option, Some, None, codes, bytes_eq, flat_map, fold}
+use Rattle.std.proofs.Common.{◌≡◌, ◌⊎◌, refl, sym, ap, ap₂, ◌∙◌, inl, inr, List, [], ◌∷◌, ◌++◌, Bool, true, false, ◌&&◌, ◌==◌, Option, Some, None, codes, bytes_eq, flat_map, fold}
 use Rattle.std.proofs.lemmas.Bool.{and_parts, and_from, cases_Bool, true≢false}
 use Rattle.std.proofs.lemmas.Slice.Eq.{bytes_eq-Decides}
 use Rattle.std.specs.List.{list_all, list_any}
@@ -12,7 +12,7 @@ use Rattle.clap.specs.Simple.{Shape, filled, with_index}
 use Rattle.clap.specs.Walk.{Held, Row, Rule, Step, Text, Walk, Waiting, after_flag, after_step, arg_by_id, arg_by_index, arg_by_long, long_met, plain_word, settled_rows, subcommand_met, used, walked, word_met}
 use Rattle.clap.specs.Walk as clap
 use Rattle.program_words.specs.CommandLine as line
-use Rattle.program_words.specs.Synopsis.{LinePart, Word, option, flag, path, words_of, is_plain, is_part}
+use Rattle.program_words.specs.Synopsis.{LinePart, Word, option, flag, path, words_of, is_plain}
 
 -- the rules of an option, a flag and the paths, as `clap` completes them
 abbrev pub option_rule : Word → Rule
@@ -80,7 +80,7 @@ free true = clap.positional
 
 met_name : (rules : List Rule) (name : Word) (rule : Rule) (waiting : Waiting) (h : Held) → IsName rules name rule
     → word_met rules [] false waiting 1 (codes "--" ++ name) h
-      ≡ after_flag rules waiting (codes "--" ++ name) (long_met rules (Some rule) None h).0 (long_met rules (Some rule) None h).1
+    ≡ after_flag rules waiting (codes "--" ++ name) (long_met rules (Some rule) None h).0 (long_met rules (Some rule) None h).1
 met_name rules name rule waiting h n =
     rw (no_subcommand waiting (codes "--" ++ name), n.no_end, n.long, n.found) refl
 
@@ -271,7 +271,7 @@ module _ (s : Shape) (flags : List Word) (id : Word) (l : IsLine s flags id) whe
 
   flag_turn : (rows : List Row) (p : Option (Text × List Text)) (waiting : Waiting) (name : Word) → list_any (bytes_eq name) flags ≡ true
       → turn_fault s [] (at rows p waiting) (codes "--" ++ name)
-        ≡ or_else (settle_fault s.rules s.args_override_self (held rows p)) (use_fault s.args_override_self (flag_rule name) [] (settled_rows s.rules p rows))
+      ≡ or_else (settle_fault s.rules s.args_override_self (held rows p)) (use_fault s.args_override_self (flag_rule name) [] (settled_rows s.rules p rows))
   flag_turn rows p waiting name is =
       turn_by s rows p waiting (codes "--" ++ name) _ _ (met_name s.rules name (flag_rule name) waiting (held rows p) (l.flag_names name is))
       ∙ or_else_nil _ ∙ fault_name s name (flag_rule name) waiting (held rows p) (l.flag_names name is)
@@ -403,8 +403,7 @@ module _ (s : Shape) (flags : List Word) (id : Word) (l : IsLine s flags id) whe
     found [] all = ((λ rows p b none. record { parts = []; fit = refl; spelled = refl }), (λ rows name is none. absurd (value_lacks rows name is none)))
     found (word ∷ rest) all =
         let here = and_parts (known word) (list_all known rest) all in
-        let more = found rest here.1 in
-        (
+        let more = found rest here.1 in (
           (λ rows p b none. elim (kinds word here.0) [
             | inl plain ↦ with_path word rest plain (more.0 (settled_rows s.rules p rows) (Some (id, word ∷ [])) true
                 (both_none (at rows p (free b)) _ word rest _ (path_step rows p b word plain) (path_turn rows p b word plain) none).1)
@@ -415,13 +414,13 @@ module _ (s : Shape) (flags : List Word) (id : Word) (l : IsLine s flags id) whe
           ]),
           (λ rows name is none. elim (kinds word here.0) [
             | inl plain ↦ record {
-                value = word;
-                rest = rest;
-                plain = plain;
-                first = refl;
-                found = more.0 rows (Some (name, word ∷ [])) false
-                    (both_none (at rows (Some (name, [])) (clap.option name)) _ word rest _ (value_step rows name word is plain) (value_turn rows name word is plain) none).1;
-              }
+              value = word;
+              rest = rest;
+              plain = plain;
+              first = refl;
+              found = more.0 rows (Some (name, word ∷ [])) false
+                  (both_none (at rows (Some (name, [])) (clap.option name)) _ word rest _ (value_step rows name word is plain) (value_turn rows name word is plain) none).1;
+            }
             | inr named ↦ elim named [
               | inl o ↦ absurd (no_value rows name is (named_none rows (Some (name, [])) (clap.option name) word rest o none).0)
               | inr f ↦ absurd (no_value rows name is (flag_none rows (Some (name, [])) (clap.option name) word rest f none).0)

@@ -1,10 +1,9 @@
 -- The words of overlay_live: what they ask for by the synopsis is what is read of them; and words ask once.
-use Rattle.std.proofs.Common.{◌≡◌, ◌≢◌, ◌⊎◌, ℕ, ◌≤◌, ◌%◌, refl, sym, ap, subst, ◌∙◌, inl, inr, List, [], ◌∷◌, ◌++◌, length, Bool, true, false, not, ◌&&◌, ◌||◌, ◌==◌, Option, Some, None, Result, Ok, Err, IsErrAnd, IfErr, codes, bytes_eq, flat_map, fold, arith}
-use Rattle.std.proofs.lemmas.Bool.{and_from, and_parts, cases_Bool, eq-eqb, eqb-true, le-leb, leb-true, or_cases, or_left, or_right, true≢false}
+use Rattle.std.proofs.Common.{◌≡◌, ◌≤◌, ◌%◌, refl, sym, ap, subst, ◌∙◌, inl, inr, List, [], ◌∷◌, ◌++◌, length, true, false, not, ◌||◌, Some, None, Result, Ok, Err, IsErrAnd, IfErr, codes, bytes_eq, fold}
+use Rattle.std.proofs.lemmas.Bool.{and_from, and_parts, eq-eqb, eqb-true, le-leb, leb-true, or_cases, or_left, true≢false}
 use Rattle.std.proofs.lemmas.Option.{none-some}
 use Rattle.std.proofs.lemmas.Slice.Eq.{bytes_eq-Decides}
-use Rattle.std.specs.List.{filter, filter_map, list_all, list_any}
-use Rattle.std.specs.Prelude.{nat_le}
+use Rattle.std.specs.List.{filter_map, list_all, list_any}
 use Rattle.clap.specs.Faults.{fault_of}
 use Rattle.clap.specs.Simple.{Shape, built, matches_of}
 use Rattle.clap.specs.Walk.{Row, first_of, nothing_held, with_default}
@@ -12,14 +11,14 @@ use Rattle.clap.specs.Walk as clap
 use Rattle.clap.proofs.FaultLemmas.{leaf_fault}
 use Rattle.clap.proofs.OnLiterals.{clap_on_literals}
 use Rattle.program_words.proofs.Asked.{HasRules, Picks, asked_faults, fault_of_parts, few_given, flag_found, flags_among, from_asks, from_picked, known_parts, of_options, of_two, opened_by, picks_once, rows_are, rows_of_parts, to_asks, to_picked}
-use Rattle.program_words.proofs.Asking.{both_flags, count, has, level_is}
-use Rattle.program_words.proofs.Line.{IsFlag, IsKnown, IsLine, IsName, IsOption, at, fits, flag_rule, found, option_rule, options, parts_fault, rows_at_end, total}
+use Rattle.program_words.proofs.Asking.{both_flags, has, level_is}
+use Rattle.program_words.proofs.Line.{IsKnown, IsLine, IsName, at, fits, flag_rule, found, option_rule, options, rows_at_end, total}
 use Rattle.program_words.proofs.Overlayd.{kinds_of, known_option, known_plain}
 use Rattle.program_words.proofs.RequestLemmas.{asked_if, asked_parts}
-use Rattle.program_words.proofs.Rows.{flags_fit, is_flag, parts_fit}
+use Rattle.program_words.proofs.Rows.{flags_fit, parts_fit}
 use Rattle.program_words.specs.CommandLine.{is_known, is_set}
 use Rattle.program_words.specs.LiveLine.{is_alone, is_known_live, live_line, live_request_in, live_request_of}
-use Rattle.program_words.specs.Synopsis.{AskOnce, Asks, AsksLive, AsksRun, Help, LinePart, LiveRequest, RunRequest, Run, Version, Word, flag_of, flags_of, is_plain, words_of}
+use Rattle.program_words.specs.Synopsis.{AskOnce, Asks, AsksLive, AsksRun, Help, LiveRequest, RunRequest, Run, Version, Word, flag_of, flags_of, is_plain}
 use Rattle.program_words.specs.declared.fault.WordFault.{WordFault}
 use Rattle.program_words.specs.declared.fault.WordFault.TheVariants.{Words}
 use Rattle.program_words.specs.declared.keeping.Opening.{Opening}

@@ -1,9 +1,9 @@
 -- The words of overlayd: what they ask for by the synopsis is what is read of them.
-use Rattle.std.proofs.Common.{◌≡◌, ◌≢◌, ◌⊎◌, ℕ, ◌≤◌, refl, sym, ap, subst, ◌∙◌, inl, inr, List, [], ◌∷◌, ◌++◌, length, Bool, true, false, not, ◌&&◌, ◌||◌, ◌==◌, Option, Some, None, codes, bytes_eq, flat_map, fold, arith}
+use Rattle.std.proofs.Common.{◌≡◌, ◌≢◌, ◌⊎◌, ◌≤◌, refl, sym, ap, subst, ◌∙◌, inl, inr, List, [], ◌∷◌, ◌++◌, length, Bool, true, false, not, ◌||◌, ◌==◌, Some, None, codes, bytes_eq, fold, arith}
 use Rattle.std.proofs.lemmas.Bool.{and_parts, cases_Bool, le-leb, leb-true, or_cases, or_left, true≢false}
 use Rattle.std.proofs.lemmas.Option.{none-some}
 use Rattle.std.proofs.lemmas.Slice.Eq.{bytes_eq-Decides}
-use Rattle.std.specs.List.{filter, filter_map, list_all, list_any}
+use Rattle.std.specs.List.{filter_map, list_all, list_any}
 use Rattle.clap.specs.Faults.{fault_of}
 use Rattle.clap.specs.Simple.{Shape, built, matches_of}
 use Rattle.clap.specs.Walk.{Row, nothing_held, with_default}
@@ -12,11 +12,11 @@ use Rattle.clap.proofs.FaultLemmas.{leaf_fault}
 use Rattle.clap.proofs.OnLiterals.{clap_on_literals}
 use Rattle.program_words.proofs.Asked.{HasRules, Picks, asked_faults, fault_of_parts, flags_among, from_asks, from_picked, known_parts, of_one, of_options, opened_by, plain_other, rows_are, rows_of_parts, to_asks, to_picked}
 use Rattle.program_words.proofs.Asking.{both_flags, count, has, level_is}
-use Rattle.program_words.proofs.Line.{IsFlag, IsKnown, IsLine, IsName, IsOption, at, fits, flag_rule, found, option_rule, options, parts_fault, rows_at_end, total}
+use Rattle.program_words.proofs.Line.{IsKnown, IsLine, IsName, at, flag_rule, found, option_rule, options, rows_at_end, total}
 use Rattle.program_words.proofs.RequestLemmas.{asked_if, asked_parts}
-use Rattle.program_words.proofs.Rows.{flags_fit, is_flag, parts_fit}
+use Rattle.program_words.proofs.Rows.{flags_fit, parts_fit}
 use Rattle.program_words.specs.CommandLine.{command_line, is_known, request_in, run_request_of}
-use Rattle.program_words.specs.Synopsis.{Asks, AsksOverlayd, LinePart, RunRequest, Word, flag_of, flags_of, is_plain, words_of}
+use Rattle.program_words.specs.Synopsis.{AsksOverlayd, RunRequest, Word, flag_of, flags_of, is_plain}
 use Rattle.program_words.specs.declared.keeping.Opening.{Opening}
 use Rattle.program_words.specs.declared.keeping.Opening.TheVariants.{Existing, New, ReadOnly}
 

@@ -1,12 +1,11 @@
 -- What rows of `clap` have for a name after uses of options, flags and paths, and when a use is a fault.
-use Rattle.std.proofs.Common.{◌≡◌, ℕ, ◌≤◌, refl, sym, ap, ap₂, subst, ◌∙◌, inl, inr, List, [], ◌∷◌, ◌++◌, length, map, Bool, true, false, ◌&&◌, ◌||◌, Option, Some, None, is_some, unwrap_or, codes, bytes_eq, if◌then◌else◌, arith, append_assoc}
+use Rattle.std.proofs.Common.{◌≡◌, ◌≤◌, refl, sym, ap, ap₂, subst, ◌∙◌, inl, inr, List, [], ◌∷◌, ◌++◌, length, map, Bool, true, false, ◌&&◌, Option, Some, None, is_some, unwrap_or, codes, bytes_eq, if◌then◌else◌, arith, append_assoc}
 use Rattle.std.proofs.lemmas.Bool.{and_from, and_parts, cases_Bool, or_parts, false_from_ne_true, true≢false}
 use Rattle.std.proofs.lemmas.Slice.Eq.{bytes_eq-Decides}
 use Rattle.std.specs.List.{filter, filter_map, list_all, list_any}
-use Rattle.std.specs.Prelude.{slice_get}
-use Rattle.clap.specs.Kinds.{Kinds, or_else}
+use Rattle.clap.specs.Kinds.{or_else}
 use Rattle.clap.specs.Simple.{Shape}
-use Rattle.clap.specs.Walk.{Row, Rule, Text, all_of, first_of, has_row, with_default, with_values, without}
+use Rattle.clap.specs.Walk.{Row, Text, all_of, has_row, with_values, without}
 use Rattle.clap.specs.declared.builder.value_parser.Reading.{Reading}
 use Rattle.clap.specs.declared.error.kind.ErrorKind.TheVariants as kind
 use Rattle.clap.specs.declared.parser.matches.ValueSource.{ValueSource}
@@ -178,18 +177,18 @@ once_from id key (part ∷ parts) rows apart none =
     let look = look_part id key part rows faults.0 in
     elim (cases_Bool (bytes_eq (key_of id part) key)) [
       | inl same ↦
-        let fresh = is_fresh id key part rows apart same faults.0 in
-        let here : given id key part ≡ text_of part ∷ [] = rw same refl in
-        let some : is_some (all_of key (rows_with id part rows)) ≡ true =
-        ap (λ (o : Option (List Text)). is_some o) (look ∙ ap (joined (all_of key rows)) here) ∙ joined_some (all_of key rows) (text_of part) in
-        let rest = more.0 some in
-        let whole : texts id key (part ∷ parts) ≡ text_of part ∷ [] = ap (λ (xs : List Text). xs ++ texts id key parts) here ∙ ap (λ (xs : List Text). text_of part ∷ xs) rest in
-        ((λ before. absurd (true≢false (sym before ∙ fresh))), omega (arith, ap (λ (xs : List Text). length xs) whole))
+          let fresh = is_fresh id key part rows apart same faults.0 in
+          let here : given id key part ≡ text_of part ∷ [] = rw same refl in
+          let some : is_some (all_of key (rows_with id part rows)) ≡ true =
+          ap (λ (o : Option (List Text)). is_some o) (look ∙ ap (joined (all_of key rows)) here) ∙ joined_some (all_of key rows) (text_of part) in
+          let rest = more.0 some in
+          let whole : texts id key (part ∷ parts) ≡ text_of part ∷ [] = ap (λ (xs : List Text). xs ++ texts id key parts) here ∙ ap (λ (xs : List Text). text_of part ∷ xs) rest in
+          ((λ before. absurd (true≢false (sym before ∙ fresh))), omega (arith, ap (λ (xs : List Text). length xs) whole))
       | inr other ↦
-        let here : given id key part ≡ [] = rw other refl in
-        let whole : texts id key (part ∷ parts) ≡ texts id key parts = ap (λ (xs : List Text). xs ++ texts id key parts) here in
-        let kept : all_of key (rows_with id part rows) ≡ all_of key rows = look ∙ ap (joined (all_of key rows)) here ∙ joined_nil (all_of key rows) in
-        ((λ before. whole ∙ more.0 (ap (λ (o : Option (List Text)). is_some o) kept ∙ before)), omega (arith, more.1, ap (λ (xs : List Text). length xs) whole))
+          let here : given id key part ≡ [] = rw other refl in
+          let whole : texts id key (part ∷ parts) ≡ texts id key parts = ap (λ (xs : List Text). xs ++ texts id key parts) here in
+          let kept : all_of key (rows_with id part rows) ≡ all_of key rows = look ∙ ap (joined (all_of key rows)) here ∙ joined_nil (all_of key rows) in
+          ((λ before. whole ∙ more.0 (ap (λ (o : Option (List Text)). is_some o) kept ∙ before)), omega (arith, more.1, ap (λ (xs : List Text). length xs) whole))
     ]
 
 -- the other way: where each name comes once, no use is a fault
@@ -211,15 +210,15 @@ once_after id part parts rows fault once key apart =
     let before = once key apart in
     elim (cases_Bool (bytes_eq (key_of id part) key)) [
       | inl same ↦
-        let here : given id key part ≡ text_of part ∷ [] = rw same refl in
-        let whole : texts id key (part ∷ parts) ≡ text_of part ∷ texts id key parts = ap (λ (xs : List Text). xs ++ texts id key parts) here in
-        let nil = short_nil (texts id key parts) (text_of part) (omega (arith, before.1, ap (λ (xs : List Text). length xs) whole)) in
-        ((λ some. nil), omega (arith, ap (λ (xs : List Text). length xs) nil))
+          let here : given id key part ≡ text_of part ∷ [] = rw same refl in
+          let whole : texts id key (part ∷ parts) ≡ text_of part ∷ texts id key parts = ap (λ (xs : List Text). xs ++ texts id key parts) here in
+          let nil = short_nil (texts id key parts) (text_of part) (omega (arith, before.1, ap (λ (xs : List Text). length xs) whole)) in
+          ((λ some. nil), omega (arith, ap (λ (xs : List Text). length xs) nil))
       | inr other ↦
-        let here : given id key part ≡ [] = rw other refl in
-        let whole : texts id key (part ∷ parts) ≡ texts id key parts = ap (λ (xs : List Text). xs ++ texts id key parts) here in
-        let kept : all_of key (rows_with id part rows) ≡ all_of key rows = look ∙ ap (joined (all_of key rows)) here ∙ joined_nil (all_of key rows) in
-        ((λ some. sym whole ∙ before.0 (ap (λ (o : Option (List Text)). is_some o) (sym kept) ∙ some)), omega (arith, before.1, ap (λ (xs : List Text). length xs) whole))
+          let here : given id key part ≡ [] = rw other refl in
+          let whole : texts id key (part ∷ parts) ≡ texts id key parts = ap (λ (xs : List Text). xs ++ texts id key parts) here in
+          let kept : all_of key (rows_with id part rows) ≡ all_of key rows = look ∙ ap (joined (all_of key rows)) here ∙ joined_nil (all_of key rows) in
+          ((λ some. sym whole ∙ before.0 (ap (λ (o : Option (List Text)). is_some o) (sym kept) ∙ some)), omega (arith, before.1, ap (λ (xs : List Text). length xs) whole))
     ]
 
 -- a name that comes once is fresh
