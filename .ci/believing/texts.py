@@ -48,11 +48,11 @@ def text(told: Told, title: str) -> str:
 
 def index(lines: list[str], keys: set[Key]) -> list[str]:
     """The definitions and types of a text, each with the line at which it is."""
-    names = {re.escape(key[2]) for key in keys}
-    head = re.compile(rf" *(?:(?:abbrev|unfoldable) )?pub (?:(?:record|data|struct|enum|trait) )?({'|'.join(sorted(names, key=len, reverse=True))})(?=[ <(:{{]|$)")
+    either = "|".join(sorted({re.escape(key[2]) for key in keys}, key=len, reverse=True))
+    head = re.compile(rf" *(?:(?:abbrev|unfoldable) )?pub (?:(?:record|data|struct|enum|trait) )?({either})(?=[ <(:{{]|$)")
     found: dict[str, list[str]] = {}
     for at, line in enumerate(lines, 1):
-        # A field of a record has the form of a definition, but stands within one: below it, not after an empty line.
+        # A field has the form of a definition, but no empty line before it.
         above = next((one for one in reversed(lines[: at - 1]) if not re.match(r" *(--|//|#)", one)), "")
         named = head.match(line)
         if named and not above:
