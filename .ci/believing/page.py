@@ -8,7 +8,7 @@ import functools
 import pathlib
 import re
 
-from believing.house import NOTHING, Call, Cut, House, Key, Link, Reach
+from believing.house import NOTHING, Call, Cut, House, Key, Reach
 
 # The rows of which README.md has the numbers.
 OF_README = r"(?:`locate`|the sentence in bold|a crash of a run, and its opening|all without what stands beside|all together)"
