@@ -4,7 +4,7 @@ use Rattle.std.proofs.Common.{ap, sym, subst, ◌∙◌, arith, append_assoc, ap
 use Rattle.std.proofs.lemmas.List.{map_more, map-append, length-map, length-take-le}
 use Rattle.std.proofs.lemmas.List.Elements.{All-append, All-push, All-map, filter-append}
 use Rattle.std.proofs.Math.ListN.{length-append}
-use Rattle.overlay_terms.specs.Plane.{WholePoint, Segment, segments_of, steps_max}
+use Rattle.overlay_terms.specs.Plane.{WholePoint, segments_of, steps_max}
 use Rattle.overlay_terms.specs.Column.{column_count}
 use Rattle.overlay_terms.specs.Layers.{Marked, marked_segments}
 use Rattle.overlay_terms.specs.Trees.{Steps}

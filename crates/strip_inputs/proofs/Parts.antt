@@ -1,5 +1,5 @@
--- What a column touches a strip with it meets: parts of parts are parts.
-use Rattle.std.proofs.Common.{◌≡◌, ℕ, ◌+◌, ◌≤◌, ℤ, ◌<ℤ◌, ◌≤ℤ◌, Bool, true, false, cond, List, [], ◌∷◌, filter, refl, ap, sym, ◌∙◌, arith}
+-- What touches a column has a point in each strip with it, so the part of a strip's column is made of all segments that touch it.
+use Rattle.std.proofs.Common.{◌≡◌, ℕ, ◌+◌, ◌≤◌, ℤ, ◌<ℤ◌, ◌≤ℤ◌, Bool, true, false, List, [], ◌∷◌, filter, refl, ap, sym, ◌∙◌, arith}
 use Rattle.std.specs.Prelude.{int_le, int_lt}
 use Rattle.std.proofs.lemmas.Int.{ints}
 use Rattle.std.proofs.lemmas.Bool.{and_parts, and_from, false≢true}
@@ -7,7 +7,6 @@ use Rattle.overlay_terms.specs.Plane.{Segment}
 use Rattle.overlay_terms.specs.Column.{border, touches}
 use Rattle.overlay_terms.specs.Layers.{Marked}
 use Rattle.overlay_terms.specs.Trees.{Steps}
-use Rattle.overlay_terms.specs.Tiles.{Input}
 use Rattle.overlay_terms.proofs.InputNumbers.{le_true, lt_true, true_le, true_lt}
 use Rattle.crossing_sweep.specs.StripInput.{Span, StripInput, part}
 use Rattle.strip_inputs.specs.Strips.{meets, kept_in}

@@ -1,5 +1,5 @@
 -- Pieces in their order, split by the columns in which they begin.
-use Rattle.std.proofs.Common.{◌≡◌, ℕ, zero, suc, ℤ, pos, ◌+◌, ◌-◌, ◌<◌, ◌≤◌, ◌*ℤ◌, ◌<ℤ◌, ◌≤ℤ◌, Bool, true, false, cond, List, [], ◌∷◌, ◌++◌, map, filter, take, drop, length, get_or, refl, ap, sym, subst, ◌∙◌, arith, inl, inr, ◌⊎◌}
+use Rattle.std.proofs.Common.{◌≡◌, ℕ, zero, suc, ℤ, pos, ◌+◌, ◌-◌, ◌<◌, ◌≤◌, ◌*ℤ◌, ◌<ℤ◌, ◌≤ℤ◌, Bool, true, false, cond, List, [], ◌∷◌, map, filter, take, drop, length, get_or, refl, ap, sym, subst, ◌∙◌, arith, inl, inr, ◌⊎◌}
 use Rattle.std.specs.Prelude.{IsTrue, All, AllPairs, int_le, int_lt}
 use Rattle.std.specs.List.{slice_range}
 use Rattle.std.specs.Ordering.{ordering_then}
@@ -10,8 +10,7 @@ use Rattle.std.proofs.lemmas.Int.{ints, by_lt_z}
 use Rattle.overlay_terms.specs.Plane.{Point, point_cmp}
 use Rattle.overlay_terms.specs.Column.{border, is_in_column}
 use Rattle.overlay_terms.specs.Tiles.{pair_cmp}
-use Rattle.std.proofs.lemmas.List.{get_or_default, get_or-map, length-map, map-append, get_or_append_left, get_or_push}
-use Rattle.std.proofs.Math.ListN.{length-append}
+use Rattle.std.proofs.lemmas.List.{get_or_default, get_or-map, length-map}
 use Rattle.overlay_terms.proofs.InputLists.{map-filter}
 use Rattle.overlay_terms.proofs.InputNumbers.{out_of_order_by_x, most_times, least_through, le_true, lt_true, true_le, true_lt}
 use Rattle.crossing_sweep.specs.StripInput.{Span, is_in_strip}
@@ -30,8 +29,8 @@ filter_first p (x ∷ xs) (suc n) fits h k =
     ap (λ b. cond b (x ∷ filter p xs) (filter p xs)) (h 0 x (omega arith))
     ∙ ap (λ l. x ∷ l) (filter_first p xs n (omega (arith, fits)) (λ i d l. h (suc i) d (omega (arith, l))) (λ i d f l. k (suc i) d (omega (arith, f)) (omega (arith, l))))
 
--- what passes a test stands together
-pub filter_part : {X : Type 0} (p : X → Bool) (xs : List X) (s n : ℕ) → s + n ≤ length xs → ((i : ℕ) (d : X) → i < s → p (get_or xs i d) ≡ false)
+-- what passes a test, where that is one stretch
+filter_part : {X : Type 0} (p : X → Bool) (xs : List X) (s n : ℕ) → s + n ≤ length xs → ((i : ℕ) (d : X) → i < s → p (get_or xs i d) ≡ false)
     → ((i : ℕ) (d : X) → s ≤ i → i < s + n → p (get_or xs i d) ≡ true) → ((i : ℕ) (d : X) → s + n ≤ i → i < length xs → p (get_or xs i d) ≡ false) → filter p xs ≡ take n (drop s xs)
 filter_part p xs zero n fits before h k = filter_first p xs n (omega (arith, fits)) (λ i d l. h i d (omega arith) (omega (arith, l))) (λ i d f l. k i d (omega (arith, f)) l)
 filter_part p [] (suc s) n fits before h k = absurd (omega (arith, fits))
@@ -43,7 +42,7 @@ filter_part p (x ∷ xs) (suc s) n fits before h k =
 greater_is_not : (o : Ordering) → ordering_then Greater o ≡ Less → ⊥
 greater_is_not o h = absurd (let e : Greater ≡ Less = h in cc)
 
-pub from_left : (a b : Point × Point) → pair_cmp a b ≡ Less → (a.0.x *ℤ b.0.w) ≤ℤ (b.0.x *ℤ a.0.w)
+from_left : (a b : Point × Point) → pair_cmp a b ≡ Less → (a.0.x *ℤ b.0.w) ≤ℤ (b.0.x *ℤ a.0.w)
 from_left a b e =
     by_lt_z (b.0.x *ℤ a.0.w) (a.0.x *ℤ b.0.w)
     (λ h. absurd (greater_is_not (point_cmp a.1 b.1) (sym (ap (λ o. ordering_then o (point_cmp a.1 b.1)) (out_of_order_by_x a.0 b.0 h)) ∙ e))) (λ h. h)
@@ -162,7 +161,7 @@ first_split {X} ends rows strip within = record { fits = omega arith; before = �
 pub which : (k n : ℕ) → k < n + 1 → (k < n) ⊎ (n ≡ k)
 which k n l = search (arith, l)
 
--- what is read from a list, whatever stands for what is not there
+-- what is read from a list, whatever the default
 pub row_read : {X : Type 0} (rows : List X) (i : ℕ) (row : X) → i < length rows → row ≡ get_or rows i row → (d : X) → get_or rows i d ≡ row
 row_read rows i row l is d = get_or_default rows i d row l ∙ sym is
 

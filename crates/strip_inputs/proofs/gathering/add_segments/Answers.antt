@@ -1,4 +1,4 @@
-use Rattle.std.proofs.Common.{ap, sym, refl, ◌∙◌, map, List}
+use Rattle.std.proofs.Common.{ap, sym, ◌∙◌, map}
 use Rattle.overlay_terms.specs.Layers.{Marked}
 use Rattle.arrange.specs.Marked.{marked_of}
 use Rattle.arrange.proofs.KeptLemmas.{mark, proper_more}

@@ -1,4 +1,4 @@
-use Rattle.std.proofs.Common.{◌≡◌, ℕ, ◌+◌, ◌≤◌, [], List, ap, sym, subst, ◌∙◌, rules, arith}
+use Rattle.std.proofs.Common.{◌≡◌, ℕ, ◌+◌, ◌≤◌, ap, subst, ◌∙◌, rules, arith}
 use Rattle.crossing_sweep.specs.StripInput.{part, Span}
 use Rattle.tile_build.specs.StripTiles.{AreUpTo}
 use Rattle.tile_build.proofs.StripLemmas.{none_up_to, more_up_to}

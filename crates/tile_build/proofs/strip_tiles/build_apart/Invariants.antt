@@ -1,4 +1,4 @@
-use Rattle.std.proofs.Common.{ℕ, ◌+◌, ◌≤◌}
+use Rattle.std.proofs.Common.{◌+◌, ◌≤◌}
 use Rattle.tile_build.specs.StripTiles.{AreUpTo}
 use Rattle.tile_build.proofs.strip_tiles.build_apart.Given as goal
 

@@ -1,4 +1,4 @@
-use Rattle.std.proofs.Common.{◌≡◌, ◌<◌, ◌≤◌, List, map, length, ap, sym, subst, ◌∙◌, arith}
+use Rattle.std.proofs.Common.{◌≤◌, List, map, length, sym, subst, arith}
 use Rattle.std.specs.Prelude.{All}
 use Rattle.crossing_sweep.specs.Crossed.{IsSpan}
 use Rattle.crossing_sweep.specs.NodeNames.{named_ends, AreNumbered}

@@ -1,4 +1,4 @@
-use Rattle.std.proofs.Common.{ℕ, ◌+◌, ◌≤◌}
+use Rattle.std.proofs.Common.{◌+◌, ◌≤◌}
 use Rattle.crossing_sweep.specs.NodeNames.{named_ends}
 use Rattle.tile_build.specs.StripTiles.{AreUpTo}
 use Rattle.tile_build.proofs.StripSplit.{IsSplitAt}
