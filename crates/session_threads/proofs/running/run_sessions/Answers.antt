@@ -33,7 +33,7 @@ loop-script-preserved g c =
       left = one_less _ _ script _ _ c.in-Some.ensures.steps.0 c.in-Some.ensures.steps.1 at.invariant.left;
       grown = one_longer at.yielded script _ _ c.push_reserved.ensures.len at.invariant.grown;
       room = omega (arith, at.invariant.room, c.push_reserved.ensures.capacity);
-      begun = beside_pushed (λ script begun. MatchResult begun (λ h. (h.promise.begun.value ≡ script) × (h.promise.stored ≡ has_store c.args.shared.now)) (λ back. IsRunOf g.J.BookName.book (store_of g.J.BookName.stored (has_store c.args.shared.now)) g.R.Read.remaining g.W.Write.contents script back))
+      begun = beside_pushed (λ script begun. MatchResult begun (λ h. (h.promise.begun.value ≡ script) × (h.promise.stored ≡ has_store c.args.shared.now)) (λ back. IsRunOf g.J.BookName.book (store_of g.J.BookName.stored (has_store c.args.shared.now)) g.R.Read.remaining g.W.ReplyWriter.contents script back))
           at.yielded at.running.items _ script c.start_session.result c.push_reserved.ensures.items at.invariant.begun c.start_session.ensures;
     }
 
@@ -44,9 +44,9 @@ join_sessions-requires g c =
     let stored = has_store c.args.shared.now in
     let all = gone_by_count _ c.args.scripts.items at.yielded (into_iter_items at.script-iterator) _ at.invariant.all
     c.into_iter-script-iterator.ensures.into_iter_gives.0 at.invariant.left c.in-None.ensures.steps.0 in
-    let begun = subst (λ scripts. AllZip (λ script begun. MatchResult begun (λ h. (h.promise.begun.value ≡ script) × (h.promise.stored ≡ stored)) (λ back. IsRunOf g.J.BookName.book (store_of g.J.BookName.stored stored) g.R.Read.remaining g.W.Write.contents script back)) scripts running.items) all at.invariant.begun in
+    let begun = subst (λ scripts. AllZip (λ script begun. MatchResult begun (λ h. (h.promise.begun.value ≡ script) × (h.promise.stored ≡ stored)) (λ back. IsRunOf g.J.BookName.book (store_of g.J.BookName.stored stored) g.R.Read.remaining g.W.ReplyWriter.contents script back)) scripts running.items) all at.invariant.begun in
     subst (λ n. IsReserved c.args.rooms.ended n)
-    (beside_length (λ script begun. MatchResult begun (λ h. (h.promise.begun.value ≡ script) × (h.promise.stored ≡ stored)) (λ back. IsRunOf g.J.BookName.book (store_of g.J.BookName.stored stored) g.R.Read.remaining g.W.Write.contents script back)) c.args.scripts.items running.items begun) c.requires.rooms.ended
+    (beside_length (λ script begun. MatchResult begun (λ h. (h.promise.begun.value ≡ script) × (h.promise.stored ≡ stored)) (λ back. IsRunOf g.J.BookName.book (store_of g.J.BookName.stored stored) g.R.Read.remaining g.W.ReplyWriter.contents script back)) c.args.scripts.items running.items begun) c.requires.rooms.ended
 
 pub returns : goal.returns
 returns g c =
@@ -55,15 +55,15 @@ returns g c =
     let stored = has_store c.args.shared.now in
     let all = gone_by_count _ c.args.scripts.items at.yielded (into_iter_items at.script-iterator) _ at.invariant.all
     c.into_iter-script-iterator.ensures.into_iter_gives.0 at.invariant.left c.in-None.ensures.steps.0 in
-    let begun = subst (λ scripts. AllZip (λ script begun. MatchResult begun (λ h. (h.promise.begun.value ≡ script) × (h.promise.stored ≡ stored)) (λ back. IsRunOf g.J.BookName.book (store_of g.J.BookName.stored stored) g.R.Read.remaining g.W.Write.contents script back)) scripts running.items) all at.invariant.begun in
-    beside_through (λ script begun. MatchResult begun (λ h. (h.promise.begun.value ≡ script) × (h.promise.stored ≡ stored)) (λ back. IsRunOf g.J.BookName.book (store_of g.J.BookName.stored stored) g.R.Read.remaining g.W.Write.contents script back))
-    (λ begun ended. MatchResult begun (λ h. IsRunOf g.J.BookName.book (store_of g.J.BookName.stored h.promise.stored) g.R.Read.remaining g.W.Write.contents h.promise.begun.value ended) (λ back. ended ≡ back))
-    (λ script ended. IsRunOf g.J.BookName.book (store_of g.J.BookName.stored stored) g.R.Read.remaining g.W.Write.contents script ended)
-    (λ script begun ended. elim begun as (λ b. MatchResult b (λ h. (h.promise.begun.value ≡ script) × (h.promise.stored ≡ stored)) (λ back. IsRunOf g.J.BookName.book (store_of g.J.BookName.stored stored) g.R.Read.remaining g.W.Write.contents script back)
-    → MatchResult b (λ h. IsRunOf g.J.BookName.book (store_of g.J.BookName.stored h.promise.stored) g.R.Read.remaining g.W.Write.contents h.promise.begun.value ended) (λ back. ended ≡ back)
-    → IsRunOf g.J.BookName.book (store_of g.J.BookName.stored stored) g.R.Read.remaining g.W.Write.contents script ended) [
-      | Ok h ↦ λ same ran. subst (λ b. IsRunOf g.J.BookName.book (store_of g.J.BookName.stored b) g.R.Read.remaining g.W.Write.contents script ended) same.1
-          (subst (λ s. IsRunOf g.J.BookName.book (store_of g.J.BookName.stored h.promise.stored) g.R.Read.remaining g.W.Write.contents s ended) same.0 ran)
-      | Err back ↦ λ ran is. subst (λ e. IsRunOf g.J.BookName.book (store_of g.J.BookName.stored stored) g.R.Read.remaining g.W.Write.contents script e) (sym is) ran
+    let begun = subst (λ scripts. AllZip (λ script begun. MatchResult begun (λ h. (h.promise.begun.value ≡ script) × (h.promise.stored ≡ stored)) (λ back. IsRunOf g.J.BookName.book (store_of g.J.BookName.stored stored) g.R.Read.remaining g.W.ReplyWriter.contents script back)) scripts running.items) all at.invariant.begun in
+    beside_through (λ script begun. MatchResult begun (λ h. (h.promise.begun.value ≡ script) × (h.promise.stored ≡ stored)) (λ back. IsRunOf g.J.BookName.book (store_of g.J.BookName.stored stored) g.R.Read.remaining g.W.ReplyWriter.contents script back))
+    (λ begun ended. MatchResult begun (λ h. IsRunOf g.J.BookName.book (store_of g.J.BookName.stored h.promise.stored) g.R.Read.remaining g.W.ReplyWriter.contents h.promise.begun.value ended) (λ back. ended ≡ back))
+    (λ script ended. IsRunOf g.J.BookName.book (store_of g.J.BookName.stored stored) g.R.Read.remaining g.W.ReplyWriter.contents script ended)
+    (λ script begun ended. elim begun as (λ b. MatchResult b (λ h. (h.promise.begun.value ≡ script) × (h.promise.stored ≡ stored)) (λ back. IsRunOf g.J.BookName.book (store_of g.J.BookName.stored stored) g.R.Read.remaining g.W.ReplyWriter.contents script back)
+    → MatchResult b (λ h. IsRunOf g.J.BookName.book (store_of g.J.BookName.stored h.promise.stored) g.R.Read.remaining g.W.ReplyWriter.contents h.promise.begun.value ended) (λ back. ended ≡ back)
+    → IsRunOf g.J.BookName.book (store_of g.J.BookName.stored stored) g.R.Read.remaining g.W.ReplyWriter.contents script ended) [
+      | Ok h ↦ λ same ran. subst (λ b. IsRunOf g.J.BookName.book (store_of g.J.BookName.stored b) g.R.Read.remaining g.W.ReplyWriter.contents script ended) same.1
+          (subst (λ s. IsRunOf g.J.BookName.book (store_of g.J.BookName.stored h.promise.stored) g.R.Read.remaining g.W.ReplyWriter.contents s ended) same.0 ran)
+      | Err back ↦ λ ran is. subst (λ e. IsRunOf g.J.BookName.book (store_of g.J.BookName.stored stored) g.R.Read.remaining g.W.ReplyWriter.contents script e) (sym is) ran
     ])
     c.args.scripts.items running.items c.join_sessions.result.items begun c.join_sessions.ensures
