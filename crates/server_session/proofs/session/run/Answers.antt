@@ -1,5 +1,4 @@
 use Rattle.std.proofs.Common.{◌≡◌, ◌+◌, ◌≤◌, refl, sym, arith, rules, ◌∙◌}
-use Rattle.version_book.specs.Store.{has_store}
 use Rattle.server_session.proofs.Endings.{begins, goes_on, ends-finished, ends-at_read, ends-past_limit, ends-stopped, reads_none, when_err, when_ok}
 use Rattle.server_session.proofs.Replies.{may_report-on}
 use Rattle.server_session.proofs.Turns.{stays_self, stays_trans}
@@ -24,10 +23,10 @@ pub returns-in-Err-clause-stays : goal.returns-in-Err-clause-stays
 returns-in-Err-clause-stays g c = c.loop-taken.invariant.stays
 
 pub finish-requires-clause-told : goal.finish-requires-clause-told
-finish-requires-clause-told g c = may_report-on _ _ _ c.args.me.now c.loop-taken.me c.loop-taken.invariant.stays c.requires.told
+finish-requires-clause-told g c κs within = may_report-on _ _ _ c.args.me.now c.loop-taken.me c.loop-taken.invariant.stays c.requires.told
 
 pub take-told-requires-clause-told : goal.take-told-requires-clause-told
-take-told-requires-clause-told g c = may_report-on _ _ _ c.args.me.now c.loop-taken.me c.loop-taken.invariant.stays c.requires.told
+take-told-requires-clause-told g c κs within = may_report-on _ _ _ c.args.me.now c.loop-taken.me c.loop-taken.invariant.stays c.requires.told
 
 pub returns-in-Ok-eq0-clause-run : goal.returns-in-Ok-eq0-clause-run
 returns-in-Ok-eq0-clause-run g c =

@@ -14,7 +14,7 @@ loop-byte-init g c = record {
 }
 
 pub take_byte-requires-clause-told : goal.take_byte-requires-clause-told
-take_byte-requires-clause-told g c = may_report-on _ _ _ c.args.me.now c.loop-byte.me c.loop-byte.invariant.stays c.requires.told
+take_byte-requires-clause-told g c κs within = may_report-on _ _ _ c.args.me.now c.loop-byte.me c.loop-byte.invariant.stays c.requires.told
 
 pub loop-byte-preserved : goal.loop-byte-preserved
 loop-byte-preserved g c =
