@@ -5,18 +5,28 @@ use Rattle.std.specs.Vec.Iter.{into_iter_items}
 use Rattle.overlay_terms.proofs.Lists.{in_middle}
 use Rattle.version_book.specs.Store.{has_store}
 use Rattle.session_threads.specs.Rooms.{IsReserved}
+use Rattle.server_session.specs.Replying.{MayReport}
 use Rattle.server_session.specs.Stores.{store_of}
+use Rattle.session_threads.specs.declared.running.Script.{Script}
 use Rattle.session_threads.specs.Running.{IsRunOf}
 use Rattle.session_threads.proofs.Lists.{beside_length, beside_pushed, beside_through, gone_by_count, one_less, one_longer, one_on, room_left}
 use Rattle.session_threads.proofs.running.run_sessions.Goals as goal
 
-pub start_session-requires-after_bounds : goal.start_session-requires-after_bounds
-start_session-requires-after_bounds g c κs within =
+pub start_session-requires-clause-book : goal.start_session-requires-clause-book
+start_session-requires-clause-book g c κs within =
     let at = c.loop-script in
     let rest = into_iter_items c.next.new.self in
     let parts = ap (λ ss. at.yielded ++ ss) (sym c.in-Some.ensures.steps.0) ∙ at.invariant.all ∙ c.into_iter-script-iterator.ensures.into_iter_gives.0 in
     in_middle (λ script. script.session.book ≡ g.J.BookName.book) at.yielded c.in-Some.script rest
     (subst (All (λ script. script.session.book ≡ g.J.BookName.book)) (sym parts) c.requires.scripts)
+
+pub start_session-requires-clause-told : goal.start_session-requires-clause-told
+start_session-requires-clause-told g c κs within =
+    let at = c.loop-script in
+    let rest = into_iter_items c.next.new.self in
+    let parts = ap (λ ss. at.yielded ++ ss) (sym c.in-Some.ensures.steps.0) ∙ at.invariant.all ∙ c.into_iter-script-iterator.ensures.into_iter_gives.0 in
+    let may : Script _ _ → Type 0 = λ script. MayReport g.J.BookName.stored (has_store c.args.shared.now) script.session g.W.ReplyWriter.may_report in
+    in_middle may at.yielded c.in-Some.script rest (subst (All may) (sym parts) c.requires.told)
 
 pub push_reserved-requires : goal.push_reserved-requires
 push_reserved-requires g c =
