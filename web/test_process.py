@@ -22,9 +22,9 @@ from collections.abc import Callable, Iterator
 from typing import Any
 from wsgiref import simple_server
 
+from tools.overlay_client import Server
 from . import serving, testing
 from .commands import overlay_web
-from .overlay_client import Server
 from .testing import SQUARE
 
 

@@ -8,10 +8,10 @@ import threading
 import unittest
 import unittest.mock
 
+from tools.overlay_client import Refused, Server
 from . import rescue, testing
 from .front import Front
 from .layer_store import LayerStore
-from .overlay_client import Refused, Server
 from .rescue import Rescue, put_copy
 from .scratch import Scratch
 from .testing import SQUARE, Client

@@ -17,10 +17,10 @@ from collections.abc import Callable, Iterator, Mapping
 from typing import Any, NamedTuple
 
 from tools import scale as scales
+from tools.overlay_client import Server
 from .front import Front
 from .layer_store import LayerStore
 from .map_scale import MapScale
-from .overlay_client import Server
 from .scratch import Scratch
 
 PROGRAM = "overlay_live"
