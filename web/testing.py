@@ -53,6 +53,14 @@ def program_that_ignores_a_full_file(folder: pathlib.Path) -> pathlib.Path:
     return made
 
 
+def square_store(folder: pathlib.Path) -> pathlib.Path:
+    """A new store with a square and a layer that is the same."""
+    store = folder / "map.db"
+    with Server(store, create=True, program=PROGRAM) as server:
+        server.sessions[0].batch([f"PUT A {SQUARE}", "DEFINE I = A"])
+    return store
+
+
 def wait_until(holds: Callable[[], bool], seconds: float = 60) -> None:
     """Waits until something holds; an AssertionError where it does not in time."""
     end = time.monotonic() + seconds

@@ -277,12 +277,17 @@ def many_layers(browser: Browser, address: str, tries: Tries) -> None:
     urllib.request.urlopen(asked_for).close()
     browser.open(address)
     browser.until(READY)
-    define(browser, "M", "A - nowhere")
+    refused_thrice(browser, "A", tries)
+
+
+def refused_thrice(browser: Browser, layer: str, tries: Tries) -> None:
+    """A definition, a point, and the first layer's drop."""
+    define(browser, "M", f"{layer} - nowhere")
     refused(browser, "told-define", "error 10 unknown layer", tries)
     ask_point(browser, "1", "x")
     refused(browser, "told-asking", "y: 1 numbers are wanted", tries)
     browser.value("document.querySelector('#layers li:nth-child(1) button[title^=drop]').click()")
-    refused(browser, "told-layer-A", "error 14", tries)
+    refused(browser, f"told-layer-{layer}", "error 14", tries)
 
 
 def looks(browser: Browser, address: str, tries: Tries) -> None:
@@ -335,12 +340,7 @@ def changes(browser: Browser, address: str, pictures: pathlib.Path, tries: Tries
 
     browser.value("document.querySelector('#layers li:nth-child(4) input').click()")
     compared(browser, address, tries, "with a layer hidden")
-    define(browser, "M", "N - nowhere")
-    refused(browser, "told-define", "error 10 unknown layer", tries)
-    ask_point(browser, "1", "x")
-    refused(browser, "told-asking", "y: 1 numbers are wanted", tries)
-    browser.value("document.querySelector('#layers li:nth-child(1) button[title^=drop]').click()")
-    refused(browser, "told-layer-iceland_110m", "error 14", tries)
+    refused_thrice(browser, "iceland_110m", tries)
     browser.value("[...document.querySelectorAll('#layers button')].at(-1).click()")
     browser.until(
         "document.querySelectorAll('#layers li').length === 4 && "
