@@ -38,7 +38,6 @@ ASKED = (
 # Those among them that may lack a control still: they are named, and the gate does not fail for it.
 LACKING = (
     "book_lock/add_opening_version_for_all", "book_lock/keep_finished_with_another_tile", "book_lock/keep_job_dropped",
-    "book_lock/submit_accepted_and_unchanged", "book_lock/submit_applied_twice",
 )
 
 

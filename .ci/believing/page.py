@@ -186,7 +186,7 @@ def section(told: Told, call: Call, reach: Reach, fresh: set[Key]) -> str:
     mine, new = house.mine(reach.keys), house.mine(fresh)
     lines = [f"## `{call.title}`", "", f"{call.says} The contract: `crates/{call.file}`."]
     if len(new) < len(mine):
-        lines[-1] += f" {len(mine) - len(new)} of its definitions stand in sections above."
+        lines[-1] += f" {len(mine) - len(new)} of its definitions are in sections above."
     if new:
         lines += ["", "| File | Lines | Definitions |", "|---|---|---|"]
     for (crate, module), names in house.in_order(new):
@@ -237,7 +237,7 @@ def types(house: House, keys: set[Key]) -> str:
     lines = ["## Types of the sources", "",
              "Not counted above. A value of a type with a model is seen as the model's value; of any other its fields are",
              "seen, and of an enum its cases. A trait has clauses of its own: what a disk has to keep, a crash's premise,",
-             "stands in `Disk`.", "",
+             "is in `Disk`.", "",
              "| File | Types, and what they are seen as |", "|---|---|"]
     files: dict[tuple[int, str], list[str]] = {}
     for crate, name in sorted({key[1:] for key in keys if not key[0]}):

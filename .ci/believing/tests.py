@@ -3,6 +3,7 @@
 from __future__ import annotations
 
 import pathlib
+import re
 import tempfile
 
 from believing import rust
@@ -262,6 +263,9 @@ def writes(top: pathlib.Path) -> int:
     assert row.index("abbrev pub twice") < row.index("-- goes up\nabbrev pub Goes") < row.index("Takes n = Handed n → Goes n n")
     assert "What to believe of: both (4 definitions, 12 lines)" in row and "low `Thing` as `Pair`" in row and "idle" not in row
     assert "goes_law (high/src/calling.rt): What goes, goes on." in row
+    places = dict(re.findall(r"(\w+) (\d+)(?:,|$)", row.partition("==== Names, and the lines at which they are\n\n")[2], re.M))
+    assert set(places) == {"Goes", "Pair", "Takes", "twice", "twofold"}, places
+    assert row.splitlines()[int(places["Goes"]) - 1] == "abbrev pub Goes : Thing → ℕ → Type 0" and "left" not in places
     assert "==== Of the kit: core Numbers\n\n-- both\nabbrev pub twofold : ℕ → ℕ\ntwofold n = n + n\n" in row, row
     for call, head, lines in [("opens", "A type of low: Box", "/// A box.\npub struct Box<D: Disk> {\n    pub(crate) thing: Vec<Thing>,\n}\n"),
                               ("sort", "A type of low: Kind", "pub enum Kind {\n    /// One.\n    One { thing: Thing },\n    Two(Box<u8>),\n}\n")]:
@@ -280,7 +284,7 @@ def writes(top: pathlib.Path) -> int:
             assert fault in str(stop), stop
         else:
             raise AssertionError(fault)
-    return 10
+    return 11
 
 
 def compares(top: pathlib.Path) -> int:

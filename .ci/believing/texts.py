@@ -4,11 +4,13 @@ from __future__ import annotations
 
 import pathlib
 import re
+import textwrap
 
 from believing.house import Cut, File, House, Key
 from believing.page import Told, quoted, reached_by, seen_as, sentence_of
 
 FOLDER = pathlib.Path("docs/believe")
+FIRM = "\u00a0"  # a space at which no line ends
 
 
 def path_of(title: str) -> pathlib.Path:
@@ -27,8 +29,8 @@ def text(told: Told, title: str) -> str:
     lines = [f"What to believe of: {title} {count}", "",
              "`.ci/believe --text` wrote this from the sources. docs/BELIEVE.md says how to read it. First the contracts,",
              "then the definitions on which they rest, lowest first: each comes after those that it rests on, or beside them",
-             "in one file. At the end are the kit's definitions that these name, and the types of the sources, each with the",
-             "fields that these name: to be looked up.", ""]
+             "in one file. At the end, to be looked up, are the kit's definitions that these name, the types of the sources",
+             "with the fields that these name, and the lines of all names.", ""]
     for head, parts in [("Left out are these promises, which stand beside (docs/BELIEVE.md); their words are not defined here:", row.without),
                         ("Of the contracts this row has these promises alone; the words of others are not defined here:", row.only)]:
         if parts:
@@ -41,7 +43,24 @@ def text(told: Told, title: str) -> str:
         lines += definitions(house, file, names, cut)
     lines += proved(told, reach.keys)
     lines += rest(house, reach.keys, sorted(link.title for link in reach.links), cut, "\n".join(lines))
-    return "\n".join(lines)
+    return "\n".join([*lines, *index(lines, reach.keys)])
+
+
+def index(lines: list[str], keys: set[Key]) -> list[str]:
+    """The definitions and types of a text, each with the line at which it is."""
+    either = "|".join(sorted({re.escape(key[2]) for key in keys}, key=len, reverse=True))
+    head = re.compile(rf" *(?:(?:abbrev|unfoldable) )?pub (?:(?:record|data|struct|enum|trait) )?({either})(?=[ <(:{{]|$)")
+    found: dict[str, list[str]] = {}
+    for at, line in enumerate(lines, 1):
+        # A field has the form of a definition, but no empty line before it.
+        above = next((one for one in reversed(lines[: at - 1]) if not re.match(r" *(--|//|#)", one)), "")
+        named = head.match(line)
+        if named and not above:
+            found.setdefault(named[1], []).append(str(at))
+    # What belongs together is not parted at the end of a line.
+    said = ", ".join(FIRM.join([name, *places]) for name, places in sorted(found.items(), key=lambda one: (one[0].lower(), one)))
+    wrapped = [line.replace(FIRM, " ") for line in textwrap.wrap(said, 110, break_on_hyphens=False)]
+    return ["==== Names, and the lines at which they are", "", *wrapped, ""] if found else []
 
 
 def twice(keys: set[Key]) -> list[str]:
