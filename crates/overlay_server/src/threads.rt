@@ -6,10 +6,11 @@ ghost use Rattle.version_book.specs.Store.{has_store};
 
 use crate::storing::{Store, start_store};
 use disk_model::disk::Disk;
+use server_session::reply_writer::ReplyWriter;
 use session_threads::halt::Halt;
 use session_threads::running::{Ended, Rooms, Script, run_sessions};
 use std::alloc::Global;
-use std::io::{Read, Write};
+use std::io::Read;
 use std::sync::Wait;
 use std::thread;
 use std::thread::{Scope, Threads};
@@ -20,7 +21,7 @@ use version_book::shared::Shared;
 
 /// What the threads begin with: how many workers, the store, and the scripts with room for what these leave.
 #[derive(Drop)]
-pub struct Work<J: BookName, R: Read, W: Write, D: Disk> {
+pub struct Work<J: BookName, R: Read, W: ReplyWriter, D: Disk> {
     pub workers: usize,
     pub store: Store<D>,
     pub scripts: Vec<Script<R, W>>,
@@ -51,16 +52,16 @@ where
     G: Gate + Sync,
     Q: Threads + Wait + Sync,
     R: Read + Send + Drop,
-    W: Write + Send + Drop,
+    W: ReplyWriter + Send + Drop,
     D: Disk + Send + Drop,
-    requires { IsReady J.book J.stored work }
+    requires { IsReady J.book J.stored (has_store shared.now) W.may_report work }
     ensures { HasWorked J.book (store_of J.stored (has_store shared.now)) R.remaining W.contents D.Disk work result }
 {
     thread::scope(
         thread::scope_env(),
         rt,
         |scope| -> Returned<R, W, D>
-            requires { IsReady J.book J.stored work }
+            requires { IsReady J.book J.stored (has_store shared.now) W.may_report work }
             ensures { HasWorked J.book (store_of J.stored (has_store shared.entry.now)) R.remaining W.contents D.Disk work result }
         { run_in(scope, rt, alloc, gate, shared, halt, work) },
     )
@@ -82,9 +83,9 @@ where
     G: Gate + Sync,
     Q: Threads + Wait + Sync,
     R: Read + Send + Drop + 's,
-    W: Write + Send + Drop + 's,
+    W: ReplyWriter + Send + Drop + 's,
     D: Disk + Send + Drop + 's,
-    requires { IsReady J.book J.stored work }
+    requires { IsReady J.book J.stored (has_store shared.now) W.may_report work }
     ensures { HasWorked J.book (store_of J.stored (has_store shared.now)) R.remaining W.contents D.Disk work result }
 {
     let Work {

@@ -5,8 +5,9 @@ ghost use Rattle.session_threads.specs.Seats.{ended_session, finished_of, port_o
 
 use crate::port::{Finished, Port};
 use crate::running::{Ended, Rooms, Script};
+use server_session::reply_writer::ReplyWriter;
 use std::alloc::Global;
-use std::io::{Read, Write};
+use std::io::Read;
 use version_book::seen_log::BookName;
 use version_book::session::Session;
 
@@ -19,7 +20,7 @@ pub struct Parts<W> {
 
 /// The scripts, each with the session that runs it, and room for all that these leave.
 #[derive(Drop)]
-pub struct Seats<J: BookName, R: Read, W: Write> {
+pub struct Seats<J: BookName, R: Read, W: ReplyWriter> {
     pub scripts: Vec<Script<R, W>>,
     pub rooms: Rooms<J, R, W>,
     pub parts: Parts<W>,
@@ -27,7 +28,7 @@ pub struct Seats<J: BookName, R: Read, W: Write> {
 
 /// Gives each reader's script the session of its place, and takes the memory for the lists that are filled later. None
 /// comes where memory is refused.
-pub fn seated<J: BookName, R: Read + Drop, W: Write + Drop>(
+pub fn seated<J: BookName, R: Read + Drop, W: ReplyWriter + Drop>(
     alloc: Global,
     sessions: Vec<Session>,
     ports: Vec<Port<R, W>>,
@@ -50,7 +51,7 @@ pub fn seated<J: BookName, R: Read + Drop, W: Write + Drop>(
 }
 
 /// Room for the threads of so many sessions.
-fn rooms<J: BookName, R: Read + Drop, W: Write + Drop>(
+fn rooms<J: BookName, R: Read + Drop, W: ReplyWriter + Drop>(
     alloc: Global,
     count: usize,
 ) -> Option<Rooms<J, R, W>>

@@ -72,7 +72,9 @@ fn spend<J: BookName, R: Wait + Drop, W: Wait + Abort>(
     requires book { strip.book ≡ J.book }
     requires whole { strip.next ≡ strip.input.strip.first }
 {
-    let built = build_strip(alloc, strip.input()).expect(rt, "memory");
+    let Ok(built) = build_strip(alloc, strip.input()) else {
+        panic!(rt; "memory")
+    };
     let kept = finish_each(rt, alloc, shared, &mut strip, &built, most);
     shared.give_back_strip(rt, strip);
     (built.len(), kept)

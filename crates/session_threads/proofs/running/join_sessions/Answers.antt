@@ -22,13 +22,13 @@ loop-begun-preserved g c =
       left = one_less _ _ begun _ _ c.in-Some.ensures.steps.0 c.in-Some.ensures.steps.1 at.invariant.left;
       grown = one_longer at.yielded begun _ _ c.push_reserved.ensures.len at.invariant.grown;
       room = omega (arith, at.invariant.room, c.push_reserved.ensures.capacity);
-      kept = beside_pushed (λ begun ended. MatchResult begun (λ h. IsRunOf g.J.BookName.book (store_of g.J.BookName.stored h.promise.stored) g.R.Read.remaining g.W.Write.contents h.promise.begun.value ended) (λ back. ended ≡ back))
+      kept = beside_pushed (λ begun ended. MatchResult begun (λ h. IsRunOf g.J.BookName.book (store_of g.J.BookName.stored h.promise.stored) g.R.Read.remaining g.W.ReplyWriter.contents h.promise.begun.value ended) (λ back. ended ≡ back))
           at.yielded at.list.items _ begun c.join_session.result c.push_reserved.ensures.items at.invariant.kept c.join_session.ensures;
     }
 
 pub returns : goal.returns
 returns g c =
     let at = c.loop-begun in
-    subst (λ hs. AllZip (λ begun ended. MatchResult begun (λ h. IsRunOf g.J.BookName.book (store_of g.J.BookName.stored h.promise.stored) g.R.Read.remaining g.W.Write.contents h.promise.begun.value ended) (λ back. ended ≡ back)) hs at.list.items)
+    subst (λ hs. AllZip (λ begun ended. MatchResult begun (λ h. IsRunOf g.J.BookName.book (store_of g.J.BookName.stored h.promise.stored) g.R.Read.remaining g.W.ReplyWriter.contents h.promise.begun.value ended) (λ back. ended ≡ back)) hs at.list.items)
     (gone_by_count _ c.args.running.items at.yielded (into_iter_items at.begun-iterator) _ at.invariant.all c.into_iter-begun-iterator.ensures.into_iter_gives.0
     at.invariant.left c.in-None.ensures.steps.0) at.invariant.kept

@@ -14,6 +14,6 @@ invariant-loop-begun g l = record {
   grown : vec_len l.list ≡ length l.yielded;
   room : length (into_iter_items l.initial.begun-iterator) ≤ vec_capacity l.list;
   kept : AllZip (λ begun ended. MatchResult begun
-      (λ h. IsRunOf g.J.BookName.book (store_of g.J.BookName.stored h.promise.stored) g.R.Read.remaining g.W.Write.contents h.promise.begun.value ended)
+      (λ h. IsRunOf g.J.BookName.book (store_of g.J.BookName.stored h.promise.stored) g.R.Read.remaining g.W.ReplyWriter.contents h.promise.begun.value ended)
       (λ back. ended ≡ back)) l.yielded l.list.items;
 }

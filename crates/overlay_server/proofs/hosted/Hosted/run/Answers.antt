@@ -18,6 +18,7 @@ use Rattle.overlay_server.specs.Given.{given_to}
 use Rattle.overlay_server.specs.Serving.{first_log}
 use Rattle.overlay_server.proofs.Held.{runs_held}
 use Rattle.overlay_server.proofs.Refusals.{MayAnswer, refused_at_once}
+use Rattle.overlay_server.proofs.Reporting.{may_report_all}
 use Rattle.overlay_server.proofs.Parts.{AreSeated, all_of_book, as_many, begin_there, of_ended}
 use Rattle.overlay_server.proofs.Stopping.{any_of, come_to, stopped_from}
 use Rattle.overlay_server.proofs.Stores.{holds_first, holds_on, kept_twice, stopped_at_once}
@@ -31,7 +32,7 @@ seated-requires g c =
 pub returns-in_default-clause-refused : goal.returns-in_default-clause-refused
 returns-in_default-clause-refused g c =
     let self = c.args.self in
-    refused_at_once g.D.Disk self.version.value self.store.flusher (given_to g.R.Read.remaining g.W.Write.contents c.args.ports.items) c.refused.result self.answer
+    refused_at_once g.D.Disk self.version.value self.store.flusher (given_to g.R.Read.remaining g.W.ReplyWriter.contents c.args.ports.items) c.refused.result self.answer
     (record { code = c.refused.ensures.code; same = c.refused.ensures.answer; may = subst MayAnswer (sym c.requires.hosted.answer) tt })
     (ap (λ (l : BookLog). l.log) c.refused.ensures.seen_log ∙ c.requires.hosted.first) c.refused.ensures.told c.refused.ensures.sessions
     (stopped_at_once g.D.Disk self.version.value self.store.flusher c.refused.result.disk c.refused.ensures.now c.refused.ensures.disk)
@@ -48,6 +49,9 @@ run_threads-store-requires-after_bounds g c κs within =
       durable = subst (λ log. HoldsOfStore g.D.Disk g.J.BookName.stored log c.args.self.store.flusher) (sym c.requires.hosted.begun)
           (holds_first g.D.Disk g.J.BookName.stored c.args.self.version.value c.args.self.store.flusher c.requires.meant);
       scripts = all_of_book g.J.BookName.book c.args.self.version.value c.args.ports.items seats.scripts.items seated;
+      told = may_report_all g.D.Disk c.requires.hosted.now c.args.self.version.value g.J.BookName.stored c.args.self.store.flusher (λ log number. (c.requires.meant log number).0)
+          g.W.ReplyWriter.may_report c.requires.told _ c.requires.hosted.stored seats.scripts.items
+          (begin_there g.J.BookName.book c.args.self.version.value c.args.ports.items seats.scripts.items seated);
       rooms = subst (HasRooms seats.rooms) (sym (as_many g.J.BookName.book c.args.self.version.value c.args.ports.items seats.scripts.items seated)) rooms;
     }
 
@@ -72,19 +76,19 @@ parted-sessions-requires g c =
     let seated : AreSeated g.J.BookName.book c.args.self.version.value c.args.ports.items scripts = record { sessions = sessions ∙ c.requires.hosted.sessions; ports_are = ports } in
     let count : length c.args.ports.items ≡ length ended =
     sym (as_many g.J.BookName.book c.args.self.version.value c.args.ports.items scripts seated)
-    ∙ beside_length (IsRunOf g.J.BookName.book stored g.R.Read.remaining g.W.Write.contents) scripts ended c.run_threads-store.ensures.ended in
+    ∙ beside_length (IsRunOf g.J.BookName.book stored g.R.Read.remaining g.W.ReplyWriter.contents) scripts ended c.run_threads-store.ensures.ended in
     subst (HasParts seats.parts) count parts
 
 pub refused-requires-then-is_set-clause-sessions : goal.refused-requires-then-is_set-clause-sessions
 refused-requires-then-is_set-clause-sessions g c =
     subst (All (λ (k : Known). k.book ≡ g.J.BookName.book)) (sym c.parted-sessions.ensures.sessions)
-    (of_ended g.J.BookName.book (store_of g.J.BookName.stored (has_store c.args.self.shared)) g.R.Read.remaining g.W.Write.contents c.in-Some.seats.scripts.items
+    (of_ended g.J.BookName.book (store_of g.J.BookName.stored (has_store c.args.self.shared)) g.R.Read.remaining g.W.ReplyWriter.contents c.in-Some.seats.scripts.items
     c.run_threads-store.result.ended.items c.run_threads-store.ensures.ended)
 
 pub closed-closed-requires-clause-sessions : goal.closed-closed-requires-clause-sessions
 closed-closed-requires-clause-sessions g c =
     subst (All (λ (k : Known). k.book ≡ g.J.BookName.book)) (sym c.parted-sessions.ensures.sessions)
-    (of_ended g.J.BookName.book (store_of g.J.BookName.stored (has_store c.args.self.shared)) g.R.Read.remaining g.W.Write.contents c.in-Some.seats.scripts.items
+    (of_ended g.J.BookName.book (store_of g.J.BookName.stored (has_store c.args.self.shared)) g.R.Read.remaining g.W.ReplyWriter.contents c.in-Some.seats.scripts.items
     c.run_threads-store.result.ended.items c.run_threads-store.ensures.ended)
 
 pub returns-then-is_set-clause-refused : goal.returns-then-is_set-clause-refused
@@ -101,13 +105,13 @@ returns-then-is_set-clause-refused g c =
     let sessions : map session_of scripts ≡ self.sessions.items = c.in-Some.ensures.sessions in
     let ports : map port_of scripts ≡ c.args.ports.items = c.in-Some.ensures.ports in
     let seated : AreSeated g.J.BookName.book start c.args.ports.items scripts = record { sessions = sessions ∙ c.requires.hosted.sessions; ports_are = ports } in
-    let there = subst (λ b. AllZip (IsRunOf g.J.BookName.book (store_of g.J.BookName.stored b) g.R.Read.remaining g.W.Write.contents) scripts ended) c.requires.hosted.stored
+    let there = subst (λ b. AllZip (IsRunOf g.J.BookName.book (store_of g.J.BookName.stored b) g.R.Read.remaining g.W.ReplyWriter.contents) scripts ended) c.requires.hosted.stored
     c.run_threads-store.ensures.ended in
     let held =
-    runs_held g.D.Disk c.requires.hosted.now start g.J.BookName.stored g.J.BookName.book self.store.flusher g.R.Read.remaining g.W.Write.contents
+    runs_held g.D.Disk c.requires.hosted.now start g.J.BookName.stored g.J.BookName.book self.store.flusher g.R.Read.remaining g.W.ReplyWriter.contents
     (λ log number. (c.requires.meant log number).0) scripts ended (begin_there g.J.BookName.book start c.args.ports.items scripts seated) there in
     let ended_sessions : c.parted-sessions.result.sessions.items ≡ map ended_session ended = c.parted-sessions.ensures.sessions in
-    stopped_from g.D.Disk g.J.BookName.book g.R.Read.remaining g.W.Write.contents start c.args.ports.items self.store last scripts ended fault
+    stopped_from g.D.Disk g.J.BookName.book g.R.Read.remaining g.W.ReplyWriter.contents start c.args.ports.items self.store last scripts ended fault
     (record {
       log = c.requires.hosted.begun;
       none_told = c.requires.hosted.untold;
@@ -146,12 +150,12 @@ returns-clause-left g c =
     let sessions : map session_of scripts ≡ self.sessions.items = c.in-Some.ensures.sessions in
     let ports : map port_of scripts ≡ c.args.ports.items = c.in-Some.ensures.ports in
     let seated : AreSeated g.J.BookName.book start c.args.ports.items scripts = record { sessions = sessions ∙ c.requires.hosted.sessions; ports_are = ports } in
-    let there = subst (λ b. AllZip (IsRunOf g.J.BookName.book (store_of g.J.BookName.stored b) g.R.Read.remaining g.W.Write.contents) scripts ended) c.requires.hosted.stored
+    let there = subst (λ b. AllZip (IsRunOf g.J.BookName.book (store_of g.J.BookName.stored b) g.R.Read.remaining g.W.ReplyWriter.contents) scripts ended) c.requires.hosted.stored
     c.run_threads-store.ensures.ended in
     let held =
-    runs_held g.D.Disk c.requires.hosted.now start g.J.BookName.stored g.J.BookName.book self.store.flusher g.R.Read.remaining g.W.Write.contents
+    runs_held g.D.Disk c.requires.hosted.now start g.J.BookName.stored g.J.BookName.book self.store.flusher g.R.Read.remaining g.W.ReplyWriter.contents
     (λ log number. (c.requires.meant log number).0) scripts ended (begin_there g.J.BookName.book start c.args.ports.items scripts seated) there in
-    served_from g.D.Disk g.J.BookName.book g.R.Read.remaining g.W.Write.contents start c.args.ports.items self.store last scripts ended
+    served_from g.D.Disk g.J.BookName.book g.R.Read.remaining g.W.ReplyWriter.contents start c.args.ports.items self.store last scripts ended
     (record { sessions = c.parted-sessions.result.finished; closed = c.closed-closed.result })
     (record {
       log = c.requires.hosted.begun;

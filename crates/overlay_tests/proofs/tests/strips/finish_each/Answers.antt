@@ -1,5 +1,4 @@
-use Rattle.std.proofs.Common.{◌<◌, length, ap, ◌∙◌, arith}
-use Rattle.version_book.specs.Strips.{HandedStrip}
+use Rattle.std.proofs.Common.{◌<◌, length, ◌∙◌, arith}
 use Rattle.version_book.proofs.StripLemmas.{next_input, next_within, none_spent, one_spent}
 use Rattle.overlay_tests.proofs.tests.strips.finish_each.Goals as goal
 
@@ -18,8 +17,8 @@ finish_next-requires g c =
 pub loop-one-preserved : goal.loop-one-preserved
 loop-one-preserved g c = one_spent c.args.strip.now c.loop-one.strip c.finish_next.new.strip c.loop-one.one-index c.loop-one.invariant c.in-Ok.ensures.next
 
-pub returns-in-Err : goal.returns-in-Err
-returns-in-Err g c = ap (λ (s : HandedStrip). s.book) c.in-Err.ensures.err ∙ c.loop-one.invariant.book
+pub returns-then-count-most : goal.returns-then-count-most
+returns-then-count-most g c = c.loop-one.invariant.book
 
 pub returns : goal.returns
 returns g c = c.loop-one.invariant.book
