@@ -13,9 +13,9 @@ use tile_build::{Strip, StripInput};
 use versions::Version;
 
 /// How many segments a strip has at most, each counted once for each of its columns: so that workers have a share.
-const SEGMENTS_MAX: usize = 16384;
+const SEGMENTS_MAX: usize = 4096;
 
-/// How many columns a strip has at most. One half of the plane is left to others.
+/// How many columns a strip has at most: a second worker has a share of the smallest layer, too.
 const COLUMNS_MAX: usize = 17;
 
 /// A copy of the name of a derived layer, and the input of a strip of its tiles: from a column whose tile can be handed
