@@ -9,7 +9,7 @@ import re
 from fractions import Fraction
 
 from tools import limits, scale as scales
-from .overlay_client import Point
+from tools.overlay_client import Point
 
 CRS84 = "http://www.opengis.net/def/crs/OGC/1.3/CRS84"
 EPSG = "http://www.opengis.net/def/crs/EPSG/0/"

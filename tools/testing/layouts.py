@@ -344,6 +344,7 @@ class Coding(InFolder):
         self.assertEqual([row["expression"] for row in rows][:3], ["b0 - b1 - b2", "b1 - b0 - b2", "b0 & b1 - b2"])
         self.assertEqual({(row["store"], row["area"]) for row in rows}, {("1", "81")})
         self.assertIn("5 features in layers b0 to b2, 8 to 12 steps each, 3 layers in all", errors)
+        self.assertIn("1 feature in layer b0, 4 steps each, 1 layer in all", self.coded(features[:1])[0])
 
     def test_features_of_one_name_are_one(self) -> None:
         _, rows = self.coded([("a", [[square(0, 0, 9)]]), ("b", [[square(20, 0, 9)]]), ("a", [[square(40, 0, 9)]])])
