@@ -172,7 +172,7 @@ def crs_for(words: argparse.Namespace, names: set[str | None], box: fitting.Box 
     crs = str(given.pop())
     if crs in DEGREES and box and not box.is_round_the_earth():
         x, y = (fitting.shown(number) for number in box.greatest)
-        raise Stopped(f"{crs} is longitude and latitude, and {x} {y} is none; say by --crs what it is, as EPSG:25832")
+        raise Stopped(f"{crs} is longitude and latitude, and {x} {y} is none: are x and y exchanged? Else say by --crs what it is, as EPSG:25832")
     return crs
 
 
