@@ -14,7 +14,7 @@ import urllib.request
 from collections.abc import Iterator
 from typing import Any
 
-from web import overlay_client
+from tools import overlay_client
 
 from bench import TOP
 

@@ -166,7 +166,7 @@ def add_words(parser: argparse.ArgumentParser, many: bool = False) -> None:
                         help="ask no program: the replies to the script, which asks EDGES itself")
     source.add_argument("--questions", action="store_true",
                         help="only print the script with the questions after it, to be run elsewhere; where no layer "
-                        "is named, those of its last DEFINE, as no reply says which one is there")
+                        "is named, those of its last DEFINE, as no reply says which layers there are")
     add_layer_word(parser, many)
 
 

@@ -16,6 +16,11 @@ Described = dict[Source, map_reading.Described]
 NOTHING = map_reading.Described(None, {}, "")
 
 
+def counted(count: int, what: str) -> str:
+    """So many of something, in words: `1 layer`, `2 layers`."""
+    return f"{count} {what}{'' if count == 1 else 's'}"
+
+
 def tables(stores: list[Store], described: Described, stem: str, name_by: str | None, union: bool) -> Iterator[Table]:
     """The table of each store, in their order."""
     given = [one.id for one in described.values()]

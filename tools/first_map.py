@@ -66,7 +66,7 @@ def words_of(arguments: list[str]) -> argparse.Namespace:
     parser.add_argument("--source-layer", metavar="NAME", help="the layer of files that have several, as GeoPackages")
     parser.add_argument("--folder", type=pathlib.Path, default=pathlib.Path(), help="where the store is made")
     parser.add_argument("--again", action="store_true",
-                        help="make a store anew that is there; what was changed in it since is lost")
+                        help="make a store anew though it is there; what was changed in it since is lost")
     parser.add_argument("--writable", action="store_true", help="let the page and HTTP change the map")
     parser.add_argument("--port", type=int, default=8080, help="of the first front; 0 for one that is free (default 8080)")
     parser.add_argument("--no-browser", action="store_true", help="open no browser")
@@ -193,8 +193,8 @@ def stores_for(words: argparse.Namespace, program: str, errors: TextIO) -> tuple
 
 
 def check_maps(words: argparse.Namespace, there: list[pathlib.Path]) -> None:
-    """Refuses a map that is not there, of which nobody knows whether the store that is there is of it, and one that is
-    another than the store was made of."""
+    """Refuses a map that is not there, of which nobody knows whether the store is of it, and one that is another than the
+    store was made of."""
     given = (words.map, *words.others)
     for path in given:
         if not path.exists():

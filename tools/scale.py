@@ -29,6 +29,7 @@ from typing import Any
 from . import limits
 
 CRS84 = "OGC:CRS84"
+CRS_NAME = re.compile(r"EPSG:[0-9]{1,9}|(?!EPSG:)[A-Za-z][\w-]*:[\w.-]+", re.ASCII)  # an authority and its code
 NUMBER = re.compile(r"[-+]?(?:[0-9]{1,20}(?:\.[0-9]{0,30})?|\.[0-9]{1,30})(?:[eE][-+]?[0-9]{1,2})?")
 WORD = re.compile(r"[-+]?(?:(?:[0-9]{1,100}(?:\.[0-9]{0,100})?|\.[0-9]{1,100})(?:[eE][-+]?[0-9]{1,2})?"
                   r"|[0-9]{1,100}/0{0,99}[1-9][0-9]{0,99})")
@@ -72,10 +73,11 @@ def crs_called(name: str) -> str | None:
 
 
 def crs(word: str) -> str:
-    """The coordinates that a word of a command line names."""
-    found = crs_called(word.strip())
-    if found is None:
-        raise argparse.ArgumentTypeError(f"{word}: OGC:CRS84, or EPSG: and a number, as EPSG:25832")
+    """The coordinates that a word of a command line names: by whatever authority, as ESRI:102003."""
+    found = crs_called(word.strip()) or word.strip()
+    if not CRS_NAME.fullmatch(found):
+        digits = f"; EPSG:{found}?" if found.isdecimal() else ""
+        raise argparse.ArgumentTypeError(f"{word}: an authority and its code are wanted, as EPSG:25832{digits}")
     return found
 
 

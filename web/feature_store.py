@@ -16,10 +16,10 @@ from typing import NamedTuple
 from tools import features, layering, rounding, simple, wkt
 from tools.feature_changes import Plan, carried_out
 from tools.features import Feature, Held, Outline, Table
+from tools.overlay_client import Point, Refused
 from tools.rounding import Polygon
 from .kept_values import Kept
 from .layer_store import KEPT_MOST, PATIENCE, LayerStore
-from .overlay_client import Point, Refused
 from .rescue import NotWritten
 from .shapes import Feature as Shape, area_of
 from .views import Busy, View

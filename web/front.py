@@ -11,13 +11,13 @@ from collections.abc import Callable, Iterable, Mapping
 from http import HTTPStatus
 from typing import Any, NamedTuple
 
+from tools.overlay_client import Ended, Refused
 from .feature_store import FeatureStore, Unlike
 from .features_api import ITEM_WORDS, FeaturesApi
 from .joining import TooLarge
 from .layer_store import Changed, LayerStore, NotDurable, Pending, Protected
 from .map_api import MapApi
 from .map_features import MapFeatures
-from .overlay_client import Ended, Refused
 from .rescue import AGAIN, NotWritten
 from .systems import Systems, Unplaced
 from .views import Busy

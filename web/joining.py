@@ -12,9 +12,9 @@ import threading
 from multiprocessing.connection import Connection
 from multiprocessing.process import BaseProcess
 
+from tools.overlay_client import Piece
 from . import shapes
 from .map_scale import MapScale
-from .overlay_client import Piece
 from .views import Busy
 
 COUNT = 2

@@ -15,11 +15,11 @@ from collections.abc import Callable, Iterator, Mapping, Sequence
 from typing import NamedTuple, cast
 
 from tools import limits
+from tools.overlay_client import Ended, Piece, Refused, Server, Session, number_of
 from . import shapes
 from .joining import Joiners, TooLarge
 from .kept_values import Kept
 from .map_scale import MapScale
-from .overlay_client import Ended, Piece, Refused, Server, Session, number_of
 from .rescue import NotWritten, Rescue
 from .scratch import Scratch
 from .views import Hold, Listed, View, listed

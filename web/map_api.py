@@ -6,9 +6,9 @@ import re
 from typing import cast
 
 from tools import limits
+from tools.overlay_client import LARGEST_BATCH, NAME, OUT_OF_RANGE, Piece, Point, Refused, Session
 from .feature_store import FeatureStore, State
 from .layer_store import LayerStore
-from .overlay_client import LARGEST_BATCH, NAME, OUT_OF_RANGE, Piece, Point, Refused, Session
 from .shapes import text_of
 from .systems import Systems
 from .views import Busy, View

@@ -9,7 +9,7 @@ import re
 from fractions import Fraction
 
 from tools import limits, scale as scales
-from .overlay_client import Point
+from tools.overlay_client import Point
 
 CRS84 = "http://www.opengis.net/def/crs/OGC/1.3/CRS84"
 EPSG = "http://www.opengis.net/def/crs/EPSG/0/"
@@ -39,9 +39,11 @@ class MapScale:
     """A scale as the web needs it: places as GeoJSON has them, and the names of coordinate systems as OGC API has them."""
 
     def __init__(self, scale: scales.Scale) -> None:
-        if scale.crs is not None and not re.fullmatch(r"OGC:CRS84|EPSG:[0-9]{1,9}", scale.crs):
-            raise scales.ScaleFault("crs is OGC:CRS84, or EPSG: and a number")
-        self.scale, self.crs, self.digits = scale, scale.crs, scale.digits
+        if scale.crs is not None and not scales.CRS_NAME.fullmatch(scale.crs):
+            raise scales.ScaleFault(f"crs is an authority and its code, as EPSG:25832, and not {scale.crs[:40]}")
+        # Coordinates of another authority have no name here: they are served as they are.
+        is_named = scale.crs is not None and re.fullmatch(r"OGC:CRS84|EPSG:[0-9]{1,9}", scale.crs)
+        self.scale, self.crs, self.digits = scale, scale.crs if is_named else None, scale.digits
         self.title, self.unit = scale.title or "Layers", "" if scale.unit == "1" else scale.unit
         # world = (n * a + w * b) / (w * c) in whole numbers, of x and of y.
         self._whole = [

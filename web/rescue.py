@@ -16,7 +16,7 @@ import threading
 import time
 from collections.abc import Callable
 
-from .overlay_client import Ended, Refused, Server
+from tools.overlay_client import Ended, Refused, Server
 
 NOT_WRITTEN = (30, 35)
 """The refusals of SYNC after which a store is not written any more."""

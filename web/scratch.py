@@ -7,7 +7,7 @@ import os
 import threading
 from collections.abc import Sequence
 
-from .overlay_client import Ended, Piece, Refused, Server, Session
+from tools.overlay_client import Ended, Piece, Refused, Server, Session
 from .views import Busy
 
 

@@ -12,8 +12,8 @@ from typing import NamedTuple
 
 from tools import sweeping
 from tools.commands import to_rings
+from tools.overlay_client import Piece, Point
 from .map_scale import MapScale, exact, rounded
-from .overlay_client import Piece, Point
 
 AREA_BITS = 96
 """An area is summed in whole multiples of 2^-96, each term cut off; so it is right before it is written with 15 digits."""

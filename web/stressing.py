@@ -9,10 +9,13 @@ from __future__ import annotations
 
 import bisect
 import collections
+import http.client
 import itertools
+import json
 import random
 import threading
 import time
+import urllib.parse
 from collections.abc import Callable, Iterable
 from typing import Any, NamedTuple
 
@@ -20,6 +23,18 @@ Ask = Callable[[str, str, object], tuple[int, Any]]
 """Asks by a method, a path and a body, and gives the status and the value of the answer."""
 
 PLACES, STEP, SIDE, LEFT = 100_000, 20, 10, -1_000_000
+
+
+def asked(address: str, method: str, path: str, body: bytes | None = None) -> tuple[int, Any]:
+    """Asks a front over HTTP, by a connection of its own, as the standard library's server ends it each time."""
+    host = urllib.parse.urlsplit(address).netloc
+    link = http.client.HTTPConnection(host, timeout=120)
+    try:
+        link.request(method, path, body, {"Content-Type": "application/json"} if body else {})
+        answer = link.getresponse()
+        return answer.status, json.loads(answer.read())
+    finally:
+        link.close()
 
 
 class Put(NamedTuple):

@@ -12,8 +12,8 @@ from decimal import Decimal
 from fractions import Fraction
 from typing import Any, NamedTuple, Protocol
 
+from tools.overlay_client import Point
 from .map_scale import CRS84, MapScale
-from .overlay_client import Point
 from .shapes import Box, edge_meets, edges_of, holds, homogeneous
 
 DEGREE_DIGITS = 10

@@ -15,9 +15,9 @@ from collections.abc import Callable
 from fractions import Fraction
 from typing import Any, BinaryIO, cast
 
-from tools import limits, replies
-from . import overlay_client, testing
-from .overlay_client import Boundary, Ended, Layer, Refused, Reply, Server, Session, edges_lines
+from tools import limits, overlay_client, replies
+from tools.overlay_client import Boundary, Ended, Layer, Refused, Reply, Server, Session, edges_lines
+from . import testing
 from .testing import BAR, SHIFTED, SQUARE, TRIANGLE
 
 

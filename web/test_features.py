@@ -20,11 +20,11 @@ from typing import Any
 
 from tools import features, scale as scales
 from tools.commands import to_script
+from tools.overlay_client import Server
 from . import map_scale, testing
 from .feature_store import FeatureStore, Unlike
 from .front import Front
 from .layer_store import LayerStore
-from .overlay_client import Server
 from .scratch import Scratch
 from .systems import Projection, Systems
 from .testing import Client, folder

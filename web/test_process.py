@@ -5,7 +5,6 @@ from __future__ import annotations
 import concurrent.futures
 import contextlib
 import http.client
-import json
 import os
 import pathlib
 import resource
@@ -19,13 +18,12 @@ import unittest
 import unittest.mock
 import urllib.parse
 from collections.abc import Callable, Iterator
-from typing import Any
 from wsgiref import simple_server
 
+from tools.overlay_client import Server
 from . import serving, testing
 from .commands import overlay_web
-from .overlay_client import Server
-from .testing import SQUARE
+from .stressing import asked
 
 
 def started(*words: str | pathlib.Path) -> subprocess.Popen[str]:
@@ -52,17 +50,6 @@ def running(*words: str | pathlib.Path) -> Iterator[tuple[subprocess.Popen[str],
         run.communicate()
 
 
-def asked(address: str, method: str, path: str, body: bytes | None = None) -> tuple[int, Any]:
-    host = urllib.parse.urlsplit(address).netloc
-    link = http.client.HTTPConnection(host, timeout=120)
-    try:
-        link.request(method, path, body, {"Content-Type": "application/json"} if body else {})
-        answer = link.getresponse()
-        return answer.status, json.loads(answer.read())
-    finally:
-        link.close()
-
-
 def children(pid: int) -> list[int]:
     """The processes that a process has begun and that have not ended."""
     threads = pathlib.Path(f"/proc/{pid}/task").glob("*/children")
@@ -72,9 +59,7 @@ def children(pid: int) -> list[int]:
 class Processes(unittest.TestCase):
     def setUp(self) -> None:
         self.folder = self.enterContext(testing.folder())
-        self.store = self.folder / "map.db"
-        with Server(self.store, create=True, program=testing.PROGRAM) as server:
-            server.sessions[0].batch([f"PUT A {SQUARE}", "DEFINE I = A"])
+        self.store = testing.square_store(self.folder)
         (self.folder / "map.scale.json").write_text('{"title": "T", "factor": 10, "unit": "m"}')
 
     def ended(self, run: subprocess.Popen[str]) -> tuple[int, str]:

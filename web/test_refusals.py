@@ -14,9 +14,9 @@ import unittest
 import unittest.mock
 from collections.abc import Callable
 
+from tools.overlay_client import Ended, Refused, Server
 from . import front, layer_store, testing
 from .layer_store import LayerStore
-from .overlay_client import Ended, Refused, Server
 from .scratch import Scratch
 from .testing import SHIFTED, SQUARE, Client, FrontCase, Told
 from .views import View

@@ -8,10 +8,10 @@ import threading
 import unittest
 import unittest.mock
 
+from tools.overlay_client import Refused, Server
 from . import rescue, testing
 from .front import Front
 from .layer_store import LayerStore
-from .overlay_client import Refused, Server
 from .rescue import Rescue, put_copy
 from .scratch import Scratch
 from .testing import SQUARE, Client
@@ -20,9 +20,7 @@ from .testing import SQUARE, Client
 class Copies(unittest.TestCase):
     def setUp(self) -> None:
         self.folder = self.enterContext(testing.folder())
-        self.store = self.folder / "map.db"
-        with Server(self.store, create=True, program=testing.PROGRAM) as server:
-            server.sessions[0].batch([f"PUT A {SQUARE}", "DEFINE I = A"])
+        self.store = testing.square_store(self.folder)
         self.store.chmod(0o640)
         self.before, self.file = self.store.read_bytes(), self.store.stat().st_ino
 

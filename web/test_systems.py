@@ -6,7 +6,8 @@ import importlib.util
 import unittest
 from typing import Any
 
-from .map_scale import CRS84
+from tools import scale as scales
+from .map_scale import CRS84, MapScale
 from .systems import Projection, Systems, Unplaced, Unprojected, by_pyproj
 from .test_features import EAST, MOVED, WEST, Case, feature
 from .testing import FrontCase, map_scale
@@ -31,6 +32,16 @@ def degrees(ring: list[list[int]]) -> list[list[float]]:
 
 def swapped(ring: list[list[int]]) -> list[list[int]]:
     return [[y, x] for x, y in ring]
+
+
+class Names(unittest.TestCase):
+    def test_coordinates_of_another_authority_are_served_as_they_are(self) -> None:
+        self.assertEqual(MapScale(scales.Scale(crs="EPSG:25832")).crs, "EPSG:25832")
+        other = MapScale(scales.Scale(crs="ESRI:102003"))
+        self.assertEqual((other.crs, other.uri(), other.is_geographic()), (None, None, False))
+        for name in ("nonsense", "EPSG:", "a b:1"):
+            with self.assertRaisesRegex(scales.ScaleFault, f"an authority and its code, as EPSG:25832, and not {name}"):
+                MapScale(scales.Scale(crs=name))
 
 
 class Projected(Case):

@@ -17,10 +17,10 @@ from collections.abc import Callable, Iterator, Mapping
 from typing import Any, NamedTuple
 
 from tools import scale as scales
+from tools.overlay_client import Server
 from .front import Front
 from .layer_store import LayerStore
 from .map_scale import MapScale
-from .overlay_client import Server
 from .scratch import Scratch
 
 PROGRAM = "overlay_live"
@@ -51,6 +51,14 @@ def program_that_ignores_a_full_file(folder: pathlib.Path) -> pathlib.Path:
     made.write_text(f"#!/bin/sh\ntrap '' XFSZ\nexec '{PROGRAM}' \"$@\"\n")
     made.chmod(0o755)
     return made
+
+
+def square_store(folder: pathlib.Path) -> pathlib.Path:
+    """A new store with a square and a layer that is the same."""
+    store = folder / "map.db"
+    with Server(store, create=True, program=PROGRAM) as server:
+        server.sessions[0].batch([f"PUT A {SQUARE}", "DEFINE I = A"])
+    return store
 
 
 def wait_until(holds: Callable[[], bool], seconds: float = 60) -> None:

@@ -12,9 +12,9 @@ from collections.abc import Callable, Iterable, Iterator, Mapping, Sequence
 from typing import NamedTuple
 
 from tools import limits
+from tools.overlay_client import OVERSIZE, UNKNOWN_LAYER, Layer, Piece, Point, Refused, Session, edges_lines, is_pending
 from . import shapes
 from .kept_values import Kept
-from .overlay_client import OVERSIZE, UNKNOWN_LAYER, Layer, Piece, Point, Refused, Session, edges_lines, is_pending
 
 
 class Busy(Exception):

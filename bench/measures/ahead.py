@@ -15,7 +15,7 @@ from collections.abc import Callable, Iterator
 from bench.counting import Words
 from bench.processor_time import processor
 from tools import limits
-from web.overlay_client import COLUMNS, Piece, Server, Session, edges_lines
+from tools.overlay_client import COLUMNS, Piece, Server, Session, edges_lines
 
 Pairs = list[tuple[str, str, list[int]]]
 Way = Callable[[Session, Pairs], Iterator[list[Piece]]]

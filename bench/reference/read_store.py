@@ -21,7 +21,7 @@ from typing import Any, NamedTuple, Union
 from bench import TOP
 from bench.counting import Words, checked
 from bench.reference import model
-from tools.limits import COLUMN_WIDTH, COLUMNS, COORDINATE_MAX, LAYERS_MAX, PIECES_MAX, STEPS_MAX
+from tools.limits import COLUMNS, COLUMN_WIDTH, COORDINATE_MAX, LAYERS_MAX, PIECES_MAX, STEPS_MAX
 
 BLOCK = 4096
 GATE_OPEN = 0xA7

@@ -1,9 +1,10 @@
 """Looks at the front's page with a real browser: it draws, clicks, asks, defines and drops a layer.
 
 The picture is compared with the store: at many points of the map the colour has to be that of the layers which have the
-point by LOCATE. It installs chromium and libjs-leaflet of Debian where they are missing. Not of the gate.
+point by LOCATE. It needs python3-pil of Debian, and installs chromium and libjs-leaflet where they are missing. Not of
+the gate.
 
-    python3 -m bench.trials.browser [--program PATH] [--python PATH] [--pictures FOLDER]
+    /usr/bin/python3 -m bench.trials.browser [--program PATH] [--python PATH] [--pictures FOLDER]
 
 Status 0 and a last line `N passed, 0 failed`, or what fell.
 """
@@ -12,20 +13,21 @@ from __future__ import annotations
 
 import argparse
 import base64
+import io
 import json
 import math
 import os
 import pathlib
 import re
-import struct
 import subprocess
 import sys
 import tempfile
 import time
 import urllib.request
-import zlib
 from collections.abc import Callable
 from typing import Any
+
+from PIL import Image
 
 from bench import web_front
 from bench.counting import Tries, Words
@@ -139,45 +141,6 @@ class Browser:
         self.run.wait(30)
 
 
-def nearest(left: int, up: int, corner: int) -> int:
-    """The one of three that is nearest to left + up - corner, the first of those that are as near (PNG, 9.4)."""
-    to_left, to_up, to_corner = abs(up - corner), abs(left - corner), abs(left + up - 2 * corner)
-    return left if to_left <= to_up and to_left <= to_corner else up if to_up <= to_corner else corner
-
-
-class Picture:
-    """The colours of a PNG of 8 bits a channel, read by the standard alone."""
-
-    def __init__(self, data: bytes) -> None:
-        parts, at = {b"IDAT": b""}, 8
-        while at < len(data):
-            (length,), kind = struct.unpack(">I", data[at : at + 4]), data[at + 4 : at + 8]
-            parts[kind] = parts.get(kind, b"") + data[at + 8 : at + 8 + length]
-            at += 12 + length
-        self.width, self.height, bits, colour = struct.unpack(">IIBB", parts[b"IHDR"][:10])
-        assert bits == 8 and colour in (2, 6), "a picture of another form"
-        self.channels = 3 if colour == 2 else 4
-        self.rows = self._rows(zlib.decompress(parts[b"IDAT"]))
-
-    def _rows(self, raw: bytes) -> list[bytearray]:
-        size, found = self.width * self.channels, [bytearray(self.width * self.channels)]
-        for y in range(self.height):
-            begin = y * (size + 1)
-            found.append(self._unfiltered(raw[begin], bytearray(raw[begin + 1 : begin + 1 + size]), found[-1]))
-        return found[1:]
-
-    def _unfiltered(self, kind: int, row: bytearray, above: bytearray) -> bytearray:
-        back = self.channels
-        for i in range(len(row) if kind else 0):
-            left, up, corner = (row[i - back], above[i], above[i - back]) if i >= back else (0, above[i], 0)
-            row[i] = row[i] + (nearest(left, up, corner) if kind == 4 else (0, left, up, (left + up) // 2)[kind]) & 255
-        return row
-
-    def at(self, x: int, y: int) -> tuple[int, int, int]:
-        red, green, blue = self.rows[y][x * self.channels : x * self.channels + 3]
-        return red, green, blue
-
-
 def over(below: tuple[float, ...], colour: str, opacity: float) -> tuple[float, ...]:
     """A colour `#rrggbb` laid over another."""
     parts = [int(colour[i : i + 2], 16) for i in (1, 3, 5)]
@@ -206,7 +169,7 @@ BARE = """for (const one of document.querySelectorAll('.leaflet-control-containe
 def compared(browser: Browser, address: str, tries: Tries, what: str) -> None:
     """Compares the map's colours with what LOCATE says, where the point and four others 4 pixels away say the same."""
     browser.value(BARE % "hidden")
-    picture, layers = Picture(browser.picture()), browser.value(LAYERS)
+    picture, layers = Image.open(io.BytesIO(browser.picture())).convert("RGB"), browser.value(LAYERS)
     status = asked(f"{address}status")
     left, low, right, high = (-180, -85, 180, 85) if status["geographic"] else status["limits"]
     browser.value(BARE % "")
@@ -223,10 +186,10 @@ def compared(browser: Browser, address: str, tries: Tries, what: str) -> None:
         for name, paint, opacity in layers:
             colour = over(colour, paint, opacity) if told[0][name] == "in" else colour
         kinds.add(tuple(told[0].values()))
-        if max(abs(a - b) for a, b in zip(colour, picture.at(x, y))) <= 4:
+        if max(abs(a - b) for a, b in zip(colour, picture.getpixel((x, y)))) <= 4:
             same += 1
         else:
-            different.append((x, y, told[0], picture.at(x, y), colour))
+            different.append((x, y, told[0], picture.getpixel((x, y)), colour))
     for one in different[:5]:
         print(one)
     tries.that(
@@ -314,12 +277,17 @@ def many_layers(browser: Browser, address: str, tries: Tries) -> None:
     urllib.request.urlopen(asked_for).close()
     browser.open(address)
     browser.until(READY)
-    define(browser, "M", "A - nowhere")
+    refused_thrice(browser, "A", tries)
+
+
+def refused_thrice(browser: Browser, layer: str, tries: Tries) -> None:
+    """A definition, a point, and the first layer's drop."""
+    define(browser, "M", f"{layer} - nowhere")
     refused(browser, "told-define", "error 10 unknown layer", tries)
     ask_point(browser, "1", "x")
     refused(browser, "told-asking", "y: 1 numbers are wanted", tries)
     browser.value("document.querySelector('#layers li:nth-child(1) button[title^=drop]').click()")
-    refused(browser, "told-layer-A", "error 14", tries)
+    refused(browser, f"told-layer-{layer}", "error 14", tries)
 
 
 def looks(browser: Browser, address: str, tries: Tries) -> None:
@@ -372,12 +340,7 @@ def changes(browser: Browser, address: str, pictures: pathlib.Path, tries: Tries
 
     browser.value("document.querySelector('#layers li:nth-child(4) input').click()")
     compared(browser, address, tries, "with a layer hidden")
-    define(browser, "M", "N - nowhere")
-    refused(browser, "told-define", "error 10 unknown layer", tries)
-    ask_point(browser, "1", "x")
-    refused(browser, "told-asking", "y: 1 numbers are wanted", tries)
-    browser.value("document.querySelector('#layers li:nth-child(1) button[title^=drop]').click()")
-    refused(browser, "told-layer-iceland_110m", "error 14", tries)
+    refused_thrice(browser, "iceland_110m", tries)
     browser.value("[...document.querySelectorAll('#layers button')].at(-1).click()")
     browser.until(
         "document.querySelectorAll('#layers li').length === 4 && "

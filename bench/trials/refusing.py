@@ -144,7 +144,7 @@ def but_closing(outcome: Outcome, judged: Judged | None, told: list[Told], fault
 
 
 def one_growth(outcome: Outcome, judged: Judged | None) -> None:
-    """What one refused growth may do: one line is answered by 40; or the store is reported of it, which each SYNC says
+    """What one refused growth may do: one line is answered by 40; or the store gets it, which each SYNC says
     until the next accepted command, and status 1 where none comes; or the run ends with it.
     """
     told, told_of_syncs, fault = told_outside(outcome, judged)
@@ -186,7 +186,7 @@ def device(outcome: Outcome, judged: Judged | None) -> None:
     if judged is None and not outcome.is_early:
         raise judging.Wrong("no replies, though the store was opened before a call failed")
     if any(replies_behind(session, place, "durable ") for session, place, _ in syncs):
-        raise judging.Wrong("durable is reported behind a SYNC that told 30")
+        raise judging.Wrong("durable is reported after a SYNC that reported 30")
 
 
 def history_before(scenario: Scenario) -> History:

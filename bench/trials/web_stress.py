@@ -10,34 +10,19 @@ Status 0 and a last line `N passed, 0 failed`, N answers that were judged, or wh
 
 from __future__ import annotations
 
-import http.client
 import json
 import pathlib
 import sys
 import tempfile
-import urllib.parse
-from typing import Any
 
 from bench import web_front
 from bench.counting import Words, counted
-from web.stressing import Ask, Stress
+from web.stressing import Ask, Stress, asked
 
 
 def new_ask(address: str) -> Ask:
-    """One client, by a connection for each question, as the standard library's server ends it each time."""
-    host = urllib.parse.urlsplit(address).netloc
-
-    def ask(method: str, path: str, body: object) -> tuple[int, Any]:
-        link = http.client.HTTPConnection(host, timeout=60)
-        try:
-            sent = None if body is None else json.dumps(body)
-            link.request(method, path, sent, {"Content-Type": "application/json"} if sent else {})
-            answer = link.getresponse()
-            return answer.status, json.loads(answer.read())
-        finally:
-            link.close()
-
-    return ask
+    """One client."""
+    return lambda method, path, body: asked(address, method, path, None if body is None else json.dumps(body).encode())
 
 
 def main() -> int:

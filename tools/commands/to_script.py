@@ -53,7 +53,7 @@ from .. import (
     asking, checking, describing, ending, features, fitting, keeping, layering, limits, map_reading, progress,
     rounding, scale as scales, sessions, wkt, writing,
 )
-from ..describing import Described
+from ..describing import Described, counted
 from ..layering import Group, Layout, Store
 from ..map_reading import Refused, Shape
 from ..scale import Scale
@@ -172,7 +172,7 @@ def crs_for(words: argparse.Namespace, names: set[str | None], box: fitting.Box 
     crs = str(given.pop())
     if crs in DEGREES and box and not box.is_round_the_earth():
         x, y = (fitting.shown(number) for number in box.greatest)
-        raise Stopped(f"{crs} is longitude and latitude, and {x} {y} is none; say by --crs what it is, as EPSG:25832")
+        raise Stopped(f"{crs} is longitude and latitude, and {x} {y} is none: are x and y exchanged? Else say by --crs what it is, as EPSG:25832")
     return crs
 
 
@@ -281,10 +281,10 @@ class Planner:
         steps = [sum(rounding.steps_of(polygons) for _, polygons in layout.base) for layout in store.layouts]
         chords = sum(layout.chords for layout in store.layouts)
         told = f"; LOCATE says edge on {chords} chords" if chords else ""
-        names = f"{store.layouts[0].name} to {store.layouts[-1].name}"
+        names = " to ".join(dict.fromkeys([store.layouts[0].name, store.layouts[-1].name]))
         span = " to ".join(map(str, sorted({min(steps), max(steps)})))
-        self.told.append(f"{len(store.features)} features in layers {names}, {span} steps each, "
-                         f"{store.count()} layers in all{told}; {tally.text()}")
+        self.told.append(f"{counted(len(store.features), 'feature')} in {'layers' if store.layouts[1:] else 'layer'} {names}, "
+                         f"{span} steps each, {counted(store.count(), 'layer')} in all{told}; {tally.text()}")
 
 
 def one_store(stores: list[Store], refuse: Callable[[str, str], None]) -> list[Store]:
@@ -378,7 +378,7 @@ def beside(words: argparse.Namespace, stores: list[Store], scale: Scale, describ
     tables = describing.tables(stores, described, base.name, words.name_by, words.union) if described else ()
     try:
         for script, table in zip(scripts_of(words.output, stores), tables):
-            told = f"{len(table.features)} features with all properties"
+            told = f"{counted(len(table.features), 'feature')} with all properties"
             found.add(features.beside(script), table.text().encode(), told)
     except features.FeaturesFault as fault:
         raise Stopped(str(fault)) from fault
@@ -408,7 +408,7 @@ def write_files(words: argparse.Namespace, stores: list[Store], scale: Scale, de
     for script, store in zip(scripts, stores):
         texts[script] = "".join(line + "\n" for line in lines_of(store)).encode()
         made = script.with_suffix(".store" if script.suffix == ".db" else ".db")
-        told.append(f"{script}: {store.count()} layers; overlayd --store {made} --create {script}")
+        told.append(f"{script}: {counted(store.count(), 'layer')}; overlayd --store {made} --create {script}")
     try:
         check_output(words, scripts, files, scale)
         writing.write_all(texts | files.texts)

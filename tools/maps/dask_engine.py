@@ -27,8 +27,8 @@ from .tasks import TaskFolder, Work
 IN_HAND = 3  # tasks a thread of a worker: what is done, what waits, what is on its way
 WORKERS_WITHIN = 30  # seconds
 TOP = pathlib.Path(__file__).resolve().parents[2]
-SENT = ("tools/*.py", "tools/maps/*.py", "tools/commands/__init__.py", "tools/commands/to_rings.py", "web/__init__.py",
-        "web/overlay_client.py")  # what a worker elsewhere needs
+# What a worker elsewhere needs.
+SENT = ("tools/*.py", "tools/maps/*.py", "tools/commands/__init__.py", "tools/commands/to_rings.py")
 NEEDED = ("--dask needs Dask: apt-get install python3-distributed, and run this by /usr/bin/python3; "
           "--jobs N needs nothing")
 

@@ -1,7 +1,7 @@
 """Asks overlay_live rounds: two layers or more with many slots, one definition over them, and its boundary.
 
 While the program builds one round its caller prepares the next: two sets of layers take turns, and lines are sent ahead
-by the client of web/overlay_client.py.
+by the client of ../overlay_client.py.
 """
 
 import subprocess
@@ -9,9 +9,8 @@ from collections import deque
 from collections.abc import Iterable, Iterator
 from dataclasses import dataclass
 
-from web.overlay_client import OVERSIZE, Ended, Refused, Reply, Request, Session
-
 from .. import ending
+from ..overlay_client import OVERSIZE, Ended, Refused, Reply, Request, Session
 from ..sessions import Piece
 from . import deaths
 

@@ -115,7 +115,7 @@ def of_little(data: bytes) -> array:
 class Row:
     """What one job found: the numbers of its features in their whole maps (NOBODY where it has none), the exact area in
     square units, the length of its boundary in units, a whole point near it, and what this part is: a common one
-    (`overlaps`, or `touches` where it has no area), `alone` or a `gap`. others are reported of common parts alone."""
+    (`overlaps`, or `touches` where it has no area), `alone` or a `gap`. others get common parts alone."""
 
     own: int
     others: tuple[int, ...]

@@ -27,6 +27,16 @@ class Helps(unittest.TestCase):
         modules = [name for name in told if name not in rows]
         self.assertEqual(sorted([*rows, *modules]), sorted(path.name for path in TOOLS.glob("*.py") if path.name != "__init__.py"))
 
+    def test_a_copy_of_a_link_says_what_it_is(self) -> None:
+        with tempfile.TemporaryDirectory() as made:
+            copy = pathlib.Path(made, "which.py")
+            copy.write_bytes((TOP / "overlay").read_bytes())
+            done = subprocess.run([sys.executable, copy, "--help"], cwd=made, capture_output=True, text=True, check=False,
+                                  timeout=SECONDS)
+            self.assertEqual((done.returncode, done.stdout), (2, ""))
+            self.assertEqual(done.stderr, f"{copy}: a copy of a link, which finds no tools; copy with the links kept (cp -a, "
+                                          "rsync -a, zip -y)\n")
+
     def test_a_command_is_found_by_any_link(self) -> None:
         with tempfile.TemporaryDirectory() as made:
             folder = pathlib.Path(made)

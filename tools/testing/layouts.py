@@ -3,6 +3,7 @@
 import collections
 import csv
 import hashlib
+import io
 import json
 import random
 import unittest
@@ -115,16 +116,19 @@ class Fitting(InFolder):
         ):
             told = self.sidecar(text, "--factor", 100)
             self.assertEqual((told["crs"], told["unit"]), (crs, unit))
-        for word in ("EPSG:4258", "epsg:4258", "urn:ogc:def:crs:EPSG::4258"):
-            self.assertEqual(self.sidecar(lonlat, "--factor", 100, "--crs", word)["crs"], "EPSG:4258")
+        for word, crs in (("EPSG:4258", "EPSG:4258"), ("epsg:4258", "EPSG:4258"), ("urn:ogc:def:crs:EPSG::4258", "EPSG:4258"),
+                          ("ESRI:102003", "ESRI:102003"), ("IGNF:LAMB93", "IGNF:LAMB93")):
+            self.assertEqual(self.sidecar(lonlat, "--factor", 100, "--crs", word)["crs"], crs)
 
     def test_coordinates_that_are_none_or_others_are_refused(self) -> None:
         metres = self.file("metres.geojson", geojson(("b", [[square(500000, 5800000, 9)]]), crs="EPSG:25832"))
-        for word in ("nonsense", "25832", "EPSG:"):
-            with self.assertRaises(SystemExit) as ended, unittest.mock.patch("sys.stderr"):
+        for word, told in (("nonsense", "as EPSG:25832\n"), ("25832", "as EPSG:25832; EPSG:25832?\n"), ("EPSG:", "as EPSG:25832\n")):
+            errors = io.StringIO()
+            with self.assertRaises(SystemExit) as ended, unittest.mock.patch("sys.stderr", errors):
                 outcome(to_script, metres, "--crs", word)
-            self.assertEqual(ended.exception.code, 2)
-        none = "is longitude and latitude, and 500009 5800009 is none; say by --crs what it is, as EPSG:25832"
+            self.assertEqual((ended.exception.code, errors.getvalue().endswith(told)), (2, True), errors.getvalue())
+        none = ("is longitude and latitude, and 500009 5800009 is none: are x and y exchanged? Else say by --crs what it is, as "
+                "EPSG:25832")
         self.assertEqual(outcome(to_script, metres, "--fit", "--crs", "EPSG:4326"), (2, "", f"EPSG:4326 {none}\n"))
         called = self.file("called.geojson", geojson(("b", [[square(500000, 5800000, 9)]]), crs="urn:ogc:def:crs:OGC:1.3:CRS84"))
         self.assertEqual(outcome(to_script, called, "--fit"), (2, "", f"OGC:CRS84 {none}\n"))
@@ -344,6 +348,7 @@ class Coding(InFolder):
         self.assertEqual([row["expression"] for row in rows][:3], ["b0 - b1 - b2", "b1 - b0 - b2", "b0 & b1 - b2"])
         self.assertEqual({(row["store"], row["area"]) for row in rows}, {("1", "81")})
         self.assertIn("5 features in layers b0 to b2, 8 to 12 steps each, 3 layers in all", errors)
+        self.assertIn("1 feature in layer b0, 4 steps each, 1 layer in all", self.coded(features[:1])[0])
 
     def test_features_of_one_name_are_one(self) -> None:
         _, rows = self.coded([("a", [[square(0, 0, 9)]]), ("b", [[square(20, 0, 9)]]), ("a", [[square(40, 0, 9)]])])

@@ -29,11 +29,11 @@ import urllib.parse
 from collections.abc import Iterator, Sequence
 
 from tools import asking, ending as endings, features, scale as scales, sessions
+from tools.overlay_client import MOST_SESSIONS, Ended, Refused, Server
 from ..feature_store import FeatureStore, Unlike
 from ..front import LEAFLET, LOOPBACK, Front
 from ..layer_store import JOINING, LayerStore, number_in_file
 from ..map_scale import MapScale
-from ..overlay_client import MOST_SESSIONS, Ended, Refused, Server
 from ..rescue import Rescue
 from ..scratch import Scratch
 from ..serving import Unheard, serve

@@ -88,6 +88,7 @@ function show(feature) {
 function listen() {
   finder(() => page.plot.drawn.get(page.state.map)?.features ?? [], () => page.state.name_by, show);
   const {map} = page.plot, form = at("asking"), defining = at("define"), {id, definition} = defining.elements;
+  if (page.state.geographic) [form.elements.x.placeholder, form.elements.y.placeholder] = ["longitude", "latitude"];
   map.on("click", ({latlng}) => telling(async () => {
     const digits = page.plot.digits();
     form.elements.x.value = latlng.lng.toFixed(digits);
