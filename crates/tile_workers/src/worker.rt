@@ -1,9 +1,11 @@
 //! The loop of a worker.
-ghost use Rattle.std.specs.Prelude.{◌≡◌};
+ghost use Rattle.std.specs.Prelude.{◌≡◌, ◌≤◌, IfOk};
+ghost use Rattle.crossing_sweep.specs.StripInput.{part};
 ghost use Rattle.version_book.specs.Strips.{AreNext};
 
 use crate::gate::Gate;
-use std::alloc::Global;
+use plane_base::Column;
+use std::alloc::{AllocError, Global};
 use std::sync::Wait;
 use tile_build::{Built, build_strip};
 use version_book::resting::rest;
@@ -44,8 +46,9 @@ fn work<J: BookName, R: Wait + Drop, G: Gate, W: Wait>(
     requires whole { strip.next ≡ strip.input.strip.first }
 {
     enter(gate, &strip);
-    if let Ok(built) = build_strip(alloc, strip.input()) {
-        finish_each(rt, alloc, shared, &mut strip, &built);
+    match build_strip(alloc, strip.input()) {
+        Ok(built) => finish_each(rt, alloc, shared, &mut strip, &built),
+        Err(_) => finish_apart(rt, alloc, shared, &mut strip),
     }
     shared.give_back_strip(rt, strip);
 }
@@ -75,5 +78,45 @@ fn finish_each<J: BookName, R: Wait + Drop, W: Wait>(
             Ok((_is_kept, _log)) => {}
             Err(_fault) => return,
         }
+    }
+}
+
+/// Builds the tiles of a strip one after another, each by a pass over its own column alone, and spends them, until memory
+/// runs out.
+fn finish_apart<J: BookName, R: Wait + Drop, W: Wait>(
+    rt: &W,
+    alloc: Global,
+    shared: &Shared<J, R>,
+    strip: &mut StripJob,
+)
+    requires { strip.old.book ≡ J.book }
+    ensures { strip.new.book ≡ strip.old.book }
+{
+    'tiles: while !strip.is_spent() {
+        let Ok(built) = build_next(alloc, strip) else {
+            return;
+        };
+        match shared.finish_next(rt, alloc, strip, &built) {
+            Ok((_is_kept, _log)) => {}
+            Err(_fault) => return,
+        }
+    }
+}
+
+/// The next tile of a strip, by a pass over its own column alone.
+fn build_next(alloc: Global, strip: &StripJob) -> Result<Built, AllocError>
+    requires { strip.now.next ≤ strip.now.input.strip.last }
+    ensures { IfOk result (λ built. built.0 ≡ part strip.now.input strip.now.next) }
+{
+    let input = strip.input();
+    // The strip ends at a column that there is.
+    let _ = input.strip();
+    let Some(column) = Column::new(u64::from(strip.next())) else {
+        unreachable!()
+    };
+    let own = input.column_input(alloc, column)?;
+    match Built::new(alloc, own) {
+        Ok(built) => Ok(built),
+        Err((_own, error)) => Err(error),
     }
 }

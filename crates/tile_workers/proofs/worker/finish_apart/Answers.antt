@@ -1,0 +1,27 @@
+use Rattle.std.proofs.Common.{◌≡◌, ℕ, ◌<◌, ◌≤◌, Bool, true, false, IsTrue, ◌↔◌, ⊎_elim, ap, sym, ◌∙◌, arith}
+use Rattle.std.proofs.lemmas.Bool.{cases_lt}
+use mathlib.Core.Bool.{true≢false}
+use Rattle.version_book.specs.Strips.{HandedStrip}
+use Rattle.tile_workers.proofs.worker.finish_apart.Goals as goal
+
+-- a strip of which not each tile is spent has a next one
+not_past : (b : Bool) (last next : ℕ) → (IsTrue b ↔ (last < next)) → b ≡ false → next ≤ last
+not_past b last next is e = ⊎_elim (λ h. absurd (true≢false (sym (is.1 h) ∙ e))) (λ h. h) (cases_lt last next)
+
+pub build_next-requires : goal.build_next-requires
+build_next-requires g c = not_past c.is_spent.result c.tiles.strip.input.strip.last c.tiles.strip.next c.is_spent.ensures c.tiles-test.true
+
+pub finish_next-requires : goal.finish_next-requires
+finish_next-requires g c = record {
+  book = c.tiles.invariant ∙ c.requires;
+  left = not_past c.is_spent.result c.tiles.strip.input.strip.last c.tiles.strip.next c.is_spent.ensures c.tiles-test.true;
+  input = c.in-Ok.ensures;
+}
+
+pub tiles-preserved : goal.tiles-preserved
+tiles-preserved g c = ap (λ (s : HandedStrip). s.book) c.in-Ok-finish_next.ensures.next ∙ c.tiles.invariant
+
+pub tiles-smaller : goal.tiles-smaller
+tiles-smaller g c =
+    let left = not_past c.is_spent.result c.tiles.strip.input.strip.last c.tiles.strip.next c.is_spent.ensures c.tiles-test.true in
+    omega (arith, left, ap (λ (s : HandedStrip). s.next) c.in-Ok-finish_next.ensures.next, ap (λ (s : HandedStrip). s.input.strip.last) c.in-Ok-finish_next.ensures.next)
