@@ -8,7 +8,6 @@ pub mod Parts
 mod Refusals
 pub mod Runs
 pub mod Sent
-pub mod SentStore
 pub mod ServedParts
 pub mod StoppedParts
 pub mod Stopping
