@@ -88,13 +88,13 @@ module _ {D : Type 0} (g : Ghosts D) where
   -- ---- at the end of a book
 
   -- what is said of a store and of what is left as its book closes
-  pub record HasClosed (store : Store D g) (closed : Closed D) : Type 0 where
+  pub record HasClosed (whole : Store D g) (closed : Closed D) : Type 0 where
     pub log : IsLog closed.seen_log.log
-    pub begun : 0 < length (reporter_of store).log
-    pub heard : HasHeard closed.seen_log.log (reporter_of store)
+    pub begun : 0 < length (reporter_of whole).log
+    pub heard : HasHeard closed.seen_log.log (reporter_of whole)
     pub durable : All (λ (e : Entry). e.version.durable ≤ (newest_in closed.seen_log.log).durable) closed.seen_log.log
-    pub store : MatchOption (flusher_in store) ((closed.stored ≡ 0) × (closed.disk ≡ None)) (λ (f : Flusher D g). (closed.stored ≡ f.commit.root.version) × (closed.disk ≡ Some f.commit.disk))
-    pub told : told_in closed.told ≡ told_by store
+    pub store : MatchOption (flusher_in whole) ((closed.stored ≡ 0) × (closed.disk ≡ None)) (λ (f : Flusher D g). (closed.stored ≡ f.commit.root.version) × (closed.disk ≡ Some f.commit.disk))
+    pub told : told_in closed.told ≡ told_by whole
 
   -- nothing was reported as the book began
   none_yet_by : (start : Version) (k : Keeper D g) (disk : D) → k.reporter.log ≡ first_log start → told_in k.told ≡ [] → StaysTold g (history_of k.reporter.log) (told_in k.told) disk disk

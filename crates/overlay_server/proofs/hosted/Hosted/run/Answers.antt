@@ -103,7 +103,7 @@ returns-then-is_set-clause-refused g c =
       };
     })
     fault.ensures.closed
-    (c.any_begun-begun.ensures ∙ ap (λ (fs : List (Finished _)). any_of fs) (c.deref-4.ensures.value ∙ left.finished_are))
+    (c.any_begun-begun.ensures ∙ ap (λ (fs : List (Finished _)). any_of fs) (c.deref-then-is_set.ensures.value ∙ left.finished_are))
     (come_to c.any_begun-begun.result fault.result.sessions.items work.result.seats.sessions.items (map ended_session left.ended) fault.ensures.sessions these)
 
 pub returns-clause-left : goal.returns-clause-left
