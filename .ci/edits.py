@@ -2,7 +2,7 @@
 
 A control has the name of a wrong body, changes the same function, and leaves what it means as it was, in a shape like
 that of the wrong body. It must not be refused: a wrong body that falls at a proof that was written for the text as it is
-may fall by its shape alone, and its control tells. An edit names a file of its crate, and pairs of lines: the old one
+may fall by its shape alone, and its control shows it. An edit names a file of its crate, and pairs of lines: the old one
 stands once in what the earlier pairs have made.
 
 The file TRIED of wrong-bodies/ has the commit at which the edits of that folder were tried last, all of them.
@@ -35,10 +35,9 @@ ASKED = (
     "commits_a_version_of_its_own",
 )
 
-# Those among them that may lack a control still: it is told of them, and the gate does not fail for it.
+# Those among them that may lack a control still: they are named, and the gate does not fail for it.
 LACKING = (
     "book_lock/add_opening_version_for_all", "book_lock/keep_finished_with_another_tile", "book_lock/keep_job_dropped",
-    "book_lock/submit_accepted_and_unchanged", "book_lock/submit_applied_twice",
 )
 
 
@@ -145,7 +144,7 @@ def git(top: pathlib.Path, *words: str) -> str | None:
 
 
 def age(top: pathlib.Path, crate: str) -> str:
-    """What is to be told of when a crate's edits of wrong-bodies/ were tried last: nothing where it has none, or where
+    """What is to be reported of when a crate's edits of wrong-bodies/ were tried last: nothing where it has none, or where
     neither they nor its sources have changed since.
     """
     home = top / "crates" / crate

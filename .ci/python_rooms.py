@@ -39,8 +39,8 @@ def functions(tree: ast.Module) -> list[tuple[str, str]]:
 
 
 def is_python(path: pathlib.Path) -> bool:
-    """Whether a file is one of Python: by its name, or by its first line."""
-    if not path.is_file() or "__pycache__" in path.parts:
+    """Whether a file, and no link to one, is of Python: by its name, or by its first line."""
+    if path.is_symlink() or not path.is_file() or "__pycache__" in path.parts:
         return False
     if path.suffix == ".py":
         return True

@@ -2,7 +2,7 @@
 
 A wrong body is refused for its meaning where a goal has no proof: a clause, an invariant, a condition of what is called.
 `At its written proof` stands where it was one that was written for the text as it is: whether the goal could be proved
-otherwise, that does not tell; nor does `at a limit of the search`, where the prover gave up. Nothing is known of the
+otherwise, that does not show; nor does `at a limit of the search`, where the prover gave up. Nothing is known of the
 contract where it only finds that a written proof names what the edit has taken away (`a name that is gone`), that an
 operation may go wrong, or that a loop may not end.
 """
@@ -44,7 +44,7 @@ UNMEANT = (GONE_KIND, UNKNOWN_KIND, OPERATION_KIND, END_KIND)
 WRITTEN = ", at its written proof"
 WRITTEN_SEARCH = ", at a search that is written down"
 LIMIT = ", at a limit of the search"
-# The kinds of goals at which wrong bodies fall: what each tells.
+# The kinds of goals at which wrong bodies fall: what each says.
 AT_OPEN = "at an open goal"
 AT_WRITTEN = "at a written proof"
 AT_LIMIT = "at a limit of the search"
@@ -74,7 +74,7 @@ class Refusal:
 
     @property
     def rank(self) -> int:
-        """How little it tells: least where it says nothing of the contract, most where no proof was written."""
+        """How little it says: least where it says nothing of the contract, most where no proof was written."""
         return 3 if not self.is_meant else 2 if self.kind.endswith(LIMIT) else 1 if self.kind.endswith(WRITTEN) else 0
 
 
@@ -168,7 +168,7 @@ class Verdict:
         return self.is_reached and function in map(holder, self.told) and all(one.startswith(UNREFUSED) for one in said)
 
     def refusal(self, wanted: frozenset[str]) -> Refusal | None:
-        """Where one of some functions was refused, or of all if none is named: at the goal that tells most."""
+        """Where one of some functions was refused, or of all if none is named: at the goal that says most."""
         among = wanted or frozenset(map(holder, self.told))
         refused = {one for one in among
                    if any(is_of(name, one) and text.startswith(REFUSED) for name, text in self.told.items())}

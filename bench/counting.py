@@ -71,7 +71,7 @@ class Kept:
 
     @contextlib.contextmanager
     def telling(self, *faults: type[Exception]) -> Iterator[pathlib.Path]:
-        """The folder for what may end by one of some faults, which is told and is one thing wrong."""
+        """The folder for what may end by one of some faults, which is reported and is one thing wrong."""
         try:
             yield self.folder
         except faults as fault:
@@ -79,7 +79,7 @@ class Kept:
             self.wrong = 1
 
     def end(self) -> int:
-        """Takes the folder away or tells where it is, and gives the exit status."""
+        """Takes the folder away or says where it is, and gives the exit status."""
         if self.wrong:
             print(f"kept in {self.folder}")
         elif not self.is_named:

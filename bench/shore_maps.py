@@ -3,7 +3,7 @@
 
     /usr/bin/python3 bench/shore_maps.py WORLD_MAP FOLDER
 
-Shorelines are those of GSHHG that gmt tells (packages gmt and gmt-gshhg-high), joined to closed rings: those that lie
+Shorelines are those of GSHHG that gmt has (packages gmt and gmt-gshhg-high), joined to closed rings: those that lie
 whole within a frame round Europe. WORLD_MAP is world_map.gpkg of the package qgis-common, whose provinces are of
 Natural Earth: `apt-get download qgis-common` and `dpkg -x` give it without an installation. FOLDER gets shores.gpkg and
 provinces.gpkg, property id. Needs python3-gdal.

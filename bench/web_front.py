@@ -1,4 +1,4 @@
-"""A module for oapif.py, browser.py and web_load.py: a store of real shapes, a running front, Debian's packages."""
+"""A module for trials of the front, browser.py, map_clients.py and others: a store of real shapes, a running front, Debian's packages."""
 
 from __future__ import annotations
 
@@ -9,24 +9,20 @@ import pathlib
 import shutil
 import subprocess
 import sys
+import urllib.error
 import urllib.request
 from collections.abc import Iterator
 from typing import Any
 
-import overlay_client
+from web import overlay_client
 
 from bench import TOP
 
 PROGRAM = TOP / "crates/overlay_live/out/overlay_live"
 DEBIAN_PYTHON = "/usr/bin/python3"
 SCALE = {
-    "title": "Iceland at two scales",
-    "factor": 42262,
-    "factor_y": 100000,
-    "origin": [-19, 65],
-    "unit": "degree",
-    "crs": "OGC:CRS84",
-    "digits": 7,
+    "title": "Iceland at two scales", "factor": 42262, "factor_y": 100000, "origin": [-19, 65], "unit": "degree",
+    "crs": "OGC:CRS84", "digits": 7,
 }
 DEFINITIONS = {"both": "iceland_110m & iceland_50m", "one": "iceland_110m ^ iceland_50m"}
 
@@ -46,6 +42,27 @@ def need(command: str, *packages: str) -> None:
     done = subprocess.run(words, env=environment, stdout=subprocess.DEVNULL)
     if done.returncode:
         sys.exit(f"{' '.join(words)}: status {done.returncode}")
+
+
+def sent(method: str, place: str, body: str | None, revision: str = "") -> tuple[int, Any]:
+    """A change by Part 4, with its status and its answer."""
+    headers = {"Content-Type": "application/geo+json", **({"If-Match": revision} if revision else {})}
+    request = urllib.request.Request(place, body.encode() if body else None, headers, method=method)
+    try:
+        with urllib.request.urlopen(request, timeout=120) as answer:
+            return answer.status, json.load(answer)
+    except urllib.error.HTTPError as fault:
+        return fault.code, json.load(fault)
+
+
+def first_map(source: pathlib.Path, folder: pathlib.Path, program: str | pathlib.Path | None, *words: str) -> str:
+    """Makes the stores of a map in a folder by `./overlay`; what that says of it."""
+    given = [sys.executable, TOP / "overlay", source, "--folder", folder, "--only-make", *words]
+    given += ["--program", program] if program else []
+    done = subprocess.run([str(word) for word in given], capture_output=True, text=True, check=False)
+    if done.returncode:
+        sys.exit(f"overlay {source}: status {done.returncode}, {done.stderr}")
+    return done.stderr
 
 
 def iceland(folder: pathlib.Path, program: str) -> pathlib.Path:

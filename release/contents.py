@@ -1,7 +1,7 @@
 """What a release holds, below one prefix: programs, tools and front, manual pages, completion, documents.
 
     bin/            overlayd, overlay_live, overlay_window; overlay and overlay-.., links to the tools and the front
-    lib/overlayd/   tools/ and web/ as they stand here, without their tests
+    lib/overlayd/   overlay, tools/ and web/ as they are here, without their tests
     lib/systemd/    the unit of the front
     share/          manual pages, bash's completion, documents and examples
 
@@ -28,24 +28,19 @@ PAGES = "share/man/man1"
 UNIT = "overlay-web@.service"
 # Each command by what it runs.
 COMMANDS = {
-    "overlay": "overlay",
-    "overlay-dump-store": "tools/dump_store.py",
-    "overlay-maps": "tools/overlay_maps.py",
-    "overlay-refused": "tools/refused.py",
-    "overlay-to-geojson": "tools/to_geojson.py",
-    "overlay-to-rings": "tools/to_rings.py",
-    "overlay-to-script": "tools/to_script.py",
-    "overlay-to-svg": "tools/to_svg.py",
-    "overlay-web": "web/overlay_web.py",
-    "overlay-which": "tools/which.py",
+    "overlay": "overlay", "overlay-dump-store": "tools/dump_store.py", "overlay-maps": "tools/overlay_maps.py",
+    "overlay-refused": "tools/refused.py", "overlay-to-geojson": "tools/to_geojson.py",
+    "overlay-to-rings": "tools/to_rings.py", "overlay-to-script": "tools/to_script.py",
+    "overlay-to-svg": "tools/to_svg.py", "overlay-web": "web/overlay_web.py", "overlay-which": "tools/which.py",
 }
-NOT_PACKED = re.compile(r"tools/tests\.py|web/(?:tests|test_\w+|testing|stressing)\.py")
-SOURCES = ("overlay", "tools/*.py", "tools/maps/*.py", "web/*.py", "web/page/*", "web/client/*")
+NOT_PACKED = re.compile(r"(?:tools|web)/(?:commands/)?tests\.py|web/(?:test_\w+|testing|stressing)\.py")
+SOURCES = ("overlay", "tools/*.py", "tools/maps/*.py", "tools/commands/*.py", "web/*.py", "web/commands/*.py", "web/page/*",
+           "web/client/*")
 TEXTS = ("README.md", "docs/*.md", "docs/*.png", "docs/*.svg", "tools/README.md", "tools/maps/README.md",
          "tools/data/*", "web/README.md", "examples/**/*")
 FIRST_LINE = re.compile(rb"\A#!/usr/bin/env python3\n")
 NAMES = {pathlib.PurePath(path).stem: name for name, path in COMMANDS.items() if path.endswith(".py")}
-# A tool as it is called from a clone; where its name alone stands in quotes, that is a file's name in code.
+# A tool as it is called from a clone; where its name alone is in quotes, that is a file's name in code.
 CALLED = re.compile(rf"(?P<file>([\"'])(?:{'|'.join(NAMES)})\.py\2)|"
                     rf"(?<![\w/])(?:python3 )?(?:(?:tools|web)/)?(?P<tool>{'|'.join(NAMES)})\.py\b")
 FIRST_MAP = re.compile(r"(?<![\w.])\./overlay(?= )")
@@ -83,12 +78,15 @@ def sources(top: pathlib.Path = TOP) -> Iterator[Entry]:
     """Tools and front, and the commands that run them. Each finds the programs beside itself, whatever the path is."""
     for path in files(SOURCES, top):
         name = path.relative_to(top).as_posix()
-        if not NOT_PACKED.fullmatch(name):
-            content = path.read_bytes()
-            if path.suffix in (".py", ""):
-                content = spelled(content.decode()).encode()
-            runs = name in COMMANDS.values()
-            yield Entry(f"{HOME}/{name}", content, 0o755 if runs else 0o644)
+        if NOT_PACKED.fullmatch(name):
+            continue
+        if path.is_symlink():
+            yield Entry(f"{HOME}/{name}", target=str(path.readlink()))
+            continue
+        content = path.read_bytes()
+        if path.suffix in (".py", ""):
+            content = spelled(content.decode()).encode()
+        yield Entry(f"{HOME}/{name}", content, 0o755 if name == "overlay" else 0o644)
     for command, name in COMMANDS.items():
         yield Entry(f"bin/{command}", target=f"../{HOME}/{name}")
     for name in PROGRAMS:
@@ -96,7 +94,7 @@ def sources(top: pathlib.Path = TOP) -> Iterator[Entry]:
 
 
 def documents(top: pathlib.Path = TOP) -> Iterator[Entry]:
-    """What is read: as it stands here, with what the commands are called, and that no licence is given."""
+    """What is read: as it is here, with what the commands are called, and that no licence is given."""
     for path in files(TEXTS, top):
         yield Entry(f"{DOCUMENTS}/{path.relative_to(top).as_posix()}", path.read_bytes())
     yield Entry(f"{DOCUMENTS}/INSTALLED.md", installed())

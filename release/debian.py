@@ -51,7 +51,7 @@ def package_files(release: list[Entry], version: str, maintainer: str, seconds: 
 
 
 def control_files(files: list[Entry], version: str, maintainer: str) -> list[Entry]:
-    """What dpkg is told of the package, and what it runs."""
+    """What dpkg is given of the package, and what it runs."""
     text = CONTROL.format(package=PACKAGE, version=version, architecture=ARCHITECTURE, maintainer=maintainer,
                           room=packing.room_of(files), library=contents.needed_library(files), python=PYTHON)
     scripts = [Entry(name, (contents.PARTS / name).read_bytes(), 0o755) for name in ("postinst", "prerm")]

@@ -33,7 +33,7 @@ def below(folder: str, entries: Iterable[Entry]) -> list[Entry]:
 
 
 def folders_of(entries: Iterable[Entry]) -> set[str]:
-    """All folders that entries stand in, but for the top."""
+    """All folders that entries are in, but for the top."""
     return {str(folder) for one in entries for folder in pathlib.PurePosixPath(one.path).parents} - {"."}
 
 
@@ -47,7 +47,7 @@ def head(path: str, kind: bytes, mode: int, seconds: int) -> tarfile.TarInfo:
 
 
 def tar_of(entries: Iterable[Entry], seconds: int, before: str = "") -> bytes:
-    """An archive, compressed. `before` stands before each path: `./` as Debian has it, with the top itself then."""
+    """An archive, compressed. `before` comes before each path: `./` as Debian has it, with the top itself then."""
     given = {one.path: one for one in entries}
     made = io.BytesIO()
     with tarfile.open(fileobj=made, mode="w", format=tarfile.GNU_FORMAT) as archive:

@@ -1,4 +1,4 @@
-"""Manual pages and bash's completion of what a release puts on the path, from what each command tells by --help.
+"""Manual pages and bash's completion of what a release puts on the path, from what each command prints by --help.
 
 A module for make; it is no tool of its own.
 """
@@ -28,7 +28,7 @@ FIRST = re.compile(r"\A(?P<usage>usage: .*?)\n\n(?P<text>.*?)\n\n(?=[a-z][a-z ]*
 
 
 def help_of(command: pathlib.Path, *words: str) -> str:
-    """What a command tells by --help, in lines of 80 columns."""
+    """What a command prints by --help, in lines of 80 columns."""
     environment = {**os.environ, "COLUMNS": str(COLUMNS), "PYTHONDONTWRITEBYTECODE": "1", "LC_ALL": "C.UTF-8"}
     run = [str(command)] if command.name in contents.PROGRAMS else [sys.executable, str(command)]
     done = subprocess.run([*run, *words, "--help"], env=environment, capture_output=True, text=True, check=False)
@@ -38,7 +38,7 @@ def help_of(command: pathlib.Path, *words: str) -> str:
 
 
 def helps_of(folder: pathlib.Path) -> dict[str, str]:
-    """What each command of an unpacked release tells, with what each question of overlay-maps tells."""
+    """What each command of an unpacked release prints by --help, with what each question of overlay-maps prints."""
     told = {}
     for name in contents.COMMANDS:
         command = folder / "bin" / name
@@ -64,7 +64,7 @@ def as_written(text: str) -> str:
 
 
 def page_of(name: str, told: str, version: str, seconds: int) -> str:
-    """A manual page of what a command tells."""
+    """A manual page of what a command prints."""
     found = FIRST.match(told)
     if not found:
         raise Unmade(f"{name} --help: of another form")

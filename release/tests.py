@@ -4,7 +4,7 @@
     python3 release/tests.py FOLDER_OR_PROGRAM [LIVE WINDOW]
 
 FOLDER has the built overlayd, overlay_live and overlay_window; or these three are named one by one. Python alone is
-needed; what dpkg-deb, groff, systemd-analyze and bash tell of a release is looked at where they are, and else told as
+needed; what dpkg-deb, groff, systemd-analyze and bash say of a release is looked at where they are, and else reported as
 left out. The package in a clean root is tried by bench/trials/clean_root.py. The last line is 'N passed, M failed'.
 """
 
@@ -36,7 +36,6 @@ sys.dont_write_bytecode = True
 HERE = pathlib.Path(__file__).resolve().parent
 
 import contents  # noqa: E402
-import packing  # noqa: E402
 import pages  # noqa: E402
 from packing import Entry  # noqa: E402
 
@@ -190,7 +189,7 @@ class Versions(unittest.TestCase):
         (other / "overlay_live").write_text("#!/bin/sh\necho overlay_live 0.9, file format 2\n")
         done = made_by(other, Built.folder / "none")
         self.assertEqual((done.returncode, done.stdout), (1, ""))
-        self.assertIn("overlay_live tells `overlay_live 0.9, file format 2`", done.stderr)
+        self.assertIn("overlay_live prints `overlay_live 0.9, file format 2`", done.stderr)
         self.assertFalse((Built.folder / "none").exists())
 
     def test_what_is_not_there_is_told_and_nothing_is_written(self) -> None:

@@ -7,14 +7,13 @@ from collections.abc import Iterable
 from dataclasses import dataclass
 from fractions import Fraction
 
-import limits
-import scale as scales
-from scale import Scale
-from sessions import Corner
+from . import scale as scales
+from .scale import Scale
+from .sessions import Corner
 
 DIGITS_MAX = 60  # a fraction with more is written where it is asked for
 WORKED_MAX = 2**16  # so many bits of denominators are added up unasked
-BITS = 512  # of an area that is not exact, behind the point
+BITS = 512  # of an area that is not exact, after the point
 Term = tuple[int, int]  # a fraction
 
 
@@ -75,7 +74,3 @@ def in_world(rings: Iterable[Ring], scale: Scale, with_fraction: bool) -> tuple[
         return scale.area(near_sum(terms) / 2), None
     area = scale.area(exact_sum(terms) / 2)
     return area, scales.spelled_exactly(area) if with_fraction or is_short(area) else None
-
-
-if __name__ == "__main__":
-    limits.tell(__doc__)

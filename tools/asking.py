@@ -20,13 +20,8 @@ from dataclasses import dataclass, field
 from fractions import Fraction
 from typing import BinaryIO, TextIO
 
-import ending
-import features
-import limits
-import scale as scales
-import sessions
-import wkt
-from sessions import Session, Unusable
+from . import ending, features, limits, scale as scales, sessions, wkt
+from .sessions import Session, Unusable
 
 TOP = pathlib.Path(__file__).resolve().parent.parent
 LIVE, BATCHED = "overlay_live", "overlayd"
@@ -37,7 +32,7 @@ PROGRAM_HELP = ("the program to ask (default: overlay_live or overlayd, from cra
 MAGIC, SLOTS_END = b"OVLSTORE", 8192
 MAGIC_AT = (16, 4112)  # of the two slots: docs/FORMAT.md
 GridFor = Callable[[Session], tuple[int, ...] | None]
-# What writes a map: of what was asked for, the words of the call, where it goes, and where faults are told.
+# What writes a map: of what was asked for, the words of the call, where it goes, and where faults are reported.
 Writer = Callable[["Map", argparse.Namespace, TextIO, TextIO], int]
 
 
@@ -47,7 +42,7 @@ def found_program(names: tuple[str, ...]) -> str:
     built = [TOP / "crates" / name / "out" / name for name in names] + [TOP / name for name in names]
     found = [str(file) for file in built if file.is_file()] + [file for file in map(shutil.which, names) if file]
     if not found:
-        raise Unusable(f"no program: neither {' nor '.join(names)} is built in {TOP} or stands on the path; say "
+        raise Unusable(f"no program: neither {' nor '.join(names)} is built in {TOP} or is on the path; say "
                        "--program PATH")
     return found[0]
 
@@ -75,7 +70,7 @@ def begins_as_store(data: bytes) -> bool:
 
 
 def is_store(path: pathlib.Path) -> bool:
-    """Whether a file that stands begins as a store does; what is no file, as a pipe, is not read."""
+    """Whether a file begins as a store does; what is no file, as a pipe, is not read."""
     if not path.is_file():
         return False
     with path.open("rb") as file:
@@ -83,7 +78,7 @@ def is_store(path: pathlib.Path) -> bool:
 
 
 def content(path: pathlib.Path, kind: str, words: str) -> bytes:
-    """What a file has that is to be a script, or replies; where it is a store the words to type are told."""
+    """What a file has that is to be a script, or replies; where it is a store the words to type are reported."""
     try:
         data = path.read_bytes()
     except OSError as fault:
@@ -150,7 +145,7 @@ def base_pieces(program: str, session: Session, layers: list[str]) -> None:
 
 @dataclass
 class Map:
-    """What a tool works on: the session, the layers that were asked for, the scale, and what to tell of it."""
+    """What a tool works on: the session, the layers that were asked for, the scale, and what to report of it."""
 
     session: Session
     layers: list[str]
@@ -170,19 +165,19 @@ def add_words(parser: argparse.ArgumentParser, many: bool = False) -> None:
     source.add_argument("--replies", metavar="FILE", type=pathlib.Path,
                         help="ask no program: the replies to the script, which asks EDGES itself")
     source.add_argument("--questions", action="store_true",
-                        help="only print the script with the questions behind it, to be run elsewhere; where no layer "
-                        "is named, those of its last DEFINE, as no reply says which one stands")
+                        help="only print the script with the questions after it, to be run elsewhere; where no layer "
+                        "is named, those of its last DEFINE, as no reply says which one is there")
     add_layer_word(parser, many)
 
 
 def add_layer_word(parser: argparse.ArgumentParser, many: bool) -> None:
     if many:
         parser.add_argument("--layer", metavar="NAME", action="append",
-                            help="a layer, base or derived; may stand several times (default: all)")
+                            help="a layer, base or derived; may be given several times (default: all)")
     else:
         parser.add_argument("--layer", metavar="NAME",
-                            help="a layer, base or derived (default: the derived one that was defined last and stands;"
-                                 " of a store the last derived one that LAYERS tells)")
+                            help="a layer, base or derived (default: the derived one that was defined last and is not dropped;"
+                                 " of a store the last derived one that LAYERS lists)")
 
 
 def add_scale_words(parser: argparse.ArgumentParser) -> None:
@@ -194,7 +189,7 @@ def add_scale_words(parser: argparse.ArgumentParser) -> None:
     parser.add_argument("--factor-y", type=scales.number, help="and that for y")
     parser.add_argument("--origin", type=scales.number, nargs=2, metavar=("X", "Y"), help="and the origin")
     parser.add_argument("--digits", type=int,
-                        help="digits behind the point, 0 to 100 (default: those of the scale, else 6)")
+                        help="digits after the point, 0 to 100 (default: those of the scale, else 6)")
 
 
 def scale_of(words: argparse.Namespace, parser: argparse.ArgumentParser) -> tuple[scales.Scale, pathlib.Path | None]:
@@ -222,7 +217,7 @@ def scale_of(words: argparse.Namespace, parser: argparse.ArgumentParser) -> tupl
 
 def check_words(words: argparse.Namespace, parser: argparse.ArgumentParser) -> None:
     if (words.script is None) == (words.store is None):
-        parser.error("either a SCRIPT or --store FILE")
+        parser.error("either a SCRIPT or --store FILE; a layer is named by --layer")
     if words.store and words.replies:
         parser.error("--replies are those of a SCRIPT")
 
@@ -235,7 +230,7 @@ def wanted(words: argparse.Namespace, default: list[str]) -> list[str]:
 
 
 def last_layer(session: Session) -> list[str]:
-    """The layer that was defined last and stands, or where none is derived the one that was put last."""
+    """The layer that was defined last and is not dropped, or where none is derived the one that was put last."""
     derived = [name for name in session.recent if name in session.definitions]
     return (derived or session.recent)[-1:]
 
@@ -268,7 +263,7 @@ def of_store(words: argparse.Namespace, many: bool, grid: GridFor | None) -> tup
 
 
 def with_questions(script: bytes, layers: list[str], grid: GridFor | None) -> bytes:
-    """The script and behind it the questions for the pieces of layers, and for a picture of the first."""
+    """The script and after it the questions for the pieces of layers, and for a picture of the first."""
     put = Session()
     put.base = sessions.put_by(script)
     return sessions.with_lines(script, sessions.questions(layers) + grid_line(layers[0], grid(put) if grid else None))
@@ -281,7 +276,7 @@ def answered(program: str, script: bytes, layers: list[str], grid: GridFor | Non
 
 
 def standing(session: Session, named: list[str], many: bool) -> list[str]:
-    """The layers that are meant where no word names one: all, or the last; where none stands what the text named."""
+    """The layers that are meant where no word names one: all, or the last; where there is none what the text named."""
     return session.order if many else last_layer(session) or named
 
 
@@ -320,7 +315,7 @@ def printed(script: bytes) -> tuple[Session, list[str]]:
 
 
 class Missing(Unusable):
-    """A layer that does not stand, with the session whose refusals may say why."""
+    """A layer that is not there, with the session whose refusals may say why."""
 
     def __init__(self, name: str, session: Session) -> None:
         super().__init__(f"{name}: no layer has this name")
@@ -343,7 +338,7 @@ def map_of(words: argparse.Namespace, parser: argparse.ArgumentParser, many: boo
 
 
 def other_layers(path: pathlib.Path, session: Session, file: pathlib.Path, scale: scales.Scale) -> list[str]:
-    """Tells where a store, or a script, has other base layers than those that the scale beside it was written for."""
+    """Says where a store, or a script, has other base layers than those that the scale beside it was written for."""
     known = features.layers_of(path, session.base)  # which change with their features
     own = {name: sessions.digest_of(rings) for name, rings in session.base.items() if name not in known}
     changed = [[name for name, digest in one.items() if own.get(name, digest) != digest] for one in scale.layers]
@@ -357,14 +352,14 @@ def other_layers(path: pathlib.Path, session: Session, file: pathlib.Path, scale
 
 
 def tell_refusals(session: Session, errors: TextIO) -> int:
-    """Tells each line of the script that was refused: 1 where there is one, else 0."""
+    """Reports each line of the script that was refused: 1 where there is one, else 0."""
     for refusal in session.refused:
         print(refusal.told(), file=errors)
     return 1 if session.refused else 0
 
 
 def worked(make: Callable[[], Map], write: Callable[[Map], int], errors: TextIO) -> int:
-    """The status of a tool: refused lines are told and give 1, whatever is written without them."""
+    """The status of a tool: refused lines are reported and give 1, whatever is written without them."""
     try:
         made = make()
         told = tell_refusals(made.session, errors)
@@ -384,7 +379,3 @@ def run(parser: argparse.ArgumentParser, arguments: list[str], write: Writer, ou
     words = parser.parse_args(arguments)
     target, told = output or sys.stdout, errors or sys.stderr
     return worked(lambda: map_of(words, parser, many), lambda found: write(found, words, target, told), told)
-
-
-if __name__ == "__main__":
-    limits.tell(__doc__)

@@ -8,25 +8,21 @@ from collections.abc import Iterator
 from dataclasses import dataclass
 from fractions import Fraction
 
-import asking
-import layering
-import limits
-import progress
-import sessions
-import to_rings
-from areas import area_of_all
-from layering import Group
-from maps import bending, box_pairs, jobs, planning, rounds, task_form
-from maps.whole_maps import Box, WholeMap
+from . import asking, layering, limits, progress, sessions
+from .areas import area_of_all
+from .commands import to_rings
+from .layering import Group
+from .maps import bending, box_pairs, jobs, planning, rounds, task_form
+from .maps.whole_maps import Box, WholeMap
 
 ASKED = "asked"
 RUN_MAX = 100  # pairs of layers that one script can have
 Pair = tuple[int, int]
-Step = tuple[list[str], str]  # lines that make or change layers, and an expression over what stands then
+Step = tuple[list[str], str]  # lines that make or change layers, and an expression over what there is then
 
 
 def areas(program: str, steps: list[Step]) -> list[Fraction]:
-    """The areas of expressions behind lines of a script, in memory; each is defined in the place of the one before."""
+    """The areas of expressions after lines of a script, in memory; each is defined in the place of the one before."""
     questions = sessions.questions([ASKED]).decode().splitlines()
     script = [line for lines, text in steps for line in (*lines, f"DEFINE {ASKED} = {text}", *questions)]
     replies = sessions.lines_of(asking.ran(program, [], "".join(line + "\n" for line in script).encode()))
@@ -51,7 +47,7 @@ def pieces(program: str, lines: list[str], name: str) -> list[sessions.Piece]:
 
 
 def pieces_from(replies: list[str], at: int, text: str) -> tuple[list[sessions.Piece], int]:
-    """The pieces of a definition, whose replies begin at a line: DEFINE, WAIT, EDGES; and the line behind them."""
+    """The pieces of a definition, whose replies begin at a line: DEFINE, WAIT, EDGES; and the line after them."""
     pieces: list[sessions.Piece] = []
     for _ in range(2 + limits.COLUMNS):
         reply = sessions.reply_lines(replies, at)
@@ -133,7 +129,3 @@ def overlapping(program: str, groups: list[Group]) -> list[Overlap]:
     except (rounds.ProgramEnded, rounds.ProgramRefused) as fault:
         raise sessions.Unusable(str(fault)) from fault
     return sorted(found, key=lambda one: (-one.area, one.first, one.second))
-
-
-if __name__ == "__main__":
-    limits.tell(__doc__)

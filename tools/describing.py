@@ -6,13 +6,10 @@ A module for to_script.py; it is no tool of its own.
 import re
 from collections.abc import Iterator
 
-import features
-import layering
-import limits
-import map_reading
-from features import Feature, FeaturesFault, Table
-from layering import Group, Store
-from rounding import Polygon
+from . import features, layering, limits, map_reading
+from .features import Feature, FeaturesFault, Table
+from .layering import Group, Store
+from .rounding import Polygon
 
 Source = tuple[int, str]
 Described = dict[Source, map_reading.Described]
@@ -36,7 +33,7 @@ def tables(stores: list[Store], described: Described, stem: str, name_by: str | 
 
 
 def groups_of(store: Store) -> Iterator[tuple[int | None, list[str], Group]]:
-    """What stands under one name in a store: its number where it is coded, its layers, and itself."""
+    """What is under one name in a store: its number where it is coded, its layers, and itself."""
     for number, group in enumerate(store.features, 1):
         yield number, layering.bits_of(number), group
     if not store.features:
@@ -65,7 +62,3 @@ def collection_name(stem: str, taken: set[str]) -> str:
     names = layering.Names()
     names.taken = taken
     return names.give(fitted if fitted[: limits.NAME_MAX] not in taken else f"{fitted[: limits.NAME_MAX - 9]}_features")
-
-
-if __name__ == "__main__":
-    limits.tell(__doc__)

@@ -14,7 +14,6 @@ import traceback
 from collections.abc import Callable
 from typing import NoReturn, TextIO
 
-import limits
 
 INTERRUPTED = 130  # as shells tell it of a program that was stopped from the keyboard
 TEXT_MAX = 200
@@ -37,11 +36,11 @@ def unforeseen(fault: Exception) -> str:
     place = traceback.extract_tb(fault.__traceback__)[-1]
     text = " ".join(str(fault).split())[:TEXT_MAX]
     at = f"{pathlib.Path(place.filename).name}, line {place.lineno}"
-    return f"{type(fault).__name__}: {text} ({at}): a defect of this tool; python3 -X dev tells more"
+    return f"{type(fault).__name__}: {text} ({at}): a defect of this tool; python3 -X dev shows more"
 
 
 def status_of(main: Callable[[list[str]], int]) -> int | str | None:
-    """The status of a tool: 1 where it raises what it does not foresee, which is told."""
+    """The status of a tool: 1 where it raises what it does not foresee, which is reported."""
     try:
         return main(sys.argv[1:])
     except SystemExit as ended:
@@ -68,7 +67,7 @@ def flushed(main: Callable[[list[str]], int]) -> int | str | None:
 
 
 def tell_fault(fault: OSError) -> None:
-    """Tells, where that can be told, what could not be written. A reader that went away knows it."""
+    """Reports, where that can be reported, what could not be written. A reader that went away knows it."""
     if not isinstance(fault, BrokenPipeError):
         of = "standard output" if fault.filename is None else fault.filename
         with contextlib.suppress(OSError):
@@ -76,7 +75,7 @@ def tell_fault(fault: OSError) -> None:
 
 
 def drop_rest() -> None:
-    """What is left in the buffers goes nowhere, so that the interpreter tells nothing of it at its end."""
+    """What is left in the buffers goes nowhere, so that the interpreter says nothing of it at its end."""
     nowhere = os.open(os.devnull, os.O_WRONLY)
     for stream in (1, 2):
         os.dup2(nowhere, stream)
@@ -85,19 +84,15 @@ def drop_rest() -> None:
 def run(main: Callable[[list[str]], int]) -> NoReturn:
     """Runs a tool by the words that it is called with, and ends with its status: 1 where output cannot be written."""
     if sys.stderr is None:
-        # Closed by who calls: `print` would write what is told into the output.
+        # Closed by who calls: `print` would write what is reported into the output.
         sys.stderr = open(os.devnull, "w", encoding="utf-8")
     try:
         status = flushed(main)
     except OSError as fault:
-        # What was printed before a note could not be told is output all the same.
+        # What was printed before a note could not be reported is output all the same.
         with contextlib.suppress(OSError, AttributeError):
             sys.stdout.flush()
         tell_fault(fault)
         drop_rest()
         status = 1
     sys.exit(status)
-
-
-if __name__ == "__main__":
-    limits.tell(__doc__)

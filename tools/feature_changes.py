@@ -12,15 +12,11 @@ from decimal import Decimal
 from fractions import Fraction
 from typing import Any
 
-import features
-import layering
-import limits
-import rounding
-import wkt
-from features import Change, Feature, Held, Table
-from map_reading import Refused
-from rounding import Polygon, Ring
-from scale import Scale
+from . import features, layering, limits, rounding, wkt
+from .features import Change, Feature, Held, Table
+from .map_reading import Refused
+from .rounding import Polygon, Ring
+from .scale import Scale
 
 
 class ChangeFault(ValueError):
@@ -129,7 +125,7 @@ def carried_out(path: pathlib.Path, before: Table, plan: Plan, accept: Callable[
     """Makes a planned change, so that a stop at any moment leaves the file and the store in step; the table after it.
 
     accept makes the lines one version of the store, or raises refused where it has none of them; settle returns when it
-    is durable. note is told what the file says.
+    is durable. note is given what the file says.
     """
     def write(table: Table) -> None:
         features.write_durably(path, table.text())
@@ -147,7 +143,7 @@ def carried_out(path: pathlib.Path, before: Table, plan: Plan, accept: Callable[
         raise
     settle()
     note(after)
-    with contextlib.suppress(OSError):  # what is pending stands in the store, so it is durable all the same
+    with contextlib.suppress(OSError):  # what is pending is in the store, so it is durable all the same
         write(after)
     return after
 
@@ -166,7 +162,7 @@ def name_in(table: Table, properties: Mapping[str, Any], otherwise: str) -> str:
 
 
 def places_for_new(table: Table, names: Collection[str], name: str) -> Iterator[tuple[int | None, tuple[str, ...]]]:
-    """Where a new feature may stand: numbers that are free with the layers of their bits, those of fewest bits first,
+    """Where a new feature may be put: numbers that are free with the layers of their bits, those of fewest bits first,
     or the layer of its name."""
     if not table.coded:
         layers = {one.layers for one in table.named(name)} or {(layer,) for layer in table.layers}
@@ -232,7 +228,3 @@ def has_room(part: str, rings: Sequence[Ring]) -> bool:
 def text_of(rings: Sequence[Ring]) -> str:
     """The text of a layer, each ring as a polygon, as LAYERS has them."""
     return wkt.write([[ring] for ring in rings])
-
-
-if __name__ == "__main__":
-    limits.tell(__doc__)

@@ -9,19 +9,12 @@ from dataclasses import dataclass
 from fractions import Fraction
 from typing import Any
 
-import areas
-import checking
-import features
-import layering
-import limits
-import progress
-import rounding
-import simple
-import to_rings
-from features import Outline, Table
-from rounding import Polygon
-from scale import Scale, decimals, spelled_exactly
-from sessions import Corner
+from . import areas, checking, features, layering, progress, rounding, simple
+from .commands import to_rings
+from .features import Outline, Table
+from .rounding import Polygon
+from .scale import Scale, decimals, spelled_exactly
+from .sessions import Corner
 
 
 @dataclass(frozen=True)
@@ -74,7 +67,3 @@ def texts(table: Table, held: features.Held, scale: Scale, program: str) -> Iter
     outlines = features.outlines(table, held)
     for one in progress.over(outlines, "writing features", len(outlines)):
         yield text(one, table.area_name(), scale, program)
-
-
-if __name__ == "__main__":
-    limits.tell(__doc__)

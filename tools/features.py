@@ -11,12 +11,12 @@ NAME.features.json beside NAME.db says it, and to_script.py writes it beside NAM
 `id` is the source's where all of its features have one of their own, else its place in the source, from 1. `number` is
 that of --coded. `layers` are the layers that hold the feature; at the top, of each of them the base layers that it is
 of. `rings` are its polygons, each an outer ring and its holes, and of each ring a digest, or the digests of its runs
-with + between. What a ring is stands in the store alone, so a file that is not of a store is found out: each layer has
+with + between. What a ring is the store alone says, so a file that is not of a store is found out: each layer has
 exactly the rings of its features.
 
 A change of a feature is written here before the store has it, under `pending`: {"of": 1, "feature": {..}}, `of` null
 for a new one, `feature` null for one that goes. The store's layers say whether it was made. So after a stop at any
-moment the file and the store say together which features stand.
+moment the file and the store say together which features there are.
 
 A module for the tools and for web/; it is no tool of its own.
 """
@@ -32,10 +32,9 @@ from dataclasses import dataclass, replace
 from decimal import Decimal
 from typing import Any
 
-import layering
-import limits
-from rounding import Polygon, Ring
-from writing import write_durably as write_durably
+from . import layering
+from .rounding import Polygon, Ring
+from .writing import write_durably as write_durably
 
 ID = re.compile(r"[A-Za-z0-9_.-]{1,64}")
 ID_MAX = 2**53
@@ -210,7 +209,7 @@ def differing(table: Table, layer: str, lacking: Counter[str], foreign: Counter[
 
 
 def resolved(table: Table, held: Held, of: object) -> Table:
-    """The features that stand in a store: with the pending change where its layers have it, else without."""
+    """The features that are in a store: with the pending change where its layers have it, else without."""
     if table.pending:
         after = table.changed(table.pending)
         if unlike(after, held) is None:  # before it, a layer that it makes anew is not there
@@ -364,7 +363,7 @@ class Outline:
 
 
 def outlines(table: Table, held: Held) -> list[Outline]:
-    """The features that stand in a store, each with its polygons."""
+    """The features that are in a store, each with its polygons."""
     rings, found = found_rings(held), []
     for feature in table.features:
         polygons = outline(feature, rings)
@@ -391,7 +390,3 @@ def ids_for(given: Sequence[Any]) -> Iterator[int | str]:
     """The ids of features: the source's where each has one of its own, else their places, from 1."""
     own = all(map(is_id, given)) and len({str(one) for one in given}) == len(given)
     yield from given if own else range(1, len(given) + 1)
-
-
-if __name__ == "__main__":
-    limits.tell(__doc__)

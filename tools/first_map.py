@@ -1,5 +1,4 @@
-#!/usr/bin/env python3
-"""Makes a store of a map and shows it: fits, makes the store, starts the front, and prints its address.
+"""Makes a store of a map, starts a web front over it, and prints its address.
 
     ./overlay city.geojson
     ./overlay parcels.geojson --with zones.geojson
@@ -9,13 +8,13 @@ The features of one map are numbered over few layers and served with their names
 `name`, or by the first that tells them apart; --name-by says another. --with adds further maps on the same scale: each
 is a layer of its file's name then, and `both` is what all of them have in common.
 
-It writes CITY.txt, CITY.db and what goes with them in --folder (default: where it is called). A store that stands there
-is served as it is; --again makes it anew. One without its CITY.txt, which this did not make, one of another map of the
-same name, and one that another program has, as a front that runs, are refused and stay. Where one store does not
-suffice each has a front of its own. A browser is opened where there is a screen, but for --no-browser. The front runs
-until it is interrupted.
+It writes CITY.txt, CITY.db and what goes with them in --folder (default: where it is called). A store that is there
+is served as it is; --again makes it anew, unless a program has it open, as a running front. A store of another map of
+the same name, or one without the CITY.txt that it was made of, is refused and left as it is. Where one store does not
+suffice each has a front of its own. A browser is opened where there is a screen, but for --no-browser. Ctrl-C ends the
+front.
 
-Status 0: ended by SIGTERM or an interrupt, or all of it made by --only-make; 1: a feature was refused, which is told, and
+Status 0: ended by Ctrl-C or SIGTERM, or all of it made by --only-make; 1: a feature was refused, which is reported, and
 the rest made by --only-make, a line was refused, a program is not there, another has the store, or a front ended by a
 fault; 2: wrong words, a file that cannot be read, or one that would be written over.
 """
@@ -38,11 +37,9 @@ import webbrowser
 from collections.abc import Iterable, Mapping
 from typing import TextIO
 
-import asking
-import ending
-import sessions
-import to_script
-from describing import Described
+from . import asking, ending, scale as scales, sessions
+from .commands import to_script
+from .describing import Described
 
 FRONT = asking.TOP / "web" / "overlay_web.py"
 NAMED = "both"
@@ -63,13 +60,13 @@ def words_of(arguments: list[str]) -> argparse.Namespace:
     parser = argparse.ArgumentParser(description=__doc__, formatter_class=argparse.RawDescriptionHelpFormatter)
     parser.add_argument("map", metavar="MAP", type=pathlib.Path, help="GeoJSON, Well-Known Text, or what GDAL reads")
     parser.add_argument("--with", metavar="MAP", dest="others", type=pathlib.Path, action="append", default=[],
-                        help="a further map on the same scale; may stand several times")
+                        help="a further map on the same scale; may be given several times")
     parser.add_argument("--name-by", metavar="PROPERTY", help="what the features are called by")
-    parser.add_argument("--crs", help="the name of the coordinates, where the files do not say it")
+    parser.add_argument("--crs", type=scales.crs, help="the name of the coordinates, where the files do not say it")
     parser.add_argument("--source-layer", metavar="NAME", help="the layer of files that have several, as GeoPackages")
     parser.add_argument("--folder", type=pathlib.Path, default=pathlib.Path(), help="where the store is made")
     parser.add_argument("--again", action="store_true",
-                        help="make a store anew that stands there; what was changed in it since is lost")
+                        help="make a store anew that is there; what was changed in it since is lost")
     parser.add_argument("--writable", action="store_true", help="let the page and HTTP change the map")
     parser.add_argument("--port", type=int, default=8080, help="of the first front; 0 for one that is free (default 8080)")
     parser.add_argument("--no-browser", action="store_true", help="open no browser")
@@ -116,7 +113,8 @@ def made_scripts(words: argparse.Namespace, output: pathlib.Path, errors: TextIO
         status = to_script.main(script_words(words, output), told, told)
     except to_script.Stopped as fault:
         raise Unmade(2, str(fault)) from fault
-    print(told.getvalue().replace(f"{output.parent}/", "").rstrip("\n"), file=errors)
+    lines = told.getvalue().replace(f"{output.parent}/", "").splitlines()
+    print("\n".join(line.partition("; overlayd --store ")[0] for line in lines), file=errors)
     scripts = scripts_of(output)
     if status == 2 or not scripts:
         raise Unmade(max(status, 1), f"{words.map}: no store is made")
@@ -129,7 +127,7 @@ def made_scripts(words: argparse.Namespace, output: pathlib.Path, errors: TextIO
 
 
 def scripts_of(output: pathlib.Path) -> list[pathlib.Path]:
-    """The scripts that stand for an output: itself, or NAME.1.txt, NAME.2.txt .."""
+    """The scripts of an output: itself, or NAME.1.txt, NAME.2.txt .."""
     if output.is_file():
         return [output]
     numbered = {int(path.stem.rpartition(".")[2]): path for path in output.parent.glob(f"{output.stem}.*{output.suffix}")
@@ -162,7 +160,7 @@ def make_store(script: pathlib.Path, program: str) -> None:
 
 
 def stores_for(words: argparse.Namespace, program: str, errors: TextIO) -> tuple[list[pathlib.Path], int]:
-    """The stores of a map, and the status of making them. They are made in a folder of their own, so that none stands
+    """The stores of a map, and the status of making them. They are made in a folder of their own, so that none is
     half made."""
     stem = "_and_".join(re.sub(r"[^A-Za-z0-9]+", "_", path.stem).strip("_") or "map" for path in (words.map, *words.others))
     there = stores_of(words.folder / f"{stem}.txt")
@@ -170,8 +168,8 @@ def stores_for(words: argparse.Namespace, program: str, errors: TextIO) -> tuple
         check_maps(words, there)
     if there and not words.again:
         older = any(path.stat().st_mtime > there[0].stat().st_mtime for path in (words.map, *words.others))
-        age = ", and is older than its map" if older else ""
-        print(f"{', '.join(map(str, there))}: it stands{age}, and is served as it is; --again makes it anew", file=errors)
+        age = ", older than its map" if older else ""
+        print(f"{', '.join(map(str, there))}: made before{age}, and served as it is; --again makes it anew", file=errors)
         return there, 0
     if not os.access(words.folder, os.W_OK | os.X_OK):
         raise Unmade(1, f"{words.folder}: nothing can be written in it; say another --folder")
@@ -195,12 +193,12 @@ def stores_for(words: argparse.Namespace, program: str, errors: TextIO) -> tuple
 
 
 def check_maps(words: argparse.Namespace, there: list[pathlib.Path]) -> None:
-    """Refuses a map that is not there, of which nobody knows whether the store that stands is of it, and one that is
+    """Refuses a map that is not there, of which nobody knows whether the store that is there is of it, and one that is
     another than the store was made of."""
     given = (words.map, *words.others)
     for path in given:
         if not path.exists():
-            raise Unmade(2, f"{path}: no such file; the store that stands is shown by overlay_web.py --store {there[0]}")
+            raise Unmade(2, f"{path}: no such file; the store of that name is shown by overlay_web.py --store {there[0]}")
     for path, other in zip(given, maps_of(there[0].with_suffix(".txt"))):
         if other.exists() and not other.samefile(path):
             raise Unmade(2, f"{there[0]}: it was made of {other}; say another --folder, or move it away")
@@ -222,10 +220,10 @@ def hold(words: argparse.Namespace, stem: str, held: contextlib.ExitStack) -> No
         if not re.fullmatch(rf"{re.escape(stem)}(\.[0-9]+)?\.db", path.name):
             continue
         if not path.with_suffix(".txt").is_file():
-            raise Unmade(2, f"{path}: it stands without the {path.stem}.txt that it was made of; say another --folder, "
+            raise Unmade(2, f"{path}: the {path.stem}.txt that it was made of is not there; say another --folder, "
                             "or move it away")
         if not words.again:
-            raise Unmade(2, f"{path}: it stands, and others of its map do not; --again makes all of them anew")
+            raise Unmade(2, f"{path}: others of its map are not there; --again makes all of them anew")
         try:
             fcntl.flock(held.enter_context(path.open("rb")), fcntl.LOCK_EX | fcntl.LOCK_NB)
         except BlockingIOError as fault:
@@ -240,7 +238,7 @@ def check_targets(words: argparse.Namespace, targets: list[pathlib.Path]) -> Non
 
 
 def stores_of(output: pathlib.Path) -> list[pathlib.Path]:
-    """The stores that stand for an output."""
+    """The stores of an output."""
     found = [script.with_suffix(".db") for script in scripts_of(output)]
     return found if all(path.is_file() for path in found) else []
 
@@ -253,7 +251,7 @@ def has_screen(environment: Mapping[str, str]) -> bool:
 
 
 def started(words: argparse.Namespace, store: pathlib.Path, port: int, program: str) -> tuple[subprocess.Popen[str], str]:
-    """A front over a store, and the address that it tells when it listens."""
+    """A front over a store, and the address that it prints when it listens."""
     given = [sys.executable, str(FRONT), "--store", str(store), "--program", program, "--port", str(port)]
     front = subprocess.Popen(given + ["--writable"] * words.writable, stdout=subprocess.PIPE, text=True,
                              start_new_session=True)
@@ -318,7 +316,3 @@ def main(arguments: list[str], output: TextIO | None = None, errors: TextIO | No
     except (sessions.Unusable, OSError) as fault:
         print(fault if isinstance(fault, sessions.Unusable) else ending.told(fault.filename or "overlay", fault), file=errors)
         return 1
-
-
-if __name__ == "__main__":
-    ending.run(main)

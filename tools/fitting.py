@@ -8,18 +8,17 @@ from collections.abc import Iterable
 from dataclasses import dataclass
 from fractions import Fraction
 
-import limits
-import map_reading
-from map_reading import Shape
-from scale import Scale, decimal_digits, decimals
+from . import limits, map_reading
+from .map_reading import Shape
+from .scale import Scale, decimal_digits, decimals
 
 MARGIN = Fraction(101, 100)  # room for an origin that is rounded
-COARSE = 1000  # a move of more than a part of so many of the extent is told
+COARSE = 1000  # a move of more than a part of so many of the extent is reported
 
 
 @dataclass(frozen=True)
 class Box:
-    """The least and greatest coordinates of a map, and the most digits that stand behind a point; None for no end."""
+    """The least and greatest coordinates of a map, and the most digits after a point; None for no end."""
 
     least: tuple[Fraction, Fraction]
     greatest: tuple[Fraction, Fraction]
@@ -29,9 +28,13 @@ class Box:
         return max((high - low) / 2 for low, high in zip(self.least, self.greatest))
 
     def is_within_degrees(self) -> bool:
-        """Whether the numbers may be longitude and latitude: in their range, with digits behind the point."""
+        """Whether the numbers may be longitude and latitude: in their range, with digits after the point."""
         return (-180 <= self.least[0] and self.greatest[0] <= 180 and -90 <= self.least[1]
                 and self.greatest[1] <= 90 and self.digits != 0)
+
+    def is_round_the_earth(self) -> bool:
+        """Whether the numbers can be degrees at all, also those of a map that goes on beyond 180."""
+        return max(map(abs, (self.least[0], self.greatest[0]))) <= 360 and -90 <= self.least[1] and self.greatest[1] <= 90
 
 
 def box_of(shapes: Iterable[Shape]) -> Box | None:
@@ -92,7 +95,3 @@ def faults(collapsed: int, outside: int, furthest: Fraction, box: Box, scale: Sc
         found.append(f"coordinates move by up to {float(furthest):.3g}, more than a {COARSE}th of the extent, "
                      f"{float(2 * box.half()):.3g}")
     return found
-
-
-if __name__ == "__main__":
-    limits.tell(__doc__)

@@ -16,10 +16,7 @@ import tempfile
 from collections.abc import Iterator
 from typing import NamedTuple
 
-import ending
-import limits
-import scale as scales
-import writing
+from . import ending, scale as scales, writing
 
 TABLE = "a table with a column of Well-Known Text"
 # By the end of a name: what the form is called, where it does not begin as one of MAGIC.
@@ -51,7 +48,7 @@ class GdalFault(ValueError):
 
 
 def form_of(path: pathlib.Path, begin: bytes) -> str | None:
-    """What a file is where GDAL is to read it, by how it begins, and by its name alone where that tells nothing; None of
+    """What a file is where GDAL is to read it, by how it begins, and by its name alone where that says nothing; None of
     GeoJSON and Well-Known Text."""
     if OWN.match(begin):
         return None
@@ -66,7 +63,7 @@ def is_table(begin: bytes) -> bool:
 
 
 class Opened(NamedTuple):
-    """How GDAL is to open a file: by which name, with which options, and as which of its forms; all where none stands
+    """How GDAL is to open a file: by which name, with which options, and as which of its forms; all where none is named
     here."""
 
     name: str
@@ -213,7 +210,3 @@ def write(path: pathlib.Path, geojson: str, has_crs: bool) -> None:
         made = pathlib.Path(folder, path.name)
         ran([*words, str(made), "/vsistdin/"], geojson.encode())
         writing.write_all({path: made.read_bytes()})
-
-
-if __name__ == "__main__":
-    limits.tell(__doc__)

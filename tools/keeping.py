@@ -1,4 +1,4 @@
-"""Keeps what lies beside a store that stands: the files that say what its numbers mean are not written anew under it.
+"""Keeps what lies beside a store: the files that say what its numbers mean are not written anew under it.
 
 A module for to_script.py, to_geojson.py and dump_store.py; it is no tool of its own.
 """
@@ -10,10 +10,7 @@ from collections.abc import Iterable, Mapping
 from dataclasses import replace
 from decimal import Decimal
 
-import asking
-import limits
-import scale as scales
-import sessions
+from . import asking, scale as scales, sessions
 
 
 ENDS = (".scale.json", ".features.json", ".names.csv")
@@ -39,7 +36,7 @@ def meaning_of(path: pathlib.Path, data: bytes) -> object:
 
 
 def stores_of(output: pathlib.Path) -> list[pathlib.Path]:
-    """The stores that stand beside a script under its name."""
+    """The stores that lie beside a script under its name."""
     name = re.escape(output.with_suffix("").name)
     folder = output.parent.iterdir() if output.parent.is_dir() else ()
     return sorted(path for path in folder if re.fullmatch(rf"{name}(\.[0-9]+)?\.[^.]+", path.name)
@@ -47,7 +44,7 @@ def stores_of(output: pathlib.Path) -> list[pathlib.Path]:
 
 
 def is_same(path: pathlib.Path, other: pathlib.Path) -> bool:
-    """Whether two paths lead to one file, by whatever name or link; also to one that does not stand yet."""
+    """Whether two paths lead to one file, by whatever name or link; also to one that is not there yet."""
     if path.exists() and other.exists():
         return path.samefile(other)
     return path.resolve() == other.resolve()
@@ -66,14 +63,10 @@ def check_apart(output: pathlib.Path, given: Iterable[pathlib.Path] = ()) -> Non
 
 
 def check(output: pathlib.Path, beside: Mapping[pathlib.Path, bytes]) -> None:
-    """Refuses files beside a script that would say something else of a store that stands there under its name."""
+    """Refuses files beside a script that would say something else of a store that is there under its name."""
     stores = stores_of(output)
     for path, data in beside.items() if stores else ():
         stands = path.read_bytes() if path.is_file() else b""
         if meaning_of(path, stands) != meaning_of(path, data):
             raise StoreStands(f"{stores[0]} is a store, and {path} says what its numbers mean: it would say something "
                               "else; take another name, or move the store away")
-
-
-if __name__ == "__main__":
-    limits.tell(__doc__)

@@ -1,6 +1,6 @@
 """Lays polygons out over layers and stores: splits exactly what is too long, and numbers features in coded layers.
 
-A ring is cut into runs, each closed through the ring's first point: the chords stand twice, so that by even-odd the
+A ring is cut into runs, each closed through the ring's first point: the chords occur twice, so that by even-odd the
 runs joined by ^ are the ring, with no new corner and nothing rounded.
 
 A module for to_script.py; it is no tool of its own.
@@ -10,18 +10,16 @@ from collections.abc import Iterator
 from dataclasses import dataclass, field
 from fractions import Fraction
 
-import limits
-import rounding
-import wkt
-from maps import box_pairs
-from rounding import Polygon, Ring
+from . import limits, rounding, wkt
+from .maps import box_pairs
+from .rounding import Polygon, Ring
 
 Box = tuple[int, int, int, int]
 
 
 @dataclass
 class Group:
-    """What is to stand under one name: polygons, those of each source, what rounding did to them, and its number where
+    """What is to be under one name: polygons, those of each source, what rounding did to them, and its number where
     it is coded. A source is a file's number and what a feature is called there."""
 
     wish: str
@@ -238,7 +236,3 @@ def expression_of(number: int, features: int) -> str:
 
 def area_of(group: Group) -> Fraction:
     return rounding.area_of(group.polygons)
-
-
-if __name__ == "__main__":
-    limits.tell(__doc__)

@@ -3,8 +3,6 @@
 A module for the tools and for bench/; it is no tool of its own.
 """
 
-import argparse
-
 COORDINATE_MAX = 2**20
 COLUMNS = 33
 COLUMN_WIDTH = 2**16
@@ -25,14 +23,3 @@ BLOCKS_MAX = 2**20
 def column_begin(column: int) -> int:
     """The x at which a column begins; the last one is the line x = COORDINATE_MAX."""
     return COLUMN_WIDTH * column - COORDINATE_MAX
-
-
-def tell(text: str | None) -> None:
-    """What a module that is no tool does where it is called as one: tells what it is for."""
-    parser = argparse.ArgumentParser(description=text, formatter_class=argparse.RawDescriptionHelpFormatter)
-    parser.parse_args()
-    parser.print_help()
-
-
-if __name__ == "__main__":
-    tell(__doc__)

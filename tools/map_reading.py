@@ -1,4 +1,4 @@
-"""Reads GeoJSON and Well-Known Text into shapes, and tells the names of their coordinates.
+"""Reads GeoJSON and Well-Known Text into shapes, and gives the names of their coordinates.
 
 GeoJSON is one object, or a feature on each line (GeoJSON text sequences). Other forms are read by gdal_files.py.
 
@@ -15,16 +15,13 @@ from decimal import Decimal
 from fractions import Fraction
 from typing import Any
 
-import gdal_files
-import limits
-import scale as scales
-import wkt
+from . import gdal_files, scale as scales, wkt
 
 COLLECTIONS = ("FeatureCollection", "GeometryCollection")
-MARK = "\x1e"  # before each object of a text sequence, where they are not told by their lines
+MARK = "\x1e"  # before each object of a text sequence, where they are not parted by lines
 BEFORE = MARK + " \t\r\n"
 HALVES = re.compile("[\ud800-\udfff]")  # JSON can spell the halves of a character without each other
-BEYOND = 200  # a number with more digits than so many before or behind its point is no coordinate
+BEYOND = 200  # a number with more digits than so many before or after its point is no coordinate
 
 
 class Refused(Exception):
@@ -77,13 +74,13 @@ class Source:
     name_by: str | None
     properties: dict[str, None] = field(default_factory=dict)
     described: dict[str, Described] = field(default_factory=dict)
-    systems: list[str] = field(default_factory=list)  # the numbers behind SRID= in Well-Known Text
+    systems: list[str] = field(default_factory=list)  # the numbers after SRID= in Well-Known Text
 
     def shape(self, label: str, wish: str | None, kind: str, coordinates: Any, feature: str) -> Shape:
         return Shape(label, wish, kind, coordinates, feature, self.number, self.stem)
 
     def none(self, label: str, fault: str) -> list[Shape]:
-        """What stands for a geometry that cannot be read."""
+        """What takes the place of a geometry that cannot be read."""
         return [Shape(label, None, "", None, label, self.number, self.stem, fault)]
 
     def of_geojson(self, value: Any, label: str, wish: str | None, feature: str) -> list[Shape]:
@@ -146,7 +143,7 @@ def is_geojson(text: str) -> bool:
 
 
 def object_of(text: str) -> Any:
-    """The object of a text of GeoJSON: of several, each on a line or behind a mark, a collection of them."""
+    """The object of a text of GeoJSON: of several, each on a line or after a mark, a collection of them."""
     try:
         return json.loads(text, parse_float=Decimal)
     except json.JSONDecodeError as fault:
@@ -170,12 +167,7 @@ def crs_of(value: dict[str, Any]) -> str | None:
     member = value.get("crs")
     properties = member.get("properties") if isinstance(member, dict) else None
     name = properties.get("name") if isinstance(properties, dict) else None
-    if not isinstance(name, str):
-        return None
-    if re.fullmatch(r"(urn:ogc:def:crs:)?OGC:(1\.3)?:?CRS84", name):
-        return scales.CRS84
-    found = re.fullmatch(r"(?:urn:ogc:def:crs:EPSG:[0-9.]*:|EPSG:)([0-9]+)", name)
-    return f"EPSG:{found[1]}" if found else name
+    return (scales.crs_called(name) or name) if isinstance(name, str) else None
 
 
 def number_of(given: Any) -> Fraction:
@@ -213,7 +205,3 @@ def content(name: str, layer: str | None = None) -> bytes:
     if form:
         return gdal_files.as_geojson(path, layer).encode()
     return path.read_bytes() if given is None else given
-
-
-if __name__ == "__main__":
-    limits.tell(__doc__)

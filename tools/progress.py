@@ -1,6 +1,6 @@
-"""Tells how far long work is: by a bar of python3-tqdm on a terminal, else by plain lines.
+"""Says how far long work is: by a bar of python3-tqdm on a terminal, else by plain lines.
 
-`Progress` tells nothing where standard error is no terminal, nor of work that takes less than a second. `OfTasks`, of
+`Progress` says nothing where standard error is no terminal, nor of work that takes less than a second. `OfTasks`, of
 runs that may take hours, has lines for a file too.
 
 A module for the tools; it is no tool of its own.
@@ -11,7 +11,6 @@ import time
 from collections.abc import Callable, Iterable, Iterator
 from typing import Any, TextIO, TypeVar
 
-import limits
 
 BEGIN_SECONDS, SECONDS_BETWEEN = 1.0, 5.0
 SECONDS_BETWEEN_TASKS = 10  # two plain lines
@@ -47,7 +46,7 @@ class Progress:
 
 
 class OfTasks:
-    """What is told while tasks are done, those before that were done by an earlier run."""
+    """What is reported while tasks are done, those before that were done by an earlier run."""
 
     def __init__(self, what: str, say: Callable[[str], None], terminal: TextIO | None = None,
                  clock: Callable[[], float] = time.monotonic) -> None:
@@ -81,7 +80,7 @@ class OfTasks:
         return f"{self.total - self.here + self.done} of {self.total} tasks, {pace:.3g} a second, {left}"
 
     def end(self) -> None:
-        """No more is told."""
+        """No more is reported."""
         if self.bar is not None:
             self.bar.close()
 
@@ -102,7 +101,3 @@ def over(items: Iterable[Item], what: str, total: int) -> Iterator[Item]:
         for item in items:
             yield item
             told.step()
-
-
-if __name__ == "__main__":
-    limits.tell(__doc__)

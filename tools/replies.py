@@ -12,9 +12,3 @@ def reply_length(first: str) -> int:
     """How many lines a reply has, by its first line. One whose count is no number is a ValueError."""
     words = first.split(" ")
     return 1 + int(words[-1]) if len(words) == SEVERAL.get(words[0]) else 1
-
-
-if __name__ == "__main__":
-    import limits
-
-    limits.tell(__doc__)

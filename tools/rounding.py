@@ -8,9 +8,9 @@ from dataclasses import dataclass
 from fractions import Fraction
 from typing import Any
 
-import limits
-from map_reading import Refused, number_of
-from scale import Scale
+from . import limits
+from .map_reading import Refused, number_of
+from .scale import Scale
 
 Point = tuple[int, int]
 Ring = list[Point]
@@ -111,7 +111,7 @@ def in_range(ring: Ring) -> None:
 
 
 def is_flat(ring: Ring) -> bool:
-    """Whether all points of a ring stand on one line."""
+    """Whether all points of a ring are on one line."""
     first = ring[0]
     other = next((point for point in ring if point != first), first)
     across, up = other[0] - first[0], other[1] - first[1]
@@ -140,7 +140,3 @@ def area_of(polygons: list[Polygon]) -> Fraction:
     """The area of polygons that do not cross themselves or each other, whose holes lie in their outer rings."""
     twice = sum(twice_area(polygon[0]) - sum(map(twice_area, polygon[1:])) for polygon in polygons)
     return Fraction(twice, 2)
-
-
-if __name__ == "__main__":
-    limits.tell(__doc__)

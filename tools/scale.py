@@ -3,16 +3,17 @@
     {"title": "Boroughs", "factor": 10, "factor_y": 10, "origin": [985000, 189000], "unit": "ft", "crs": "EPSG:2263",
      "digits": 5}
 
-Where to_script.py wrote it, `layers` has of each store's base layers a digest, by which tools tell that a store beside
+Where to_script.py wrote it, `layers` has of each store's base layers a digest, by which tools see that a store beside
 it has other ones.
 
-world = stored / factor + origin, for x and for y; `digits` is how many stand behind the point where a number of the
+world = stored / factor + origin, for x and for y; `digits` is how many stand after the point where a number of the
 world is written. Numbers are exact: one that a double cannot hold is written as a text. Without `crs` (null) the
 numbers are those of a plane that is nowhere on the earth.
 
 A module for the tools; it is no tool of its own.
 """
 
+import argparse
 import contextlib
 import json
 import math
@@ -25,7 +26,7 @@ from decimal import Decimal
 from fractions import Fraction
 from typing import Any
 
-import limits
+from . import limits
 
 CRS84 = "OGC:CRS84"
 NUMBER = re.compile(r"[-+]?(?:[0-9]{1,20}(?:\.[0-9]{0,30})?|\.[0-9]{1,30})(?:[eE][-+]?[0-9]{1,2})?")
@@ -53,7 +54,7 @@ def number(text: str) -> Fraction:
 
 
 def decimal_digits(number: Fraction) -> int | None:
-    """How many digits behind the point spell a number exactly; None where no number of them does."""
+    """How many digits after the point spell a number exactly; None where no number of them does."""
     rest, twos, fives = number.denominator, 0, 0
     while rest % 2 == 0:
         rest, twos = rest // 2, twos + 1
@@ -62,8 +63,24 @@ def decimal_digits(number: Fraction) -> int | None:
     return max(twos, fives) if rest == 1 else None
 
 
+def crs_called(name: str) -> str | None:
+    """The coordinates that a name is of: OGC:CRS84, or EPSG: and a number; None of any other name."""
+    if re.fullmatch(r"(urn:ogc:def:crs:)?OGC:(1\.3)?:?CRS84", name, re.IGNORECASE):
+        return CRS84
+    found = re.fullmatch(r"(?:urn:ogc:def:crs:EPSG:[0-9.]*:|EPSG:)([0-9]{1,9})", name, re.IGNORECASE)
+    return f"EPSG:{found[1]}" if found else None
+
+
+def crs(word: str) -> str:
+    """The coordinates that a word of a command line names."""
+    found = crs_called(word.strip())
+    if found is None:
+        raise argparse.ArgumentTypeError(f"{word}: OGC:CRS84, or EPSG: and a number, as EPSG:25832")
+    return found
+
+
 def decimals(number: Fraction | int, digits: int) -> str:
-    """A fraction with so many digits behind the point, halves to even, zeros at the end dropped."""
+    """A fraction with so many digits after the point, halves to even, zeros at the end dropped."""
     scaled = round(number * 10**digits)
     text = str(abs(scaled)).rjust(digits + 1, "0")
     whole, rest = text[: len(text) - digits], text[len(text) - digits :].rstrip("0")
@@ -91,7 +108,7 @@ def spelled(number: Fraction) -> str:
     """A number as JSON has it: its digits, in quotes where a reader's double would lose some of them."""
     digits = decimal_digits(number)
     if digits is None or digits > 30 or abs(number) >= 10**20:
-        raise ScaleFault(f"{number} has no end behind the point, or too many digits: a file cannot say it")
+        raise ScaleFault(f"{number} has no end after the point, or too many digits: a file cannot say it")
     text = decimals(number, digits)
     return text if Fraction(str(float(text))) == number else f'"{text}"'
 
@@ -185,7 +202,3 @@ def beside(path: pathlib.Path) -> pathlib.Path:
 
 def with_digits(scale: Scale, digits: int | None) -> Scale:
     return scale if digits is None else replace(scale, digits=digits)
-
-
-if __name__ == "__main__":
-    limits.tell(__doc__)

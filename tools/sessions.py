@@ -1,4 +1,4 @@
-"""Reads scripts of overlayd and their replies: which layers stand, what EDGES and GRID answered, what was refused.
+"""Reads scripts of overlayd and their replies: which layers there are, what EDGES and GRID answered, what was refused.
 
 A module for the tools; it is no tool of its own.
 """
@@ -10,9 +10,8 @@ from dataclasses import dataclass
 from decimal import Decimal
 from typing import Any
 
-import limits
-import wkt
-from replies import reply_length
+from . import limits, wkt
+from .replies import reply_length
 
 COLUMNS = limits.COLUMNS
 EXPONENT_MAX = 100  # a number with a greater one is no coordinate
@@ -30,7 +29,7 @@ class Unusable(Exception):
 
 @dataclass(frozen=True)
 class Request:
-    """What has one reply in a script: a line, or a batch with its lines, and where they stand, counted from 1."""
+    """What has one reply in a script: a line, or a batch with its lines, and where they are, counted from 1."""
 
     lines: tuple[str, ...]
     places: tuple[int, ...]
@@ -52,7 +51,7 @@ class Refusal:
 
 
 def shortened(line: str) -> str:
-    """The first two words of a line, as they tell what it was for."""
+    """The first two words of a line, as they show what it was for."""
     words = line.replace("\t", " ").split()
     text = " ".join(words[:2])[:60]
     return text + " .." if len(words) > 2 or len(text) == 60 else text
@@ -120,12 +119,12 @@ class Session:
 
     def __init__(self) -> None:
         self.order: list[str] = []  # all names, as LAYERS has them
-        self.recent: list[str] = []  # all names, the one that was put or defined last behind all others
+        self.recent: list[str] = []  # all names, the one that was put or defined last after all others
         self.base: dict[str, list[list[tuple[int, int]]]] = {}  # name: its rings of points
         self.definitions: dict[str, str] = {}  # name: the expression as given
         self.edges: dict[tuple[str, int], list[Piece] | str] = {}  # (name, column): pieces, or the line of the refusal
         self.grids: dict[str, Grid] = {}  # name: x, y, step, rows
-        self.version: int | None = None  # the greatest number of a version that was told
+        self.version: int | None = None  # the greatest number of a version that was reported
         self.refused: list[Refusal] = []
         self.asking = False  # whether what comes are questions of a tool, whose refusals are no lines of a script
 
@@ -150,7 +149,7 @@ class Session:
         return [name for name in self.order if name not in named]
 
     def stands(self, name: str) -> None:
-        """Takes in that a layer stands, behind all others where it is new, and gives up answers that it changes."""
+        """Takes in that there is a layer, after all others where it is new, and gives up answers that it changes."""
         if name not in self.order:
             self.order.append(name)
         self.recent = [layer for layer in self.recent if layer != name] + [name]
@@ -255,7 +254,7 @@ def names_in(expression: str) -> list[str]:
 
 
 def as_command(line: str) -> str:
-    """The line of a script that makes the layer which a line of LAYERS tells of."""
+    """The line of a script that makes the layer that a line of LAYERS describes."""
     name, _, rest = line.partition(" ")
     return f"DEFINE {line}" if rest.startswith("= ") else f"PUT {line}"
 
@@ -271,7 +270,7 @@ def read(script: bytes, replies: bytes, own: int | None = None, session: Session
     """The session of a script and what the program wrote for it, going on from one before.
 
     Only the first `own` requests are the user's: what is refused of the others is a question of a tool, whose refusal
-    stands with the answer.
+    is kept with the answer.
     """
     session, at, lines = session or Session(), 0, lines_of(replies)
     for number, request in enumerate(requests(script)[0]):
@@ -315,7 +314,7 @@ def questions(layers: list[str]) -> bytes:
 
 
 def with_lines(script: bytes, lines: bytes) -> bytes:
-    """The script with lines behind it."""
+    """The script with lines after it."""
     if requests(script)[1]:
         raise Unusable("the script ends within a batch")
     return script + (b"" if script.endswith(b"\n") or not script else b"\n") + lines
@@ -344,7 +343,3 @@ def pieces_of(session: Session, layer: str) -> tuple[list[Piece], list[tuple[int
         else:
             pieces.extend(answer)
     return pieces, missing
-
-
-if __name__ == "__main__":
-    limits.tell(__doc__)

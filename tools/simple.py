@@ -9,8 +9,7 @@ from collections.abc import Iterator
 from math import isqrt
 from typing import NamedTuple
 
-import limits
-from rounding import Point, Polygon, Ring
+from .rounding import Point, Polygon, Ring
 
 Cell = tuple[int, int]
 
@@ -29,7 +28,7 @@ class Edge(NamedTuple):
 
 
 def is_plain(polygons: list[Polygon]) -> bool:
-    """Whether all rings stand apart from each other and from themselves, outer ones outside, holes in theirs."""
+    """Whether all rings are apart from each other and from themselves, outer ones outside, holes in theirs."""
     points = [point for polygon in polygons for ring in polygon for point in ring[1:]]
     if len(set(points)) < len(points) or meets_itself(polygons):
         return False
@@ -133,7 +132,3 @@ def spread(edges: list[Edge]) -> int:
     """The width of a cell with which a grid over all edges has about as many cells as there are edges."""
     left, low, right, high = box_of([edge.a for edge in edges])
     return max(right - left, high - low) // (isqrt(len(edges)) + 1)
-
-
-if __name__ == "__main__":
-    limits.tell(__doc__)

@@ -1,4 +1,4 @@
-"""Sweeps the pieces of a boundary from left to right, and tells of each on which side the inside is, and what is below.
+"""Sweeps the pieces of a boundary from left to right, and finds of each on which side the inside is, and what is below.
 
 For n pieces this takes time in proportion to n log n, however they lie.
 
@@ -11,9 +11,8 @@ import gc
 from collections.abc import Iterable, Iterator
 from dataclasses import dataclass
 
-import limits
-import sessions
-from sessions import Corner, Piece
+from . import sessions
+from .sessions import Corner, Piece
 
 BLOCK_MAX = 512
 # A, B, C with A X + B Y + C W > 0 above a piece (B is 0 where it is vertical), and the piece's number.
@@ -35,9 +34,7 @@ def uncollected() -> Iterator[None]:
 def turn(a: Corner, b: Corner, c: Corner) -> int:
     """Greater than 0 where c lies to the left of the line from a to b, less where to the right, 0 on it."""
     return (
-        a[0] * (b[1] * c[2] - b[2] * c[1])
-        - a[1] * (b[0] * c[2] - b[2] * c[0])
-        + a[2] * (b[0] * c[1] - b[1] * c[0])
+        a[0] * (b[1] * c[2] - b[2] * c[1]) - a[1] * (b[0] * c[2] - b[2] * c[0]) + a[2] * (b[0] * c[1] - b[1] * c[0])
     )
 
 
@@ -74,7 +71,7 @@ def line_of(piece: Piece, number: int) -> Line:
 class Status:
     """The pieces that a line in x meets, just right of it, from the lowest up.
 
-    They stand in blocks, so that few move at a time.
+    They are kept in blocks, so that few move at a time.
     """
 
     def __init__(self) -> None:
@@ -162,7 +159,7 @@ def passing_under(lines: list[Line], point: Corner) -> int:
 
 @dataclass
 class Boundary:
-    """Pieces, and what a sweep tells of each; corners are numbered in their order by x and then by y."""
+    """Pieces, and what a sweep finds of each; corners are numbered in their order by x and then by y."""
 
     corners: list[Corner]
     left: list[int]  # the number of the corner at its left end
@@ -238,7 +235,7 @@ class Sweep:
 
 
 def swept(pieces: list[Piece]) -> Boundary:
-    """What a sweep from left to right tells of pieces that meet at their ends alone."""
+    """What a sweep from left to right finds of pieces that meet at their ends alone."""
     sweep = Sweep(pieces)
     for corner, starts, stops, is_top in sweep.corners():
         if len(starts) == len(stops) == 1 and not is_top and sweep.lines[starts[0]][1]:
@@ -246,7 +243,3 @@ def swept(pieces: list[Piece]) -> Boundary:
         else:
             sweep.turn_at(corner, by_angle(pieces, starts), stops, is_top)
     return sweep.found
-
-
-if __name__ == "__main__":
-    limits.tell(__doc__)

@@ -8,7 +8,6 @@ from collections.abc import Callable, Iterable
 from decimal import Decimal, InvalidOperation
 from typing import Any
 
-import limits
 
 TOKEN = re.compile(r"\s*(?:([A-Za-z]+)|([-+]?(?:\d+\.?\d*|\.\d+)(?:[eE][-+]?\d+)?)|([(),;=]))")
 
@@ -22,7 +21,7 @@ class Reader:
 
     def __init__(self, text: str) -> None:
         self.text, self.at = text, 0
-        self.systems: dict[str, None] = {}  # the numbers that stand behind SRID=, as keys
+        self.systems: dict[str, None] = {}  # the numbers after SRID=, as keys
         self.kind: int | None = None
         self.word: Any = None
         self.advance()
@@ -62,7 +61,7 @@ class Reader:
         return numbers
 
     def nested(self) -> list[Any]:
-        """Positions in brackets of any depth; of a MULTIPOINT some stand in brackets of their own."""
+        """Positions in brackets of any depth; of a MULTIPOINT some are in brackets of their own."""
         if self.kind == 1 and self.word.upper() == "EMPTY":
             self.advance()
             return []
@@ -98,7 +97,7 @@ class Reader:
 
 
 def read_all(text: str) -> list[tuple[str, list[Any]]]:
-    """The geometries of a text, one behind the other; an SRID before one is passed over."""
+    """The geometries of a text, one after the other; an SRID before one is passed over."""
     return read_with_systems(text)[0]
 
 
@@ -132,7 +131,3 @@ def write(polygons: Iterable[Any], spell: Callable[[Any], str] = str) -> str:
     if not texts:
         return "MULTIPOLYGON EMPTY"
     return "POLYGON " + texts[0] if len(texts) == 1 else "MULTIPOLYGON (" + ", ".join(texts) + ")"
-
-
-if __name__ == "__main__":
-    limits.tell(__doc__)

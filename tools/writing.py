@@ -13,7 +13,6 @@ import uuid
 from collections.abc import Iterator, Mapping
 from typing import TextIO
 
-import limits
 
 OWN = uuid.uuid4().hex  # of this process, among those of all machines that write in a folder
 
@@ -43,7 +42,7 @@ def take_places(written: Mapping[pathlib.Path, pathlib.Path]) -> None:
 
 
 def write_all(texts: dict[pathlib.Path, bytes]) -> None:
-    """Writes files, each whole, or none of them. What stands and is no file, as a pipe, is written to as it is."""
+    """Writes files, each whole, or none of them. What is there and is no file, as a pipe, is written to as it is."""
     targets = {path: path.resolve() for path in texts}
     plain = [path for path, target in targets.items() if not target.exists() or target.is_file()]
     try:
@@ -96,7 +95,3 @@ def write_durably(path: pathlib.Path, text: str) -> None:
         os.fsync(folder)
     finally:
         os.close(folder)
-
-
-if __name__ == "__main__":
-    limits.tell(__doc__)

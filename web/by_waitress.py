@@ -1,7 +1,7 @@
 """The front by waitress, Debian's package python3-waitress: who has it not gets an ImportError.
 
 Of waitress alone a connection lives as long as something comes or goes now and then, and its own refusals are plain
-text. Here a request and an answer have an end, and what waitress refuses is told as the front tells it.
+text. Here a request and an answer have an end, and what waitress refuses is reported as the front says it.
 """
 
 from __future__ import annotations
@@ -15,9 +15,9 @@ import waitress  # type: ignore[import]
 from waitress.channel import HTTPChannel  # type: ignore[import]
 from waitress.task import ErrorTask  # type: ignore[import]
 
-from front import HEADERS, Front, refusal
-from serving import ANSWER_SECONDS, CONNECTIONS_MOST, LINE_MOST, QUIET_SECONDS, REQUEST_SECONDS, THREADS
-from web_request import BODY_MOST
+from .front import HEADERS, Front, refusal
+from .serving import ANSWER_SECONDS, CONNECTIONS_MOST, LINE_MOST, QUIET_SECONDS, REQUEST_SECONDS, THREADS
+from .web_request import BODY_MOST
 
 
 class Refusal(ErrorTask):

@@ -1,6 +1,6 @@
 """The features of a store's map as the web shows them: found, drawn, located, and changed one by one.
 
-The file of features (docs/FEATURES.md) and the layers of one version say together which features stand. A file that is
+The file of features (docs/FEATURES.md) and the layers of one version say together which features there are. A file that is
 not of the layers answers nothing.
 """
 
@@ -13,21 +13,16 @@ from collections.abc import Callable, Mapping, Sequence
 from dataclasses import dataclass
 from typing import NamedTuple
 
-import features  # of tools/
-import layering  # of tools/
-import rounding  # of tools/
-import simple  # of tools/
-import wkt  # of tools/
-from feature_changes import Plan, carried_out  # of tools/
-from features import Feature, Held, Outline, Table
-from kept_values import Kept
-from layer_store import KEPT_MOST, PATIENCE, LayerStore
-from overlay_client import Point, Refused
-from rescue import NotWritten
-from rounding import Polygon
-from shapes import Feature as Shape
-from shapes import area_of
-from views import Busy, View
+from tools import features, layering, rounding, simple, wkt
+from tools.feature_changes import Plan, carried_out
+from tools.features import Feature, Held, Outline, Table
+from tools.rounding import Polygon
+from .kept_values import Kept
+from .layer_store import KEPT_MOST, PATIENCE, LayerStore
+from .overlay_client import Point, Refused
+from .rescue import NotWritten
+from .shapes import Feature as Shape, area_of
+from .views import Busy, View
 
 
 NOT_ACCEPTED = (Refused, NotWritten, Busy)
@@ -40,7 +35,7 @@ class Unlike(Exception):
 
 @dataclass(frozen=True)
 class State:
-    """The features that stand at one version: in the file's order, by id, and a digest of all that they are."""
+    """The features that there are at one version: in the file's order, by id, and a digest of all that they are."""
 
     table: Table
     held: Held
@@ -88,7 +83,7 @@ class FeatureStore:
         self._table = standing
         store.protect(self._refusal)
 
-    # ---- what stands
+    # ---- what there is
 
     def state(self, view: View) -> State:
         """The features of a view's layers."""
@@ -157,7 +152,7 @@ class FeatureStore:
         return None
 
     def change(self, plan: Callable[[State, Sequence[str]], Plan]) -> Done:
-        """Makes the change that is planned for what stands, and has it durable, as docs/FEATURES.md says."""
+        """Makes the change that is planned for what there is, and has it durable, as docs/FEATURES.md says."""
         with self._changing:
             with self.store.view() as view:
                 state, names = self.state(view), list(view.layers)

@@ -12,12 +12,12 @@ from collections.abc import Callable, Sequence
 from fractions import Fraction
 from typing import Any, NamedTuple
 
-from layer_store import LayerStore
-from map_scale import CRS84
-from shapes import Box, homogeneous
-from systems import Item, Placed, Systems
-from views import View
-from web_request import GEOJSON, Answer, Problem, Request, json_answer, link
+from .layer_store import LayerStore
+from .map_scale import CRS84
+from .shapes import Box, homogeneous
+from .systems import Item, Placed, Systems
+from .views import View
+from .web_request import GEOJSON, Answer, Problem, Request, json_answer, link
 
 ITEMS_USUAL, ITEMS_MOST = 1000, 10000
 OFFSET_MOST = 10**9
@@ -50,15 +50,14 @@ class FeaturesApi:
                 "links": [
                     link(f"{root}/?f=json", "self", title="this page"),
                     link(f"{root}/?f=html", "alternate", "text/html", "a map"),
-                    link(f"{root}/api", "service-desc", OPENAPI),
-                    link(f"{root}/conformance", "conformance"),
+                    link(f"{root}/api", "service-desc", OPENAPI), link(f"{root}/conformance", "conformance"),
                     link(f"{root}/collections", "data", title="the layers"),
                 ],
             }
         )
 
     def api(self, request: Request) -> Answer:
-        import openapi
+        from . import openapi
 
         made = openapi.document(self.scale.title, request.root, self.store.writable, self.described())
         return json_answer(made, OPENAPI)
@@ -86,11 +85,7 @@ class FeaturesApi:
         definition = found.layer.definition
         at = f"{request.root}/collections/{name}"
         made: dict[str, object] = {
-            "id": name,
-            "title": name,
-            "itemType": "feature",
-            "revision": found.revision,
-            "definition": definition,
+            "id": name, "title": name, "itemType": "feature", "revision": found.revision, "definition": definition,
             "description": f"{name} = {definition}" if definition else "a base layer",
             "links": [link(at, "self"), link(f"{at}/items", "items", GEOJSON)],
         }
@@ -110,9 +105,7 @@ class FeaturesApi:
         joined = self.store.joined(name, request.words.get("revision"))
         return self._page(request, name, joined.revision, joined.features, asked)
 
-    def _page(
-        self, request: Request, name: str, revision: str, items: Sequence[Item], asked: Asked
-    ) -> Answer:
+    def _page(self, request: Request, name: str, revision: str, items: Sequence[Item], asked: Asked) -> Answer:
         """The items that are asked for, as many as at once."""
         limit, offset = request.count("limit", ITEMS_USUAL, 1, ITEMS_MOST), request.count("offset", 0, 0, OFFSET_MOST)
         headers = self._headers(revision, asked.system)
@@ -133,11 +126,8 @@ class FeaturesApi:
             links.append(link(f"{at}/items?{urllib.parse.urlencode(words, safe=',')}", rel, GEOJSON))
         return json_answer(
             {
-                "type": "FeatureCollection",
-                "numberMatched": len(matched),
-                "numberReturned": len(chosen),
-                "revision": revision,
-                "links": links,
+                "type": "FeatureCollection", "numberMatched": len(matched), "numberReturned": len(chosen),
+                "revision": revision, "links": links,
                 "features": [Placed(one, self.systems, asked.system).geojson() for one in chosen],
             },
             GEOJSON,

@@ -1,8 +1,7 @@
-"""The front as a WSGI application: who may ask, which page answers, and how a refusal is told."""
+"""The front as a WSGI application: who may ask, which page answers, and how a refusal is reported."""
 
 from __future__ import annotations
 
-import json
 import pathlib
 import re
 import threading
@@ -12,17 +11,17 @@ from collections.abc import Callable, Iterable, Mapping
 from http import HTTPStatus
 from typing import Any, NamedTuple
 
-from feature_store import FeatureStore, Unlike
-from features_api import ITEM_WORDS, FeaturesApi
-from joining import TooLarge
-from layer_store import Changed, LayerStore, NotDurable, Pending, Protected
-from map_api import MapApi
-from map_features import MapFeatures
-from overlay_client import Ended, Refused
-from rescue import AGAIN, NotWritten
-from systems import Systems, Unplaced
-from views import Busy
-from web_request import JSON, Answer, Problem, Request, json_answer
+from .feature_store import FeatureStore, Unlike
+from .features_api import ITEM_WORDS, FeaturesApi
+from .joining import TooLarge
+from .layer_store import Changed, LayerStore, NotDurable, Pending, Protected
+from .map_api import MapApi
+from .map_features import MapFeatures
+from .overlay_client import Ended, Refused
+from .rescue import AGAIN, NotWritten
+from .systems import Systems, Unplaced
+from .views import Busy
+from .web_request import Answer, Problem, Request, json_answer
 
 PAGE = pathlib.Path(__file__).resolve().parent / "page"
 LEAFLET = pathlib.Path("/usr/share/javascript/leaflet")
@@ -31,13 +30,12 @@ SLOW_MOST, CHANGES_MOST = 12, 4
 """How many questions that may wait, and how many changes, are answered at once; the front has more threads."""
 KINDS = {".html": "text/html; charset=utf-8", ".js": "text/javascript", ".css": "text/css", ".png": "image/png"}
 HEADERS = {
-    "X-Content-Type-Options": "nosniff",
-    "Referrer-Policy": "no-referrer",
+    "X-Content-Type-Options": "nosniff", "Referrer-Policy": "no-referrer",
     "Cross-Origin-Resource-Policy": "same-origin",
     "Content-Security-Policy": "default-src 'none'; script-src 'self'; style-src 'self'; img-src 'self' data:; "
     "connect-src 'self'; form-action 'none'; base-uri 'none'; frame-ancestors 'none'",
 }
-# What overlay_live refuses by what was asked for, by what stands, and by what the machine or the store cannot do.
+# What overlay_live refuses by what was asked for, by what there is, and by what the machine or the store cannot do.
 NOT_FOUND, CONFLICT = (10, 23), (11, 12, 13, 14, 15, 16, 21, 22)
 UNABLE = (30, 31, 35, 36, 40, 43, 44, 46)
 
@@ -45,7 +43,7 @@ Start = Callable[[str, list[tuple[str, str]]], object]
 
 
 class Route(NamedTuple):
-    """A page: its method and path, the words that may stand in its question, and whether it may have to wait."""
+    """A page: its method and path, the words that its question may have, and whether it may have to wait."""
 
     method: str
     path: str
@@ -73,13 +71,8 @@ class Front:
     not only in the store's."""
 
     def __init__(
-        self,
-        store: LayerStore,
-        hosts: Iterable[str] = LOOPBACK,
-        base: str | None = None,
-        leaflet: pathlib.Path = LEAFLET,
-        maps: FeatureStore | None = None,
-        systems: Systems | None = None,
+        self, store: LayerStore, hosts: Iterable[str] = LOOPBACK, base: str | None = None,
+        leaflet: pathlib.Path = LEAFLET, maps: FeatureStore | None = None, systems: Systems | None = None,
     ) -> None:
         self.store, self.leaflet = store, leaflet
         self.base = base.rstrip("/") if base else None
@@ -92,8 +85,7 @@ class Front:
         name, number = "([A-Za-z][A-Za-z0-9_]{0,31})", "([A-Za-z0-9_.-]{1,64})"
         layer = f"/collections/{name}"
         routes = [
-            Route("GET", "/", self.first),
-            Route("GET", "/api", features.api),
+            Route("GET", "/", self.first), Route("GET", "/api", features.api),
             Route("GET", "/conformance", features.conformance),
             Route("GET", "/collections", features.collections, slow=True),
             Route("GET", layer, features.collection, slow=True),
@@ -101,12 +93,9 @@ class Front:
             Route("GET", f"{layer}/items/{number}", features.item, ("crs",), slow=True),
             Route("GET", f"{layer}/locate", of_map.locate, ("x", "y")),
             Route("GET", "/locate", of_map.locate_all, ("x", "y")),
-            Route("GET", f"{layer}/tiles", of_map.tiles, ("columns",)),
-            Route("GET", "/status", of_map.status),
-            Route("PUT", layer, of_map.put, slow=True),
-            Route("DELETE", layer, of_map.drop, slow=True),
-            Route("POST", "/batch", of_map.batch, slow=True),
-            Route("GET", r"/([a-z]+\.(?:js|css))", self.page_file),
+            Route("GET", f"{layer}/tiles", of_map.tiles, ("columns",)), Route("GET", "/status", of_map.status),
+            Route("PUT", layer, of_map.put, slow=True), Route("DELETE", layer, of_map.drop, slow=True),
+            Route("POST", "/batch", of_map.batch, slow=True), Route("GET", r"/([a-z]+\.(?:js|css))", self.page_file),
             Route("GET", r"/leaflet/([a-z.-]+\.(?:js|css)|images/[a-z0-9-]+\.png)", self.leaflet_file),
         ]
         self.features = features
@@ -144,12 +133,12 @@ class Front:
             return refusal(503, 503, str(fault), {"Retry-After": f"{AGAIN:.0f}"})
         except (Ended, OSError, TimeoutError) as fault:
             return refusal(503, 503, f"the store does not answer: {fault}")
-        except Exception:  # a fault of the front's own: it goes on, and the fault is told where it runs
+        except Exception:  # a fault of the front's own: it goes on, and the fault is reported where it runs
             traceback.print_exc()
-            return refusal(500, 500, "the front has a fault, which it has told on its standard error")
+            return refusal(500, 500, "the front has a fault, which it has reported on its standard error")
 
     def root(self, environ: Mapping[str, Any]) -> str:
-        """The address that was asked. A foreign name, as a page gets that gives its own name this address, is refused."""
+        """Looks at Host: the address that was asked. A foreign name, which a page may give this address, is refused."""
         host = str(environ.get("HTTP_HOST", "")).lower()
         found = re.fullmatch(r"(\[[0-9a-f:.]{2,45}\]|[a-z0-9._-]{1,253})(:[0-9]{1,5})?", host)
         if not found or found[1] not in self.hosts:
@@ -171,6 +160,7 @@ class Front:
         )
 
     def _check(self, request: Request, route: Route) -> None:
+        """Refuses what another site's page asks, a change where none may be made, and words that the page has not."""
         site = request.header("sec-fetch-site").strip().lower()
         if route.method not in ("GET", "OPTIONS"):
             if not self.store.writable:
@@ -178,7 +168,7 @@ class Front:
             origin, parts = request.header("origin"), urllib.parse.urlsplit(request.root)
             if site in ("cross-site", "same-site") or origin not in ("", f"{parts.scheme}://{parts.netloc}"):
                 raise Problem(403, "another site's page may change nothing")
-        if site == "cross-site" and route.path != "/":  # a link to the page itself may stand anywhere
+        if site == "cross-site" and route.path != "/":  # a link to the page itself may be anywhere
             raise Problem(403, "another site's page may ask nothing")
         for word, value in request.words.items():
             if word not in (*route.words, "f"):
@@ -215,10 +205,8 @@ class Front:
 def editing(features: MapFeatures, items: str, item: str) -> list[Route]:
     """The pages by which single features are changed."""
     return [
-        Route("POST", items, features.create, slow=True),
-        Route("OPTIONS", items, features.methods),
-        Route("PUT", item, features.replace, slow=True),
-        Route("DELETE", item, features.remove, slow=True),
+        Route("POST", items, features.create, slow=True), Route("OPTIONS", items, features.methods),
+        Route("PUT", item, features.replace, slow=True), Route("DELETE", item, features.remove, slow=True),
         Route("OPTIONS", item, features.methods),
     ]
 

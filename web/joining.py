@@ -12,10 +12,10 @@ import threading
 from multiprocessing.connection import Connection
 from multiprocessing.process import BaseProcess
 
-import shapes
-from map_scale import MapScale
-from overlay_client import Piece
-from views import Busy
+from . import shapes
+from .map_scale import MapScale
+from .overlay_client import Piece
+from .views import Busy
 
 COUNT = 2
 

@@ -2,7 +2,7 @@
 
 All that a process does not keep is kept here under a layer's revision, a digest of what the layer is made of: its own
 text, or its definition with the revisions of the layers that this names. So a change to one layer leaves what was
-worked out for others, and a revision that stands again finds its polygons again.
+worked out for others, and a revision that comes again finds its polygons again.
 """
 
 from __future__ import annotations
@@ -14,15 +14,15 @@ import time
 from collections.abc import Callable, Iterator, Mapping, Sequence
 from typing import NamedTuple, cast
 
-import limits  # of tools/
-import shapes
-from joining import Joiners, TooLarge
-from kept_values import Kept
-from map_scale import MapScale
-from overlay_client import Ended, Piece, Refused, Server, Session, number_of
-from rescue import NotWritten, Rescue
-from scratch import Scratch
-from views import Hold, Listed, View, listed
+from tools import limits
+from . import shapes
+from .joining import Joiners, TooLarge
+from .kept_values import Kept
+from .map_scale import MapScale
+from .overlay_client import Ended, Piece, Refused, Server, Session, number_of
+from .rescue import NotWritten, Rescue
+from .scratch import Scratch
+from .views import Hold, Listed, View, listed
 
 PIECES_MOST = 200_000
 KEPT_MOST = 500_000
@@ -79,16 +79,8 @@ class LayerStore:
     """
 
     def __init__(
-        self,
-        server: Server,
-        scratch: Scratch,
-        scale: MapScale,
-        *,
-        version: int,
-        kept: bool,
-        writable: bool,
-        rescue: Rescue | None = None,
-        end: Callable[[str], None] = lambda reason: None,
+        self, server: Server, scratch: Scratch, scale: MapScale, *, version: int, kept: bool, writable: bool,
+        rescue: Rescue | None = None, end: Callable[[str], None] = lambda reason: None,
     ) -> None:
         self.scale, self.kept, self.writable = scale, kept, writable
         self.version = self.durable = version
@@ -106,11 +98,11 @@ class LayerStore:
     def close(self) -> None:
         self._joiners.close()
 
-    # ---- what stands
+    # ---- what there is
 
     @contextlib.contextmanager
     def view(self) -> Iterator[View]:
-        """What stands at one version: until the end of the block nobody changes a layer."""
+        """What there is at one version: until the end of the block nobody changes a layer."""
         if self._gone:
             raise Ended(self._gone)
         with self._server.session(timeout=TURN) as one, self._hold.shared(TURN):
@@ -131,7 +123,7 @@ class LayerStore:
     # ---- boundaries
 
     def joined(self, name: str, revision: str | None = None) -> Joined:
-        """The polygons of a layer, at a revision that was told before or the present one; Pending if it is not built."""
+        """The polygons of a layer, at a revision that was reported before or the present one; Pending if it is not built."""
         held = self._joined.get(revision) if revision else None
         end = time.monotonic() + PATIENCE
         while held is None:
@@ -189,7 +181,7 @@ class LayerStore:
         return [piece for column in sorted(columns) for piece in columns[column]]
 
     def _add_built(self, found: Listed, columns: dict[int, list[Piece]]) -> bool:
-        """Adds the columns that are built by now, and tells whether these are all. Of one revision each is the same."""
+        """Adds the columns that are built by now, and says whether these are all. Of one revision each is the same."""
         with self.view() as view:
             if view.layer(found.layer.name).revision != found.revision:
                 raise Changed(f"{found.layer.name} changes all the time")
@@ -222,7 +214,7 @@ class LayerStore:
         return self._features("a feature", self._base_pieces(*texts))
 
     def protect(self, refusal: Callable[[str], str | None]) -> None:
-        """Has changes of layers refused that are parts of something else, by what tells why."""
+        """Has changes of layers refused that are parts of something else, by what says why."""
         self._refusal = refusal
 
     def settle(self) -> None:
@@ -256,7 +248,7 @@ class LayerStore:
             return one.batch(lines) if len(lines) > 1 else number_of(one.ask(lines[0]))
         finally:
             if one.lost_since is not None:
-                self._gone = "a change has had no reply: nobody knows which version stands"
+                self._gone = "a change has had no reply: nobody knows which version is the last"
                 self._end(self._gone)
 
     def _sync(self, one: Session, version: int) -> None:
@@ -285,9 +277,9 @@ class LayerStore:
 
 
 def number_in_file(store: str, program: str) -> int:
-    """The number of the version that a file has, which no question tells where it is opened for reading alone.
+    """The number of the version that a file has, which no question gives where it is opened for reading alone.
 
-    What is put there lives in memory: so the number of one more version, made by a process that ends at once, tells it.
+    What is put there lives in memory: so the number of one more version, made by a process that ends at once, gives it.
     """
     with Server(store, read_only=True, program=program) as probe, probe.session() as one:
         layers = one.layers()

@@ -5,14 +5,14 @@ from __future__ import annotations
 import re
 from typing import cast
 
-import limits  # of tools/
-from feature_store import FeatureStore, State
-from layer_store import LayerStore
-from overlay_client import LARGEST_BATCH, NAME, OUT_OF_RANGE, Piece, Point, Refused, Session
-from shapes import text_of
-from systems import Systems
-from views import Busy, View
-from web_request import Answer, Problem, Request, json_answer
+from tools import limits
+from .feature_store import FeatureStore, State
+from .layer_store import LayerStore
+from .overlay_client import LARGEST_BATCH, NAME, OUT_OF_RANGE, Piece, Point, Refused, Session
+from .shapes import text_of
+from .systems import Systems
+from .views import Busy, View
+from .web_request import Answer, Problem, Request, json_answer
 
 DEFINITION_MOST = 2000
 
@@ -29,26 +29,17 @@ class MapApi:
             with store.view() as view:
                 version, durable, count = view.version, store.durable, cast("int | None", len(view.layers))
                 state = self.maps.state(view) if self.maps else None
-        except (Busy, TimeoutError):  # what is lost is told all the same
+        except (Busy, TimeoutError):  # what is lost is reported all the same
             version, durable, count = store.version, store.durable, None
         return json_answer(
             {
-                "title": self.scale.title,
-                "version": version,
-                "durable": durable if store.kept else None,
-                "lost": store.lost(),
-                "writable": store.writable,
-                "layers": count,
-                "map": state.table.collection if state else None,
-                "map_revision": state.revision if state else None,
-                "name_by": state.table.name_by if state else None,
-                "columns": self.scale.columns(),
-                "crs": self.scale.crs,
-                "storage": self.systems.storage,
-                "y_first": bool(self.systems.projection and self.systems.projection.y_first),
-                "unit": self.scale.unit,
-                "geographic": self.scale.is_geographic(),
-                "limits": self.scale.limits(),
+                "title": self.scale.title, "version": version, "durable": durable if store.kept else None,
+                "lost": store.lost(), "writable": store.writable, "layers": count,
+                "map": state.table.collection if state else None, "map_revision": state.revision if state else None,
+                "name_by": state.table.name_by if state else None, "columns": self.scale.columns(),
+                "crs": self.scale.crs, "storage": self.systems.storage,
+                "y_first": bool(self.systems.projection and self.systems.projection.y_first), "unit": self.scale.unit,
+                "geographic": self.scale.is_geographic(), "limits": self.scale.limits(),
             }
         )
 

@@ -8,19 +8,18 @@ from decimal import Decimal
 from fractions import Fraction
 from typing import Any
 
-import feature_changes  # of tools/
-import features  # of tools/
-from feature_changes import ChangeFault, GeometryFault, Given, Plan  # of tools/
-from feature_store import Drawn, FeatureStore, State
-from features import FeaturesFault, Outline  # of tools/
-from features_api import FeaturesApi
-from layer_store import Changed
-from map_scale import MapScale
-from openapi import Described
-from schemas import properties_of
-from shapes import Box, box_round
-from systems import Placed, Systems, Unplaced
-from web_request import GEOJSON, Answer, Problem, Request, json_answer, link
+from tools import feature_changes, features
+from tools.feature_changes import ChangeFault, GeometryFault, Given, Plan
+from tools.features import FeaturesFault, Outline
+from .feature_store import Drawn, FeatureStore, State
+from .features_api import FeaturesApi
+from .layer_store import Changed
+from .map_scale import MapScale
+from .openapi import Described
+from .schemas import properties_of
+from .shapes import Box, box_round
+from .systems import Placed, Systems, Unplaced
+from .web_request import GEOJSON, Answer, Problem, Request, json_answer, link
 
 EDITING = ("http://www.opengis.net/spec/ogcapi-features-4/1.0/conf/create-replace-delete",
            "http://www.opengis.net/spec/ogcapi-features-4/1.0/conf/optimistic-locking")
@@ -44,9 +43,7 @@ class MapItem:
     def geojson(self) -> dict[str, object]:
         feature, drawn = self._outline.feature, self._drawn()
         return {
-            "type": "Feature",
-            "id": feature.id,
-            "properties": {**feature.properties, self._area_name: drawn.area},
+            "type": "Feature", "id": feature.id, "properties": {**feature.properties, self._area_name: drawn.area},
             "geometry": geometry_of(feature.kind, drawn),
         }
 
@@ -97,12 +94,8 @@ class MapFeatures(FeaturesApi):
     def _map(self, request: Request, state: State) -> dict[str, object]:
         at = f"{request.root}/collections/{self.maps.name}"
         made: dict[str, object] = {
-            "id": self.maps.name,
-            "title": self.scale.title if self.scale.scale.title else self.maps.name,
-            "itemType": "feature",
-            "revision": state.revision,
-            "definition": None,
-            "features": len(state.outlines),
+            "id": self.maps.name, "title": self.scale.title if self.scale.scale.title else self.maps.name,
+            "itemType": "feature", "revision": state.revision, "definition": None, "features": len(state.outlines),
             "description": f"{len(state.outlines)} features with their properties",
             "links": [link(at, "self"), link(f"{at}/items", "items", GEOJSON)],
         }

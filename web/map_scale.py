@@ -8,9 +8,8 @@ from __future__ import annotations
 import re
 from fractions import Fraction
 
-import limits  # of tools/
-import scale as scales  # of tools/
-from overlay_client import Point
+from tools import limits, scale as scales
+from .overlay_client import Point
 
 CRS84 = "http://www.opengis.net/def/crs/OGC/1.3/CRS84"
 EPSG = "http://www.opengis.net/def/crs/EPSG/0/"
@@ -29,7 +28,7 @@ def exact(text: object) -> Fraction:
 
 
 def rounded(over: int, under: int, digits: int) -> int | float:
-    """over / under with so many digits behind the point, halves to even; a whole number where there are none."""
+    """over / under with so many digits after the point, halves to even; a whole number where there are none."""
     power = int(10**digits)
     near, rest = divmod(over * power, under)
     near += 2 * rest > under or (2 * rest == under and near % 2 == 1)
@@ -47,8 +46,7 @@ class MapScale:
         # world = (n * a + w * b) / (w * c) in whole numbers, of x and of y.
         self._whole = [
             (
-                factor.denominator * begin.denominator,
-                begin.numerator * factor.numerator,
+                factor.denominator * begin.denominator, begin.numerator * factor.numerator,
                 factor.numerator * begin.denominator,
             )
             for factor, begin in zip((scale.factor, scale.factor_y), scale.origin)

@@ -5,8 +5,8 @@ from __future__ import annotations
 from collections.abc import Iterable
 from typing import NamedTuple
 
-from features_api import ITEMS_MOST, ITEMS_USUAL
-from schemas import NAME, SCHEMAS, Value, array, ref, shaped
+from .features_api import ITEMS_MOST, ITEMS_USUAL
+from .schemas import NAME, SCHEMAS, Value, array, ref, shaped
 
 GEOJSON, JSON = "application/geo+json", "application/json"
 ID = r"^[A-Za-z0-9_.-]{1,64}$"
@@ -140,9 +140,7 @@ def schemas_of(described: Described | None) -> dict[str, Value]:
         return SCHEMAS
     listed = {**SCHEMAS["featureCollection"]["properties"], "features": array(ref("mapFeature"))}
     return {
-        **SCHEMAS,
-        "mapProperties": described.properties,
-        "mapFeature": shaped("Feature", ref("mapProperties")),
+        **SCHEMAS, "mapProperties": described.properties, "mapFeature": shaped("Feature", ref("mapProperties")),
         "mapFeatures": {**SCHEMAS["featureCollection"], "properties": listed},
     }
 
@@ -154,9 +152,6 @@ def document(title: str, root: str, writable: bool, described: Described | None 
         for path, operations in some.items():
             paths.setdefault(path, {}).update({method: one.value() for method, one in operations.items()})
     return {
-        "openapi": "3.0.3",
-        "info": {"title": title, "version": "1.0"},
-        "servers": [{"url": root}],
-        "paths": paths,
+        "openapi": "3.0.3", "info": {"title": title, "version": "1.0"}, "servers": [{"url": root}], "paths": paths,
         "components": {"parameters": PARAMETERS, "schemas": schemas_of(described)},
     }

@@ -18,7 +18,7 @@ with the number and the text that docs/COMMANDS.md has; a program or a session t
 does not come in time, as TimeoutError, and its session is lent again once it has come. A text that would be another
 line, or none, is a `ValueError` before anything is sent.
 
-In the world's coordinates, which `map.scale.json` beside `map.db` tells, and with the features of `map.features.json`:
+In the world's coordinates, which `map.scale.json` beside `map.db` gives, and with the features of `map.features.json`:
 
         session.put("plot", server.text_of(polygon))            # anything with __geo_interface__, as of shapely
         shapely.geometry.shape(server.shape_of(session.rings("rest")))
@@ -26,7 +26,7 @@ In the world's coordinates, which `map.scale.json` beside `map.db` tells, and wi
         geopandas.GeoDataFrame.from_features(counties)
         counties.put(37, polygon, {"name": "Wake"})             # one batch of the layers that hold it, durable
 
-It needs the standard library alone. Rings, coordinates of the world and features use tools/, which stands beside the
+It needs the standard library alone. Rings, coordinates of the world and features use tools/, which lies beside the
 folder of this file, or was installed with it.
 """
 
@@ -35,7 +35,7 @@ from __future__ import annotations
 import contextlib
 import fcntl
 import functools
-import importlib
+import importlib.util
 import json
 import os
 import pathlib
@@ -91,7 +91,7 @@ def gone() -> Ended:
 
 
 class Layer(NamedTuple):
-    """A layer as LAYERS tells it: a base layer has a text, a derived one a definition, and the other is None."""
+    """A layer as LAYERS has it: a base layer has a text, a derived one a definition, and the other is None."""
 
     name: str
     text: str | None
@@ -492,17 +492,22 @@ def is_pending(reply: Reply) -> bool:
 
 
 def tools(name: str) -> Any:
-    """A module of tools/, which stands beside the folder of this file, or as overlay_client_tools beside the file."""
-    here = pathlib.Path(__file__).resolve().parent
-    for folder in (here.parent / "tools", here / "overlay_client_tools"):
-        if (folder / "to_rings.py").is_file() and str(folder) not in sys.path:
-            sys.path.append(str(folder))
-    return importlib.import_module(name)
+    """A module of tools/: of the package beside web/, or as pip installs it. Where this file alone is on Python's path, the
+    folder of the tools beside its own is taken in by that name."""
+    package = "tools" if __package__ else "overlay_client_tools"
+    if not __package__ and importlib.util.find_spec(package) is None:
+        folder = pathlib.Path(__file__).resolve().parent.parent / "tools"
+        spec = importlib.util.spec_from_file_location(package, folder / "__init__.py")
+        if spec is None or spec.loader is None:
+            raise ImportError(f"{folder}: no tools")
+        sys.modules[package] = module = importlib.util.module_from_spec(spec)
+        spec.loader.exec_module(module)
+    return importlib.import_module(f"{package}.{name}")
 
 
 def rings_of(pieces: list[Piece]) -> list[list[Ring]]:
     """The polygons that pieces of a whole boundary bound, by tools/to_rings.py."""
-    to_rings = tools("to_rings")
+    to_rings = tools("commands.to_rings")
 
     return [
         [[(Fraction(x, w), Fraction(y, w)) for x, y, w in ring.corners] for ring in polygon]
@@ -536,7 +541,7 @@ class MapFeature(Shape):
 class Features:
     """The features of a store's map, by the file of features beside it (docs/FEATURES.md): read, and changed one by one.
 
-    They are those that stand at the time of each call. A change is durable when its call returns; one that cannot be
+    They are those that there are at the time of each call. A change is durable when its call returns; one that cannot be
     made is a ValueError that says why.
     """
 
@@ -545,7 +550,7 @@ class Features:
         self._of, self._changes, self._texts = tools("features"), tools("feature_changes"), tools("feature_texts")
 
     def _standing(self) -> tuple[Any, dict[str, Any], list[str]]:
-        """The table as it stands, the rings of the base layers, and the names of all layers."""
+        """The table as it is, the rings of the base layers, and the names of all layers."""
         layers = self._session.layers()
         held = {layer.name: self._of.rings_of_text(layer.text) for layer in layers if layer.text is not None}
         return self._of.resolved(self._of.read(self.path), held, self.path), held, [layer.name for layer in layers]
@@ -689,16 +694,9 @@ class Server:
     """
 
     def __init__(
-        self,
-        store: str | os.PathLike[str] | None = None,
-        *,
-        create: bool = False,
-        read_only: bool = False,
-        sessions: int = 1,
-        workers: int | None = None,
-        max_blocks: int | None = None,
-        program: str | os.PathLike[str] = "overlay_live",
-        timeout: float | None = None,
+        self, store: str | os.PathLike[str] | None = None, *, create: bool = False, read_only: bool = False,
+        sessions: int = 1, workers: int | None = None, max_blocks: int | None = None,
+        program: str | os.PathLike[str] = "overlay_live", timeout: float | None = None,
     ) -> None:
         if not 1 <= sessions <= MOST_SESSIONS:
             raise ValueError(f"a process has 1 to {MOST_SESSIONS} sessions")
@@ -762,7 +760,7 @@ class Server:
         return (self.slow if slow else self.quick).lend(timeout)
 
     def close(self, timeout: float = 60) -> tuple[int, str]:
-        """Ends all sessions, upon which the program commits and ends. Its exit status and what it told of faults.
+        """Ends all sessions, upon which the program commits and ends. Its exit status and what it reported of faults.
 
         A program that has not ended after so many seconds is killed.
         """
@@ -798,12 +796,8 @@ def started(words: list[str], sessions: int, timeout: float | None) -> tuple[sub
             own.append(Session(open(line_out, "wb", 0), open(reply_in, "rb", 0), timeout))
         # In a session of its own it does not get the interrupt that a terminal sends to all: its end is close.
         process = subprocess.Popen(
-            words + [f"/dev/fd/{descriptor}" for descriptor in given],
-            stdin=subprocess.DEVNULL,
-            stdout=subprocess.DEVNULL,
-            stderr=subprocess.PIPE,
-            pass_fds=given,
-            start_new_session=True,
+            words + [f"/dev/fd/{descriptor}" for descriptor in given], stdin=subprocess.DEVNULL,
+            stdout=subprocess.DEVNULL, stderr=subprocess.PIPE, pass_fds=given, start_new_session=True,
         )
     except BaseException:
         for session in own:

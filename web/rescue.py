@@ -16,7 +16,7 @@ import threading
 import time
 from collections.abc import Callable
 
-from overlay_client import Ended, Refused, Server
+from .overlay_client import Ended, Refused, Server
 
 NOT_WRITTEN = (30, 35)
 """The refusals of SYNC after which a store is not written any more."""
@@ -29,7 +29,7 @@ class NotWritten(Exception):
 
 
 class Rescue:
-    """Over a store and the program that has it. end: called with the reason once a copy stands in the store's place."""
+    """Over a store and the program that has it. end: called with the reason once a copy is in the store's place."""
 
     def __init__(self, store: pathlib.Path, program: str, end: Callable[[str], None]) -> None:
         self.told: str | None = None
@@ -50,7 +50,7 @@ class Rescue:
             except (OSError, Refused, Ended) as fault:
                 self.told = f"{why}; a copy takes its place as soon as it can: {fault}"
                 time.sleep(AGAIN)
-        self._end(f"{self._store}: {why}; a copy stands in its place, to be opened anew")
+        self._end(f"{self._store}: {why}; a copy is in its place, to be opened anew")
 
 
 def put_copy(store: pathlib.Path, program: str) -> None:

@@ -5,7 +5,7 @@ from __future__ import annotations
 from collections.abc import Iterable, Mapping
 from typing import Any
 
-import limits  # of tools/
+from tools import limits
 
 Value = dict[str, Any]
 NAME = "^[A-Za-z][A-Za-z0-9_]{0,31}$"
@@ -74,7 +74,7 @@ def schema_of(values: Iterable[Any]) -> Value:
 
 
 def properties_of(found: Iterable[Mapping[str, Any]], area_name: str) -> Value:
-    """The schema of features' properties: what each name has where it stands, and what always stands."""
+    """The schema of features' properties: what each name has where it is there, and what is always there."""
     rows = list(found)
     names = dict.fromkeys(name for row in rows for name in row)
     properties = {name: schema_of(row[name] for row in rows if name in row) for name in names}

@@ -1,4 +1,4 @@
-"""A process of overlay_live in memory, where the boundary of a base layer is worked out, which EDGES does not tell."""
+"""A process of overlay_live in memory, where the boundary of a base layer is worked out, which EDGES does not give."""
 
 from __future__ import annotations
 
@@ -7,8 +7,8 @@ import os
 import threading
 from collections.abc import Sequence
 
-from overlay_client import Ended, Piece, Refused, Server, Session
-from views import Busy
+from .overlay_client import Ended, Piece, Refused, Server, Session
+from .views import Busy
 
 
 class Scratch:

@@ -1,12 +1,13 @@
 """Runs the front: by waitress where it is installed, else by the standard library; each with so many threads.
 
 By either a request has an end from its first byte to its last, and an answer from its first to its last, whatever comes
-or goes in between; and what the server itself refuses is told as the front tells it.
+or goes in between; and what the server itself refuses is reported as the front says it.
 """
 
 from __future__ import annotations
 
 import contextlib
+import errno
 import io
 import socket
 import socketserver
@@ -16,8 +17,8 @@ from http import HTTPStatus
 from typing import Any
 from wsgiref import simple_server
 
-from front import CHANGES_MOST, HEADERS, SLOW_MOST, Front, refusal
-from web_request import BODY_MOST, Answer
+from .front import CHANGES_MOST, HEADERS, SLOW_MOST, Front, refusal
+from .web_request import BODY_MOST, Answer
 
 THREADS = SLOW_MOST + CHANGES_MOST + 4
 CONNECTIONS_MOST = 200
@@ -36,7 +37,14 @@ class Unheard(Exception):
     """Why nobody can listen at an address."""
 
     def __init__(self, host: str, port: int, reason: object) -> None:
-        super().__init__(f"{host} port {port}: {reason}")
+        super().__init__(f"{host} port {port}: {told_of(reason)}")
+
+
+def told_of(reason: object) -> str:
+    """A reason in words; where another program listens, with what to do."""
+    if isinstance(reason, OSError) and reason.errno == errno.EADDRINUSE:
+        return "another program listens there; say another --port, or 0 for a free one"
+    return str(isinstance(reason, OSError) and reason.strerror or reason)
 
 
 def told(host: str, port: int) -> None:
@@ -44,12 +52,12 @@ def told(host: str, port: int) -> None:
 
 
 def serve(front: Front, host: str, port: int) -> None:
-    """Answers questions until it is ended by a signal. It tells its address on standard output when it listens."""
+    """Answers questions until it is ended by a signal. It prints its address on standard output when it listens."""
     host = "127.0.0.1" if host == "localhost" else host
     if not 0 <= port <= PORT_MOST:
         raise Unheard(host, port, f"a port is 0 to {PORT_MOST}")
     try:
-        import by_waitress
+        from . import by_waitress
     except ImportError:
         serve_by_threads(front, host, port)
         return

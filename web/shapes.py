@@ -10,10 +10,10 @@ from collections.abc import Callable, Iterable
 from fractions import Fraction
 from typing import NamedTuple
 
-import sweeping  # of tools/
-import to_rings  # of tools/
-from map_scale import MapScale, exact, rounded
-from overlay_client import Piece, Point
+from tools import sweeping
+from tools.commands import to_rings
+from .map_scale import MapScale, exact, rounded
+from .overlay_client import Piece, Point
 
 AREA_BITS = 96
 """An area is summed in whole multiples of 2^-96, each term cut off; so it is right before it is written with 15 digits."""
@@ -100,9 +100,7 @@ class Feature:
     def geojson(self) -> dict[str, object]:
         properties = {"corners": sum(map(len, self.rings)), "holes": len(self.rings) - 1, "area": self.area}
         return {
-            "type": "Feature",
-            "id": self.number,
-            "properties": properties,
+            "type": "Feature", "id": self.number, "properties": properties,
             "geometry": {"type": "Polygon", "coordinates": [ring + ring[:1] for ring in self.positions]},
         }
 

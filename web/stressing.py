@@ -1,6 +1,6 @@
 """A module of tests: ten clients of a front at once, two of which change layers, and a judge of each answer.
 
-Each change puts A and B as one version, both the same square, at a place of its own. So an answer tells by its squares
+Each change puts A and B as one version, both the same square, at a place of its own. So an answer shows by its squares
 which version it is of: all in it are of one, it began before the answer came, and none after it ended before the
 question was asked.
 """
@@ -32,7 +32,7 @@ class Put(NamedTuple):
 
 
 class Seen(NamedTuple):
-    """An answer: its kind, when it was asked and came, the revisions that it told, and the places that it showed."""
+    """An answer: its kind, when it was asked and came, the revisions that it gave, and the places that it showed."""
 
     kind: str
     began: float
@@ -80,7 +80,7 @@ class Stress:
         try:
             while time.monotonic() < self.end:
                 action(ask, source)
-        except Exception as fault:  # a thread's fault is told nowhere else
+        except Exception as fault:  # a thread's fault is reported nowhere else
             self.faults.append(f"{action.__name__}: {fault!r}")
 
     # ---- clients

@@ -1,6 +1,6 @@
 """The coordinate systems that the front answers in: longitude and latitude, and the one that a store is in.
 
-A store in a projected system is served as CRS84 where pyproj can tell how, and in its own by `crs` and `bbox-crs` (OGC API
+A store in a projected system is served as CRS84 where pyproj knows how, and in its own by `crs` and `bbox-crs` (OGC API
 - Features, part 2), its axes in the order that the system itself has. Without pyproj nothing is transformed.
 """
 
@@ -12,12 +12,12 @@ from decimal import Decimal
 from fractions import Fraction
 from typing import Any, NamedTuple, Protocol
 
-from map_scale import CRS84, MapScale
-from overlay_client import Point
-from shapes import Box, edge_meets, edges_of, holds, homogeneous
+from .map_scale import CRS84, MapScale
+from .overlay_client import Point
+from .shapes import Box, edge_meets, edges_of, holds, homogeneous
 
 DEGREE_DIGITS = 10
-"""Behind the point of a degree: a hundredth of a millimetre."""
+"""After the point of a degree: a hundredth of a millimetre."""
 WGS84 = "EPSG:4326"
 """CRS84 but for the order of its axes. By this name PROJ goes the same way as for GDAL and QGIS: by that of CRS84 it may
 choose another transformation of the datum, a metre off."""
@@ -153,7 +153,7 @@ class Systems:
         return [round(one, DEGREE_DIGITS) for one in (min(xs), min(ys), max(xs), max(ys))]
 
     def around(self, box: Box) -> Box | None:
-        """A box of the store that has all that lies in a box of degrees; None for one that is too wide to be told."""
+        """A box of the store that has all that lies in a box of degrees; None for one that is too wide to have one."""
         if not self.projection or max(box.right - box.left, box.high - box.low) > WIDE:
             return None
         try:

@@ -1,4 +1,4 @@
-"""Tests of the client against the built program. What it has to say stands in docs/COMMANDS.md."""
+"""Tests of the client against the built program. What it has to say is in docs/COMMANDS.md."""
 
 from __future__ import annotations
 
@@ -15,12 +15,10 @@ from collections.abc import Callable
 from fractions import Fraction
 from typing import Any, BinaryIO, cast
 
-import limits  # of tools/
-import overlay_client
-import replies  # of tools/
-import testing
-from overlay_client import Boundary, Ended, Layer, Refused, Reply, Server, Session, edges_lines
-from testing import BAR, SHIFTED, SQUARE, TRIANGLE
+from tools import limits, replies
+from . import overlay_client, testing
+from .overlay_client import Boundary, Ended, Layer, Refused, Reply, Server, Session, edges_lines
+from .testing import BAR, SHIFTED, SQUARE, TRIANGLE
 
 
 def running(**words: Any) -> Server:
@@ -50,8 +48,7 @@ class Commands(ClientCase):
             one.layers(),
             [
                 Layer("A", "MULTIPOLYGON (((0 0, 10 0, 10 10, 0 10, 0 0)))", None),
-                Layer("B", "MULTIPOLYGON (((5 5, 15 5, 15 15, 5 15, 5 5)))", None),
-                Layer("I", None, "A - B"),
+                Layer("B", "MULTIPOLYGON (((5 5, 15 5, 15 15, 5 15, 5 5)))", None), Layer("I", None, "A - B"),
             ],
         )
 
@@ -125,23 +122,12 @@ class Commands(ClientCase):
         one = self.session
         one.put("A", SQUARE)
         for action in (
-            lambda: one.ask("LAYERS\nDROP A"),
-            lambda: one.ask("LAYERS\r"),
-            lambda: one.ask(""),
-            lambda: one.ask(" \t"),
-            lambda: one.ask("# nothing"),
-            lambda: one.ask("BATCH 1"),
-            lambda: one.ask("  BATCH\t1"),
-            lambda: one.batch([]),
-            lambda: one.batch(["DROP A"] * 65),
-            lambda: one.batch(["DROP A", ""]),
-            lambda: one.batch(["DROP A", "# no"]),
-            lambda: one.batch(["DROP A\nDROP A"]),
-            lambda: one.define("I", "A\nDROP A"),
-            lambda: one.drop("A\nLAYERS"),
-            lambda: one.put("B\nDROP A", SQUARE),
-            lambda: one.locate("A\n", 1, 1),
-            lambda: one.define("I", "\udc00"),
+            lambda: one.ask("LAYERS\nDROP A"), lambda: one.ask("LAYERS\r"), lambda: one.ask(""), lambda: one.ask(" \t"),
+            lambda: one.ask("# nothing"), lambda: one.ask("BATCH 1"), lambda: one.ask("  BATCH\t1"),
+            lambda: one.batch([]), lambda: one.batch(["DROP A"] * 65), lambda: one.batch(["DROP A", ""]),
+            lambda: one.batch(["DROP A", "# no"]), lambda: one.batch(["DROP A\nDROP A"]),
+            lambda: one.define("I", "A\nDROP A"), lambda: one.drop("A\nLAYERS"), lambda: one.put("B\nDROP A", SQUARE),
+            lambda: one.locate("A\n", 1, 1), lambda: one.define("I", "\udc00"),
         ):
             self.assertRaises(ValueError, action)
         self.assertEqual([layer.name for layer in one.layers()], ["A"])
@@ -173,9 +159,7 @@ class Ahead(ClientCase):
         one = self.session
         batch = [one.put_line("A", SQUARE), one.put_line("B", SHIFTED), "DEFINE I = A & B"]
         found = list(one.answers([batch, "WAIT I", *edges_lines("I", (15, 16)), "LOCATE I 7 7", "GRID A 0 0 5 3 2"]))
-        self.assertEqual(
-            [reply.first for reply in found], ["ok 1", "built 1", "edges 0", "edges 4", "in", "grid 3 2"]
-        )
+        self.assertEqual([reply.first for reply in found], ["ok 1", "built 1", "edges 0", "edges 4", "in", "grid 3 2"])
         self.assertEqual(found[3].pieces(), one.edges("I", 16))
         self.assertEqual((found[0].number(), found[2].pieces(), found[5].lines()), (1, [], ["+++", "+#+"]))
         self.assertEqual(list(one.answers([])), [])

@@ -18,18 +18,16 @@ from collections.abc import Iterator
 from dataclasses import replace
 from typing import Any
 
-import features  # of tools/
-import map_scale
-import scale as scales  # of tools/
-import testing
-import to_script  # of tools/
-from feature_store import FeatureStore, Unlike
-from front import Front
-from layer_store import LayerStore
-from overlay_client import Server
-from scratch import Scratch
-from systems import Projection, Systems
-from testing import Client, folder
+from tools import features, scale as scales
+from tools.commands import to_script
+from . import map_scale, testing
+from .feature_store import FeatureStore, Unlike
+from .front import Front
+from .layer_store import LayerStore
+from .overlay_client import Server
+from .scratch import Scratch
+from .systems import Projection, Systems
+from .testing import Client, folder
 
 WEST = [[0, 0], [10, 0], [10, 10], [5, 10], [0, 10], [0, 0]]
 LAKE = [[2, 2], [4, 2], [4, 4], [2, 4], [2, 2]]
@@ -45,10 +43,8 @@ def feature(kind: str, coordinates: Any, properties: object) -> dict[str, Any]:
 
 
 MAP = [
-    feature("Polygon", [WEST, LAKE], OF_WEST),
-    feature("Polygon", [EAST], {"name": "East"}),
-    feature("MultiPolygon", ISLES, {"name": "Isles"}),
-    feature("Polygon", [BOW], {"name": "Bow"}),
+    feature("Polygon", [WEST, LAKE], OF_WEST), feature("Polygon", [EAST], {"name": "East"}),
+    feature("MultiPolygon", ISLES, {"name": "Isles"}), feature("Polygon", [BOW], {"name": "Bow"}),
 ]
 DEEP: Any = 1
 for _ in range(90):
@@ -485,7 +481,7 @@ class Stops(unittest.TestCase):
         return place / "plan.db"
 
     def steps(self, at: int) -> contextlib.ExitStack:
-        """Has the step of this number, from 0, stopped: even ones before they are done, odd ones behind that."""
+        """Has the step of this number, from 0, stopped: even ones before they are done, odd ones after that."""
         passed = itertools.count()
 
         def pass_or_stop() -> None:
@@ -513,7 +509,7 @@ class Stops(unittest.TestCase):
                                      [False, True, True, True, True, True, True, True]), method)
 
     def stopped(self, store: pathlib.Path, method: str, place: str, body: object, at: int) -> bool:
-        """Whether a change that is stopped at a step stands afterwards; one that was answered must."""
+        """Whether a change that is stopped at a step is there afterwards; one that was answered must."""
         with opened(store) as (client, server, _):
             before = client.get("/collections/plan/items")["features"]
             answered = False

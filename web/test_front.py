@@ -10,12 +10,12 @@ from decimal import Decimal
 from fractions import Fraction
 from typing import Any
 
-import limits  # of tools/
-import testing
-from shapes import Box
-from test_shapes import Place, meets
-from testing import BAR, SHIFTED, SQUARE, TOP, TRIANGLE, FrontCase
-from views import View
+from tools import limits
+from . import testing
+from .shapes import Box
+from .test_shapes import Place, meets
+from .testing import BAR, SHIFTED, SQUARE, TOP, TRIANGLE, FrontCase
+from .views import View
 
 ROOT = f"http://{testing.HOST}"
 
@@ -51,19 +51,12 @@ def found(value: dict[str, Any], document: dict[str, Any]) -> dict[str, Any]:
 
 class Iceland(FrontCase):
     lines = (
-        *put_lines(),
-        "DEFINE both = iceland_110m & iceland_50m",
-        "DEFINE one = iceland_110m ^ iceland_50m",
+        *put_lines(), "DEFINE both = iceland_110m & iceland_50m", "DEFINE one = iceland_110m ^ iceland_50m",
         "DEFINE none = one & both",
     )
     scale = {
-        "title": "Iceland",
-        "factor": 42262,
-        "factor_y": 100000,
-        "origin": [-19, 65],
-        "unit": "degree",
-        "crs": "OGC:CRS84",
-        "digits": 7,
+        "title": "Iceland", "factor": 42262, "factor_y": 100000, "origin": [-19, 65], "unit": "degree",
+        "crs": "OGC:CRS84", "digits": 7,
     }
 
     def polygons(self, name: str) -> list[list[list[Place]]]:
@@ -101,14 +94,8 @@ class Iceland(FrontCase):
         document = self.client.get("/api")
         self.assertEqual((document["openapi"], document["servers"]), ("3.0.3", [{"url": ROOT}]))
         words = {
-            "bbox": "-20,63,-18,64",
-            "limit": "2",
-            "offset": "1",
-            "datetime": "2020-01-01/..",
-            "x": "-19",
-            "y": "65",
-            "crs": "http://www.opengis.net/def/crs/OGC/1.3/CRS84",
-            "columns": "16,17",
+            "bbox": "-20,63,-18,64", "limit": "2", "offset": "1", "datetime": "2020-01-01/..", "x": "-19", "y": "65",
+            "crs": "http://www.opengis.net/def/crs/OGC/1.3/CRS84", "columns": "16,17",
         }
         words["bbox-crs"], words["f"] = words["crs"], "json"
         words["revision"] = self.client.get("/collections/both")["revision"]
@@ -218,9 +205,7 @@ class Iceland(FrontCase):
             found,
             {
                 "places": {"iceland_110m": "in", "iceland_50m": "in", "both": "in", "one": "out", "none": "out"},
-                "asked": [0, 0, 1],
-                "point": [-19, 65],
-                "exact": True,
+                "asked": [0, 0, 1], "point": [-19, 65], "exact": True,
             },
         )
         self.assertEqual(self.client.get("/collections/one/locate?x=-19&y=65")["place"], "out")
@@ -276,14 +261,12 @@ class Iceland(FrontCase):
 
 
     def test_what_is_refused_is_told_beside_it(self) -> None:
-        """Each form of the page, and its head, has a place of its own for what is told, and the scripts know these."""
+        """Each form of the page, and its head, has a place of its own for what is reported, and the scripts know these."""
         folder = TOP / "web/page"
         parts = re.split(r"<(?=section|header|footer)", (folder / "map.html").read_text(encoding="utf-8"))
         places = {place: part for part in parts for place in re.findall(r'id="(told[a-z-]*)"', part)}
         for place, beside in (
-            ("told", 'id="status"'),
-            ("told-layers", 'id="layers"'),
-            ("told-define", 'id="define"'),
+            ("told", 'id="status"'), ("told-layers", 'id="layers"'), ("told-define", 'id="define"'),
             ("told-asking", 'id="asking"'),
         ):
             self.assertIn(beside, places[place])
@@ -293,7 +276,7 @@ class Iceland(FrontCase):
 
 
 class Changes(FrontCase):
-    """A front that is writable, of a plane with two numbers behind the point."""
+    """A front that is writable, of a plane with two numbers after the point."""
 
     scale = {"title": "Plane", "factor": 100, "origin": [500, 0], "unit": "m", "crs": "EPSG:32633", "digits": 4}
     square = {"type": "Polygon", "coordinates": [[[500, 0], [500.1, 0], [500.1, 0.1], [500, 0.1], [500, 0]]]}
@@ -327,8 +310,7 @@ class Changes(FrontCase):
 
     def test_a_batch_is_one_version_or_none(self) -> None:
         commands = [
-            {"put": "A", "geometry": self.square},
-            {"put": "B", "geometry": self.square},
+            {"put": "A", "geometry": self.square}, {"put": "B", "geometry": self.square},
             {"define": "I", "definition": "A - B"},
         ]
         self.assertEqual(self.client.change("/batch", "POST", {"commands": commands})["version"], self.began + 1)

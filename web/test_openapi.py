@@ -12,9 +12,9 @@ import unittest
 from collections.abc import Iterator
 from typing import Any
 
-import schemas
-from test_features import MOVED, Case, feature
-from testing import SHIFTED, SQUARE, FrontCase, Told
+from . import schemas
+from .test_features import MOVED, Case, feature
+from .testing import SHIFTED, SQUARE, FrontCase, Told
 
 METHODS = {"get", "put", "post", "delete", "options", "head", "patch", "trace"}
 WHERE = {"query", "path", "header", "cookie"}
@@ -51,7 +51,7 @@ class Document:
         """What a reference names."""
         while isinstance(value, dict) and "$ref" in value:
             if set(value) != {"$ref"} or not value["$ref"].startswith("#/"):
-                raise AssertionError(f"{value}: a reference stands alone and names a part of the document")
+                raise AssertionError(f"{value}: a reference is alone and names a part of the document")
             target: Any = self.value
             for part in value["$ref"][2:].split("/"):
                 target = target[part]
@@ -66,7 +66,7 @@ class Document:
             yield f"{set(value)}"
         names = [one["operationId"] for methods in value["paths"].values() for one in methods.values()]
         if len(set(names)) < len(names):
-            yield f"an operationId stands twice: {names}"
+            yield f"an operationId occurs twice: {names}"
         for path, methods in value["paths"].items():
             for method, one in methods.items():
                 yield from (f"{method} {path}: {fault}" for fault in self.of_operation(path, method, one))
@@ -78,7 +78,7 @@ class Document:
             yield "a method, a path, or a member that is none"
         parameters = [self.found(parameter) for parameter in one["parameters"]]
         if len({(given["name"], given["in"]) for given in parameters}) < len(parameters):
-            yield "a parameter stands twice"
+            yield "a parameter occurs twice"
         of_path = {given["name"] for given in parameters if given["in"] == "path"}
         if of_path != set(re.findall(r"\{(\w+)\}", path)):
             yield f"parameters of the path: {of_path}"
@@ -245,7 +245,7 @@ class Judges(unittest.TestCase):
     def test_the_other_judge_finds_them_too(self) -> None:
         if judge() is None:
             self.skipTest("no openapi_spec_validator: pip install openapi-spec-validator")
-        import openapi
+        from . import openapi
 
         good = openapi.document("t", "http://127.0.0.1", True, openapi.Described("m", {}))
         judge().validate(good)
@@ -253,7 +253,7 @@ class Judges(unittest.TestCase):
             judge().validate({**good, "paths": {**good["paths"], "/x": {"get": {"responses": {}, "parameters": [{}]}}}})
 
     def test_faults_of_a_description_are_found(self) -> None:
-        import openapi
+        from . import openapi
 
         good = openapi.document("t", "http://127.0.0.1", True, openapi.Described("m", schemas.properties_of([{"a": 1}], "area")))
         self.assertEqual(list(Document(good).faults()), [])

@@ -22,13 +22,10 @@ from collections.abc import Callable, Iterator
 from typing import Any
 from wsgiref import simple_server
 
-import overlay_web
-import serving
-import testing
-from overlay_client import Server
-from testing import SQUARE
-
-WEB = pathlib.Path(overlay_web.__file__).resolve().parent
+from . import serving, testing
+from .commands import overlay_web
+from .overlay_client import Server
+from .testing import SQUARE
 
 
 def started(*words: str | pathlib.Path) -> subprocess.Popen[str]:
@@ -37,10 +34,10 @@ def started(*words: str | pathlib.Path) -> subprocess.Popen[str]:
     code = (
         "import signal, sys; signal.signal(signal.SIGINT, signal.default_int_handler); "
         "sys.modules['waitress'] = None; sys.argv[0] = 'overlay_web.py'; "
-        f"sys.path.insert(0, {str(WEB)!r}); import overlay_web; sys.exit(overlay_web.main(sys.argv[1:]))"
+        "from web.commands import overlay_web; sys.exit(overlay_web.main(sys.argv[1:]))"
     )
     given = [sys.executable, "-c", code, "--program", testing.PROGRAM, "--port", "0", *map(str, words)]
-    return subprocess.Popen(given, stdout=subprocess.PIPE, stderr=subprocess.PIPE, text=True, start_new_session=True)
+    return subprocess.Popen(given, cwd=testing.TOP, stdout=subprocess.PIPE, stderr=subprocess.PIPE, text=True, start_new_session=True)
 
 
 @contextlib.contextmanager
@@ -124,8 +121,7 @@ class Processes(unittest.TestCase):
         with running("--store", self.store, "--writable") as (run, address):
             asked(address, "GET", "/status")
             found = [
-                pid
-                for pid in children(run.pid)
+                pid for pid in children(run.pid)
                 if f"--store\0{self.store}" in pathlib.Path(f"/proc/{pid}/cmdline").read_text()
             ]
             self.assertEqual(len(found), 1)
@@ -136,8 +132,7 @@ class Processes(unittest.TestCase):
         with running("--store", self.store, "--writable") as (run, address):
             self.assertEqual(asked(address, "GET", "/collections/A/items")[0], 200)
             found = [
-                pid
-                for pid in children(run.pid)
+                pid for pid in children(run.pid)
                 if pathlib.Path(f"/proc/{pid}/cmdline").read_text().startswith(f"{testing.PROGRAM}\0/dev/fd/")
             ]
             self.assertEqual(len(found), 1)
@@ -150,8 +145,7 @@ class Processes(unittest.TestCase):
         with running("--store", self.store, "--writable", "--program", program) as (run, address):
             self.assertEqual(asked(address, "PUT", "/collections/N", b'{"definition": "I"}')[1]["durable"], 2)
             (pid,) = [
-                pid
-                for pid in children(run.pid)
+                pid for pid in children(run.pid)
                 if f"--store\0{self.store}" in pathlib.Path(f"/proc/{pid}/cmdline").read_text()
             ]
             resource.prlimit(pid, resource.RLIMIT_FSIZE, (0, resource.RLIM_INFINITY))
@@ -159,7 +153,7 @@ class Processes(unittest.TestCase):
             self.assertEqual((status, value["version"]), (503, 3))
             status, told = self.ended(run)
             self.assertEqual(status, 1)
-            self.assertIn("the store is not written any more: error 30 device; a copy stands in its place", told)
+            self.assertIn("the store is not written any more: error 30 device; a copy is in its place", told)
         with running("--store", self.store, "--writable") as (run, address):
             status = asked(address, "GET", "/status")[1]
             self.assertEqual((status["version"], status["durable"], status["layers"], status["lost"]), (2, 2, 3, []))
@@ -197,8 +191,8 @@ class Processes(unittest.TestCase):
         with socket.create_server(("127.0.0.1", 0)) as other:
             taken = other.getsockname()[1]
             tries: list[tuple[list[str | pathlib.Path], str]] = [
-                (["--writable", "--port", str(taken)], f"127.0.0.1 port {taken}: "),
-                (["--store", self.store, "--port", str(taken)], f"127.0.0.1 port {taken}: "),
+                (["--writable", "--port", str(taken)], f"127.0.0.1 port {taken}: another program listens there; say another --port"),
+                (["--store", self.store, "--port", str(taken)], f"127.0.0.1 port {taken}: another program listens there; say another --port"),
                 (["--writable", "--port", "65536"], "127.0.0.1 port 65536: a port is 0 to 65535"),
                 (["--store", self.store, "--host", "192.0.2.1"], "192.0.2.1 port 0: "),  # an address of documents
                 (["--store", self.store, "--host", "a b"], "a b port 0: "),
@@ -211,16 +205,9 @@ class Processes(unittest.TestCase):
 
     def test_words(self) -> None:
         for line in (
-            "--store map.db --writable --host 0.0.0.0",
-            "--writable --host ::",
-            "",
-            "--create",
-            "--store map.db --create",
-            "--writable --host map.example.org",
-            "--colour",
-            "--store map.db --base map.example.org",
-            "--store map.db --base http://[",
-            "--store map.db --base http://",
+            "--store map.db --writable --host 0.0.0.0", "--writable --host ::", "", "--create",
+            "--store map.db --create", "--writable --host map.example.org", "--colour",
+            "--store map.db --base map.example.org", "--store map.db --base http://[", "--store map.db --base http://",
             "--store map.db --base https://map.example.org:port",
         ):
             with running(*line.split()) as (run, _):
@@ -231,8 +218,7 @@ class Processes(unittest.TestCase):
         words = overlay_web.words_of(["--store", "map.db", "--host", "127.0.0.2"])
         self.assertEqual(overlay_web.hosts_of(words), {"127.0.0.2", "127.0.0.1", "localhost", "[::1]"})
         self.assertTrue(
-            overlay_web.is_loopback("127.8.8.8")
-            and overlay_web.is_loopback("::1")
+            overlay_web.is_loopback("127.8.8.8") and overlay_web.is_loopback("::1")
             and overlay_web.is_loopback("localhost")
         )
         self.assertFalse(overlay_web.is_loopback("localhost.example") or overlay_web.is_loopback("0.0.0.0"))

@@ -14,15 +14,13 @@ import unittest
 import unittest.mock
 from collections.abc import Callable
 
-import front
-import layer_store
-import testing
-from layer_store import LayerStore
-from overlay_client import Ended, Refused, Server
-from scratch import Scratch
-from testing import SHIFTED, SQUARE, Client, FrontCase, Told
-from views import View
-from web_request import BODY_MOST
+from . import front, layer_store, testing
+from .layer_store import LayerStore
+from .overlay_client import Ended, Refused, Server
+from .scratch import Scratch
+from .testing import SHIFTED, SQUARE, Client, FrontCase, Told
+from .views import View
+from .web_request import BODY_MOST
 
 GEOMETRY = {"type": "Polygon", "coordinates": [[[0, 0], [9, 0], [9, 9], [0, 0]]]}
 
@@ -45,13 +43,7 @@ class Refusals(RefusalCase):
 
     def test_names_that_are_not_served(self) -> None:
         for host in (
-            "map.example.org",
-            "evil.example:8080",
-            "127.0.0.1.example",
-            "",
-            "127.0.0.1:80:80",
-            "a b",
-            "[::2]",
+            "map.example.org", "evil.example:8080", "127.0.0.1.example", "", "127.0.0.1:80:80", "a b", "[::2]",
             "localhost@x",
         ):
             self.refused(403, "/status", HTTP_HOST=host)
@@ -67,11 +59,7 @@ class Refusals(RefusalCase):
 
     def test_pages_of_other_sites_change_nothing(self) -> None:
         for origin in (
-            "https://evil.example",
-            "null",
-            "http://localhost:8080",
-            "https://127.0.0.1:8080",
-            "http://127.0.0.1:8081",
+            "https://evil.example", "null", "http://localhost:8080", "https://127.0.0.1:8080", "http://127.0.0.1:8081",
         ):
             self.refused(403, "/collections/I", "DELETE", HTTP_ORIGIN=origin)
             self.refused(403, "/collections/N", "PUT", {"definition": "A"}, HTTP_ORIGIN=origin)
@@ -82,17 +70,9 @@ class Refusals(RefusalCase):
     def test_pages_of_other_sites_ask_nothing_but_for_the_page(self) -> None:
         asked = unittest.mock.patch.object(self.store, "_server", None)  # who asks the program fails
         for path in (
-            "/collections",
-            "/collections/I",
-            "/collections/I/items",
-            "/collections/I/items/1",
-            "/collections/I/locate?x=1&y=1",
-            "/collections/I/tiles",
-            "/locate?x=1&y=1",
-            "/status",
-            "/api",
-            "/conformance",
-            "/map.css",
+            "/collections", "/collections/I", "/collections/I/items", "/collections/I/items/1",
+            "/collections/I/locate?x=1&y=1", "/collections/I/tiles", "/locate?x=1&y=1", "/status", "/api",
+            "/conformance", "/map.css",
         ):
             for method in ("GET", "HEAD"):
                 with asked:
@@ -141,12 +121,8 @@ class Refusals(RefusalCase):
             body = json.dumps(GEOMETRY).encode().replace(b"9", number)
             self.refused(400, "/collections/N", "PUT", body)
         bad: tuple[object, ...] = (
-            {},
-            {"geometry": None},
-            {"type": "Point", "coordinates": [1, 1]},
-            GEOMETRY | {"coordinates": [[[0]]]},
-            {"type": "FeatureCollection", "features": []},
-            {"type": "Polygon"},
+            {}, {"geometry": None}, {"type": "Point", "coordinates": [1, 1]}, GEOMETRY | {"coordinates": [[[0]]]},
+            {"type": "FeatureCollection", "features": []}, {"type": "Polygon"},
         )
         for given in bad:
             self.refused(400, "/collections/N", "PUT", given)
@@ -176,23 +152,13 @@ class Refusals(RefusalCase):
 
     def test_batches(self) -> None:
         for body in (
-            {},
-            {"commands": []},
-            {"commands": {}},
-            {"commands": [{"drop": "I"}] * 65},
-            {"commands": [["drop", "I"]]},
-            {"commands": [{"drop": "I", "put": "I"}]},
-            {"commands": [{"drop": "I\nDROP A"}]},
-            {"commands": [{"drop": 7}]},
-            {"commands": [{"put": None, "geometry": GEOMETRY}]},
-            {"commands": [{"put": True, "geometry": GEOMETRY}]},
-            {"commands": [{"define": False, "definition": "A"}]},
-            {"commands": [{"drop": ["I"]}]},
-            {"commands": [{"define": "N"}]},
-            {"commands": [{"put": "N", "definition": "A"}]},
-            {"commands": [None]},
-            {"commands": [{"define": "N", "definition": "A\nDROP I"}]},
-            {"commands": [{"put": "N", "geometry": {}}]},
+            {}, {"commands": []}, {"commands": {}}, {"commands": [{"drop": "I"}] * 65}, {"commands": [["drop", "I"]]},
+            {"commands": [{"drop": "I", "put": "I"}]}, {"commands": [{"drop": "I\nDROP A"}]},
+            {"commands": [{"drop": 7}]}, {"commands": [{"put": None, "geometry": GEOMETRY}]},
+            {"commands": [{"put": True, "geometry": GEOMETRY}]}, {"commands": [{"define": False, "definition": "A"}]},
+            {"commands": [{"drop": ["I"]}]}, {"commands": [{"define": "N"}]},
+            {"commands": [{"put": "N", "definition": "A"}]}, {"commands": [None]},
+            {"commands": [{"define": "N", "definition": "A\nDROP I"}]}, {"commands": [{"put": "N", "geometry": {}}]},
         ):
             self.refused(400, "/batch", "POST", body)
         told = self.refused(409, "/batch", "POST", {"commands": [{"drop": "I"}, {"define": "A", "definition": "B"}]})
@@ -200,100 +166,44 @@ class Refusals(RefusalCase):
 
     def test_paths_and_methods(self) -> None:
         for path in (
-            "/nowhere",
-            "/leaflet/../../../etc/passwd",
-            "/leaflet/..%2f..%2fx",
-            "/leaflet/images/../leaflet.js",
-            "/map.html.bak",
-            "/tests.py",
-            "/../overlay_web.py",
-            "/collections/",
-            "/collections/9x",
-            "/collections/" + "a" * 33,
-            "/collections/A%0A",
-            "/collections/A/items/0x1",
-            "/collections/A/items/9999999999",
-            "/collections/I/items/0",
-            "/collections/I/items/2",
-            "/collections/Z",
-            "/collections/Z/items",
-            "/collections/Z/locate?x=1&y=1",
-            "/collections/Z/tiles",
+            "/nowhere", "/leaflet/../../../etc/passwd", "/leaflet/..%2f..%2fx", "/leaflet/images/../leaflet.js",
+            "/map.html.bak", "/tests.py", "/../overlay_web.py", "/collections/", "/collections/9x",
+            "/collections/" + "a" * 33, "/collections/A%0A", "/collections/A/items/0x1",
+            "/collections/A/items/9999999999", "/collections/I/items/0", "/collections/I/items/2", "/collections/Z",
+            "/collections/Z/items", "/collections/Z/locate?x=1&y=1", "/collections/Z/tiles",
         ):
             self.refused(404, path)
         for path, method, allowed in (
-            ("/status", "POST", "GET"),
-            ("/collections", "DELETE", "GET"),
-            ("/batch", "GET", "POST"),
-            ("/collections/A", "PATCH", "GET, PUT, DELETE"),
-            ("/", "OPTIONS", "GET"),
-            ("/status", "get", "GET"),
+            ("/status", "POST", "GET"), ("/collections", "DELETE", "GET"), ("/batch", "GET", "POST"),
+            ("/collections/A", "PATCH", "GET, PUT, DELETE"), ("/", "OPTIONS", "GET"), ("/status", "get", "GET"),
         ):
             self.assertEqual(self.refused(405, path, method).headers["Allow"], allowed)
 
     def test_words(self) -> None:
         items = "/collections/I/items"
         for words in (
-            "limit=0",
-            "limit=-1",
-            "limit=x",
-            "limit=",
-            "limit=1.5",
-            "limit=" + "9" * 19,
-            "offset=-1",
-            "bbox=1,2,3",
-            "bbox=",
-            "bbox=1,2,3,x",
-            "bbox=1,2,3,4,5",
-            "bbox=9,0,0,9",
-            "bbox=0,9,9,0",
-            "bbox=1e999999999,0,1,1",
-            "bbox=0,0,1/0,1",
-            "crs=EPSG:3857",
-            "bbox-crs=x",
-            "datetime=yesterday",
-            "datetime=2020-1-1",
-            "datetime=..",
-            "f=html",
-            "f=xml",
-            "colour=red",
-            "limit=1&limit=2",
-            "limit=1&limit=1",
+            "limit=0", "limit=-1", "limit=x", "limit=", "limit=1.5", "limit=" + "9" * 19, "offset=-1", "bbox=1,2,3",
+            "bbox=", "bbox=1,2,3,x", "bbox=1,2,3,4,5", "bbox=9,0,0,9", "bbox=0,9,9,0", "bbox=1e999999999,0,1,1",
+            "bbox=0,0,1/0,1", "crs=EPSG:3857", "bbox-crs=x", "datetime=yesterday", "datetime=2020-1-1", "datetime=..",
+            "f=html", "f=xml", "colour=red", "limit=1&limit=2", "limit=1&limit=1",
             "&".join(f"a{i}=1" for i in range(40)),
         ):
             self.refused(400, f"{items}?{words}")
         for words in (
-            "limit=1",
-            "limit=99999999",
-            "offset=5",
-            "datetime=2020-01-01T00:00:00Z/..",
-            "datetime=2020-01-01/",
+            "limit=1", "limit=99999999", "offset=5", "datetime=2020-01-01T00:00:00Z/..", "datetime=2020-01-01/",
             "f=json",
         ):
             self.client.get(f"{items}?{words}")
         self.assertEqual(self.client.get(f"{items}?limit=99999999")["numberReturned"], 1)
         self.refused(409, f"{items}?revision=nothing")
         for path in (
-            "/status?x=1",
-            "/?x=1",
-            "/collections?limit=3",
-            "/map.css?v=1",
-            "/api?limit=1",
-            "/locate?x=1&y=1&z=1",
+            "/status?x=1", "/?x=1", "/collections?limit=3", "/map.css?v=1", "/api?limit=1", "/locate?x=1&y=1&z=1",
         ):
             self.refused(400, path)
 
     def test_points(self) -> None:
         for words in (
-            "",
-            "x=1",
-            "y=1",
-            "x=1&y=",
-            "x=1,2&y=3",
-            "x=1e999999999&y=1",
-            "x=nan&y=1",
-            "x=1e999&y=1",
-            "x=1&y=1/0",
+            "", "x=1", "y=1", "x=1&y=", "x=1,2&y=3", "x=1e999999999&y=1", "x=nan&y=1", "x=1e999&y=1", "x=1&y=1/0",
             "x=0x1&y=1",
         ):
             self.refused(400, f"/locate?{words}")
@@ -324,8 +234,7 @@ class ReadOnly(RefusalCase):
 
     def test_it_changes_nothing(self) -> None:
         for path, method, body in (
-            ("/collections/N", "PUT", {"definition": "A"}),
-            ("/collections/I", "DELETE", None),
+            ("/collections/N", "PUT", {"definition": "A"}), ("/collections/I", "DELETE", None),
             ("/batch", "POST", {"commands": [{"drop": "I"}]}),
         ):
             self.assertIn("--writable", self.refused(403, path, method, body).value["description"])

@@ -8,14 +8,13 @@ import threading
 import unittest
 import unittest.mock
 
-import rescue
-import testing
-from front import Front
-from layer_store import LayerStore
-from overlay_client import Refused, Server
-from rescue import Rescue, put_copy
-from scratch import Scratch
-from testing import SQUARE, Client
+from . import rescue, testing
+from .front import Front
+from .layer_store import LayerStore
+from .overlay_client import Refused, Server
+from .rescue import Rescue, put_copy
+from .scratch import Scratch
+from .testing import SQUARE, Client
 
 
 class Copies(unittest.TestCase):
@@ -72,12 +71,7 @@ class Rescues(unittest.TestCase):
         scratch = self.enterContext(Scratch(program, 60))
         self.ended, self.reasons = threading.Event(), list[str]()
         self.store = LayerStore(
-            self.server,
-            scratch,
-            testing.map_scale(),
-            version=0,
-            kept=True,
-            writable=True,
+            self.server, scratch, testing.map_scale(), version=0, kept=True, writable=True,
             rescue=Rescue(self.path, program, self.end),
         )
         self.addCleanup(self.store.close)

@@ -14,10 +14,9 @@ from collections.abc import Iterable, Iterator
 from typing import Any
 from wsgiref import simple_server
 
-import front
-import serving
-from testing import SQUARE, FrontCase, wait_until
-from web_request import BODY_MOST
+from . import front, serving
+from .testing import SQUARE, FrontCase, wait_until
+from .web_request import BODY_MOST
 
 HEAD = b"GET /status HTTP/1.1\r\nHost: 127.0.0.1\r\n"
 
@@ -128,10 +127,8 @@ class ServerCase(FrontCase):
         put = HEAD.replace(b"GET /status", b"PUT /collections/N") + b"Content-Type: application/json\r\n"
         for sent, statuses in (
             (b"GET /" + b"a" * 200_000 + b" HTTP/1.1\r\n\r\n", {414, 431}),
-            (HEAD + b"X: " + b"a" * 200_000 + b"\r\n\r\n", {431}),
-            (HEAD + b"X: a\r\n" * 20_000 + b"\r\n", {431}),
-            (b"GET /status HTTP/x\r\n\r\n", {400, 403}),
-            (put + b"Content-Length: -1\r\n\r\n", {400, 411}),
+            (HEAD + b"X: " + b"a" * 200_000 + b"\r\n\r\n", {431}), (HEAD + b"X: a\r\n" * 20_000 + b"\r\n", {431}),
+            (b"GET /status HTTP/x\r\n\r\n", {400, 403}), (put + b"Content-Length: -1\r\n\r\n", {400, 411}),
             (put + b"Content-Length: 3000000\r\n\r\n" + b" " * 3_000_000, {413}),
             (put + b"Content-Length: %d\r\n\r\n" % (BODY_MOST + 1) + b" " * (BODY_MOST + 1), {413}),
             (put + b"Content-Length: 5\r\n\r\n{\"a\":", {400}),
@@ -186,7 +183,7 @@ class Signals(unittest.TestCase):
 @unittest.skipUnless(importlib.util.find_spec("waitress"), "no waitress: apt-get install python3-waitress")
 class ByWaitress(ServerCase):
     def begin(self, request_seconds: float, answer_seconds: float) -> None:
-        import by_waitress
+        from . import by_waitress
 
         make_ends = functools.partial(by_waitress.Ends, seconds=(request_seconds, answer_seconds))
         server = by_waitress.server_of(self.front, "127.0.0.1", 0, make_ends)

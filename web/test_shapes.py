@@ -8,13 +8,10 @@ import unittest
 from decimal import ROUND_HALF_EVEN, Decimal
 from fractions import Fraction
 
-import limits  # of tools/
-import map_scale
-import scale as scales  # of tools/
-import shapes
-import testing
-from map_scale import exact, rounded
-from shapes import Box, Feature, text_of
+from tools import limits, scale as scales
+from . import map_scale, shapes, testing
+from .map_scale import exact, rounded
+from .shapes import Box, Feature, text_of
 
 Place = tuple[Fraction, Fraction]
 
@@ -92,14 +89,8 @@ class Shapes(unittest.TestCase):
     def test_a_box_that_touches_in_a_point_meets(self) -> None:
         feature = Feature(1, [[(0, 0, 1), (3, 1, 1), (0, 2, 1)]], testing.map_scale())
         for box, right in (
-            ("3 1 5 5", True),
-            ("301/100 1 5 5", False),
-            ("-1 -1 0 0", True),
-            ("3/2 3/2 5 5", True),
-            ("151/100 3/2 5 5", False),
-            ("1 1 1 1", True),
-            ("1 1/3 1 1/3", True),
-            ("-9 -9 9 9", True),
+            ("3 1 5 5", True), ("301/100 1 5 5", False), ("-1 -1 0 0", True), ("3/2 3/2 5 5", True),
+            ("151/100 3/2 5 5", False), ("1 1 1 1", True), ("1 1/3 1 1/3", True), ("-9 -9 9 9", True),
         ):
             self.assertEqual(feature.meets(Box(*map(Fraction, box.split()))), right, box)
 
@@ -116,11 +107,7 @@ class Shapes(unittest.TestCase):
             scale = testing.map_scale(factor=(1, 100, "42262.5")[number % 3], factor_y=(1, 7)[number % 2], digits=12)
             rings = [
                 [
-                    (
-                        source.randrange(-(2**62), 2**62),
-                        source.randrange(-(2**62), 2**62),
-                        source.randrange(1, 2**42),
-                    )
+                    (source.randrange(-(2**62), 2**62), source.randrange(-(2**62), 2**62), source.randrange(1, 2**42))
                     for _ in range(source.randrange(3, 9))
                 ]
             ]
@@ -133,34 +120,13 @@ class Shapes(unittest.TestCase):
 class Numbers(unittest.TestCase):
     def test_numbers_are_bounded(self) -> None:
         for text, value in (
-            ("1", 1),
-            ("-0.5", Fraction(-1, 2)),
-            ("1e3", 1000),
-            ("5/3", Fraction(5, 3)),
-            (".5", Fraction(1, 2)),
-            ("2.5e-2", Fraction(1, 40)),
-            ("+7", 7),
-            ("-1/4", Fraction(-1, 4)),
+            ("1", 1), ("-0.5", Fraction(-1, 2)), ("1e3", 1000), ("5/3", Fraction(5, 3)), (".5", Fraction(1, 2)),
+            ("2.5e-2", Fraction(1, 40)), ("+7", 7), ("-1/4", Fraction(-1, 4)),
         ):
             self.assertEqual(exact(text), value, text)
         bad: tuple[object, ...] = (
-            "",
-            ".",
-            "1e999",
-            "1e99999999",
-            "1/0",
-            "1//2",
-            "nan",
-            "inf",
-            "0x10",
-            "1" * 21,
-            "1_0",
-            "1/3.5",
-            "e5",
-            "٣",
-            True,
-            None,
-            [1],
+            "", ".", "1e999", "1e99999999", "1/0", "1//2", "nan", "inf", "0x10", "1" * 21, "1_0", "1/3.5", "e5", "٣",
+            True, None, [1],
         )
         for given in bad:
             self.assertRaises(ValueError, exact, given)
@@ -183,11 +149,7 @@ class Numbers(unittest.TestCase):
         source = random.Random(4)
         scale = testing.map_scale(factor="42262.25", factor_y=100000, origin=["-19.125", 65], digits=9)
         for _ in range(500):
-            corner = (
-                source.randrange(-(2**40), 2**40),
-                source.randrange(-(2**40), 2**40),
-                source.randrange(1, 2**21),
-            )
+            corner = (source.randrange(-(2**40), 2**40), source.randrange(-(2**40), 2**40), source.randrange(1, 2**21))
             world = scale.scale.world(corner)
             self.assertEqual(scale.position(corner), [scale.number(n) for n in world])
             self.assertEqual(scale.scale.stored(*world), (Fraction(*corner[::2]), Fraction(*corner[1:])))
@@ -203,8 +165,7 @@ class Numbers(unittest.TestCase):
         scale = testing.map_scale(factor=2, origin=[100, 0])
         self.assertEqual(scale.limits(), [100 - 2**19, -(2**19), 100 + 2**19, 2**19])
         self.assertEqual(
-            (len(scale.columns()), scale.columns()[0], scale.columns()[-1]),
-            (limits.COLUMNS, 100 - 2**19, 100 + 2**19),
+            (len(scale.columns()), scale.columns()[0], scale.columns()[-1]), (limits.COLUMNS, 100 - 2**19, 100 + 2**19),
         )
 
 
@@ -228,17 +189,10 @@ class Texts(unittest.TestCase):
 
     def test_what_is_no_polygon_is_refused(self) -> None:
         bad: tuple[object, ...] = (
-            None,
-            [],
-            {},
-            {"type": "Point", "coordinates": [0, 0]},
-            {"type": "Polygon"},
-            {"type": ["Polygon"], "coordinates": []},
-            {"type": "Polygon", "coordinates": [[]]},
-            {"type": "Polygon", "coordinates": [[[0]]]},
-            {"type": "Polygon", "coordinates": [[["a", 0]]]},
-            {"type": "Polygon", "coordinates": "x"},
-            {"type": "Polygon", "coordinates": {"0": 1}},
+            None, [], {}, {"type": "Point", "coordinates": [0, 0]}, {"type": "Polygon"},
+            {"type": ["Polygon"], "coordinates": []}, {"type": "Polygon", "coordinates": [[]]},
+            {"type": "Polygon", "coordinates": [[[0]]]}, {"type": "Polygon", "coordinates": [[["a", 0]]]},
+            {"type": "Polygon", "coordinates": "x"}, {"type": "Polygon", "coordinates": {"0": 1}},
             {"type": "Polygon", "coordinates": [[["1e99999999", 0]]]},
             {"type": "MultiPolygon", "coordinates": [[[[]]]]},
         )

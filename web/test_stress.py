@@ -7,10 +7,10 @@ import unittest
 import unittest.mock
 from typing import Any
 
-import layer_store
-from stressing import Ask, Stress
-from testing import SHIFTED, SQUARE, FrontCase
-from views import Busy, Hold
+from . import layer_store
+from .stressing import Ask, Stress
+from .testing import SHIFTED, SQUARE, FrontCase
+from .views import Busy, Hold
 
 SECONDS = 3.0
 

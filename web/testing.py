@@ -16,12 +16,12 @@ import urllib.parse
 from collections.abc import Callable, Iterator, Mapping
 from typing import Any, NamedTuple
 
-import scale as scales  # of tools/
-from front import Front
-from layer_store import LayerStore
-from map_scale import MapScale
-from overlay_client import Server
-from scratch import Scratch
+from tools import scale as scales
+from .front import Front
+from .layer_store import LayerStore
+from .map_scale import MapScale
+from .overlay_client import Server
+from .scratch import Scratch
 
 PROGRAM = "overlay_live"
 HOST = "127.0.0.1:8080"
@@ -100,12 +100,8 @@ class Client:
         parts = urllib.parse.urlsplit(path)
         data = body if isinstance(body, bytes) else b"" if body is None else json.dumps(body).encode()
         environ = {
-            "REQUEST_METHOD": method,
-            "PATH_INFO": urllib.parse.unquote(parts.path),
-            "QUERY_STRING": parts.query,
-            "HTTP_HOST": HOST,
-            "wsgi.url_scheme": "http",
-            "wsgi.input": io.BytesIO(data),
+            "REQUEST_METHOD": method, "PATH_INFO": urllib.parse.unquote(parts.path), "QUERY_STRING": parts.query,
+            "HTTP_HOST": HOST, "wsgi.url_scheme": "http", "wsgi.input": io.BytesIO(data),
         }
         if body is not None:
             environ |= {"CONTENT_TYPE": "application/json", "CONTENT_LENGTH": str(len(data))}
@@ -114,8 +110,7 @@ class Client:
         made = b"".join(self.front(environ, lambda status, lines: told.append((status, dict(lines)))))
         status, lines = told[0]
         return Told(
-            int(status.split()[0]),
-            lines,
+            int(status.split()[0]), lines,
             json.loads(made) if "json" in lines.get("Content-Type", "") and made else made,
         )
 

@@ -1,4 +1,4 @@
-"""What stands at one version. The front's sessions are all that a process has, so nobody changes a layer but the front
+"""What there is at one version. The front's sessions are all that a process has, so nobody changes a layer but the front
 itself: questions share a hold, a change has it alone, and all that is asked under one hold is of one version."""
 
 from __future__ import annotations
@@ -11,10 +11,10 @@ from collections import deque
 from collections.abc import Callable, Iterable, Iterator, Mapping, Sequence
 from typing import NamedTuple
 
-import limits  # of tools/
-import shapes
-from kept_values import Kept
-from overlay_client import OVERSIZE, UNKNOWN_LAYER, Layer, Piece, Point, Refused, Session, edges_lines, is_pending
+from tools import limits
+from . import shapes
+from .kept_values import Kept
+from .overlay_client import OVERSIZE, UNKNOWN_LAYER, Layer, Piece, Point, Refused, Session, edges_lines, is_pending
 
 
 class Busy(Exception):

@@ -1,4 +1,4 @@
-"""A request of the web and its answer: what may stand in it, and how refusals are told."""
+"""A request of the web and its answer: what it may have, and how refusals are reported."""
 
 from __future__ import annotations
 
@@ -9,7 +9,7 @@ from collections.abc import Mapping
 from fractions import Fraction
 from typing import Any, NamedTuple
 
-from map_scale import exact
+from .map_scale import exact
 
 BODY_MOST = 1 << 20
 WORDS_MOST = 32
@@ -18,7 +18,7 @@ JSON = "application/json"
 
 
 class Problem(Exception):
-    """A refusal by the web's own rules: the status, and what is told."""
+    """A refusal by the web's own rules: the status, and what is reported."""
 
     def __init__(self, status: int, text: str, **headers: str) -> None:
         super().__init__(text)
@@ -56,7 +56,7 @@ class Request:
             raise Problem(400, f"the question: {fault}") from fault
         self.words = dict(words)
         if len(self.words) < len(words):
-            raise Problem(400, "a word stands twice")
+            raise Problem(400, "a word is given twice")
 
     def header(self, name: str) -> str:
         return str(self.environ.get("HTTP_" + name.upper().replace("-", "_"), ""))
@@ -88,7 +88,7 @@ class Request:
         return "*" in given or f'"{revision}"' in given
 
     def content(self) -> bytes:
-        """The bytes of the body, which is told to be JSON."""
+        """The bytes of the body, which is said to be JSON."""
         if self.environ.get("CONTENT_TYPE", "").partition(";")[0].strip() not in (JSON, GEOJSON):
             raise Problem(415, f"{JSON} is wanted")
         told = self.environ.get("CONTENT_LENGTH") or ""

@@ -6,6 +6,7 @@ A key names a definition by its crate, its module and itself; ('', crate, type) 
 from __future__ import annotations
 
 import dataclasses
+import itertools
 import pathlib
 import re
 
@@ -56,6 +57,16 @@ class Link:
 
 
 @dataclasses.dataclass(frozen=True)
+class Pin:
+    """A definition that a law says whole: the law's statement is read in its place. The law's file, function and statement."""
+
+    key: Key
+    file: str
+    law: str
+    statement: Key
+
+
+@dataclasses.dataclass(frozen=True)
 class Cut:
     """What is not followed: fields of some definitions, some definitions whole, and clauses of calls and of traits by
     their names.
@@ -81,10 +92,12 @@ class Reach:
 class House:
     """The definitions and types of a tree, and of the kit's crates where its folder is given."""
 
-    def __init__(self, top: pathlib.Path, kit: pathlib.Path | None = None, links: tuple[Link, ...] = ()) -> None:
+    def __init__(self, top: pathlib.Path, kit: pathlib.Path | None = None, links: tuple[Link, ...] = (),
+                 pins: tuple[Pin, ...] = ()) -> None:
         self.top = top
         self.kit = kit
         self.links = links
+        self.pins = {pin.key: pin for pin in pins}
         lines = (top / "crates.txt").read_text().splitlines()
         heads = [line.partition(":")[0].split()[0] for line in lines if ":" in line.partition("#")[0]]
         self.crates = {crate: place for place, crate in enumerate(heads)}
@@ -101,6 +114,11 @@ class House:
             definition = self.modules[link.crate, link.module].definitions.get(link.name)
             if not definition or (link.field and not re.search(rf"^\s+pub {link.field} :", definition.text, re.M)):
                 raise SystemExit(f"believe: {link.crate}/specs/{link.module}.antt has no {link.title}")
+        for pin in pins:
+            if not re.search(rf"ensures \{{ {pin.statement[2]} \}}", self.head(Call(pin.law, pin.file, pin.law, ""))[1]):
+                raise SystemExit(f"believe: {pin.law} does not promise {pin.statement[2]}")
+            if pin.key not in self.of_text(pin.statement, NOTHING):
+                raise SystemExit(f"believe: {pin.statement[2]} does not speak of {pin.key[2]}")
 
     def folder(self, crate: str) -> pathlib.Path:
         """The definitions of a crate, of the tree or of the kit."""
@@ -181,6 +199,8 @@ class House:
 
     def said(self, key: Key, cut: Cut = NOTHING) -> str:
         """A definition's text for what it names, without the fields that are links, or cut."""
+        if key in self.pins:
+            return spoken("\n".join([*self.signature(key), self.stated(key)]))
         text = spoken(self.module(key[:2]).definitions[key[2]].text)
         for of, field in [*((link.key, link.field) for link in self.links), *cut.fields]:
             if of == key and field:
@@ -190,8 +210,27 @@ class House:
     def uses(self, key: Key, cut: Cut = NOTHING) -> set[Key]:
         """What a definition names, or the model of a type of the sources."""
         if (key, cut) not in self.used:
-            self.used[key, cut] = self.of_type(key[1], key[2], cut) if key[0] == "" else self.of_text(key, cut)
+            if key in self.pins:
+                self.used[key, cut] = self.of_pin(self.pins[key])
+            else:
+                self.used[key, cut] = self.of_type(key[1], key[2], cut) if key[0] == "" else self.of_text(key, cut)
         return self.used[key, cut]
+
+    def of_pin(self, pin: Pin) -> set[Key]:
+        """What the signature of a definition names, and the law that says it whole."""
+        typed = self.named("\n".join(self.signature(pin.key)), pin.key[:2], {}, {})
+        return (typed | self.of_text(pin.statement, NOTHING)) - {pin.key, pin.statement}
+
+    def signature(self, key: Key) -> list[str]:
+        """The lines of a definition before its first equation, without the sentence above it."""
+        lines = [line for line in self.module(key[:2]).definitions[key[2]].shown if not line.strip().startswith("--")]
+        return list(itertools.takewhile(lambda line: not re.match(rf" *{re.escape(key[2])} (?!: )", line), lines))
+
+    def stated(self, key: Key) -> str:
+        """What the law says of a definition that it says whole, in one line."""
+        statement = self.pins[key].statement
+        said = " ".join(line.strip() for line in self.module(statement[:2]).definitions[statement[2]].shown if not line.strip().startswith("--"))
+        return said.partition(f"{statement[2]} = ")[2]
 
     def of_text(self, key: Key, cut: Cut) -> set[Key]:
         """What the text of a definition names."""
@@ -222,6 +261,12 @@ class House:
         text = self.types[crate, name].read_text()
         found = re.search(rf"^impl[^\n]*Model for {name}\b.*?ghost Value = \{{ (.*?) \}};", text, re.M | re.S)
         return found[1] if found else ""
+
+    def declared(self, crate: str, name: str, fields: set[str], cut: Cut = NOTHING) -> list[str]:
+        """A type as its source declares it, with the fields of these names; a trait without the clauses that are cut."""
+        lines = rust.declared(self.types[crate, name].read_text(), name, fields)
+        gone = {clause for title, clause in cut.clauses if title == name}
+        return [line for line in lines if not (found := re.match(r" *ensures (\w+) ", line)) or found[1] not in gone]
 
     def type_of(self, text: str, crate: str, word: str) -> Key | None:
         """The type that a word of a source is, also where another crate passes it on."""
@@ -395,7 +440,11 @@ class House:
                 for file in order]
 
     def shown(self, key: Key, cut: Cut = NOTHING) -> list[str]:
-        """The lines of a definition, in which one line names the fields that are left out."""
+        """The lines of a definition, in which one line names the fields that are left out; or what a law says of it."""
+        if key in self.pins:
+            shown = self.module(key[:2]).definitions[key[2]].shown
+            sentence = list(itertools.takewhile(lambda line: line.strip().startswith("--"), shown))
+            return [*sentence, *self.signature(key), f"-- the law `{self.pins[key].law}` says it whole: {self.stated(key)}"]
         return without(self.module(key[:2]).definitions[key[2]].shown, {field for of, field in cut.fields if of == key})
 
     def lines(self, keys: set[Key], cut: Cut = NOTHING) -> int:

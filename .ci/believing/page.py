@@ -8,7 +8,7 @@ import functools
 import pathlib
 import re
 
-from believing.house import NOTHING, Call, Cut, House, Key, Link, Reach
+from believing.house import NOTHING, Call, Cut, House, Key, Reach
 
 # The rows of which README.md has the numbers.
 OF_README = r"(?:`locate`|the sentence in bold|a crash of a run, and its opening|all without what stands beside|all together)"
@@ -119,7 +119,7 @@ def page(house: House, tables: Tables) -> str:
     every = sum(len(module.definitions) for (crate, _), module in house.modules.items() if crate in house.crates)
     table = ["| Call | Definitions | Lines | Files | Of the kit (lines) | What it is |", f"|{'---|' * 6}", *rows]
     head = tables.head.replace("@CONTRACT@", "\n".join(f"    {line}" for line in quoted(house, tables.calls[0])))
-    head = head.replace("@LINKS@", links(told)).replace("@WITHOUT@", left_out(told))
+    head = head.replace("@LINKS@", links(told)).replace("@WITHOUT@", left_out(told)).replace("@PINS@", pinned(house))
     tail = f"\nOf {every:,} definitions in `crates/*/specs`.\n"
     return "\n".join([head, "", *table, tail, *promised(told, listed), *parts, types(house, met)])
 
@@ -144,6 +144,15 @@ def links(told: Told) -> str:
         path = f"../crates/{link.crate}/specs/{link.module}.antt"
         given, taken = (", ".join(f"`{title}`" for title in titles) for titles in (link.given, link.taken))
         lines.append(f"| [`{link.title}`]({path}) | {given} | {taken} |")
+    return "\n".join(lines)
+
+
+def pinned(house: House) -> str:
+    """The table of definitions that a law says whole."""
+    lines = ["| Definition | Law | What it says |", "|---|---|---|"]
+    for key, pin in house.pins.items():
+        path = f"../crates/{key[0]}/specs/{key[1].replace('.', '/')}.antt"
+        lines.append(f"| [`{key[2]}`]({path}) | [`{pin.law}`](../crates/{pin.file}) | `{house.stated(key)}` |")
     return "\n".join(lines)
 
 
@@ -177,7 +186,7 @@ def section(told: Told, call: Call, reach: Reach, fresh: set[Key]) -> str:
     mine, new = house.mine(reach.keys), house.mine(fresh)
     lines = [f"## `{call.title}`", "", f"{call.says} The contract: `crates/{call.file}`."]
     if len(new) < len(mine):
-        lines[-1] += f" {len(mine) - len(new)} of its definitions stand in sections above."
+        lines[-1] += f" {len(mine) - len(new)} of its definitions are in sections above."
     if new:
         lines += ["", "| File | Lines | Definitions |", "|---|---|---|"]
     for (crate, module), names in house.in_order(new):
@@ -228,7 +237,7 @@ def types(house: House, keys: set[Key]) -> str:
     lines = ["## Types of the sources", "",
              "Not counted above. A value of a type with a model is seen as the model's value; of any other its fields are",
              "seen, and of an enum its cases. A trait has clauses of its own: what a disk has to keep, a crash's premise,",
-             "stands in `Disk`.", "",
+             "is in `Disk`.", "",
              "| File | Types, and what they are seen as |", "|---|---|"]
     files: dict[tuple[int, str], list[str]] = {}
     for crate, name in sorted({key[1:] for key in keys if not key[0]}):

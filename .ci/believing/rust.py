@@ -72,3 +72,38 @@ def parts(text: str, name: str) -> list[tuple[str, str]]:
         named = [re.match(r"(?:ghost )?(?:pub(?:\([^)]*\))? )?(?:ghost )?(\w+):(.*)", field, re.S) for field in fields]
         return [(field[1], field[2]) for field in named if field]
     return []
+
+
+def declared(text: str, name: str, fields: set[str]) -> list[str]:
+    """A type or a trait as it is declared, with its comments, without attributes; of a struct the fields of these names."""
+    lines = text.splitlines()
+    head = re.compile(rf"pub (?:struct|enum|trait) {name}\b")
+    first = next((at for at, line in enumerate(lines) if head.match(line)), None)
+    if first is None:
+        return []
+    last = first if re.search(r"[;}]$", lines[first]) else next(at for at in range(first, len(lines)) if lines[at] == "}")
+    above = first
+    while above and lines[above - 1].startswith(("///", "#[")):
+        above -= 1
+    body = lines[first + 1 : last + 1]
+    if lines[first].startswith("pub struct"):
+        body = named(body, fields)
+    return [line for line in [*lines[above : first + 1], *body] if not line.strip().startswith("#[")]
+
+
+def named(body: list[str], fields: set[str]) -> list[str]:
+    """The lines of a struct that have a field of one of these names, with the comments above them, and the last line."""
+    kept: list[str] = []
+    comments: list[str] = []
+    is_kept = False
+    for line in body:
+        field = re.match(r"    (?:pub(?:\([^)]*\))? )?(?:ghost )?(\w+):", line)
+        if field:
+            is_kept = field[1] in fields
+            kept += [*comments, line] if is_kept else []
+            comments = []
+        elif re.match(r"    (//|#\[)", line):
+            comments.append(line)
+        elif is_kept or line == "}":
+            kept.append(line)
+    return kept

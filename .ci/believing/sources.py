@@ -7,8 +7,7 @@ import re
 
 IMPORT = re.compile(
     r"^\s*(?:pub )?(?:ghost )?use Rattle\.(?P<crate>\w+)\.(?P<part>specs|proofs)\.(?P<path>[\w.]+?)"
-    r"(?:\.\{(?P<names>[^}]*)\}| as (?P<alias>\w+))?;?\s*$",
-    re.M,
+    r"(?:\.\{(?P<names>[^}]*)\}| as (?P<alias>\w+))?;?\s*$", re.M,
 )
 HEADER = re.compile(
     r"^(?P<indent> *)(?P<kind>(?:(?:abbrev|unfoldable|opaque) )?(?:pub )?(?:record |data )?)(?P<name>[^\s:({]+)(?P<rest>.*)$"

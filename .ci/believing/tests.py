@@ -3,10 +3,11 @@
 from __future__ import annotations
 
 import pathlib
+import re
 import tempfile
 
 from believing import rust
-from believing.house import Call, House, Key, Link
+from believing.house import Call, House, Key, Link, Pin
 from believing.page import Law, Row, Tables, Told, Word, compare, page, with_numbers
 from believing.sources import fields_of, read_module, without
 from believing.texts import path_of, text, twice
@@ -223,6 +224,26 @@ def hides(top: pathlib.Path) -> int:
     return 18
 
 
+def pins(top: pathlib.Path) -> int:
+    """What a law says whole: its statement is read in place of the definition."""
+    law = Pin(("high", "Calls", "Goes"), "high/src/calling.rt", "goes_law", ("high", "Calls", "GoesLaw"))
+    house = House(top, top / "kit", pins=(law,))
+    assert house.of_call(calls_of("go")[0]).keys == {law.key, ("", "low", "Thing"), *low("Pair")}
+    shown = ["-- goes up", "abbrev pub Goes : Thing → ℕ → Type 0", "-- the law `goes_law` says it whole: (n : ℕ) → Goes n n"]
+    assert house.shown(law.key) == shown, house.shown(law.key)
+    tables = Tables("# Head\n@PINS@", calls_of("go"), [], [], [])
+    assert "| [`Goes`](../crates/high/specs/Calls.antt) | [`goes_law`](../crates/high/src/calling.rt) | `(n : ℕ) → Goes n n` |" in page(house, tables)
+    for wrong, fault in [(Pin(law.key, law.file, "go", law.statement), "go does not promise GoesLaw"),
+                         (Pin(("high", "Calls", "Gives"), law.file, law.law, law.statement), "GoesLaw does not speak of Gives")]:
+        try:
+            House(top, top / "kit", pins=(wrong,))
+        except SystemExit as stop:
+            assert fault in str(stop), stop
+        else:
+            raise AssertionError(fault)
+    return 5
+
+
 def writes(top: pathlib.Path) -> int:
     """The page and a row's text."""
     house = House(top, top / "kit", LINKS)
@@ -242,6 +263,16 @@ def writes(top: pathlib.Path) -> int:
     assert row.index("abbrev pub twice") < row.index("-- goes up\nabbrev pub Goes") < row.index("Takes n = Handed n → Goes n n")
     assert "What to believe of: both (4 definitions, 12 lines)" in row and "low `Thing` as `Pair`" in row and "idle" not in row
     assert "goes_law (high/src/calling.rt): What goes, goes on." in row
+    places = dict(re.findall(r"(\w+) (\d+)(?:,|$)", row.partition("==== Names, and the lines at which they are\n\n")[2], re.M))
+    assert set(places) == {"Goes", "Pair", "Takes", "twice", "twofold"}, places
+    assert row.splitlines()[int(places["Goes"]) - 1] == "abbrev pub Goes : Thing → ℕ → Type 0" and "left" not in places
+    assert "==== Of the kit: core Numbers\n\n-- both\nabbrev pub twofold : ℕ → ℕ\ntwofold n = n + n\n" in row, row
+    for call, head, lines in [("opens", "A type of low: Box", "/// A box.\npub struct Box<D: Disk> {\n    pub(crate) thing: Vec<Thing>,\n}\n"),
+                              ("sort", "A type of low: Kind", "pub enum Kind {\n    /// One.\n    One { thing: Thing },\n    Two(Box<u8>),\n}\n")]:
+        looked = text(Told(house, Tables("", calls_of(call), [], [], [])), call)
+        assert f"==== {head}\n\n{lines}" in looked, looked
+    cut = Tables("", calls_of("store"), [Row("less", ("store",), "Less.", ("Store: two",))], [], [])
+    assert "ensures one" in text(Told(house, cut), "less") and "ensures two" not in text(Told(house, cut), "less")
     assert "| few | 2 | 6 | 2 |  | Less. |" in said and "- `few` leaves out `Goes`, `go: first`." in said, said
     assert "    go: first" in text(Told(house, tables), "few")
     assert "- `part` has `Handed.rest`." in said and "    Handed.rest" in text(Told(house, tables), "part")
@@ -253,7 +284,7 @@ def writes(top: pathlib.Path) -> int:
             assert fault in str(stop), stop
         else:
             raise AssertionError(fault)
-    return 6
+    return 11
 
 
 def compares(top: pathlib.Path) -> int:
@@ -294,6 +325,6 @@ def test() -> int:
         for path, said in files().items():
             (top / path).parent.mkdir(parents=True, exist_ok=True)
             (top / path).write_text(said)
-        passed = reaches(top) + hides(top) + writes(top) + compares(top) + reads()
+        passed = reaches(top) + hides(top) + pins(top) + writes(top) + compares(top) + reads()
     print(f"{passed} passed, 0 failed")
     return 0

@@ -8,14 +8,14 @@ Each way prints microseconds of processors for a pair, of Python and of the prog
 
 import math
 import random
-import resource
 import sys
 import time
 from collections.abc import Callable, Iterator
 
 from bench.counting import Words
-import limits
-from overlay_client import COLUMNS, Piece, Server, Session, edges_lines
+from bench.processor_time import processor
+from tools import limits
+from web.overlay_client import COLUMNS, Piece, Server, Session, edges_lines
 
 Pairs = list[tuple[str, str, list[int]]]
 Way = Callable[[Session, Pairs], Iterator[list[Piece]]]
@@ -77,13 +77,12 @@ def many_lines_ahead(session: Session, asked: Pairs) -> Iterator[list[Piece]]:
 
 def seconds_of(program: str, way: Way, asked: Pairs) -> tuple[float, float, list[list[Piece]]]:
     """Processor seconds of Python and of the program, and what was found."""
-    before = resource.getrusage(resource.RUSAGE_CHILDREN)
+    before = processor()
     with Server(program=program, workers=1, timeout=60) as server:
         begin = time.process_time()
         found = list(way(server.sessions[0], asked))
         own = time.process_time() - begin
-    after = resource.getrusage(resource.RUSAGE_CHILDREN)
-    return own, after.ru_utime + after.ru_stime - before.ru_utime - before.ru_stime, found
+    return own, processor() - before, found
 
 
 def main() -> int:

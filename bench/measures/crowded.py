@@ -7,7 +7,7 @@ python3 -m bench.measures.crowded --test
 PROGRAM is overlayd. Of so many layers half go to and fro from border to border and half up and down, so that each step
 of the one crosses each of the other. One derived layer of a column is waited for, by one worker: a small square and all
 of them (small), whose boundary has few pieces, and their symmetric difference (all), which has too many. Where a
-program has not ended after so many seconds of the clock it is stopped, and told is what it had taken by then.
+program has not ended after so many seconds of the clock it is stopped, and reported is what it had taken by then.
 """
 
 from __future__ import annotations
@@ -21,7 +21,7 @@ from collections.abc import Sequence
 
 from bench.counting import Words
 from bench.tile_texts import Point, closed, text_of
-from limits import COLUMN_WIDTH, LAYERS_MAX, STEPS_MAX
+from tools.limits import COLUMN_WIDTH, LAYERS_MAX, STEPS_MAX
 
 MARGIN = 16
 

@@ -1,26 +1,23 @@
 """How long the reply of EDGES takes beside the building of the tile that WAIT waits for.
 
-python3 -m bench.measures.edges [--built PROGRAM].. [--beside COMMIT]
+python3 -m bench.measures.edges [--built PROGRAM]..
 
 Maps of two layers of so many edges each in one column, the SymDifference of which is asked for: stars and slivers (ends
 at fractions), parcels and combs (whole ends). WAIT is the input, the tile and the version that keeps it; EDGES is the
-text of the tile. By the program of bench/measures/edges, built unproved (minutes); --beside builds another one over the
-libraries of a commit, --built names ones that were built before. Several run in turns, five times each, the least time
-is taken, and all have to write the same text.
+text of the tile. By the program of bench/measures/edges, built unproved (minutes); --built names ones that were built
+before. Several run in turns, five times each, the least time is taken, and all have to write the same text.
 """
 
 from __future__ import annotations
 
 import pathlib
-import subprocess
 import tempfile
 from collections.abc import Iterator
 
-from bench import tile_texts, unproved
+from bench import tile_texts
 from bench.counting import Words
 from bench.measures import tiles, turns
 
-HERE = pathlib.Path(__file__).resolve().parent
 # 512 edges; the tile of two combs of 512 has too many pieces.
 MAPS = [(tiles.stars, 512, 20), (tiles.slivers, 512, 10), (tiles.parcels, 512, 50), (tiles.combs, 256, 4)]
 
@@ -38,32 +35,13 @@ def told(words: list[str]) -> tuple[str, tuple[str, str, str], list[tuple[str, f
     return case, (pieces, size, total), [(what, int(each) / int(times)) for what, each in zip(("WAIT", "EDGES"), taken)]
 
 
-def built_of(commit: str, folder: pathlib.Path) -> pathlib.Path:
-    """The program over the libraries of a commit."""
-    tree, place = folder / "tree", folder / "beside"
-    place.mkdir()
-    subprocess.run(["git", "-C", unproved.TOP, "worktree", "add", "--detach", tree, commit], check=True)
-    here, unproved.TOP = unproved.TOP, tree
-    try:
-        return unproved.built(HERE / "edges", place, checked=False)
-    finally:
-        unproved.TOP = here
-        subprocess.run(["git", "-C", here, "worktree", "remove", "--force", tree], check=True)
-
-
 def main() -> None:
     parser = Words(__doc__)
     parser.add_argument("--built", type=pathlib.Path, action="append", default=[])
-    parser.add_argument("--beside", metavar="COMMIT")
     words = parser.words()
     with tempfile.TemporaryDirectory() as place:
         folder = pathlib.Path(place)
-        programs = [program.resolve() for program in words.built]
-        if not programs:
-            (folder / "built").mkdir()
-            programs = [unproved.built(HERE / "edges", folder / "built", checked=False)]
-        if words.beside:
-            programs.append(built_of(words.beside, folder))
+        programs = turns.programs_of(words.built, "edges", folder)
         file = folder / "cases"
         file.write_text("".join(cases()))
         least, seen = turns.least_times(programs, file, told)

@@ -22,7 +22,7 @@ from collections.abc import Iterator, Sequence
 from bench.counting import Words, checked
 from bench.measures import peers, tiles
 from bench.tile_texts import Layer, closed
-from limits import COLUMNS
+from tools.limits import COLUMNS
 
 SHAPES = [("star", 64), ("parcels", 64), ("sliver", 64), ("star", 512), ("parcels", 512)]
 SQUARES = [[closed([(low, low), (low + 10, low), (low + 10, low + 10), (low, low + 10)])] for low in (0, 5)]
@@ -92,10 +92,8 @@ def test() -> int:
     layers = dict(cases())
     asked = script(SQUARES, 2, 3, 17)
     checks = [
-        (len(layers), len(SHAPES) + 1),
-        (len([line for line in asked if line.startswith("WAIT ")]), 2),
-        (asked.count("EDGES I0 16"), 3),
-        ("EDGES I0 17" in asked, False),
+        (len(layers), len(SHAPES) + 1), (len([line for line in asked if line.startswith("WAIT ")]), 2),
+        (asked.count("EDGES I0 16"), 3), ("EDGES I0 17" in asked, False),
         (row("x", [(1000000, 500000), (2000000, 250000)]), "| x | 1.000, 2.000 | 0.500, 0.250 | 1.50 times |"),
         (row("x", [(1000000, 500000)]), "| x | 1.000 | 0.500 |  |"),
     ]

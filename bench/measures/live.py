@@ -7,7 +7,7 @@ PROGRAM is overlay_live. A client in C (live.c) sends a line when the reply to t
 
 - LOCATE over an outline of 2,000 steps and over a built layer, beside the pipe alone, and SpatiaLite and PostGIS where
   they are there (--install gets them), whose answers are compared.
-- PUT, and SYNC behind it, with a store in FOLDER, beside the same writes and syncs in C (sync.c).
+- PUT, and SYNC after it, with a store in FOLDER, beside the same writes and syncs in C (sync.c).
 - Replies a second of four sessions, beside four pipes in C; memory before and after a million lines.
 """
 
@@ -169,7 +169,7 @@ def questions(program: str, client: Client, count: int) -> Iterator[tuple[str, s
         with served([client.program, "echo"]) as (_, [pair]):
             found["pipe"].add(client.ask(pair, lines["A"]))
     own = statistics.median(found["pipe"].p50)
-    for name, what in (("A", f"an outline of {STEPS:,} steps"), ("D", f"a built layer of two such")):
+    for name, what in (("A", f"an outline of {STEPS:,} steps"), ("D", "a built layer of two such")):
         ratio = statistics.median(found[name].p50) / own
         beside = f"the pipe's own: {found['pipe'].told()}; of p50 {ratio:.2f} times"
         yield f"LOCATE of {what}, {count:,} lines one at a time", found[name].told(), beside
@@ -245,11 +245,11 @@ def commits(program: str, client: Client, folder: pathlib.Path, count: int) -> I
         with served([program, "--store", str(store), "--create"], 1) as (_, [pair]):
             times = client.ask(pair, lines)
         if times.replies[-1] != f"durable {count}":
-            raise Peer(f"the last SYNC told {times.replies[-1]}")
+            raise Peer(f"the last SYNC answered {times.replies[-1]}")
         yield f"PUT of {steps:,} steps, with a store", told(Times(times.taken[::2], [])), f"{count:,} lines"
         mean = 1e6 * runs.commit_of_c(count, blocks)
         beside = f"writes of {blocks} blocks and three syncs in C: {spelled(mean)} in the mean"
-        yield "SYNC behind each", told(Times(times.taken[1::2], [])), beside
+        yield "SYNC after each", told(Times(times.taken[1::2], [])), beside
 
 
 def together(program: str, client: Client, count: int) -> tuple[str, str, str]:

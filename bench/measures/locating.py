@@ -17,11 +17,10 @@ import pathlib
 import tempfile
 from collections.abc import Iterator
 
-from bench import tile_texts, unproved
+from bench import tile_texts
 from bench.counting import Words
 from bench.measures import serving, tiles, turns
 
-HERE = pathlib.Path(__file__).resolve().parent
 POINTS = 20000
 LINES = 200000
 
@@ -83,9 +82,7 @@ def main() -> None:
         folder = pathlib.Path(place)
         if words.program:
             lines([program.resolve() for program in words.program], folder)
-        (folder / "built").mkdir()
-        built = [program.resolve() for program in words.built]
-        calls(built or [unproved.built(HERE / "locating", folder / "built", checked=False)], folder)
+        calls(turns.programs_of(words.built, "locating", folder), folder)
 
 
 if __name__ == "__main__":

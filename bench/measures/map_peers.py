@@ -3,9 +3,9 @@
     /usr/bin/python3 -m bench.measures.map_peers LIVE [--parcels N] [--zones N] [--lattice] [--folder FOLDER] [--only PEER]..
 
 LIVE is the built overlay_live. The maps are those of bench/map_making.py. Each peer reads both files and writes a table
-of the pairs whose common part has an area; of each are told processor seconds and memory of the whole run, how many
+of the pairs whose common part has an area; of each are reported processor seconds and memory of the whole run, how many
 pairs it has, and how these differ from ours. Needs python3-gdal, -numpy, -shapely, -geopandas, -rtree and, for
-PostGIS, postgresql-15-postgis-3; a peer that is not there is left out, and told. All is done once, on one processor at a
+PostGIS, postgresql-15-postgis-3; a peer that is not there is left out, and reported. All is done once, on one processor at a
 time.
 """
 
@@ -14,7 +14,6 @@ from __future__ import annotations
 import argparse
 import csv
 import pathlib
-import resource
 import subprocess
 import sys
 import tempfile
@@ -24,6 +23,7 @@ from typing import Any, NamedTuple
 
 from bench import TOP
 from bench.counting import Words
+from bench.processor_time import processor
 
 PYTHON = "/usr/bin/python3"
 Table = dict[tuple[str, str], float]
@@ -85,13 +85,12 @@ class Run(NamedTuple):
 
 
 def timed(words: list[str], table: pathlib.Path) -> Run:
-    before, begin = resource.getrusage(resource.RUSAGE_CHILDREN), time.monotonic()
+    before, begin = processor(), time.monotonic()
     done = subprocess.run(["/usr/bin/time", "-f", "%M", *words], capture_output=True, text=True, check=False)
-    after = resource.getrusage(resource.RUSAGE_CHILDREN)
+    seconds, clock = processor() - before, time.monotonic() - begin
     if done.returncode:
         raise RuntimeError(done.stderr.strip().splitlines()[-3])
-    seconds = after.ru_utime + after.ru_stime - before.ru_utime - before.ru_stime
-    return Run(seconds, time.monotonic() - begin, int(done.stderr.split()[-1]) // 1024, read_table(table))
+    return Run(seconds, clock, int(done.stderr.split()[-1]) // 1024, read_table(table))
 
 
 def read_table(path: pathlib.Path) -> Table:
@@ -149,7 +148,7 @@ def boxes_that_meet(folder: pathlib.Path) -> int:
     """Pairs of boxes with a common part that has an area."""
     from fractions import Fraction
 
-    from maps import gdal_maps, numpy_pairs, numpy_planning
+    from tools.maps import gdal_maps, numpy_pairs, numpy_planning
 
     boxes = [numpy_planning.boxes_of(gdal_maps.read(str(folder / f"{kind}.gpkg"), Fraction(1000), None, None, False).whole)
              for kind in ("parcels", "zones")]

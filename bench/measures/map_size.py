@@ -12,7 +12,6 @@ Status 1: the run fails, or takes more than --seconds or --megabytes.
 import contextlib
 import hashlib
 import pathlib
-import resource
 import subprocess
 import sys
 import tempfile
@@ -20,6 +19,7 @@ import time
 
 from bench import TOP
 from bench.counting import Words
+from bench.processor_time import processor
 
 PYTHON, TOOL, MAKING = "/usr/bin/python3", TOP / "tools" / "overlay_maps.py", TOP / "bench" / "map_making.py"
 EACH = 0.25  # seconds between two looks
@@ -46,14 +46,12 @@ def pss_of(number: int) -> int:
 
 def watched(words: list[str]) -> tuple[int, float, float, float]:
     """Runs a command: its status, seconds of processors, seconds by the clock, and most megabytes of all processes."""
-    before, begin, most = resource.getrusage(resource.RUSAGE_CHILDREN), time.monotonic(), 0
+    before, begin, most = processor(), time.monotonic(), 0
     with subprocess.Popen(words) as run:
         while run.poll() is None:
             most = max(most, sum(map(pss_of, below(run.pid))))
             time.sleep(EACH)
-    after = resource.getrusage(resource.RUSAGE_CHILDREN)
-    seconds = after.ru_utime + after.ru_stime - before.ru_utime - before.ru_stime
-    return run.returncode, seconds, time.monotonic() - begin, most / 1000
+    return run.returncode, processor() - before, time.monotonic() - begin, most / 1000
 
 
 def main() -> int:

@@ -10,17 +10,17 @@ which overlap, are looked at by to_script.py --check. Prints processor seconds, 
 import json
 import pathlib
 import random
-import resource
 import subprocess
 import sys
 import tempfile
 import time
 from collections.abc import Callable, Iterator
 
-import to_rings
 from bench import TOP
 from bench.counting import Words
-from sessions import Piece
+from bench.processor_time import processor
+from tools.commands import to_rings
+from tools.sessions import Piece
 
 Ring = list[tuple[int, int]]
 SIDE = 1000  # rings apart from each other in a row
@@ -86,10 +86,9 @@ def check_figure(program: str, count: int) -> tuple[str, float]:
         file.write_text(parcels(count, random.Random(3)))
         words = [sys.executable, str(TOP / "tools" / "to_script.py"), str(file), "--coded", "--check", "--name-by", "nr",
                  "--factor", "1", "--program", program, "--output", str(output)]
-        before = resource.getrusage(resource.RUSAGE_CHILDREN)
+        before = processor()
         done = subprocess.run(words, capture_output=True, text=True, check=False)
-        after = resource.getrusage(resource.RUSAGE_CHILDREN)
-    took = after.ru_utime + after.ru_stime - before.ru_utime - before.ru_stime
+        took = processor() - before
     return f"--check: {done.stderr.splitlines()[-1]}", took
 
 

@@ -1,13 +1,13 @@
-"""Times WAIT with EDGES, and LOCATE, beside what else a user can install: CGAL, Boost.Geometry, GEOS.
+"""Times WAIT with EDGES, and LOCATE, beside what else a user can install: CGAL, Clipper, Boost.Geometry, GEOS.
 
 python3 -m bench.measures.peers PROGRAM.. [--edges N].. [--only NAME]..
 
 Several programs of this repository run in turns. Of the peers in bench/measures/peers, those are taken that g++ can
-compile (Debian's libcgal-dev libgmp-dev libmpfr-dev, libboost-dev, libgeos++-dev).
+compile (Debian's libcgal-dev libgmp-dev libmpfr-dev, libpolyclipping-dev, libboost-dev, libgeos++-dev).
 
 - The symmetric difference of two layers of so many edges (families of tiles.py) over all columns: WAIT and EDGES, one
-  worker, beside CGAL's exact arrangement and, where no ring crosses, Boost's sym_difference in floating point; WAIT
-  alone, EDGES alone.
+  worker, beside CGAL's exact arrangement, Clipper, which rounds crossings to whole points, and, where no ring crosses,
+  Boost's sym_difference in floating point; WAIT alone, EDGES alone.
 - A line of LOCATE over one layer, beside GEOS (floating point, no text).
 
 Processor seconds, the least of several runs; ours is the difference of two scripts.
@@ -24,11 +24,12 @@ from bench import tile_texts
 from bench.counting import Words
 from bench.measures import serving, tiles
 from bench.tile_texts import Layer
-from limits import COLUMNS, COORDINATE_MAX
+from tools.limits import COLUMNS, COORDINATE_MAX
 
 HERE = pathlib.Path(__file__).resolve().parent
 COMPILE = "g++ -std=c++17 -O2 -DNDEBUG -w".split()
-LIBRARIES = {"cgal": ["-lgmp", "-lmpfr"], "boost": [], "geos": ["-lgeos"]}
+LIBRARIES = {"cgal": ["-lgmp", "-lmpfr"], "clipper": ["-lpolyclipping"], "boost": [], "geos": ["-lgeos"]}
+TITLES = {"cgal": "CGAL", "clipper": "Clipper", "boost": "Boost"}
 SIMPLE = {"star", "sliver", "comb"}
 LAYERS, POINTS, ROUNDS = 20, 100000, 5
 
@@ -101,17 +102,15 @@ def overlays(
                 wait = (best[at, 2] - best[at, 1]) / (LAYERS - 1)
                 text = (best[at, 3] - best[at, 2]) / 5
                 rows.append((wait, text))
-            cgal = told(built["cgal"], path)[1] if "cgal" in built else None
-            boost = told(built["boost"], path)[1] if "boost" in built and name in SIMPLE else None
+            beside = {peer: told(built[peer], path)[1] for peer in TITLES if peer in built and (peer != "boost" or name in SIMPLE)}
             cells = [
                 f"WAIT {1000 * wait:.2f} ms, EDGES {1000 * text:.2f} ms ({100 * text / wait:.0f} %)"
                 for wait, text in rows
             ]
-            beside = f"CGAL {1000 * cgal:.2f} ms" if cgal else "no CGAL"
-            beside += f", Boost {1000 * boost:.2f} ms" if boost else ""
-            ratios = ", ".join(f"{(wait + text) / cgal:.2f}" for wait, text in rows) if cgal else "-"
+            theirs = [f"{TITLES[peer]} {1000 * took:.2f} ms ({', '.join(f'{(wait + text) / took:.2f}' for wait, text in rows)} of it)"
+                      for peer, took in beside.items()]
             pieces = sum(int(line.split()[1]) for line in wrote.splitlines() if line.startswith("edges")) // 5
-            print(f"{name} {edges}, {pieces} pieces: {'; '.join(cells)}; {beside}; of CGAL's time {ratios}", flush=True)
+            print(f"{name} {edges}, {pieces} pieces: {'; '.join(cells)}; {', '.join(theirs)}", flush=True)
 
 
 def locates(programs: list[pathlib.Path], built: dict[str, pathlib.Path], folder: pathlib.Path) -> None:

@@ -25,7 +25,7 @@ import time
 
 from bench.counting import Words
 from bench.processor_time import processor
-from limits import COLUMNS
+from tools.limits import COLUMNS
 
 HERE = pathlib.Path(__file__).resolve().parent
 SQUARE = "POLYGON ((0 0, 10 0, 10 10, 0 10, 0 0))"

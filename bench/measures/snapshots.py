@@ -1,4 +1,4 @@
-"""Times a snapshot of a book, beside what it costs to take a counted value from behind a lock in C.
+"""Times a snapshot of a book, beside what it costs to take a counted value out of a lock in C.
 
 python3 -m bench.measures.snapshots [PROGRAM]
 
@@ -32,16 +32,13 @@ def main() -> int:
     parser.add_argument("program", type=pathlib.Path, nargs="?")
     words = parser.words()
     with tempfile.TemporaryDirectory() as folder:
-        if words.program:
-            program = words.program.resolve()
-        else:
-            program = unproved.built(HERE / "snapshots", folder, checked=False)
+        program = unproved.program_of(words.program, HERE / "snapshots", folder, checked=False)
         lock = pathlib.Path(folder) / "lock"
         subprocess.run(["gcc", "-O2", "-pthread", "-o", lock, HERE / "lock.c"], check=True)
         alone, beside = best([program])
         counted, crowded = best([lock])
     print(f"a snapshot: {alone} ns, {beside} ns while another session puts layers")
-    print(f"a counted value behind a mutex in C: {counted} ns, {crowded} ns while another thread changes it")
+    print(f"a counted value in a mutex in C: {counted} ns, {crowded} ns while another thread changes it")
     return 0
 
 

@@ -1,10 +1,10 @@
 """Measures the store: records to bytes and back, what a commit writes, and opening a big file.
 
-python3 -m bench.measures.store [PROGRAM]..
-python3 -m bench.measures.store --test
+    python3 -m bench.measures.store [PROGRAM]..
+    python3 -m bench.measures.store --test
 
 Builds the program of bench/measures/store over the store's crates, unproved (minutes); PROGRAM is one that was built
-before. Of several the reading and writing of records is told side by side, all else of the first. The files and records
+before. Of several the reading and writing of records is reported side by side, all else of the first. The files and records
 that it is given are written here, byte by byte, as docs/FORMAT.md has them. Processor times, the best of five runs less
 those without the work, each on a disk in memory.
 """
@@ -19,13 +19,12 @@ import tempfile
 from collections.abc import Callable
 from typing import Optional
 
-from bench import unproved
 from bench.counting import Words
+from bench.measures import turns
 from bench.processor_time import processor
 from bench.reference import read_store
-from limits import COLUMNS, COORDINATE_MAX, LAYERS_MAX, column_begin
+from tools.limits import COLUMNS, COORDINATE_MAX, LAYERS_MAX, column_begin
 
-HERE = pathlib.Path(__file__).resolve().parent
 BLOCK = 4096
 DERIVED = 30
 # a catalog, the layers, and all tiles but those of one: as bench/measures/store/extents.rattle has them
@@ -85,7 +84,7 @@ def body(sequence: int, version: int, block: int, size: int) -> bytes:
 
 
 def store(layers: list[Layer]) -> bytes:
-    """A file of these layers, each with its tiles one behind the other."""
+    """A file of these layers, each with its tiles one after the other."""
     entries = [
         14 + len(name) + (0 if tiles is None else sum(13 if c in tiles else 1 for c in range(COLUMNS)))
         for name, _, tiles in layers
@@ -107,11 +106,6 @@ def store(layers: list[Layer]) -> bytes:
     # both gates are open, so that opening writes nothing
     slots = b"".join((b"\xa7" + bytes(15) + body(s, len(layers), 2, len(catalog))).ljust(BLOCK, b"\0") for s in [0, 1])
     return slots + b"".join(r.ljust(blocks(r) * BLOCK, b"\0") for r in [catalog] + records)
-
-
-def built(folder: str) -> pathlib.Path:
-    """The program, built without checks."""
-    return unproved.built(HERE / "store", folder, checked=False)
 
 
 def seconds(program: pathlib.Path, word: str, path: pathlib.Path, times: int) -> float:
@@ -213,7 +207,7 @@ def beginnings(program: pathlib.Path, folder: pathlib.Path) -> None:
     words = [program, "begin", path, "200"]
     least = int(subprocess.run(words, stdout=subprocess.PIPE, check=True, text=True).stdout.split()[0])
     print(
-        f"the beginning of a commit behind a PUT, beside {DERIVED} layers with {DERIVED * COLUMNS} tiles of 100 pieces:"
+        f"the beginning of a commit after a PUT, beside {DERIVED} layers with {DERIVED * COLUMNS} tiles of 100 pieces:"
         f" {least / 1e6:.3f} ms"
     )
     mapping, placing = each(program, "map", path, 5000), each(program, "place", path, 50000)
@@ -238,7 +232,7 @@ def main() -> int:
     parser.add_argument("programs", type=pathlib.Path, nargs="*")
     words = parser.words()
     with tempfile.TemporaryDirectory() as folder:
-        programs = [program.resolve() for program in words.programs] or [built(folder)]
+        programs = turns.programs_of(words.programs, "store", pathlib.Path(folder))
         program = programs[0]
         records(programs, pathlib.Path(folder))
         files(program, pathlib.Path(folder))

@@ -3,7 +3,7 @@
 python3 -m bench.measures.tiles [PROGRAM]..
 
 Builds the program of bench/measures/tiles over tile_build, tile_by_pairs and layer_book, unproved and without checks
-(minutes); PROGRAM is one that was built before, and several are told side by side. Tiles of two layers of so many edges
+(minutes); PROGRAM is one that was built before, and several are reported side by side. Tiles of two layers of so many edges
 each, by `build` and by `build_by_pairs`, both whole; the same layers with a point in the middle of each edge, by
 `build`; and two combs to the cap of 65,536. Processor times less those without the building, the best of five runs that
 take a tenth of a second or more, in turns, or one run where it takes more than two seconds.
@@ -17,13 +17,10 @@ import subprocess
 import tempfile
 from collections.abc import Iterable
 
-from bench import unproved
 from bench.counting import Words
+from bench.measures import turns
 from bench.processor_time import processor
 from bench.tile_texts import Draws, Layer, Point, closed, lines_of
-
-HERE = pathlib.Path(__file__).resolve().parent
-
 
 # Families for times: two layers of so many edges each in column 16
 
@@ -144,8 +141,7 @@ def by_both(programs: list[pathlib.Path], folder: pathlib.Path) -> None:
             *swept, (paired, size) = in_turns(runs)
             print(
                 f"{name} {edges}, {size} pieces: by the pass {milliseconds(time for time, _ in swept)}; by all pairs"
-                f" {1000 * paired:.2f} ms, {paired / swept[0][0]:.1f} times as long",
-                flush=True,
+                f" {1000 * paired:.2f} ms, {paired / swept[0][0]:.1f} times as long", flush=True,
             )
 
 
@@ -190,8 +186,7 @@ def main() -> None:
     words = parser.words()
     with tempfile.TemporaryDirectory() as name:
         folder = pathlib.Path(name)
-        programs = [program.resolve() for program in words.programs]
-        measure(programs or [unproved.built(HERE / "tiles", folder, checked=False)], folder)
+        measure(turns.programs_of(words.programs, "tiles", folder), folder)
 
 
 if __name__ == "__main__":

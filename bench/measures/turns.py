@@ -1,6 +1,6 @@
-"""A module for edges.py, locating.py and versions.py: several programs over one file of cases, in turns.
+"""A module for measures: the programs that are timed, and several of them over one file of cases, in turns.
 
-It gives the least time of each; all have to answer the same.
+`least_times` gives the least time of each; all have to answer the same.
 """
 
 from __future__ import annotations
@@ -10,9 +10,17 @@ import subprocess
 from collections.abc import Callable, Sequence
 from typing import TypeVar
 
+from bench import unproved
+
+HERE = pathlib.Path(__file__).resolve().parent
 ROUNDS = 5
 Times = dict[tuple[int, str, str], float]  # by the place of the program, the case and what was timed
 Found = TypeVar("Found")
+
+
+def programs_of(named: Sequence[pathlib.Path], source: str, place: pathlib.Path) -> list[pathlib.Path]:
+    """The programs that were named, or where none was the one of this folder, built unproved and without checks."""
+    return [unproved.program_of(one, HERE / source, place, checked=False) for one in named or [None]]
 
 
 def least_times(

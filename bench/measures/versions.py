@@ -15,11 +15,9 @@ import pathlib
 import tempfile
 from collections.abc import Iterator
 
-from bench import unproved
 from bench.counting import Words
 from bench.measures import turns
 
-HERE = pathlib.Path(__file__).resolve().parent
 REACH = 1 << 20
 
 
@@ -44,8 +42,7 @@ def cases() -> Iterator[str]:
     """The text that the program reads."""
     wide = [polygon([(-REACH, 0), (REACH, 0), (x, 99)]) for x in (0, 1)]
     for name, times, texts in (
-        ("three-steps", 2000, wide),
-        ("2048-steps-one-corner", 50, [star(2048, False), star(2048, True)]),
+        ("three-steps", 2000, wide), ("2048-steps-one-corner", 50, [star(2048, False), star(2048, True)]),
     ):
         yield "\n".join([name, str(times), *texts]) + "\n"
 
@@ -58,12 +55,10 @@ def told(words: list[str]) -> tuple[str, str, list[tuple[str, float]]]:
 
 def main() -> None:
     parser = Words(__doc__)
-    parser.add_argument("--built", action="append", default=[])
+    parser.add_argument("--built", type=pathlib.Path, action="append", default=[])
     words = parser.words()
     with tempfile.TemporaryDirectory() as folder:
-        programs = [pathlib.Path(one).resolve() for one in words.built]
-        if not programs:
-            programs = [unproved.built(HERE / "versions", folder, checked=False)]
+        programs = turns.programs_of(words.built, "versions", pathlib.Path(folder))
         file = pathlib.Path(folder) / "cases"
         file.write_text("".join(cases()))
         least, seen = turns.least_times(programs, file, told)

@@ -62,7 +62,7 @@ def put(link: http.client.HTTPConnection, i: int) -> bool:
 
 
 def client(address: str, ask: Ask, end: float, place: int, told: multiprocessing.SimpleQueue[Found | str]) -> None:
-    """Asks until the end, and tells how long each answer took."""
+    """Asks until the end, and says how long each answer took."""
     link = http.client.HTTPConnection(urllib.parse.urlsplit(address).netloc, timeout=60)
     found: Found = []
     try:
@@ -101,8 +101,7 @@ def measured(address: str, label: str, asks: list[Ask], seconds: float) -> bool:
         print(
             f"{label}, {asks.count(ask)} x {ask.__name__}: {len(times) / seconds:.0f} replies a second, "
             + ", ".join(f"p{share} {1000 * times[len(times) * share // 100]:.1f} ms" for share in (50, 99))
-            + f", most {1000 * times[-1]:.1f} ms",
-            flush=True,
+            + f", most {1000 * times[-1]:.1f} ms", flush=True,
         )
     return True
 
@@ -110,10 +109,7 @@ def measured(address: str, label: str, asks: list[Ask], seconds: float) -> bool:
 def measure(address: str, label: str, clients: int, seconds: float) -> int:
     """How many of the loads fell."""
     loads: list[list[Ask]] = [
-        [locate] * clients,
-        [locate_all] * clients,
-        [items] * clients,
-        [*[locate] * (clients - 1), put],
+        [locate] * clients, [locate_all] * clients, [items] * clients, [*[locate] * (clients - 1), put],
     ]
     return sum(not measured(address, label, asks, seconds) for asks in loads)
 

@@ -17,7 +17,7 @@ import time
 
 from bench.counting import Words
 from bench.measures import serving
-from limits import COLUMNS
+from tools.limits import COLUMNS
 
 LAYERS, ROUNDS, WORKERS = 30, 12, (1, 2, 4)
 

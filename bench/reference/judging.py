@@ -6,7 +6,7 @@ python3 -m bench.reference.judging --test
 OUTPUT is what the program wrote for the scripts. The numbers behind `ok` give each accepted command its place in the
 one history: each number from 1 on stands just once, and its command is accepted there. Every other reply is right at
 some version of it that is no older than what the session saw, has all its own accepted commands, and none still to be
-sent. EDGES and VERIFY may be pending only where no session was told that the layer was built, with nothing changed
+sent. EDGES and VERIFY may be pending only where no session has read that the layer was built, with nothing changed
 since. Refusals of UNJUDGED are counted apart.
 """
 
@@ -22,7 +22,7 @@ from typing import Any
 
 from bench.counting import Words, counted
 from bench.reference import model
-from limits import COLUMNS
+from tools.limits import COLUMNS
 
 UNJUDGED = {30, 31, 35, 36, 40, 43, 44}
 
@@ -40,7 +40,7 @@ class Wrong(Exception):
 
 
 def sections(output: str, sessions: int) -> list[list[Reply]]:
-    """The replies of each session, as the program writes them behind each other."""
+    """The replies of each session, as the program writes them one after the other."""
     lines = output.split("\n")
     if lines.pop() != "":
         raise Wrong("the output doesn't end with LF")
@@ -200,7 +200,7 @@ class History:
             place += 1
 
     def built_until(self, name: str, version: int) -> int | None:
-        """The first number at which the layer was told built since it was touched last, or None."""
+        """The first number at which the layer was reported built since it was touched last, or None."""
         touched = self.touched[name]
         place = bisect.bisect_right(touched, version)
         start = touched[place - 1]
@@ -350,7 +350,7 @@ class Session:
 
 
 class Judged:
-    """What came of judging: the history, counts, and the lines that tell what is wrong."""
+    """What came of judging: the history, counts, and the lines that say what is wrong."""
 
     def __init__(self, history: History) -> None:
         self.history = history
@@ -402,15 +402,14 @@ def turns_of(replies: list[list[Reply]]) -> int:
 def cut_off(asked: list[list[Request]], replies: list[list[Reply]]) -> list[Request]:
     """The commands that may have been accepted though their sessions were cut off before the replies."""
     return [
-        requests[len(answers)]
-        for requests, answers in zip(asked, replies)
+        requests[len(answers)] for requests, answers in zip(asked, replies)
         if len(answers) < len(requests) and isinstance(requests[len(answers)], CHANGES)
     ]
 
 
 def histories_with(accepted: dict[int, Request], unanswered: list[Request]) -> list[History]:
     """The histories of accepted commands, with those of the unanswered ones that fill its gaps, and all others that fit
-    at its end, in any order: nobody was told which came first."""
+    at its end, in any order: nobody knows which came first."""
     missing = [number for number in range(1, max(accepted, default=0)) if number not in accepted]
     histories: list[History] = []
     first: Wrong | None = None
@@ -467,7 +466,7 @@ def judged_by(history: History, asked: list[list[Request]], replies: list[list[R
 
 
 def take_down_built(history: History, asked: list[list[Request]], replies: list[list[Reply]]) -> None:
-    """All numbers at which layers were told built."""
+    """All numbers at which layers were reported built."""
     for requests, answers in zip(asked, replies):
         for request, reply in zip(requests, answers):
             if reply[0].startswith("built ") and isinstance(request, model.Question):

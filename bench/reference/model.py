@@ -1,11 +1,11 @@
-"""A plain, slow model of the book of layers, as docs/COMMANDS.md tells it: beside the program, not of it.
+"""A plain, slow model of the book of layers, as docs/COMMANDS.md has it: beside the program, not of it.
 
 python3 -m bench.reference.model SCRIPT
 python3 -m bench.reference.model --test
 
 The first prints the replies of one script over an empty book without a store, where all tiles are finished at once:
 SYNC is refused by 46, and EDGES and VERIFY never by 21. The second runs the scripts of examples/ and compares (but for
-`error 21 pending`, which tells of tiles alone, and the tiles of the dense grid, which are too large for counting).
+`error 21 pending`, which is of tiles alone, and the tiles of the dense grid, which are too large for counting).
 
 All is by counting over all segments, in whole numbers and fractions. What was once worked out for a layer's meaning is
 kept under a key.
@@ -24,11 +24,11 @@ from typing import Any, NamedTuple
 
 from bench import TOP
 from bench.counting import Words
-from limits import (
+from tools.limits import (
     BATCH_MAX, COLUMN_WIDTH, COLUMNS, COORDINATE_MAX, GRID_MAX, LAYERS_MAX, LINE_MAX, NAME_MAX, PIECES_MAX, STEP_MAX,
     STEPS_MAX, TOKENS_MAX, WEIGHT_MAX,
 )
-from replies import reply_length
+from tools.replies import reply_length
 
 TEXTS = {
     1: "wkt syntax at #", 2: "not whole at #", 3: "coordinate out of range at #", 4: "ring # open", 5: "ring # short",

@@ -1,4 +1,4 @@
-"""Reads a store's file as docs/FORMAT.md tells it, and by nothing else: beside the program, not of it.
+"""Reads a store's file as docs/FORMAT.md says it: beside the program, not of it. Expressions and texts are model.py's.
 
 python3 -m bench.reference.read_store FILE
 python3 -m bench.reference.read_store --test
@@ -14,16 +14,14 @@ from __future__ import annotations
 import fractions
 import pathlib
 import re
-import string
 import sys
 from collections.abc import Callable
 from typing import Any, NamedTuple, Union
 
 from bench import TOP
 from bench.counting import Words, checked
-from limits import (
-    COLUMN_WIDTH, COLUMNS, COORDINATE_MAX, LAYERS_MAX, NAME_MAX, PIECES_MAX, STEPS_MAX, TOKENS_MAX,
-)
+from bench.reference import model
+from tools.limits import COLUMN_WIDTH, COLUMNS, COORDINATE_MAX, LAYERS_MAX, PIECES_MAX, STEPS_MAX
 
 BLOCK = 4096
 GATE_OPEN = 0xA7
@@ -35,8 +33,6 @@ FORMAT_PAGE = TOP / "docs" / "FORMAT.md"
 Number = Union[int, fractions.Fraction]
 Point = tuple[Number, Number]
 Rings = list[list[Point]]
-# A name, or an operator with its two operands.
-Tree = Union[bytes, tuple[bytes, Any, Any]]
 # How many pieces a tile has, or that it is oversize.
 Pieces = Union[int, str]
 
@@ -192,72 +188,6 @@ def named_point(data: Bytes) -> Point:
     return cut(data.segment(), data.number(1))
 
 
-# ---- expressions: a name, or an operator with its two operands
-
-
-def is_name(name: bytes) -> bool:
-    """Whether bytes are the name of a layer."""
-    letters = string.ascii_letters.encode()
-    others = letters + string.digits.encode() + b"_"
-    return 1 <= len(name) <= NAME_MAX and name[0] in letters and all(byte in others for byte in name)
-
-
-def parse(tokens: list[bytes]) -> Tree:
-    """The tree of some tokens; an operand stands on the stack alone, an operation in a triple."""
-
-    def atom() -> Tree:
-        token = tokens.pop(0) if tokens else b""
-        if token == b"(":
-            inner = chain()
-            if not tokens or tokens.pop(0) != b")":
-                raise NotOfTheForm
-            return inner
-        if not is_name(token):
-            raise NotOfTheForm
-        return token
-
-    def product() -> Tree:
-        tree = atom()
-        while tokens and tokens[0] == b"&":
-            tree = (tokens.pop(0), tree, atom())
-        return tree
-
-    def chain() -> Tree:
-        tree = product()
-        while tokens and tokens[0] in (b"|", b"-", b"^"):
-            tree = (tokens.pop(0), tree, product())
-        return tree
-
-    tree = chain()
-    if tokens:
-        raise NotOfTheForm
-    return tree
-
-
-def bracketed(tree: Tree, needs: bool) -> bytes:
-    """The spelling of a tree, in brackets where it needs them."""
-    return b"(" + spelled(tree) + b")" if needs else spelled(tree)
-
-
-def spelled(tree: Tree) -> bytes:
-    """The one spelling of a tree."""
-    if isinstance(tree, bytes):
-        return tree
-    operator, left, right = tree
-
-    def is_sum(operand: Tree) -> bool:
-        return isinstance(operand, tuple) and operand[0] != b"&"
-
-    left_needs = operator == b"&" and is_sum(left)
-    right_needs = isinstance(right, tuple) if operator == b"&" else is_sum(right)
-    return bracketed(left, left_needs) + b" " + operator + b" " + bracketed(right, right_needs)
-
-
-def leaves(tree: Tree) -> list[bytes]:
-    """The names of a tree, from left to right."""
-    return [tree] if isinstance(tree, bytes) else leaves(tree[1]) + leaves(tree[2])
-
-
 # ---- records
 
 
@@ -277,6 +207,14 @@ def read_catalog(record: bytes, written: int = FORMAT) -> list[Listed]:
     return listing
 
 
+def read_name(name: bytes) -> str:
+    """The name of a layer."""
+    try:
+        return model.read_name(name)
+    except model.Refused:
+        raise NotOfTheForm from None
+
+
 def read_base(record: bytes) -> Rings:
     """The rings of a base layer's record."""
     data = Bytes(record)
@@ -289,13 +227,13 @@ def read_base(record: bytes) -> Rings:
     return rings
 
 
-def read_definition(data: bytes) -> Tree:
+def read_definition(data: bytes) -> model.Tree:
     """The tree of a definition that is spelled as it would be written."""
-    tokens = re.findall(rb"[A-Za-z0-9_]+|[^ ]", data, re.DOTALL)
-    if len(tokens) > TOKENS_MAX:
-        raise NotOfTheForm
-    tree = parse(tokens)
-    if spelled(tree) != data:
+    try:
+        tree = model.read_expression(data)
+    except model.Refused:
+        raise NotOfTheForm from None
+    if model.spelled(tree).encode() != data:
         raise NotOfTheForm
     return tree
 
@@ -388,9 +326,10 @@ def formed(code: int, read: Callable[..., Any], *given: Any) -> Any:
 
 def check_place_in_list(known: dict[bytes, Any], listed: Listed, content: Any) -> None:
     """Refuses a layer that no command could have put behind the known ones."""
-    if not is_name(listed.name) or listed.name in known or len(known) >= LAYERS_MAX:
+    formed(7, read_name, listed.name)
+    if listed.name in known or len(known) >= LAYERS_MAX:
         raise Damage("33 7")
-    if listed.tiles is not None and any(name not in known for name in leaves(content)):
+    if listed.tiles is not None and any(name.encode() not in known for name in model.leaves(content)):
         raise Damage("33 7")
 
 
@@ -416,22 +355,14 @@ def read_layers(data: bytes, listing: list[Listed]) -> tuple[dict[bytes, Any], l
     return layers, tiles
 
 
-def base_text(rings: Rings) -> str:
-    """The rings of a base layer as LAYERS writes them."""
-    if not rings:
-        return "MULTIPOLYGON EMPTY"
-    members = ("((" + ", ".join(f"{x} {y}" for x, y in ring) + "))" for ring in rings)
-    return "MULTIPOLYGON (" + ", ".join(members) + ")"
-
-
 def layer_line(name: bytes, content: Any) -> str:
     """A layer as LAYERS writes it."""
-    text = base_text(content) if isinstance(content, list) else "= " + spelled(content).decode()
+    text = model.wkt_of(tuple(map(tuple, content))) if isinstance(content, list) else f"= {model.spelled(content)}"
     return f"layer {name.decode()} {text}"
 
 
 def reading(data: bytes) -> list[str]:
-    """The lines that tell what a file stands for."""
+    """The lines that say what a file stands for."""
     root = find_root(data)
     listing = formed(4, read_catalog, record_at(data, root.catalog, 3), root.format)
     layers, tiles = read_layers(data, listing)
@@ -493,7 +424,7 @@ def vectors_of(page: str) -> list[bytes]:
 
 
 def six_blocks(vectors: list[bytes]) -> bytes:
-    """The file of six blocks that the page tells."""
+    """The file of six blocks that the page describes."""
     first, empty, base, catalog, second, _, tile = vectors
     gate = bytes([GATE_OPEN]) + bytes(15)
     blocks = [gate + first, gate + second, empty, base, catalog, tile]
@@ -512,10 +443,8 @@ def vector_checks(vectors: list[bytes]) -> list[tuple[Any, ...]]:
     """What was read of each vector of a record, and what the page says that it is."""
     square = [[(0, 0), (10, 0), (10, 10), (0, 10), (0, 0)]]
     return [
-        (read_catalog(vectors[1]), []),
-        (read_base(vectors[2]), square),
-        (read_catalog(vectors[3]), [Listed(b"A", Extent(3, 44), None)]),
-        (read_definition(vectors[5]), (b"&", b"A", b"B")),
+        (read_catalog(vectors[1]), []), (read_base(vectors[2]), square),
+        (read_catalog(vectors[3]), [Listed(b"A", Extent(3, 44), None)]), (read_definition(vectors[5]), ("&", "A", "B")),
         (read_tile(vectors[6], 32), 1),
     ]
 

@@ -38,21 +38,14 @@ STEP = 23
 
 
 class Browser:
-    """Chromium without a window, over its debugging pipe: commands to descriptor 3, what it tells from 4, each ended by 0."""
+    """Chromium without a window, over its debugging pipe: commands to descriptor 3, what it says comes from 4, each ended by 0."""
 
     def __init__(self, folder: pathlib.Path) -> None:
         (to_in, to_out), (from_in, from_out) = os.pipe(), os.pipe()
         words = [
-            "chromium",
-            "--headless=new",
-            "--no-sandbox",
-            "--disable-gpu",
-            "--hide-scrollbars",
-            "--force-color-profile=srgb",
-            f"--user-data-dir={folder}/profile",
-            f"--window-size={SIZE[0]},{SIZE[1]}",
-            "--remote-debugging-pipe",
-            "about:blank",
+            "chromium", "--headless=new", "--no-sandbox", "--disable-gpu", "--hide-scrollbars",
+            "--force-color-profile=srgb", f"--user-data-dir={folder}/profile", f"--window-size={SIZE[0]},{SIZE[1]}",
+            "--remote-debugging-pipe", "about:blank",
         ]
         # The shell gives the pipe the descriptors that chromium looks at.
         shell = ["sh", "-c", f'exec 3<&{to_in} 4>&{from_out}; exec "$@"', "sh", *words]
@@ -66,9 +59,7 @@ class Browser:
     def call(self, method: str, **words: object) -> dict[str, Any]:
         self.count += 1
         told = {
-            "id": self.count,
-            "method": method,
-            "params": words,
+            "id": self.count, "method": method, "params": words,
             **({"sessionId": self.session} if self.session else {}),
         }
         os.write(self.to, json.dumps(told).encode() + b"\0")
@@ -139,11 +130,7 @@ class Browser:
     def click(self, x: float, y: float) -> None:
         for kind in ("mouseMoved", "mousePressed", "mouseReleased"):
             self.call(
-                "Input.dispatchMouseEvent",
-                type=kind,
-                x=x,
-                y=y,
-                button="none" if kind == "mouseMoved" else "left",
+                "Input.dispatchMouseEvent", type=kind, x=x, y=y, button="none" if kind == "mouseMoved" else "left",
                 clickCount=1,
             )
 
@@ -226,8 +213,7 @@ def compared(browser: Browser, address: str, tries: Tries, what: str) -> None:
     same, different, near, kinds = 0, [], 0, set()
     for x, y, places in browser.value(POINTS):
         told = [
-            asked(f"{address}locate?x={lng}&y={lat}")["places"]
-            for lng, lat in places
+            asked(f"{address}locate?x={lng}&y={lat}")["places"] for lng, lat in places
             if left < lng < right and low < lat < high
         ]
         if len(told) < 5 or any(one != told[0] for one in told) or "edge" in told[0].values():
@@ -529,9 +515,7 @@ def features(browser: Browser, address: str, picture: pathlib.Path, size: tuple[
 
 def visit_features(browser: Browser, words: argparse.Namespace, folder: pathlib.Path, tries: Tries) -> None:
     """Looks at a front over North Carolina, as wide as on a desk and as narrow as on a telephone."""
-    given = [sys.executable, web_front.TOP / "overlay", web_front.TOP / "tools/data/north_carolina.geojson"]
-    given += ["--folder", folder, "--only-make", "--program", words.program]
-    subprocess.run(list(map(str, given)), check=True, stderr=subprocess.DEVNULL)
+    web_front.first_map(web_front.TOP / "tools/data/north_carolina.geojson", folder, words.program)
     pictures, running = words.pictures or folder, {"program": words.program, "python": words.python}
     with web_front.front("--store", folder / "north_carolina.db", **running) as address:
         features(browser, address, pictures / "features.png", SIZE, tries)

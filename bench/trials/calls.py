@@ -22,12 +22,12 @@ from bench.counting import Words
 HERE = pathlib.Path(__file__).resolve().parent
 # A call that is wrong on purpose: its first growth refused is right, its second has changed what it was called on.
 WRONG_CALL = "wrong call 1 1 1"
-# What else is wrong on purpose: the program tells how many there are, and how many of them were told as wrong.
+# What else is wrong on purpose: the program says how many there are, and how many of them were reported as wrong.
 SPOILED = ["lists", "books", "sessions", "servers"]
 
 
 def are_told(line: str) -> bool:
-    """Whether there are wrong lists, books, sessions and servers, and each is told as wrong."""
+    """Whether there are wrong lists, books, sessions and servers, and each is reported as wrong."""
     words = line.split()[1:]
     return words[::3] == SPOILED and all(cases == told != "0" for cases, told in zip(words[1::3], words[2::3]))
 
@@ -37,7 +37,7 @@ def main() -> int:
     parser.add_argument("program", type=pathlib.Path, nargs="?")
     words = parser.words()
     with tempfile.TemporaryDirectory() as folder:
-        program = words.program.resolve() if words.program else unproved.built(HERE / "calls", folder)
+        program = unproved.program_of(words.program, HERE / "calls", folder)
         done = subprocess.run([program], stdout=subprocess.PIPE, text=True)
     *table, call, spoiled = done.stdout.splitlines()
     print("\n".join(table))
@@ -46,7 +46,7 @@ def main() -> int:
     print(f"lines {len(rows)}, growths refused {growths}, runs {runs}: 40 {out}, 30 {device}, inside a list {inside}, "
           f"its own answer {own}, other {other}")
     is_told = call == WRONG_CALL and are_told(spoiled)
-    print(f"what is wrong on purpose ({call}; {spoiled}) is told as wrong: {'yes' if is_told else 'no'}")
+    print(f"what is wrong on purpose ({call}; {spoiled}) is reported as wrong: {'yes' if is_told else 'no'}")
     return 1 if other or done.returncode or not is_told else 0
 
 

@@ -15,7 +15,7 @@ import subprocess
 import sys
 
 from bench.counting import Words
-from limits import COLUMNS
+from tools.limits import COLUMNS
 
 Triangle = tuple[tuple[int, int], tuple[int, int], tuple[int, int]]
 

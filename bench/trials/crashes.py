@@ -3,7 +3,7 @@
 python3 -m bench.trials.crashes [PROGRAM] [--first SEED] [--lists N] [--steps N] [--lives N]
 
 Builds the program of bench/trials/crashes, unproved (minutes); PROGRAM is one built before. Drawn lists of steps drive
-an engine over a disk in memory. It is recovered from a crash behind each call, the written bytes old, new, or all 0,
+an engine over a disk in memory. It is recovered from a crash after each call, the written bytes old, new, or all 0,
 0x55 or 0xA7; from one of these another engine goes on. Of 20 lists one begins with a tile of too many pieces, two with
 files of format 1 (old_files.py). What recovers is one of two contents of a plain fold. Status 1: one is wrong or lost.
 """
@@ -30,7 +30,7 @@ def main() -> int:
     words = parser.words()
     with tempfile.TemporaryDirectory() as place:
         folder = pathlib.Path(place)
-        program = words.program.resolve() if words.program else unproved.built(HERE / "crashes", folder)
+        program = unproved.program_of(words.program, HERE / "crashes", folder)
         paths = old_files.written(folder)
         numbers = [str(one) for one in (words.first, words.lists, words.steps, words.lives)]
         return subprocess.run([program, *numbers, *paths.values()], stdin=subprocess.DEVNULL, check=False).returncode

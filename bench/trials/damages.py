@@ -159,7 +159,7 @@ def named_old(six: bytes) -> Iterator[Alteration]:
     yield "its catalog's length is 62", six, put(slot + 52, struct.pack(">I", 62)), "33 4"
     yield "a column's state is 2", six, put(entries, b"\2"), "33 4"
     yield "another column is finished", six, put(entries, b"\1"), "33 4"
-    for what, block in (("behind the file", 6), ("in a slot", 0), ("in A's block", 3), ("in the catalog's", 5)):
+    for what, block in (("after the file", 6), ("in a slot", 0), ("in A's block", 3), ("in the catalog's", 5)):
         yield f"the tile lies {what}", six, put(tile, struct.pack(">Q", block)), "version 2"
     yield "the tile has another length", six, put(tile + 8, struct.pack(">I", 2**32 - 1)), "version 2"
     yield "the tile is none", six, put(2 * BLOCK, b"no tile"), "version 2"
@@ -237,7 +237,7 @@ def programs(folder: pathlib.Path, given: list[pathlib.Path]) -> list[pathlib.Pa
 
 
 def lists(words: list[pathlib.Path], files: dict[str, bytes], of: str = "") -> int:
-    """Prints what a program tells of its lists, keeps the stores that it shows, and counts what is wrong."""
+    """Prints what a program says of its lists, keeps the stores that it shows, and counts what is wrong."""
     done = subprocess.run(words, stdout=subprocess.PIPE, check=True, text=True)
     wrong = 0
     for line in done.stdout.splitlines():

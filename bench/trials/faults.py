@@ -3,10 +3,10 @@
 python3 -m bench.trials.faults PROGRAM [--live] [--seconds N]
 python3 -m bench.trials.faults --test
 
-The program loads faults.c, which lets a call on the store's file or folder fail, or that one and all behind it: with
+The program loads faults.c, which lets a call on the store's file or folder fail, or that one and all after it: with
 nothing done, half a write done, interrupted, or the device full. A sync that fails loses what was written since the
 last one, or half of each write. Each run ends; its replies are the model's, but for 30 by SYNC; the store holds a
-version no older than what was told durable, and opens. A program that leaves out a sync is seen. Status 1: a line of
+version no older than what was reported durable, and opens. A program that leaves out a sync is seen. Status 1: a line of
 the table is wrong.
 """
 
@@ -22,9 +22,9 @@ from typing import Any
 from bench.counting import Words, counted
 from bench.trials import refusal_cases, refusal_tables, refused_runs, refusing
 
-# What the shim leaves out of a right program, by the number that it is told.
+# What the shim leaves out of a right program, by the number that it is given.
 LEFT_OUT = {1: "no sync of the store is made", 2: "no sync of the folder is made"}
-KINDS = ["nothing done", "half a write", "half a write told, or interrupted", "full"]
+KINDS = ["nothing done", "half a write", "half a write reported, or interrupted", "full"]
 
 
 def is_found(words: argparse.Namespace, library: pathlib.Path, folder: pathlib.Path, left_out: int) -> bool:
@@ -55,13 +55,13 @@ def fail(words: argparse.Namespace, folder: pathlib.Path) -> tuple[int, int]:
                 if kind == 2 and rest:
                     continue  # a call that is interrupted for ever is asked for ever
                 table = refusal_tables.run_in_turn(runner, "FAIL", {"REST": rest, "KIND": kind}, calls, refusing.device)
-                refusal_tables.print_table(runner, what + (", and all behind" if rest else ""), calls, table)
+                refusal_tables.print_table(runner, what + (", and all after" if rest else ""), calls, table)
                 right += not table.wrong
                 wrong += bool(table.wrong)
     return right, wrong
 
 
-# A writer that syncs its folder, goes on behind each other call that fails, and prints those.
+# A writer that syncs its folder, goes on after each call that fails, and prints those.
 CALLS = """
 import os, sys
 def told(call, *words):
@@ -79,23 +79,12 @@ if file and told(os.fsync, folder):
 """
 # The number of the call that fails and how, what fails for the writer, and what it leaves.
 LEFT = [
-    (0, 0, "", b"fouless"),
-    (1, 0, "open", None),
-    (3, 0, "fsync", None),
-    (3, 2, "", b"fouless"),
-    (4, 0, "pwrite", bytes(3) + b"less"),
-    (4, 1, "pwrite", b"fo" + bytes(1) + b"less"),
-    (4, 2, "", b"fo" + bytes(1) + b"less"),
-    (5, 0, "fdatasync", bytes(3) + b"less"),
-    (5, 1, "fdatasync", b"fo" + bytes(1) + b"less"),
-    (5, 2, "", b"fouless"),
-    (6, 0, "pwrite", b"four"),
-    (6, 1, "pwrite", b"foule"),
-    (7, 0, "fdatasync", b"four"),
-    (7, 1, "fdatasync", b"foule" + bytes(2)),
-    (7, 2, "", b"fouless"),
-    (7, 3, "fdatasync", b"four"),
-    (8, 0, "", b"fouless"),
+    (0, 0, "", b"fouless"), (1, 0, "open", None), (3, 0, "fsync", None), (3, 2, "", b"fouless"),
+    (4, 0, "pwrite", bytes(3) + b"less"), (4, 1, "pwrite", b"fo" + bytes(1) + b"less"),
+    (4, 2, "", b"fo" + bytes(1) + b"less"), (5, 0, "fdatasync", bytes(3) + b"less"),
+    (5, 1, "fdatasync", b"fo" + bytes(1) + b"less"), (5, 2, "", b"fouless"), (6, 0, "pwrite", b"four"),
+    (6, 1, "pwrite", b"foule"), (7, 0, "fdatasync", b"four"), (7, 1, "fdatasync", b"foule" + bytes(2)),
+    (7, 2, "", b"fouless"), (7, 3, "fdatasync", b"four"), (8, 0, "", b"fouless"),
 ]
 
 
@@ -112,7 +101,7 @@ def left(library: pathlib.Path, folder: pathlib.Path, first: int, kind: int) -> 
 
 
 def test() -> int:
-    """Looks whether the shim fails the call that it is told and loses what it has to, and what refusals may be told."""
+    """Looks whether the shim fails the call that it is given and loses what it has to, and what refusals may be reported."""
     passed, failed = refusal_cases.test(refusing.device)
     with tempfile.TemporaryDirectory() as place:
         folder = pathlib.Path(place)

@@ -4,8 +4,8 @@ python3 -m bench.trials.growths PROGRAM [--live] [--step N] [--seconds N] [--eve
 python3 -m bench.trials.growths --test
 
 The program loads growths.c, which refuses a call for memory or a thread (it sees none of a static program). Each run
-ends; its replies are the model's, but that one growth may be told once (refusing.py); the store holds a version no
-older than what was told durable, and opens. Scripts that wait for nothing also run with all growths refused from each
+ends; its replies are the model's, but that one growth may be reported once (refusing.py); the store holds a version no
+older than what was reported durable, and opens. Scripts that wait for nothing also run with all growths refused from each
 one on. --step N takes each Nth, --every many at once. Counts differ by the threads' order. Status 1: a line is wrong.
 """
 
@@ -23,7 +23,7 @@ from bench.trials.refusing import many_growths, one_growth
 
 
 def spread(calls: int, step: int, each: int) -> list[dict[str, int]]:
-    """The settings of some runs, somewhat more than there were calls: each growth of a step, and those behind it."""
+    """The settings of some runs, somewhat more than there were calls: each growth of a step, and those after it."""
     return [{"FIRST": number, "EACH": each} for number in range(1, calls + refusal_tables.MARGIN, step)]
 
 
@@ -35,13 +35,13 @@ def tables(runner: refused_runs.Runner, calls: int, step: int, every: bool) -> I
         yield "one growth", refusal_tables.run_all(runner, "REFUSE", spread(calls, step, 0), one_growth)
     for each in (2, 3, 100) if every else ():
         table = refusal_tables.run_all(runner, "REFUSE", spread(calls, 7 * step, each), many_growths, True)
-        yield f"and each {each} behind", table
+        yield f"and each {each} after", table
 
 
 def from_each_on(runner: refused_runs.Runner, calls: int) -> Iterator[tuple[str, refusal_tables.Table]]:
     """The table of runs of a scenario in which memory never comes back from a growth on. They end by themselves."""
     settings = [{"FIRST": number, "EACH": 1} for number in range(1, calls + refusal_tables.MARGIN)]
-    yield "one growth, and all behind", refusal_tables.run_all(runner, "REFUSE", settings, many_growths)
+    yield "one growth, and all after", refusal_tables.run_all(runner, "REFUSE", settings, many_growths)
 
 
 def refuse(words: argparse.Namespace, folder: pathlib.Path) -> tuple[int, int]:
@@ -77,7 +77,7 @@ print("".join("1" if library.malloc(8) else "0" for _ in range(4)))
 
 
 def test() -> int:
-    """Looks whether the shim refuses the call that it is told, of four, and what refusals may be told."""
+    """Looks whether the shim refuses the call that it is given, of four, and what refusals may be reported."""
     with tempfile.TemporaryDirectory() as place:
         folder = pathlib.Path(place)
         given = {"LIBRARY": str(refused_runs.compiled("growths", folder)), "REFUSE_FIRST": "1", "REFUSE_EACH": "3"}

@@ -5,7 +5,7 @@ python3 -m bench.trials.live_stress --test
 
 PROGRAM is overlay_live. It runs again and again on one store, over pipes with and without names; the sessions share
 layers. Each reply is judged as it comes. Two of three runs end by kill -9, the others by the end of all lines. The file
-then holds a version no older than each `durable N` that was read, and the next run tells the same; at the end its tiles
+then holds a version no older than each `durable N` that was read, and the next run says the same; at the end its tiles
 are compared with the model's. Status 1, and the store is kept: anything is wrong.
 """
 
@@ -29,8 +29,8 @@ from typing import Any, NamedTuple
 from bench.counting import Kept, Words, counted
 from bench.reference import judging, model, read_store
 from bench.trials import stress
-from limits import COLUMNS
-from replies import reply_length
+from tools.limits import COLUMNS
+from tools.replies import reply_length
 
 SESSIONS = 4
 PATIENCE = 60
@@ -216,7 +216,7 @@ class Judge:
         some place in the history, or none, so that all replies are right.
         """
         if number < self.durable:
-            raise judging.Wrong(f"version {self.durable} was told durable, and the store has {number}")
+            raise judging.Wrong(f"version {self.durable} was reported durable, and the store has {number}")
         for lane in self.lanes:
             while len(lane.asked) > 1:
                 lane.asked.pop()
@@ -255,7 +255,7 @@ class Judge:
             return str(fault)
 
     def fill(self, lanes: Sequence[Lane]) -> None:
-        """Takes what was cut off to the numbers that nobody was told, and then behind all."""
+        """Takes what was cut off to the numbers that nobody has read, and then after all."""
         rest = list(lanes)
         while rest or self.known:
             number = self.history.last() + 1
@@ -459,7 +459,7 @@ class Stress:
         self.kills = self.ends = self.lost = 0
 
     def started(self) -> Run:
-        """The program once more, with what it tells of the store looked at."""
+        """The program once more, with what it says of the store looked at."""
         words = [self.program, "--store", str(self.store), "--workers", str(self.draw.randrange(1, 9))]
         judge = Judge(self.history)
         words += [] if self.store.exists() else ["--create"]
@@ -559,7 +559,7 @@ def stressed(words: argparse.Namespace, folder: pathlib.Path) -> tuple[int, int]
         failed = 1
     print(
         f"runs ended by kill {whole.kills}, by themselves {whole.ends}; accepted {whole.history.last()}, and "
-        f"{whole.lost} lost by kills that nobody was told durable; replies judged {sum(whole.replies.values())}: "
+        f"{whole.lost} lost by kills that were reported durable to nobody; replies judged {sum(whole.replies.values())}: "
         + ", ".join(f"{kind} {count}" for kind, count in sorted(whole.replies.items()))
     )
     return passed, failed
@@ -574,11 +574,11 @@ OLD = "A MULTIPOLYGON (((0 0, 10 0, 10 10, 0 10, 0 0)))"
 # where the program is killed, or None; whether it is right.
 CASES: list[tuple[list[tuple[Any, ...]], tuple[int, list[str]] | None, bool]] = [
     ([(0, A), (0, "ok 1", 1), (1, b"LOCATE A 2 2"), (1, "in", 1)], None, True),
-    # An older version may be answered to whom nothing newer was told, but not a version still to be sent.
+    # An older version may be answered to whom nothing newer was reported, but not a version still to be sent.
     ([(0, A), (0, "ok 1", 1), (1, b"LOCATE A 2 2"), (1, "error 10 unknown layer", 1)], None, True),
     ([(0, A), (0, "ok 1", 1), (0, b"LOCATE A 2 2"), (0, "error 10 unknown layer", 1)], None, False),
     ([(1, b"LOCATE A 2 2"), (1, "in", 1), (0, A), (0, "ok 1", 1)], None, False),
-    # A reply that tells of a command waits for that command's own reply.
+    # A reply that says of a command waits for that command's own reply.
     ([(0, A), (1, b"LOCATE A 2 2"), (1, "in", 1), (0, "ok 1", 1)], None, True),
     ([(0, A), (1, b"LOCATE A 2 2"), (1, "edge", 1), (0, "ok 1", 1)], None, False),
     ([(0, A), (1, b"LOCATE A 2 2"), (1, "in", 1), (0, "error 15 too many layers", 1)], None, False),
@@ -593,7 +593,7 @@ CASES: list[tuple[list[tuple[Any, ...]], tuple[int, list[str]] | None, bool]] = 
     ([(0, b"BATCH 65"), (0, "error 17 batch size", 1)], None, True),
     ([(0, b"BATCH 2", A, B), (1, b"LOCATE A 2 2"), (0, "ok 1", 1), (1, "in", 1)], None, False),
     ([(0, b"SYNC"), (0, "durable 0", 1), (0, A), (0, "ok 1", 1), (0, b"SYNC"), (0, "durable 0", 1)], None, False),
-    # Killed: what was told durable is there; what was cut off may be, if all replies are right then.
+    # Killed: what was reported durable is there; what was cut off may be, if all replies are right then.
     ([(0, A), (0, "ok 1", 1), (0, B), (0, "ok 2", 1)], (1, [OLD]), True),
     ([(0, A), (0, "ok 1", 1), (0, b"SYNC"), (0, "durable 1", 1)], (0, []), False),
     ([(0, A), (0, "ok 1", 1), (0, B)], (2, [LAYER]), True),

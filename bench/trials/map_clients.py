@@ -11,7 +11,7 @@ written by Part 4. Not of the gate.
 
 It needs gdal-bin, python3-gdal, python3-shapely, python3-pyproj, python3-owslib, python3-qgis and qgis-providers of
 Debian; packages with maps are loaded into FOLDER by apt-get download. Where QGIS is not there its part is left out, and
-that is told. Status 0 and a last line `N passed, 0 failed`, or what fell.
+that is reported. Status 0 and a last line `N passed, 0 failed`, or what fell.
 """
 
 from __future__ import annotations
@@ -20,6 +20,7 @@ import contextlib
 import json
 import os
 import pathlib
+import random
 import re
 import subprocess
 import sys
@@ -40,8 +41,8 @@ from bench import web_front  # noqa: E402
 from bench.counting import Tries, Words  # noqa: E402
 from bench.reference import read_store  # noqa: E402
 from bench.trials.maps import loaded  # noqa: E402
-from bench.web_front import TOP, asked  # noqa: E402
-from limits import COLUMN_WIDTH, COORDINATE_MAX  # noqa: E402
+from bench.web_front import TOP, asked, sent  # noqa: E402
+from tools.limits import COLUMN_WIDTH, COORDINATE_MAX
 
 try:
     from qgis import core as qgis
@@ -89,7 +90,7 @@ Found = dict[Any, Feature]
 
 @dataclass
 class Rounding:
-    """How far a corner was moved at most along an axis, and how many digits an area has, as a map's making tells it."""
+    """How far a corner was moved at most along an axis, and how many digits an area has, as a map's making says it."""
 
     moved: float
     digits: int
@@ -239,8 +240,7 @@ def fronts_of(stores: list[pathlib.Path], program: str, *words: str) -> Iterator
 def made_stores(source: Source, path: pathlib.Path, folder: pathlib.Path,
                 program: str) -> tuple[list[pathlib.Path], Rounding]:
     """The stores of a map by `./overlay`, and its rounding as that told it."""
-    words = [*source.words, "--folder", folder, "--program", program, "--only-make", "--name-by", source.key]
-    told = ran(sys.executable, TOP / "overlay", path, *words)
+    told = web_front.first_map(path, folder, program, "--name-by", source.key, *source.words)
     stores = sorted(folder.glob("*.db"), key=lambda store: [*map(int, re.findall(r"\.(\d+)\.db", store.name))])
     (scale,) = folder.glob("*.scale.json")
     found = MOVED.search(told)
@@ -281,9 +281,26 @@ def try_map(tries: Tries, source: Source, folder: pathlib.Path, program: str) ->
                 continue
             found: Found = {}
             for address, store in zip(addresses, stores):
-                found |= found_in(address, collection_of(store))
+                own = found_in(address, collection_of(store))
+                if how == "ogr2ogr":
+                    wrong = wrong_boxes(address, collection_of(store), own, source.key)
+                    tries.that(not wrong, f"{store.stem}: 100 boxes of degrees have the features that GEOS has there {wrong[:3]}")
+                found |= own
             check_client(tries, f"{source.name} by {how}", wanted, found, placed, told)
     check_place(tries, source, path, place, placed, told)
+
+
+def wrong_boxes(address: str, collection: str, found: Found, key: str) -> list[tuple[float, ...]]:
+    """The boxes among 100 drawn ones for which the front has other features than GEOS finds there."""
+    chance, wrong = random.Random(1), []
+    west, south, east, north = geometry.GeometryCollection([one.shape for one in found.values()]).bounds
+    for _ in range(100):
+        x, y, part = chance.uniform(west, east), chance.uniform(south, north), chance.choice([0.0001, 0.01, 0.1, 0.5])
+        box = x, y, min(180.0, x + part * (east - west)), min(90.0, y + part * (north - south) * chance.choice([0.3, 1]))
+        items = asked(f"{address}collections/{collection}/items?limit=10000&bbox={','.join(map(str, box))}")["features"]
+        there = {name for name, one in found.items() if one.shape.intersects(geometry.box(*box))}
+        wrong += [box] if {one["properties"][key] for one in items} != there else []
+    return wrong
 
 
 def check_place(tries: Tries, source: Source, path: pathlib.Path, folder: pathlib.Path, placed: Found,
@@ -301,17 +318,6 @@ def check_place(tries: Tries, source: Source, path: pathlib.Path, folder: pathli
 
 
 # ---- editing
-
-
-def sent(method: str, place: str, body: str | None, revision: str = "") -> tuple[int, Any]:
-    """A change by Part 4, with its status and its answer."""
-    headers = {"Content-Type": "application/geo+json", **({"If-Match": revision} if revision else {})}
-    request = urllib.request.Request(place, body.encode() if body else None, headers, method=method)
-    try:
-        with urllib.request.urlopen(request, timeout=120) as answer:
-            return answer.status, json.load(answer)
-    except urllib.error.HTTPError as fault:
-        return fault.code, json.load(fault)
 
 
 def revision_of(place: str) -> str:
@@ -405,6 +411,22 @@ def edited(tries: Tries, store: pathlib.Path, program: str) -> set[int]:
         return columns_of(store, geometry.shape(before[identity]["geometry"])) | columns_of(store, again["Moved"].shape)
 
 
+def try_layers(tries: Tries, folder: pathlib.Path, program: str) -> None:
+    """What GDAL copies of derived layers, whose outlines are exact, beside what the client has of them."""
+    store = web_front.iceland(folder, program)
+    with web_front.overlay_client.Server(store, read_only=True, program=program) as server, server.session() as one:
+        wanted = {name: geometry.shape(server.shape_of(one.rings(name))) for name in web_front.DEFINITIONS}
+    with fronts_of([store], program) as (address,):
+        for name, shape in wanted.items():
+            target = folder / f"{name}.gpkg"
+            ran("ogr2ogr", "-f", "GPKG", target, f"OAPIF:{address}", name)
+            data = gdal.OpenEx(str(target))
+            parts = [wkb.loads(bytes(each.GetGeometryRef().ExportToWkb())) for each in data.GetLayer(0)]
+            count, area = len(getattr(shape, "geoms", [shape])), sum(part.area for part in parts)
+            tries.that(len(parts) == count and abs(area - shape.area) < 1e-9,
+                       f"{name}, a derived layer, by ogr2ogr: {len(parts)} of {count} polygons, area {area:.9f} of {shape.area:.9f}")
+
+
 def try_owslib(tries: Tries, folder: pathlib.Path, program: str) -> None:
     """What owslib can ask, and change where it has calls for that."""
     place = folder / "owslib"
@@ -456,6 +478,7 @@ def main() -> int:
                 try_map(tries, source, folder, words.program)
         if qgis:
             try_edits(tries, folder, words.program)
+        try_layers(tries, folder, words.program)
         try_owslib(tries, folder, words.program)
     return tries.end()
 

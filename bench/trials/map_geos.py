@@ -32,10 +32,10 @@ except ImportError as fault:
         sys.exit(0)
     sys.exit(f"{fault}: apt-get install python3-shapely python3-numpy, and run this by /usr/bin/python3")
 
-import overlay_maps  # noqa: E402
-from maps import geojson_maps, numpy_pairs, numpy_planning, running  # noqa: E402
-from maps.whole_maps import Box, Ring, WholeMap  # noqa: E402
-from testing import slabs  # noqa: E402
+from tools.commands import overlay_maps
+from tools.maps import geojson_maps, numpy_pairs, numpy_planning, running
+from tools.maps.whole_maps import Box, Ring, WholeMap
+from tools.testing import slabs
 
 CLOSE = 1e-9
 KINDS = ("GEOS fails", "GEOS alone says overlap", "the tool alone says overlap", "areas differ")
@@ -89,7 +89,7 @@ def shape(rings: list[Ring], move: tuple[float, float], factor: float) -> MultiP
 
 def differing(first: WholeMap, second: WholeMap, pairs: list[list[int]], found: dict[tuple[int, int], Fraction],
               is_moved: bool, factor: float) -> Iterator[Pair]:
-    """The pairs of which GEOS tells another answer."""
+    """The pairs of which GEOS has another answer."""
     for a, b in pairs:
         area = found.get((a, b), Fraction(0))
         box = first.box(a)
@@ -106,7 +106,7 @@ def differing(first: WholeMap, second: WholeMap, pairs: list[list[int]], found: 
 
 
 def tell(name: str, different: list[Pair], first: WholeMap, second: WholeMap, factor: float) -> int:
-    """Tells the differences by their kinds, the first of each by name; how many times the tool is wrong."""
+    """Reports the differences by their kinds, the first of each by name; how many times the tool is wrong."""
     wrong = 0
     print(f"GEOS {geos_version_string} over {name}: {len(different)} pairs differ")
     for kind in KINDS:
@@ -122,7 +122,7 @@ def tell(name: str, different: list[Pair], first: WholeMap, second: WholeMap, fa
 
 
 def is_same(area: Fraction, told: Fraction) -> bool:
-    """Whether an area is the one that was told: exactly, or where it has too many digits to a thousandth of a unit."""
+    """Whether an area is the one that was reported: exactly, or where it has too many digits to a thousandth of a unit."""
     return area == told or (area.denominator > 10**900 and abs(area - told) < Fraction(1, 1000))
 
 
@@ -132,7 +132,7 @@ def core_of(first: WholeMap, second: WholeMap, pair: Pair) -> Box:
 
 
 def tables_areas(words: argparse.Namespace, first: WholeMap, second: WholeMap) -> dict[tuple[int, int], Fraction]:
-    """The areas that the tool's table tells, in square units."""
+    """The areas that the tool's table has, in square units."""
     with tempfile.TemporaryDirectory() as folder:
         out = pathlib.Path(folder, "pairs.csv")
         own = [sys.executable, TOP / "tools" / "overlay_maps.py", "pairs", words.first, words.second, "--exact",

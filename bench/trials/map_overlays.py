@@ -17,19 +17,19 @@ from collections.abc import Callable
 from fractions import Fraction
 
 from bench.counting import Words
-from maps import jobs, map_checks, quickest, rounds
-from maps.drawing_in import Plain
-from maps.task_form import ALONE, COMMON
-from maps.windows import ByWindows
-from testing import map_steps, slabs
-from testing.common import Programs
-from testing.random_maps import divided_maps, random_maps, wrong_answers
+from tools.maps import jobs, map_checks, quickest, rounds
+from tools.maps.drawing_in import Plain
+from tools.maps.task_form import ALONE, COMMON
+from tools.maps.windows import ByWindows
+from tools.testing import map_steps, slabs
+from tools.testing.common import Programs
+from tools.testing.random_maps import divided_maps, random_maps, wrong_answers
 
 Counts = dict[str, list[int]]  # by what is asked: how many answers were looked at, and how many are wrong
 
 
 def planted(live: str) -> int:
-    """How many of the faults that tools/testing/map_steps.py plants in the steps are not found; each is told."""
+    """How many of the faults that tools/testing/map_steps.py plants in the steps are not found; each is reported."""
     Programs.live = live
     names = unittest.defaultTestLoader.getTestCaseNames(map_steps.Planted)
     missed = 0

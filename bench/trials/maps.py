@@ -23,15 +23,9 @@ from dataclasses import dataclass, field
 from fractions import Fraction
 from typing import Any
 
-import checking
-import limits
-import map_reading
-import rounding
-import scale as scales
-import sessions
-import wkt
 from bench import TOP
 from bench.counting import Words
+from tools import checking, limits, map_reading, rounding, scale as scales, sessions, wkt
 
 PYTHON = "/usr/bin/python3"  # the one that has Debian's packages
 NEEDED = {"gdal-bin": ["ogr2ogr", "--version"], "python3-shapely": [PYTHON, "-c", "import shapely"]}
@@ -244,7 +238,7 @@ def plans_of_names(script: bytes, names: dict[str, str]) -> list[Plan]:
 
 
 def layer_names(told: str, features: list[str]) -> dict[str, str]:
-    """The name of each layer's feature: to_script.py tells the layers in the order of the features."""
+    """The name of each layer's feature: to_script.py names the layers in the order of the features."""
     layers = [line.split()[1].rstrip(":") for line in told.splitlines() if line.startswith("layer ") and "; " in line]
     return dict(zip(dict.fromkeys(layers), features))
 
@@ -376,7 +370,7 @@ def box_of(polygons: Polygons) -> tuple[int, int, int, int]:
 
 
 def test() -> None:
-    """The star is simple about its middle, names are paired, and differences are told."""
+    """The star is simple about its middle, names are paired, and differences are reported."""
     ring = star((-1000, -500, 1000, 500), 12)
     assert len(ring) == 13 and ring[0] == ring[-1] == (600, 0) and (-900, 0) not in ring
     assert layer_names("layer A_b: polygons 1, steps 3; x\nlayer A_b: 1 pairs of ..\nlayer C: polygons 2, steps 9; y\n",

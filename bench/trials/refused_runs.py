@@ -164,7 +164,7 @@ class Runner:
         return text
 
     def reopened(self, data: bytes) -> tuple[list[str], int]:
-        """What the program tells of the store that a run left, with nothing refused: its layers and its version."""
+        """What the program says of the store that a run left, with nothing refused: its layers and its version."""
         with tempfile.TemporaryDirectory(dir=self.folder) as place:
             store = pathlib.Path(place) / "store.db"
             store.write_bytes(data)
@@ -200,7 +200,7 @@ class LiveRunner(Runner):
         return "".join(f"# script {number}\n{text}" for number, text in enumerate(texts, 1))
 
     def fault(self, text: str, store: pathlib.Path) -> str:
-        """As overlayd tells it, without the file, which has to be one that the program was given."""
+        """As overlayd says it, without the file, which has to be one that the program was given."""
         lines = FAULT_LINES.fullmatch(text)
         return lines[1] if lines and lines[2] in (None, *self.words(store)) else text
 

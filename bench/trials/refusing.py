@@ -1,4 +1,4 @@
-"""A module of growths.py and faults.py: judges what a run in which something is refused tells, and what it leaves."""
+"""A module of growths.py and faults.py: judges what a run in which something is refused says, and what it leaves."""
 
 from __future__ import annotations
 
@@ -13,7 +13,7 @@ from bench.trials import stress
 from bench.trials.refused_runs import Outcome, Runner, Scenario
 
 FAULT_LINE = re.compile(r"error (\d+) [a-z #0-9]+\n")
-# Judges the refusals that a run tells, whose sessions are judged before, where any ran.
+# Judges the refusals that a run reports, whose sessions are judged before, where any ran.
 Allows = Callable[[Outcome, "Judged | None"], None]
 # A session, the place of a line in it, and the number by which that was refused.
 Told = tuple[Any, int, int]
@@ -36,7 +36,7 @@ def judge_output(scenario: Scenario, outcome: Outcome, allows: Allows) -> Judged
 
 
 def is_silent(outcome: Outcome) -> bool:
-    """Whether a run told by its status alone that something was refused."""
+    """Whether a run shows by its status alone that something was refused."""
     return outcome.status == 1 and outcome.fault == ""
 
 
@@ -51,17 +51,17 @@ def word_of(session: Session, place: int) -> str:
 
 
 def check_memory(told: list[Told]) -> None:
-    """Looks that 40 is told of no line that takes no memory: a LOCATE, or a SYNC without a store."""
+    """Looks that 40 is reported of no line that takes no memory: a LOCATE, or a SYNC without a store."""
     for session, place, code in told:
         word = word_of(session, place)
         if code == 40 and (word == "LOCATE" or word == "SYNC" and not session.has_store):
-            raise judging.Wrong(f"40 is told of a {word}, which takes no memory")
+            raise judging.Wrong(f"40 is reported of a {word}, which takes no memory")
 
 
 def told_outside(outcome: Outcome, judged: Judged | None) -> tuple[list[Told], list[Told], int | None]:
-    """The refusals that were told: the lines that no SYNC asked, the SYNCs, and the number on standard error.
+    """The refusals that were reported: the lines that no SYNC asked, the SYNCs, and the number on standard error.
 
-    Status 1 without a line tells that the store has not the newest version, as `judge_store` sees.
+    Status 1 without a line says that the store has not the newest version, as `judge_store` sees.
     """
     if outcome.status == 0 and outcome.fault or not outcome.fault and is_silent(outcome) and not has_store(judged):
         raise judging.Wrong(f"status {outcome.status}, standard error {outcome.fault[:100]!r}")
@@ -73,14 +73,14 @@ def told_outside(outcome: Outcome, judged: Judged | None) -> tuple[list[Told], l
     line = FAULT_LINE.fullmatch(outcome.fault)
     fault = int(line[1]) if line else None
     if outcome.counts[1] == 0 and (lines or syncs or outcome.status == 1):
-        raise judging.Wrong("nothing was refused, and a refusal is told")
+        raise judging.Wrong("nothing was refused, and a refusal is reported")
     return lines, syncs, fault
 
 
 def only(codes: set[int], allowed: set[int]) -> None:
-    """Looks that no other numbers are told than those that may be."""
+    """Looks that no other numbers are reported than those that may be."""
     if not set(codes) <= allowed:
-        raise judging.Wrong(f"{sorted(codes)} are told, {sorted(allowed)} may be")
+        raise judging.Wrong(f"{sorted(codes)} are reported, {sorted(allowed)} may be")
 
 
 def cut(judged: Judged | None) -> list[Session]:
@@ -99,11 +99,11 @@ def check_cut(outcome: Outcome, judged: Judged | None, fault: int | None) -> Non
     if fault == 49 and judged and not sessions:
         raise judging.Wrong("49 is told, and each line is answered")
     if fault != 49 and any(session.replies for session in sessions):
-        raise judging.Wrong(f"a session is cut off behind a reply, and {fault} is told")
+        raise judging.Wrong(f"a session is cut off after a reply, and {fault} is reported")
     if judged is None and outcome.sessions == 1 and fault != 49 and not outcome.is_early:
-        raise judging.Wrong(f"no replies, though the session had begun, and {fault} is told")
+        raise judging.Wrong(f"no replies, though the session had begun, and {fault} is reported")
     if judged is None and outcome.sessions > 1 and fault != 40:
-        raise judging.Wrong(f"nothing is printed of {outcome.sessions} sessions, and {fault} is told")
+        raise judging.Wrong(f"nothing is printed of {outcome.sessions} sessions, and {fault} is reported")
 
 
 def replies_behind(session: Session, place: int, word: str) -> list[list[str]]:
@@ -120,20 +120,20 @@ def has_closed(outcome: Outcome, judged: Judged | None, fault: int | None) -> bo
 
 
 def may_tell_closing(session: Session, place: int) -> bool:
-    """Whether 43 may be told of a line: of a command, a WAIT, or a SYNC of a store."""
+    """Whether 43 may be reported of a line: of a command, a WAIT, or a SYNC of a store."""
     word = word_of(session, place)
     return isinstance(session.asked[place], judging.CHANGES) or word == "WAIT" or word == "SYNC" and session.has_store
 
 
 def check_closed(session: Session, place: int) -> None:
-    """Looks that no command behind a 43 is accepted, or refused by what stands behind 43."""
+    """Looks that no command after a 43 is accepted, or refused by what stands after 43."""
     for asked, reply in zip(session.asked[place + 1 :], session.replies[place + 1 :]):
         if isinstance(asked, judging.CHANGES) and judging.code_of(reply) not in (40, 43):
-            raise judging.Wrong(f"a command behind 43 is answered by {reply[0]}")
+            raise judging.Wrong(f"a command after 43 is answered by {reply[0]}")
 
 
 def but_closing(outcome: Outcome, judged: Judged | None, told: list[Told], fault: int | None) -> list[Told]:
-    """What was told but for 43, where that is right."""
+    """What was reported but for 43, where that is right."""
     others: list[Told] = []
     for session, place, code in told:
         if code == 43 and has_closed(outcome, judged, fault) and may_tell_closing(session, place):
@@ -144,7 +144,7 @@ def but_closing(outcome: Outcome, judged: Judged | None, told: list[Told], fault
 
 
 def one_growth(outcome: Outcome, judged: Judged | None) -> None:
-    """What one refused growth may do: one line is answered by 40; or the store is told of it, which each SYNC tells
+    """What one refused growth may do: one line is answered by 40; or the store is reported of it, which each SYNC says
     until the next accepted command, and status 1 where none comes; or the run ends with it.
     """
     told, told_of_syncs, fault = told_outside(outcome, judged)
@@ -154,26 +154,26 @@ def one_growth(outcome: Outcome, judged: Judged | None) -> None:
     check_cut(outcome, judged, fault)
     is_store = bool(syncs) or is_silent(outcome)
     if len(lines) + is_store + (fault is not None) > 1:
-        raise judging.Wrong(f"one growth is told by {len(lines)} lines, {len(syncs)} SYNCs and as {fault} at the end")
+        raise judging.Wrong(f"one growth is reported by {len(lines)} lines, {len(syncs)} SYNCs and as {fault} at the end")
     for session, place, _ in syncs:
         for other, behind, _ in syncs:
             if other is session and behind > place and any(
                 reply[0].startswith("ok ") for reply in session.replies[place:behind]
             ):
-                raise judging.Wrong("a SYNC behind an accepted command tells of a growth before it")
+                raise judging.Wrong("a SYNC after an accepted command reports a growth before it")
 
 
 def many_growths(outcome: Outcome, judged: Judged | None) -> None:
-    """What growths may do that are refused again and again: whatever is told is 40."""
+    """What growths may do that are refused again and again: whatever is reported is 40."""
     lines, syncs, fault = told_outside(outcome, judged)
     only({code for _, _, code in but_closing(outcome, judged, lines + syncs, fault)}, {40})
     only(set() if fault is None else {fault}, {40, 49})
 
 
 def device(outcome: Outcome, judged: Judged | None) -> None:
-    """What calls of the device may do that fail: each SYNC tells 30 from then on, or the run ends with it.
+    """What calls of the device may do that fail: each SYNC says 30 from then on, or the run ends with it.
 
-    A failure that is told nowhere shows in the store: what a failed write or sync was to bring there is lost.
+    A failure that is reported nowhere shows in the store: what a failed write or sync was to bring there is lost.
     """
     lines, syncs, fault = told_outside(outcome, judged)
     only({code for _, _, code in lines}, set())
@@ -186,7 +186,7 @@ def device(outcome: Outcome, judged: Judged | None) -> None:
     if judged is None and not outcome.is_early:
         raise judging.Wrong("no replies, though the store was opened before a call failed")
     if any(replies_behind(session, place, "durable ") for session, place, _ in syncs):
-        raise judging.Wrong("durable is told behind a SYNC that told 30")
+        raise judging.Wrong("durable is reported behind a SYNC that told 30")
 
 
 def history_before(scenario: Scenario) -> History:
@@ -214,13 +214,13 @@ def check_lost(outcome: Outcome, made: int) -> None:
     """
     is_write = outcome.fault.startswith("error 49 ")
     if outcome.sessions > 1 and not outcome.fault.startswith("error 40 ") or outcome.sessions == 1 and not is_write:
-        raise judging.Wrong(f"no replies, though sessions ran, and `{outcome.fault.strip()}` is told as the reason")
+        raise judging.Wrong(f"no replies, though sessions ran, and `{outcome.fault.strip()}` is reported as the reason")
     if is_write and made > 1:
         raise judging.Wrong("no replies, though more than one line was run")
 
 
 def layers_told(lines: list[str]) -> list[str]:
-    """The layers among the lines that tell what a store holds."""
+    """The layers among the lines that say what a store holds."""
     return [line[len("layer ") :] for line in lines if line.startswith("layer ")]
 
 
@@ -247,13 +247,13 @@ def judge_content(runner: Runner, outcome: Outcome, history: History, number: in
 
 
 def last_accepted(judged: Judged) -> int:
-    """The greatest number that was told as accepted, 0 where none was."""
+    """The greatest number that was reported as accepted, 0 where none was."""
     replies = [reply for session in judged.sessions for reply in session.replies]
     return max((judging.number_of(reply) for reply in replies if reply[0].startswith("ok ")), default=0)
 
 
 def judge_store(runner: Runner, outcome: Outcome, judged: Judged | None) -> None:
-    """Looks at the store that a run left: a version of the history, all that was told durable, right tiles."""
+    """Looks at the store that a run left: a version of the history, all that was reported durable, right tiles."""
     lines = read_store.told(outcome.store) if outcome.store is not None else ["32"]
     if not lines[0].startswith("version"):
         if runner.prepared is None and judged is None and lines == ["32"]:
@@ -280,7 +280,7 @@ def judge_store(runner: Runner, outcome: Outcome, judged: Judged | None) -> None
 
 
 def judge(runner: Runner, outcome: Outcome, allows: Allows) -> str | None:
-    """What is wrong with a run, None where nothing is; `allows` judges the refusals that were told."""
+    """What is wrong with a run, None where nothing is; `allows` judges the refusals that were reported."""
     if outcome.status is None:
         return f"did not end in {runner.seconds} s"
     if outcome.status not in (0, 1):

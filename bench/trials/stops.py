@@ -124,7 +124,7 @@ def bytes_of(text: str) -> bytes:
 
 
 def events_of(text: str, store: str) -> list[Event]:
-    """What a trace tells of the store and of the script: ("write", at, bytes), ("sync",) and ("read", bytes)."""
+    """What a trace says of the store and of the script: ("write", at, bytes), ("sync",) and ("read", bytes)."""
     numbers: set[int] = set()
     events: list[Event] = []
     for call in whole_calls(text):
@@ -196,7 +196,7 @@ def parts_of(at: int, data: bytes) -> Iterator[list[Write]]:
 
 
 def files_of(synced: bytes, writes: list[Write], draw: random.Random) -> Iterator[tuple[list[Write], int]]:
-    """The files that a stop may leave of writes behind a sync: what is laid into the synced bytes, and the length."""
+    """The files that a stop may leave of writes after a sync: what is laid into the synced bytes, and the length."""
     length = len(laid(synced, writes))
     for chosen in sets_of(len(writes), draw):
         yield [writes[n] for n in chosen], 0
@@ -229,7 +229,7 @@ class Replay:
         self.epochs: list[Epoch] = []
 
     def least(self) -> int | None:
-        """The version of the bytes that are synced, or the durable number that was told, where that is greater."""
+        """The version of the bytes that are synced, or the durable number that was reported, where that is greater."""
         lines = read_store.told(self.synced)
         kept = int(lines[0].split()[1]) if lines[0].startswith("version") else None
         if kept is None and self.told is None:
@@ -243,7 +243,7 @@ class Replay:
         self.writes = []
 
     def follow(self, events: Iterable[Event], replies: list[judging.Reply]) -> None:
-        """Follows a run; a read tells that the lines were answered whose ends were read before."""
+        """Follows a run; a read says that the lines were answered whose ends were read before."""
         answered, pending = 0, 0
         for event in events:
             if event[0] == "write":
@@ -305,7 +305,7 @@ class Versions:
 
 
 def opened(program: str, folder: pathlib.Path, place: int, data: bytes) -> Answer:
-    """What the program tells of a file: the lines of the layers and the version, or its refusal."""
+    """What the program says of a file: the lines of the layers and the version, or its refusal."""
     path = folder / f"file{place}.db"
     path.write_bytes(data)
     command = [program, "--workers", "1", "--store", str(path)]
@@ -396,7 +396,7 @@ def replay(words: argparse.Namespace, folder: pathlib.Path) -> int:
     durable = sum(reply[0].startswith("durable ") for reply in replies)
     counts = following.counts
     print(f"writes {counts['writes']}, syncs {counts['syncs']}", end=", ")
-    print(f"versions {versions.history.last()}, durable told {durable}")
+    print(f"versions {versions.history.last()}, durable {durable}")
     tries = Tries(following.epochs, 1)
     print(f"files made {tries.made}, different {len(tries.files)}", flush=True)
     wrong, lost, count = tries.judge(versions, words.program, folder, words.most)

@@ -24,7 +24,7 @@ from typing import Optional
 
 from bench.counting import Kept, Words
 from bench.reference import judging, model, read_store
-from limits import COLUMNS
+from tools.limits import COLUMNS
 
 BASES = [f"A{n}" for n in range(16)]
 DERIVED = [f"D{n}" for n in range(24)]

@@ -1,12 +1,12 @@
 """Builds tiles by the pass from node to node and by all pairs, side by side on drawn inputs.
 
-python3 -m bench.trials.tiles [PROGRAM] [--proved]
+python3 -m bench.trials.tiles [PROGRAM]
 
-Builds the program of bench/trials/tiles over tile_build, tile_by_pairs and layer_book, unproved (minutes), or with
---proved by a proof of all that it reaches (bench/proved.py); PROGRAM is one that was built before. 2,000 inputs from
-fixed seeds, a quarter of them at full coordinates, most with edges that touch, overlap, stand upright or are cut by a
-border of the column. Of each the tiles of `build` and `build_counted` are compared by their ends with that of
-`build_by_pairs`, where the cap is 0, one below the size of the tile, and its size. Status 1: one differs.
+Builds the program of bench/trials/tiles over tile_build, tile_by_pairs and layer_book, unproved (minutes); PROGRAM is
+one that was built before. 2,000 inputs from fixed seeds, a quarter of them at full coordinates, most with edges that
+touch, overlap, stand upright or are cut by a border of the column. Of each the tiles of `build` and `build_counted` are
+compared by their ends with that of `build_by_pairs`, where the cap is 0, one below the size of the tile, and its size.
+Status 1: one differs.
 """
 
 from __future__ import annotations
@@ -17,11 +17,10 @@ import sys
 import tempfile
 from collections.abc import Callable
 
-from bench import proved, unproved
+from bench import unproved
 from bench.counting import Words
 from bench.tile_texts import Draws, Layer, Point, closed, lines_of
-from limits import COLUMN_WIDTH as WIDTH
-from limits import COLUMNS, COORDINATE_MAX
+from tools.limits import COLUMNS, COLUMN_WIDTH as WIDTH, COORDINATE_MAX
 
 HERE = pathlib.Path(__file__).resolve().parent
 
@@ -198,23 +197,13 @@ def compare(program: pathlib.Path, folder: pathlib.Path) -> int:
     return 0 if differences == "0" else 1
 
 
-def program_of(given: pathlib.Path | None, is_proved: bool, folder: pathlib.Path) -> pathlib.Path:
-    """The program: the one that is given, or one that is built."""
-    if given:
-        return given.resolve()
-    if is_proved:
-        return proved.built(HERE / "tiles", folder, ["/dev/null"])
-    return unproved.built(HERE / "tiles", folder)
-
-
 def main() -> int:
     parser = Words(__doc__)
     parser.add_argument("program", type=pathlib.Path, nargs="?")
-    parser.add_argument("--proved", action="store_true", help="builds a proved program")
     words = parser.words()
     with tempfile.TemporaryDirectory() as name:
         folder = pathlib.Path(name)
-        return compare(program_of(words.program, words.proved, folder), folder)
+        return compare(unproved.program_of(words.program, HERE / "tiles", folder), folder)
 
 
 if __name__ == "__main__":

@@ -27,7 +27,7 @@ from collections.abc import Iterator
 
 from bench.counting import Tries
 from bench.trials.clean_root import Done, copied_root, made_release, words_of
-from bench.web_front import TOP
+from bench.web_front import TOP, first_map
 
 WANTED = ["systemd", "systemd-sysv", "dbus"]
 SECONDS = 60
@@ -133,9 +133,7 @@ def with_systemd(root: pathlib.Path) -> pathlib.Path:
 
 def made_map(folder: pathlib.Path, programs: pathlib.Path | None) -> list[pathlib.Path]:
     """North Carolina in a store, with what lies beside it."""
-    program = ["--program", programs / "overlay_live"] if programs else []
-    words = [sys.executable, TOP / "overlay", TOP / "tools/data/north_carolina.geojson", "--folder", folder, *program]
-    subprocess.run([str(word) for word in (*words, "--only-make")], check=True, stderr=subprocess.DEVNULL)
+    first_map(TOP / "tools/data/north_carolina.geojson", folder, programs and programs / "overlay_live")
     return [folder / f"north_carolina.{end}" for end in ("db", "scale.json", "features.json")]
 
 

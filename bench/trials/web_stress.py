@@ -20,7 +20,7 @@ from typing import Any
 
 from bench import web_front
 from bench.counting import Words, counted
-from stressing import Ask, Stress
+from web.stressing import Ask, Stress
 
 
 def new_ask(address: str) -> Ask:

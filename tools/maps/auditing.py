@@ -6,11 +6,10 @@ An audit takes the areas of features from their own points, and trusts neither d
 from collections.abc import Iterable, Iterator, Sequence
 from fractions import Fraction
 
-import limits
-from maps.planning import places
-from maps.task_form import Row
-from maps.touching import Step, meet
-from maps.whole_maps import Ring, WholeMap
+from .planning import places
+from .task_form import Row
+from .touching import Step, meet
+from .whole_maps import Ring, WholeMap
 
 STEPS_MAX = 10_000  # of a feature that crosses itself; the area of one with more is not looked for
 
@@ -129,7 +128,3 @@ def sums(rows: Iterable[tuple[int, Row]]) -> dict[int, Fraction]:
     for number, row in rows:
         held.setdefault(number, []).append((1, row))
     return {number: sum_of(own) for number, own in held.items()}
-
-
-if __name__ == "__main__":
-    limits.tell(__doc__)

@@ -7,9 +7,8 @@ unit. """
 from dataclasses import dataclass
 from fractions import Fraction
 
-import limits
-from maps.whole_maps import MapFault, Point, Ring
-from scale import decimals
+from ..scale import decimals
+from .whole_maps import MapFault, Point, Ring
 
 EDGE_MAX = 2**19
 
@@ -65,7 +64,3 @@ def fitting(factor: Fraction, length: int) -> str:
     while most * 10**digits < 10:
         digits += 1
     return decimals(Fraction(most.numerator * 10**digits // most.denominator, 10**digits), digits)
-
-
-if __name__ == "__main__":
-    limits.tell(__doc__)

@@ -8,13 +8,12 @@ from collections.abc import Iterator, Sequence
 from fractions import Fraction
 from typing import NamedTuple
 
-import limits
-import sweeping
-import to_rings
-from maps import box_pairs
-from maps.exact_area import total, twice_area
-from maps.whole_maps import Box
-from sessions import Corner, Piece, Unusable
+from .. import sweeping
+from ..commands import to_rings
+from ..sessions import Corner, Piece, Unusable
+from . import box_pairs
+from .exact_area import total, twice_area
+from .whole_maps import Box
 
 Loop = list[Corner]
 Polygon = list[Loop]
@@ -202,7 +201,3 @@ def without_straight(loop: Loop) -> Loop:
     """A ring without the corners on straight lines."""
     count = len(loop)
     return [corner for i, corner in enumerate(loop) if sweeping.turn(loop[i - 1], corner, loop[(i + 1) % count])]
-
-
-if __name__ == "__main__":
-    limits.tell(__doc__)

@@ -2,13 +2,12 @@
 
 Each box has a level, the least power of two that is no less than its width and its height, so it meets at most four
 cells of a grid of that width. Two boxes are looked for on the grid of the greater level of the two; a pair that shares
-several cells is told in the one that has the least corner of the common part.
+several cells is found in the one that has the least corner of the common part.
 """
 
 from collections.abc import Iterable, Iterator, Sequence
 
-import limits
-from maps.whole_maps import Box
+from .whole_maps import Box
 
 Pair = tuple[int, int]
 Cell = tuple[int, int]
@@ -83,7 +82,3 @@ def pairs(a: Sequence[Box], b: Sequence[Box], touching: bool = False) -> list[Pa
 def pairs_within(boxes: Sequence[Box], touching: bool = False) -> list[Pair]:
     """The pairs of boxes of one list, the first before the second."""
     return [(i, j) for i, j in pairs(boxes, boxes, touching) if i < j]
-
-
-if __name__ == "__main__":
-    limits.tell(__doc__)

@@ -1,19 +1,19 @@
 """A job as it fits slots: whole where it does, else in cells, each half of a larger one.
 
-A cell that no edge meets has one answer, which is told without the program: nothing, or the whole cell.
+A cell that no edge meets has one answer, which is known without the program: nothing, or the whole cell.
 """
 
 from collections.abc import Iterable, Iterator
 from dataclasses import dataclass
 from fractions import Fraction
 
-import limits
-from maps import box_pairs
-from maps.drawing_in import Drawn, Plain, Wanted, is_inside
-from maps.slots import CORE_MAX, Laid, ring_of, steps_of
-from maps.task_form import ALONE, COMMON, GAPS
-from maps.whole_maps import NOWHERE, Box, Ring
-from sessions import Piece
+from .. import limits
+from ..sessions import Piece
+from . import box_pairs
+from .drawing_in import Drawn, Plain, Wanted, is_inside
+from .slots import CORE_MAX, Laid, ring_of, steps_of
+from .task_form import ALONE, COMMON, GAPS
+from .whole_maps import NOWHERE, Box, Ring
 
 MANY = 100  # of more boxes the pairs are found by grids
 HALVES_AT_ONCE = 4096
@@ -90,7 +90,7 @@ def in_layers(features: list[list[Ring]], core: Box) -> list[list[Ring]]:
 
 
 def united(features: list[list[Ring]], core: Box) -> list[list[Ring]]:
-    """Layers whose union is that of the features. Where they are too many, features that stand twice are taken once."""
+    """Layers whose union is that of the features. Where they are too many, features that occur twice are taken once."""
     live = [rings for rings in features if rings]
     layers = in_layers(live, core)
     return layers if len(layers) < LAYERS_OF_JOB else in_layers(without_repeats(live), core)
@@ -182,7 +182,3 @@ class Parting:
             some, self._waiting = self._waiting[-HALVES_AT_ONCE:], self._waiting[:-HALVES_AT_ONCE]
             for (job, _), near in zip(some, self.drawing.of_boxes([wanted for _, wanted in some]), strict=True):
                 yield from self._parts(job, near, True)
-
-
-if __name__ == "__main__":
-    limits.tell(__doc__)

@@ -1,7 +1,7 @@
 """Does tasks by workers of Dask: of a cluster that is made on this machine, or of a scheduler at an address.
 
 Dask's scheduler runs whatever Python it is sent. So a cluster of this machine speaks TLS with keys of its own where
-python3-cryptography is there, and an address beyond the loopback is told where it is without TLS.
+python3-cryptography is there, and an address beyond the loopback is reported where it is without TLS.
 """
 
 import contextlib
@@ -20,13 +20,15 @@ from itertools import islice
 from typing import Any
 from urllib.parse import urlsplit
 
-from maps import engines, rounds, tasks
-from maps.engines import TRIES, Engine, TaskFault
-from maps.tasks import TaskFolder, Work
+from . import engines
+from .engines import TRIES, Engine, TaskFault
+from .tasks import TaskFolder, Work
 
 IN_HAND = 3  # tasks a thread of a worker: what is done, what waits, what is on its way
 WORKERS_WITHIN = 30  # seconds
-TOOLS = pathlib.Path(__file__).resolve().parent.parent
+TOP = pathlib.Path(__file__).resolve().parents[2]
+SENT = ("tools/*.py", "tools/maps/*.py", "tools/commands/__init__.py", "tools/commands/to_rings.py", "web/__init__.py",
+        "web/overlay_client.py")  # what a worker elsewhere needs
 NEEDED = ("--dask needs Dask: apt-get install python3-distributed, and run this by /usr/bin/python3; "
           "--jobs N needs nothing")
 
@@ -98,11 +100,9 @@ def is_open_to_all(address: str) -> bool:
 def packed(folder: pathlib.Path) -> pathlib.Path:
     """The modules that a task needs, as one file that workers import."""
     made = folder / "overlay_maps_modules.zip"
-    sources = [*TOOLS.glob("*.py"), *(TOOLS / "maps").glob("*.py"), rounds.WEB / "overlay_client.py"]
     with zipfile.ZipFile(made, "w") as file:
-        for source in sources:
-            if source.name != "tests.py":
-                file.write(source, source.relative_to(TOOLS) if TOOLS in source.parents else source.name)
+        for source in (path for pattern in SENT for path in TOP.glob(pattern) if not path.is_symlink()):
+            file.write(source, source.relative_to(TOP))
     return made
 
 

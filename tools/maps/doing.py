@@ -14,19 +14,16 @@ import tempfile
 from collections.abc import Iterable, Iterator
 from typing import Any
 
-import asking
-import ending
-import limits
-import progress
-from maps import dask_engine, engines, spooled, tasks, windows, work
-from maps.dask_engine import DaskFault
-from maps.engines import Engine, TaskFault
-from maps.task_form import Found, Task
-from maps.tasks import FolderFault, TaskFolder
-from maps.whole_maps import MapFault
-from maps.windows import ByWindows
-from maps.work import ByProgram
-from sessions import Unusable
+from .. import asking, ending, progress
+from ..sessions import Unusable
+from . import dask_engine, engines, spooled, tasks, windows, work
+from .dask_engine import DaskFault
+from .engines import Engine, TaskFault
+from .task_form import Found, Task
+from .tasks import FolderFault, TaskFolder
+from .whole_maps import MapFault
+from .windows import ByWindows
+from .work import ByProgram
 
 INPUTS = ("first", "second")  # the words that name maps
 # What no task knows of.
@@ -36,7 +33,7 @@ OUTPUTS = ("pieces", "gaps")  # of these tasks know whether they are wanted
 
 
 def add_words(parser: argparse.ArgumentParser) -> None:
-    """The words of who does the tasks, and where they stand."""
+    """The words of who does the tasks, and where they are."""
     parser.add_argument("--jobs", type=number_of_jobs, metavar="N", default=os.cpu_count() or 1,
                         help="processes of this machine (default: its processors); 0: the tasks are only written")
     parser.add_argument("--dask", nargs="?", const="", metavar="ADDRESS",
@@ -93,7 +90,7 @@ def do_tasks(words: argparse.Namespace, *_: object) -> int:
 
 
 def found_of(stage: str, made: Iterable[Task], words: argparse.Namespace) -> Iterator[Found]:
-    """What the tasks of one stage of a question find, in their order. They are made where they do not stand yet."""
+    """What the tasks of one stage of a question find, in their order. They are made where they are not there yet."""
     if words.jobs == 0 and words.dask is None and words.work is None:
         raise MapFault("--jobs 0 leaves the tasks to others: say --work FOLDER, where they find them")
     with contextlib.ExitStack() as ends:
@@ -114,7 +111,7 @@ def found_of(stage: str, made: Iterable[Task], words: argparse.Namespace) -> Ite
 
 
 def drawn_told(by_window: int, count: int) -> str:
-    """By what features were drawn in, so that it is known what the table stands on."""
+    """By what features were drawn in, so that it is known what the table rests on."""
     others = "what is too large for a window" if by_window == count else "the others and what is too large for a window"
     return f"features drawn in by overlay_window in {by_window} of {count} tasks; {others} by Python, tested and not proved"
 
@@ -159,7 +156,3 @@ def told_faults(folder: pathlib.Path | None) -> Iterator[None]:
         raise Unusable(f"{fault}{kept}") from fault
     except OSError as fault:
         raise Unusable(ending.told(fault.filename or folder or tempfile.gettempdir(), fault)) from fault
-
-
-if __name__ == "__main__":
-    limits.tell(__doc__)

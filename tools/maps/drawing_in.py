@@ -1,7 +1,7 @@
 """Draws features in round a core: what lies off the core is brought near, and inside the core nothing changes.
 
 The core is a closed box. Off it are four half-planes: left, right, under, over. A step between two points that lie in
-one of them meets no point of the core, and whether it passes under a point of the core is told by that half-plane
+one of them meets no point of the core, and whether it passes under a point of the core is decided by that half-plane
 alone. So each point of the core, whole or fraction, is on an edge of the drawn rings, and inside them by even-odd,
 exactly where it is so of the given rings, where
 
@@ -15,9 +15,8 @@ A ring that is left with one point lies in one half-plane.
 from collections.abc import Iterator, Sequence
 from typing import NamedTuple
 
-import limits
-from maps.task_form import GAPS, Task
-from maps.whole_maps import Box, Point, Ring
+from .task_form import GAPS, Task
+from .whole_maps import Box, Point, Ring
 
 LEFT, RIGHT, UNDER, OVER = 1, 2, 4, 8
 
@@ -133,7 +132,3 @@ def is_inside(rings: Sequence[Ring], x: int, y: int) -> bool:
                 rise = (by - ay) * (x - ax) - (y - ay) * (bx - ax)
                 odd ^= (rise < 0) if bx > ax else (rise > 0)
     return odd
-
-
-if __name__ == "__main__":
-    limits.tell(__doc__)

@@ -1,7 +1,7 @@
 """Does the tasks of a folder: in this process, or by processes of this machine. dask_engine.py has Dask's workers.
 
 An engine is given what does a task, the folder, and the numbers that have no result yet; it gives each number as soon
-as its result stands in the folder. It trusts no worker to live: what a worker that died had is begun again.
+as its result is in the folder. It trusts no worker to live: what a worker that died had is begun again.
 """
 
 import collections
@@ -13,9 +13,9 @@ import signal
 from collections.abc import Callable, Generator, Iterable, Iterator
 from concurrent.futures.process import BrokenProcessPool
 
-import progress
-from maps import deaths, tasks
-from maps.tasks import FolderFault, TaskFolder, Work
+from .. import progress
+from . import deaths, tasks
+from .tasks import FolderFault, TaskFolder, Work
 
 Engine = Callable[[Work, TaskFolder, Iterable[int]], Iterator[int]]
 
@@ -62,7 +62,7 @@ def in_process(work: Work, folder: TaskFolder, numbers: Iterable[int]) -> Iterat
 
 
 def only_planned(work: Work, folder: TaskFolder, numbers: Iterable[int]) -> Iterator[int]:
-    """By somebody else: that the tasks stand is told, and the run ends."""
+    """By somebody else: that the tasks are written is reported, and the run ends."""
     left = len(list(numbers))
     if left:
         raise TasksLeft(f"{left} of {folder.count()} tasks are left in {folder.path}: do them by `overlay_maps.py task "

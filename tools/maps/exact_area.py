@@ -8,8 +8,7 @@ import math
 from collections.abc import Iterable, Sequence
 from fractions import Fraction
 
-import limits
-from sessions import Corner
+from ..sessions import Corner
 
 Term = tuple[int, int]  # a number and what it is divided by
 BITS_MAX = 1_000_000  # of what the terms of an exact sum are divided by, all together
@@ -77,7 +76,3 @@ def direction(a: Corner, b: Corner) -> tuple[int, int]:
 
 def distance(a: Corner, b: Corner) -> float:
     return math.hypot(*direction(a, b)) / (a[2] * b[2])
-
-
-if __name__ == "__main__":
-    limits.tell(__doc__)

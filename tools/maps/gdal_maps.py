@@ -11,11 +11,9 @@ from dataclasses import dataclass, field
 from fractions import Fraction
 from typing import Any
 
-import ending
-import gdal_files
-import limits
-from maps.spooled import Gathered, Spool
-from maps.whole_maps import MapFault, ReadMap, Told
+from .. import ending, gdal_files
+from .spooled import Gathered, Spool
+from .whole_maps import MapFault, ReadMap, Told
 
 BATCH = 1 << 16  # features that are taken apart at once
 LARGE = 10_000_000  # points of a map above which it stays in files
@@ -38,7 +36,7 @@ def modules(path: str) -> tuple[Any, Any, Any]:
 
 @dataclass
 class Flat:
-    """Features one behind the other: xs and ys of all points, the closing point of each ring among them."""
+    """Features one after the other: xs and ys of all points, the closing point of each ring among them."""
 
     path: str = ""
     ids: list[str] = field(default_factory=list)
@@ -143,7 +141,7 @@ class Source:
         return f"{name}:{code}" if name and code else str(system.ExportToWkt())
 
     def batches(self) -> Iterator[Flat]:
-        """The polygons of the layer, so many features at once; others are left out, and told."""
+        """The polygons of the layer, so many features at once; others are left out, and reported."""
         flat = Flat(self.path)
         for feature in self._features():
             self._add(flat, feature)
@@ -187,7 +185,7 @@ def read(path: str, factor: Fraction, id_field: str | None, layer: str | None, b
     """A map of a file in whole numbers, features called by a property, or by the numbers that GDAL gives them. Of a
     large one nothing stays in memory."""
     source = Source(path, id_field, layer)
-    from maps.numpy_maps import whole_of_doubles
+    from .numpy_maps import whole_of_doubles
 
     told = source.told
     kept: Gathered | Spool = Gathered()
@@ -207,7 +205,3 @@ def add_told(told: Told, more: Told) -> None:
     told.moved = max(told.moved, more.moved)
     told.collapsed += more.collapsed
     told.bent += more.bent
-
-
-if __name__ == "__main__":
-    limits.tell(__doc__)

@@ -14,23 +14,21 @@ from pathlib import Path
 from typing import Any
 from xml.sax.saxutils import escape, quoteattr, unescape
 
-import ending
-import limits
-import writing
-from maps.gdal_maps import modules
-from maps.whole_maps import MapFault
-from sessions import Unusable
+from .. import ending, writing
+from ..sessions import Unusable
+from .gdal_maps import modules
+from .whole_maps import MapFault
 
 Piece = tuple[Mapping[str, Any], bytes]
 """Properties, and Well-Known Binary of a multipolygon."""
 
 PART_MAX = 1_000_000  # pieces of one file
 LAYER = "pieces"
-NO_REASON = "GDAL tells no reason; is the disk full?"
+NO_REASON = "GDAL gives no reason; is the disk full?"
 DRIVERS = {".gpkg": "GPKG", ".fgb": "FlatGeobuf"}
 # The file appears by a rename when it is whole, so a half one need not survive a crash.
 QUICKLY = {"OGR_SQLITE_SYNCHRONOUS": "OFF", "OGR_SQLITE_JOURNAL": "OFF"}
-DESCRIPTION = ("Exact areas stand in the properties; coordinates are the doubles nearest to the exact ones, so a polygon "
+DESCRIPTION = ("Exact areas are in the properties; coordinates are the doubles nearest to the exact ones, so a polygon "
                "may touch or cross itself by a rounding.")
 
 
@@ -176,7 +174,7 @@ def configured(gdal: Any, options: Mapping[str, str]) -> Iterator[None]:
 
 @contextlib.contextmanager
 def told_when_closed(path: str) -> Iterator[None]:
-    """Raises what GDAL tells while it closes a file: some forms are written only then, and Python gives a fault of what
+    """Raises what GDAL says while it closes a file: some forms are written only then, and Python gives a fault of what
     it takes away to a hook alone."""
     told = list[str]()
     had = sys.unraisablehook
@@ -213,7 +211,3 @@ def write(path: str, pieces: Iterable[Piece], crs: str | None, part_max: int = P
     finally:
         own.drop()
     return own.count
-
-
-if __name__ == "__main__":
-    limits.tell(__doc__)

@@ -9,15 +9,10 @@ from collections.abc import Iterable, Iterator
 from fractions import Fraction
 from typing import Any
 
-import ending
-import limits
-import map_reading
-import rounding
-import scale as scales
-import wkt
-from map_reading import Refused, Shape, Source
-from maps.bending import Longest, bent
-from maps.whole_maps import FARTHEST, MapFault, ReadMap, Ring, Told, WholeMap
+from .. import ending, map_reading, rounding, scale as scales, wkt
+from ..map_reading import Refused, Shape, Source
+from .bending import Longest, bent
+from .whole_maps import FARTHEST, MapFault, ReadMap, Ring, Told, WholeMap
 
 NAMED_MAX = 10  # SRIDs that a refusal names
 
@@ -55,7 +50,7 @@ class Reading:
         self.seen = 0  # features, those among them that are left out
 
     def feature(self, shapes: list[Shape]) -> None:
-        """Takes in one feature. What of it is no polygon is left out, and told."""
+        """Takes in one feature. What of it is no polygon is left out, and reported."""
         self.seen += 1
         polygons: list[Any] = []
         left_out = len(self.told.skipped)
@@ -125,7 +120,3 @@ def own_crs(source: Source) -> str | None:
         raise MapFault(f"{source.name}: SRIDs {', '.join(source.systems[:NAMED_MAX])}; bring all to one of them, as by "
                        "ogr2ogr -t_srs")
     return f"EPSG:{source.systems[0]}" if source.systems else None
-
-
-if __name__ == "__main__":
-    limits.tell(__doc__)

@@ -7,17 +7,16 @@ from dataclasses import dataclass, field
 from fractions import Fraction
 from itertools import islice
 
-import limits
-from maps import boundaries, box_pairs, exact_area, touching
-from maps.boundaries import Loop, Outline, Polygon
-from maps.cells import Cell, Parting, TooDense
-from maps.drawing_in import Drawn, Plain
-from maps.rounds import Program, Round
-from maps.sewing import sewn
-from maps.slots import Laid, Slots, packed, round_of
-from maps.task_form import ALONE_TOLD, COMMON, GAP, GAPS, NOBODY, OVERLAPS, TOUCHES, Found, Row, ShapeOf, Task
-from maps.whole_maps import Box
-from sessions import Corner, Piece, Unusable
+from ..sessions import Corner, Piece, Unusable
+from . import boundaries, box_pairs, exact_area, touching
+from .boundaries import Loop, Outline, Polygon
+from .cells import Cell, Parting, TooDense
+from .drawing_in import Drawn, Plain
+from .rounds import Program, Round
+from .sewing import sewn
+from .slots import Laid, Slots, packed, round_of
+from .task_form import ALONE_TOLD, COMMON, GAP, GAPS, NOBODY, OVERLAPS, TOUCHES, Found, Row, ShapeOf, Task
+from .whole_maps import Box
 
 AT_ONCE = 4096  # jobs and cells that are laid out before the next are
 MULTIPOLYGON, POLYGON = 6, 3
@@ -197,7 +196,3 @@ def ring_bytes(loop: list[Corner], factor: Fraction) -> bytes:
     top, bottom = factor.numerator, factor.denominator
     given = [number for x, y, w in kept + kept[:1] for number in (x * bottom / (w * top), y * bottom / (w * top))]
     return struct.pack(f"<I{len(given)}d", len(given) // 2, *given)
-
-
-if __name__ == "__main__":
-    limits.tell(__doc__)

@@ -7,14 +7,13 @@ from dataclasses import dataclass, field
 from fractions import Fraction
 from typing import TextIO
 
-import limits
-from maps import auditing, boundaries, exact_area, jobs, pieces, planning, quickest, tables
-from maps.planning import Question
-from maps.questions import named
-from maps.running import Say, found_of, read_map, some, written
-from maps.sewing import sewn
-from maps.task_form import COMMON, GAPS, Found, Row, Task
-from maps.whole_maps import Box, WholeMap
+from . import auditing, boundaries, exact_area, jobs, pieces, planning, quickest, tables
+from .planning import Question
+from .questions import named
+from .running import Say, found_of, read_map, some, written
+from .sewing import sewn
+from .task_form import COMMON, GAPS, Found, Row, Task
+from .whole_maps import Box, WholeMap
 
 OVERLAPS_OF, GAPS_OF = "overlaps", "gaps"  # what tasks are for
 DEEPEST = 1_000_000  # so many sets of features that may lie on each other are looked at by the audit
@@ -150,7 +149,3 @@ def common_rows(made: Check, groups: Iterable[tuple[int, ...]], words: argparse.
     question = Question("audit", COMMON, made.whole, made.whole, made.factor)
     asked = planning.common_parts(made.whole, made.whole, groups)
     return [row for found in found_of(planning.tasks_of(question, asked), words) for row in found.rows]
-
-
-if __name__ == "__main__":
-    limits.tell(__doc__)

@@ -8,10 +8,9 @@ from typing import Any
 
 import numpy as np
 
-import limits
-from maps.drawing_in import LEFT, OVER, RIGHT, UNDER, Drawn, Plain
-from maps.task_form import GAPS, Task
-from maps.whole_maps import Ring
+from .drawing_in import LEFT, OVER, RIGHT, UNDER, Drawn, Plain
+from .task_form import GAPS, Task
+from .whole_maps import Ring
 
 POINTS_AT_ONCE = 400_000
 Numbers = np.ndarray
@@ -29,7 +28,7 @@ def spans(begins: Numbers, counts: Numbers) -> Numbers:
 
 
 class Flat:
-    """Both maps of a task one behind the other, and the features of its jobs, by their places in them."""
+    """Both maps of a task one after the other, and the features of its jobs, by their places in them."""
 
     def __init__(self, task: Task) -> None:
         own, other = task.own_map, task.other_map
@@ -66,7 +65,7 @@ class Flat:
 
 
 class Points:
-    """Points with the ring, the part and the job of each; the points of a ring stand one behind the other."""
+    """Points with the ring, the part and the job of each; the points of a ring lie one after the other."""
 
     def __init__(self, flat: Flat, jobs: range) -> None:
         begin, end = flat.part_at[jobs.start], flat.part_at[jobs.stop]
@@ -187,7 +186,3 @@ def drawn_jobs(flat: Flat, jobs: range) -> Iterator[Drawn]:
         features[part].append(ring)
     for job, (core, frame, is_plain) in enumerate(zip(points.cores.tolist(), frames.tolist(), plain.tolist())):
         yield Drawn(tuple(core), tuple(frame), features[begins[job] : begins[job + 1]], is_plain)
-
-
-if __name__ == "__main__":
-    limits.tell(__doc__)

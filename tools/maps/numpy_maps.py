@@ -9,10 +9,9 @@ from fractions import Fraction
 
 import numpy as np
 
-import limits
-import rounding
-from maps.bending import EDGE_MAX, Longest, way_points
-from maps.whole_maps import FARTHEST, MapFault, Told, WholeMap, numbers
+from .. import rounding
+from .bending import EDGE_MAX, Longest, way_points
+from .whole_maps import FARTHEST, MapFault, Told, WholeMap, numbers
 
 Numbers = np.ndarray
 SPLIT = float(2**27 + 1)
@@ -39,7 +38,7 @@ def nearest(given: Numbers, factor: Fraction) -> tuple[Numbers, float]:
     over = (scaled - low) - 0.5
     whole = low + (over >= 0)
     if Fraction(float(factor)) == factor:
-        # Two whole numbers are as near to the double; the exact product tells which is nearer.
+        # Two whole numbers are as near to the double; the exact product says which is nearer.
         whole -= (over == 0) & (product_rest(given, float(factor), scaled) < 0)
     else:
         close = np.abs(over) <= 4 * np.spacing(np.abs(scaled))
@@ -129,7 +128,7 @@ class Rings:
 
 def whole_of_doubles(name: str, ids: Sequence[str], xs: Numbers, ys: Numbers, ring_sizes: Numbers, is_outer: Numbers,
                      rings_of_feature: Numbers, factor: Fraction, bend: bool, told: Told) -> WholeMap:
-    """A map in whole numbers, of rings whose first point stands once more at the end. name is the file's."""
+    """A map in whole numbers, of rings whose first point comes once more at the end. name is the file's."""
 
     def called(feature: int) -> str:
         return f"{name}, feature {ids[feature]}"
@@ -186,7 +185,3 @@ def bend_long(rings: Rings, factor: Fraction, bend: bool, told: Told, called: Ca
     told.bent = len(long)
     if len(long):
         rings.bend(long)
-
-
-if __name__ == "__main__":
-    limits.tell(__doc__)

@@ -4,7 +4,6 @@ from collections.abc import Iterator
 
 import numpy as np
 
-import limits
 
 PAIRS_AT_ONCE = 1 << 20
 Numbers = np.ndarray
@@ -73,7 +72,3 @@ def pairs(a: Numbers, b: Numbers, touching: bool = False) -> Numbers:
         found += met_on(level, upto_a, a, np.flatnonzero(of_b == level), b, touching)
         found += met_on(level, np.flatnonzero(of_a == level), a, under_b, b, touching)
     return np.unique(np.concatenate(found), axis=0)
-
-
-if __name__ == "__main__":
-    limits.tell(__doc__)

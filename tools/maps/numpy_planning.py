@@ -4,13 +4,12 @@ from collections.abc import Iterator
 
 import numpy as np
 
-import limits
-from maps import numpy_pairs, planning, spooled
-from maps.cells import halved
-from maps.numpy_drawing import of_array
-from maps.planning import CELL_POINTS, Job
-from maps.task_form import NOBODY
-from maps.whole_maps import NOWHERE, Box, WholeMap
+from . import numpy_pairs, planning, spooled
+from .cells import halved
+from .numpy_drawing import of_array
+from .planning import CELL_POINTS, Job
+from .task_form import NOBODY
+from .whole_maps import NOWHERE, Box, WholeMap
 
 Numbers = np.ndarray
 AT_ONCE = 1 << 16  # pairs of which jobs are made
@@ -123,7 +122,3 @@ def gap_jobs(whole: WholeMap, boxes: Numbers) -> Iterator[Job]:
         own = boxes[near]
         for left, under, right, over in halves[::-1]:
             stack.append(((left, under, right, over), near[meets(own, (left, under, right, over))]))
-
-
-if __name__ == "__main__":
-    limits.tell(__doc__)

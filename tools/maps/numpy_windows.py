@@ -5,13 +5,12 @@ from itertools import islice
 
 import numpy as np
 
-import limits
-from maps.drawing_in import Drawn, wanted_of
-from maps.numpy_drawing import Flat, Numbers, Points
-from maps.slots import CORE_MAX
-from maps.task_form import Task
-from maps.whole_maps import Ring
-from maps.windows import ByWindows, Refused, drawn_of, layer_of, near, output_of
+from .drawing_in import Drawn, wanted_of
+from .numpy_drawing import Flat, Numbers, Points
+from .slots import CORE_MAX
+from .task_form import Task
+from .whole_maps import Ring
+from .windows import ByWindows, Refused, drawn_of, layer_of, near, output_of
 
 HEAD_WORDS = 21  # of 32 bits: core, frame and origin of 64 bits, and how many rings follow
 POINT_WORDS = 4
@@ -64,7 +63,7 @@ def input_bytes(points: Points, frames: Numbers, parts: Numbers) -> bytes:
 
 
 def write_heads(words: Numbers, points: Points, frames: Numbers, at: Numbers, rings: Numbers, parts: Numbers) -> None:
-    """Core, frame, origin and the number of rings of each part, where they stand."""
+    """Core, frame, origin and the number of rings of each part, where they are."""
     jobs = points.job_of_part[parts]
     by_axis, frame = [0, 2, 1, 3], frames[jobs]
     head = np.concatenate([points.cores[jobs][:, by_axis], frame[:, by_axis], middles(frame)], axis=1)
@@ -92,7 +91,7 @@ DIGITS = bytes(place if chr(place) in "-0123456789" else 32 for place in range(2
 
 
 def layers_of(output: bytes, origins: Numbers) -> Iterator[list[Ring] | None]:
-    """The rings of each line of the program's output, back where they are of the map, or nothing where it tells that a
+    """The rings of each line of the program's output, back where they are of the map, or nothing where it says that a
     layer would have too many steps."""
     if b"error" in output:
         for line, origin in zip(output.decode().splitlines(), origins.tolist()):
@@ -112,7 +111,3 @@ def layers_of(output: bytes, origins: Numbers) -> Iterator[list[Ring] | None]:
     for end in rings.tolist():
         yield [points[begins[at] : closes[at]] for at in range(ring, end)]
         ring = end
-
-
-if __name__ == "__main__":
-    limits.tell(__doc__)

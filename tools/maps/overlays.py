@@ -8,12 +8,11 @@ from fractions import Fraction
 from itertools import combinations
 from typing import TextIO
 
-import limits
-from maps import auditing, box_pairs, exact_area, pieces, planning, quickest, tables
-from maps.planning import Question
-from maps.running import Say, check_crs, found_of, read_map, some, written
-from maps.task_form import ALONE, COMMON, Found, Row, Task
-from maps.whole_maps import WholeMap
+from . import auditing, box_pairs, exact_area, pieces, planning, quickest, tables
+from .planning import Question
+from .running import Say, check_crs, found_of, read_map, some, written
+from .task_form import ALONE, COMMON, Found, Row, Task
+from .whole_maps import WholeMap
 
 SETS_MAX = 10_000  # so many sets of others that may overlap within a feature are looked at by the audit
 BOTH, FIRST, SECOND = "both", "first", "second"  # what tasks are for
@@ -200,7 +199,3 @@ def part_rows(side: Side, groups: Iterable[tuple[int, ...]], factor: Fraction, w
     asked = planning.common_parts(side.own, side.other, groups)
     question = Question("audit", COMMON, side.own, side.other, factor)
     return [row for found in found_of(planning.tasks_of(question, asked), words) for row in found.rows]
-
-
-if __name__ == "__main__":
-    limits.tell(__doc__)

@@ -1,7 +1,7 @@
 """Writes pieces of maps: GeoJSON by Python alone, other files by GDAL. Coordinates are the doubles nearest to exact
 ones.
 
-A rounded polygon may touch or cross itself by a rounding; the areas that stand beside it are those of the exact one.
+A rounded polygon may touch or cross itself by a rounding; the areas beside it are those of the exact one.
 """
 
 import json
@@ -10,13 +10,10 @@ from collections.abc import Iterable, Iterator, Mapping
 from pathlib import Path
 from typing import Any
 
-import ending
-import limits
-import scale as scales
-import to_geojson
-import writing
-from maps import gdal_writing
-from sessions import Unusable
+from .. import ending, scale as scales, writing
+from ..commands import to_geojson
+from ..sessions import Unusable
+from . import gdal_writing
 
 Piece = tuple[Mapping[str, Any], bytes]
 """Properties, and Well-Known Binary of a multipolygon."""
@@ -81,7 +78,3 @@ def write(path: str, pieces: Iterable[Piece], crs: str | None) -> int:
     except OSError as fault:
         raise Unusable(ending.told(path, fault)) from fault
     return count
-
-
-if __name__ == "__main__":
-    limits.tell(__doc__)

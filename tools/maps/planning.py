@@ -6,12 +6,12 @@ from fractions import Fraction
 from functools import reduce
 from typing import NamedTuple
 
-import limits
-from maps import box_pairs
-from maps.cells import halved
-from maps.drawing_in import spared
-from maps.task_form import NOBODY, Task
-from maps.whole_maps import Box, Ring, WholeMap
+from .. import limits
+from . import box_pairs
+from .cells import halved
+from .drawing_in import spared
+from .task_form import NOBODY, Task
+from .whole_maps import Box, Ring, WholeMap
 
 JOBS_OF_TASK = 4000
 POINTS_OF_TASK = 400_000
@@ -53,7 +53,7 @@ def places(boxes: Sequence[Box]) -> list[int]:
 
 
 def spread(number: int) -> int:
-    """The bits of a number, each with a zero behind it."""
+    """The bits of a number, each with a zero after it."""
     for shift, mask in SPREADS:
         number = (number | number << shift) & mask
     return number
@@ -121,7 +121,7 @@ def gap_jobs(whole: WholeMap, boxes: Sequence[Box]) -> Iterator[Job]:
 
 
 def tasks_of(question: Question, jobs: Iterable[Job]) -> Iterator[Task]:
-    """The tasks, each of so many jobs as stand behind each other and have so many points together."""
+    """The tasks, each of so many jobs as follow each other and have so many points together."""
     held: list[Job] = []
     weight = 0
     for job in jobs:
@@ -177,7 +177,3 @@ def near_rings(rings: Iterable[Ring], core: Box) -> Iterator[Ring]:
         kept, _ = spared(ring, core)
         if len(kept) > 1:
             yield kept
-
-
-if __name__ == "__main__":
-    limits.tell(__doc__)

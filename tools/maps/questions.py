@@ -5,11 +5,10 @@ from collections.abc import Iterable, Iterator, Sequence
 from dataclasses import dataclass
 from typing import TextIO
 
-import limits
-from maps import planning, quickest, tables
-from maps.planning import Question
-from maps.running import Say, check_crs, found_of, read_map, written
-from maps.task_form import COMMON, OVERLAPS, Row
+from . import planning, quickest, tables
+from .planning import Question
+from .running import Say, check_crs, found_of, read_map, written
+from .task_form import COMMON, OVERLAPS, Row
 
 
 def pairs(words: argparse.Namespace, output: TextIO, say: Say) -> int:
@@ -52,7 +51,3 @@ class Counted:
     def told(self) -> str:
         return (f"{self.overlaps} pairs overlap, {self.touches} touch; areas sum to {self.units.text(self.sum)}; each is "
                 f"off by at most {self.units.bound()}")
-
-
-if __name__ == "__main__":
-    limits.tell(__doc__)

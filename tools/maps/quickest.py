@@ -1,17 +1,16 @@
 """The forms of steps that are by numpy, where it is there, and else those of Python alone: the same answers, sooner."""
 
-import limits
 
 try:
-    from maps import numpy_planning as planning
-    from maps.numpy_drawing import ByNumpy
-    from maps.numpy_windows import ByNumpy as ByWindows
+    from . import numpy_planning as planning
+    from .numpy_drawing import ByNumpy
+    from .numpy_windows import ByNumpy as ByWindows
 except ImportError:
-    from maps import planning  # type: ignore[no-redef]
-    from maps.drawing_in import Plain as ByNumpy  # type: ignore[assignment]
-    from maps.windows import ByWindows  # type: ignore[assignment]
+    from . import planning  # type: ignore[no-redef]
+    from .drawing_in import Plain as ByNumpy  # type: ignore[assignment]
+    from .windows import ByWindows  # type: ignore[assignment]
 
-from maps.drawing_in import Plain
+from .drawing_in import Plain
 
 __all__ = ["drawing", "planning"]
 
@@ -19,7 +18,3 @@ __all__ = ["drawing", "planning"]
 def drawing(window: str | None) -> Plain:
     """Who draws in: the program overlay_window at a path, or Python where there is none."""
     return ByNumpy() if window is None else ByWindows(window)
-
-
-if __name__ == "__main__":
-    limits.tell(__doc__)

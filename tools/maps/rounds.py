@@ -1,25 +1,19 @@
 """Asks overlay_live rounds: two layers or more with many slots, one definition over them, and its boundary.
 
 While the program builds one round its caller prepares the next: two sets of layers take turns, and lines are sent ahead
-by the client of ../../web/overlay_client.py.
+by the client of web/overlay_client.py.
 """
 
-import pathlib
 import subprocess
-import sys
 from collections import deque
 from collections.abc import Iterable, Iterator
 from dataclasses import dataclass
 
-import ending
-import limits
-from maps import deaths
-from sessions import Piece
+from web.overlay_client import OVERSIZE, Ended, Refused, Reply, Request, Session
 
-WEB = pathlib.Path(__file__).resolve().parents[2] / "web"
-if str(WEB) not in sys.path:
-    sys.path.append(str(WEB))
-from overlay_client import OVERSIZE, Ended, Refused, Reply, Request, Session  # noqa: E402
+from .. import ending
+from ..sessions import Piece
+from . import deaths
 
 LETTERS = "ABCDEFGHJKLMNOPQRSTUVWXYZ"  # of layers; I is the one that is defined
 NO_PIECES = 0
@@ -65,7 +59,7 @@ class Program:
         self._defined: dict[int, str] = {}
 
     def boundaries(self, asked: Iterable[Round]) -> Iterator[list[Piece] | None]:
-        """Of each round the boundary pieces in its columns; nothing where a column has more than the program tells.
+        """Of each round the boundary pieces in its columns; nothing where a column has more than the program gives.
 
         Rounds are taken ahead of what is given, and all have to be read.
         """
@@ -129,7 +123,3 @@ def with_pieces(found: list[Piece] | None, reply: Reply) -> list[Piece] | None:
         return None
     pieces = reply.pieces()
     return None if found is None else found + pieces if found else pieces
-
-
-if __name__ == "__main__":
-    limits.tell(__doc__)

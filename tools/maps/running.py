@@ -8,25 +8,20 @@ import pathlib
 from collections.abc import Callable, Iterable, Iterator
 from typing import TextIO
 
-import asking
-import ending
-import gdal_files
-import limits
-import scale as scales
-import writing
-from maps import doing, gdal_maps, geojson_maps
-from maps.task_form import Found, Task
-from maps.whole_maps import MapFault, ReadMap, Told
-from rounding import shown
-from sessions import Unusable
+from .. import asking, ending, gdal_files, scale as scales, writing
+from ..rounding import shown
+from ..sessions import Unusable
+from . import doing, gdal_maps, geojson_maps
+from .task_form import Found, Task
+from .whole_maps import MapFault, ReadMap, Told
 
 Say = Callable[[str], None]
 DEGREES = {"EPSG:4326": scales.CRS84}
-NAMED_MAX = 10  # so many features are named where something is told of them
+NAMED_MAX = 10  # so many features are named where something is reported of them
 
 
 def read_map(path: str, id_field: str | None, words: argparse.Namespace, say: Say, layer: str | None = None) -> ReadMap:
-    """A map, and what reading did to it told. What begins neither as GeoJSON nor as Well-Known Text is read by GDAL."""
+    """A map, and what reading did to it is reported. What begins neither as GeoJSON nor as Well-Known Text is read by GDAL."""
     if form_of(path):
         read = gdal_maps.read(path, words.factor, id_field, layer, words.bend)
     elif layer is not None:
@@ -144,7 +139,3 @@ def is_one(path: pathlib.Path, other: pathlib.Path) -> bool:
     if path.exists() and not path.is_file():
         return False
     return path.resolve() == other.resolve() or (path.exists() and other.exists() and path.samefile(other))
-
-
-if __name__ == "__main__":
-    limits.tell(__doc__)

@@ -7,8 +7,7 @@ along it stays. No two stretches are joined to one, since at an end between them
 from collections.abc import Iterable, Iterator
 from fractions import Fraction
 
-import limits
-from sessions import Corner, Piece
+from ..sessions import Corner, Piece
 
 
 def line_of(piece: Piece) -> tuple[int, int] | None:
@@ -48,7 +47,3 @@ def sewn(pieces: Iterable[Piece]) -> list[Piece]:
     for (axis, _), own in lines.items():
         found += stretches(own, 1 - axis)
     return found
-
-
-if __name__ == "__main__":
-    limits.tell(__doc__)

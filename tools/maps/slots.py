@@ -8,10 +8,10 @@ from collections.abc import Iterable, Iterator, Sequence
 from dataclasses import dataclass, field
 from typing import NamedTuple
 
-import limits
-from maps.rounds import LETTERS, Round
-from maps.whole_maps import Box, Ring
-from sessions import Corner
+from .. import limits
+from ..sessions import Corner
+from .rounds import LETTERS, Round
+from .whole_maps import Box, Ring
 
 LOW, WIDE = -limits.COORDINATE_MAX, 2 * limits.COORDINATE_MAX
 CORE_MAX = 2**20  # a core as wide, with edges of at most 2^19 on each side, has a frame as wide as the plane
@@ -164,7 +164,3 @@ def expression_of(kind: str, names: list[str], cell: str | None) -> str:
         return " & ".join(names + [cell] * (cell is not None))
     rest = f"{names[0]} - ({' | '.join(names[1:])})" if names[1:] else names[0]
     return f"({rest}) & {cell}" if cell else rest
-
-
-if __name__ == "__main__":
-    limits.tell(__doc__)

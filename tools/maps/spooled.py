@@ -10,8 +10,7 @@ import weakref
 from collections.abc import Sequence
 from typing import IO, overload
 
-import limits
-from maps.whole_maps import WholeMap
+from .whole_maps import WholeMap
 
 BUFFER = 1 << 22
 
@@ -49,7 +48,7 @@ class Growing:
 
 
 class Names(Sequence[str]):
-    """Names one behind the other, and where each begins."""
+    """Names one after the other, and where each begins."""
 
     def __init__(self, text: memoryview, begins: memoryview) -> None:
         self.text, self.begins = text, begins
@@ -78,7 +77,7 @@ class Gathered:
         self._whole = WholeMap()
 
     def add(self, whole: WholeMap) -> None:
-        """Takes in the features of a map behind those that are there."""
+        """Takes in the features of a map after those that are there."""
         own, points, rings = self._whole, len(self._whole.xs), len(self._whole.ring_at) - 1
         own.xs.extend(whole.xs)
         own.ys.extend(whole.ys)
@@ -105,7 +104,7 @@ class Spool:
             one.add(number(0))
 
     def add(self, whole: WholeMap) -> None:
-        """Takes in the features of a map behind those that are there."""
+        """Takes in the features of a map after those that are there."""
         points, rings = self.xs.size // 8, self.ring_at.size // 8 - 1
         self.xs.add(whole.xs.tobytes())
         self.ys.add(whole.ys.tobytes())
@@ -130,7 +129,3 @@ def moved(begins: Sequence[int], by: int) -> bytes:
     import numpy
 
     return (numpy.frombuffer(begins, numpy.int64)[1:] + by).tobytes()
-
-
-if __name__ == "__main__":
-    limits.tell(__doc__)

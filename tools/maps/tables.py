@@ -7,16 +7,15 @@ from itertools import chain, islice
 from operator import itemgetter
 from typing import TextIO
 
-import limits
-from maps import exact_area, large_tables
-from maps.task_form import Row
+from . import exact_area, large_tables
+from .task_form import Row
 
 DIGITS_OF_EXACT = 1000
 HEADS = ["a", "b", "area", "width", "relation"]
 
 
 class Units:
-    """How areas of whole units are told in those of the world: with digits behind the point that tell a thousandth of a
+    """How areas of whole units are reported in those of the world: with digits after the point that spell a thousandth of a
     square unit."""
 
     def __init__(self, factor: Fraction) -> None:
@@ -91,7 +90,3 @@ class Lines:
 
     def write(self, line: str) -> int:
         return self.output.write(line.removesuffix("\r\n") + "\n")
-
-
-if __name__ == "__main__":
-    limits.tell(__doc__)

@@ -1,6 +1,6 @@
 """What a task takes and gives: the interface between who plans, who runs tasks, and who gathers what they found.
 
-A task stands for itself: it has the features that its jobs need, so whoever runs it needs no map. `Task.to_bytes` is
+A task is complete: it has the features that its jobs need, so whoever runs it needs no map. `Task.to_bytes` is
 what a task file holds, `Found.to_bytes` what its result file holds, and `run` (in jobs.py) makes one of the other:
 
     found = jobs.run(Task.of_bytes(data), program)      # program: rounds.Program
@@ -14,7 +14,7 @@ from collections.abc import Iterable, Iterator, Sequence
 from dataclasses import dataclass, field
 from fractions import Fraction
 
-from maps.whole_maps import Box, WholeMap, numbers
+from .whole_maps import Box, WholeMap, numbers
 
 COMMON, ALONE, GAPS = "common", "alone", "gaps"
 OVERLAPS, TOUCHES, ALONE_TOLD, GAP = "overlaps", "touches", "alone", "gap"
@@ -115,7 +115,7 @@ def of_little(data: bytes) -> array:
 class Row:
     """What one job found: the numbers of its features in their whole maps (NOBODY where it has none), the exact area in
     square units, the length of its boundary in units, a whole point near it, and what this part is: a common one
-    (`overlaps`, or `touches` where it has no area), `alone` or a `gap`. others are told of common parts alone."""
+    (`overlaps`, or `touches` where it has no area), `alone` or a `gap`. others are reported of common parts alone."""
 
     own: int
     others: tuple[int, ...]

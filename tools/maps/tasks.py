@@ -5,11 +5,11 @@
     000017.result    what came of it; it appears whole, by a rename
     lock             held by the run that has the folder in hand
 
-The last line of a task and of a result is the digest of what stands before it, so a file that was cut or altered is known.
+The last line of a task and of a result is the digest of what is before it, so a file that was cut or altered is known.
 The line before that of a result is its task's digest, so one that came of another task is known too.
 
 So whoever can name a file can do a task, several at once and on several machines, and a run that was broken off goes on
-where it was: nothing is known but what stands in files.
+where it was: nothing is known but what is in files.
 """
 
 import contextlib
@@ -22,7 +22,7 @@ from collections.abc import Callable, Iterable, Iterator, Mapping
 from dataclasses import dataclass
 from typing import Any
 
-import writing
+from .. import writing
 
 Work = Callable[[bytes], bytes]
 """What does a task: from what a task file holds to what its result file holds. It can be pickled."""
@@ -120,7 +120,7 @@ SEAL = sealed(b"")  # as long as each
 
 
 def last_line(path: pathlib.Path) -> bytes:
-    """The digest that stands at the end of a sealed file."""
+    """The digest at the end of a sealed file."""
     try:
         with path.open("rb") as file:
             file.seek(-min(len(SEAL), path.stat().st_size), os.SEEK_END)
@@ -142,8 +142,8 @@ def unsealed(path: pathlib.Path, advice: str) -> bytes:
 
 
 def begin(path: pathlib.Path, run: Mapping[str, Any], tasks: Iterable[bytes]) -> TaskFolder:
-    """The folder with the tasks of a run: they are written where they do not all stand yet, else none is looked at.
-    Where no plan stands, no result is taken for one of this run's.
+    """The folder with the tasks of a run: they are written where they are not all there yet, else none is looked at.
+    Where there is no plan, no result is taken for one of this run's.
 
     run: what is asked, as JSON has it; a folder that has tasks of anything else is refused.
     """

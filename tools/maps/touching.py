@@ -1,9 +1,8 @@
 """Whether two features that have no area in common touch: an edge of one has a common point with an edge of the
 other."""
 
-import limits
-from maps.drawing_in import Drawn, off
-from maps.whole_maps import Box, Point, Ring
+from .drawing_in import Drawn, off
+from .whole_maps import Box, Point, Ring
 
 Step = tuple[Point, Point]
 
@@ -37,7 +36,3 @@ def touch(near: Drawn) -> bool:
     core, the common part of their boxes."""
     first, second = (steps_near(rings, near.core) for rings in near.features[:2])
     return any(meet(a, b) for a in first for b in second)
-
-
-if __name__ == "__main__":
-    limits.tell(__doc__)

@@ -39,7 +39,7 @@ class WholeMap:
         return len(self.feature_at) - 1
 
     def add(self, name: str, rings: Iterable[Sequence[Point]]) -> None:
-        """One feature more, behind those that stand."""
+        """One feature more, after those that there are."""
         for ring in rings:
             self.xs.extend(x for x, _ in ring)
             self.ys.extend(y for _, y in ring)
@@ -58,7 +58,7 @@ class WholeMap:
         return self.ring_at[self.feature_at[feature]], self.ring_at[self.feature_at[feature + 1]]
 
     def add_from(self, other: "WholeMap", feature: int) -> None:
-        """A feature of another map, as it stands there; without its name."""
+        """A feature of another map, as it is there; without its name."""
         begin, end = other.span(feature)
         moved = len(self.xs) - begin
         self.xs.frombytes(memoryview(other.xs)[begin:end].tobytes())
@@ -85,7 +85,7 @@ class WholeMap:
 
 @dataclass
 class Told:
-    """What reading has done to a map, to be told: how far the farthest coordinate moved, in the map's unit, and the
+    """What reading has done to a map, to be reported: how far the farthest coordinate moved, in the map's unit, and the
     names of what was left out or changed."""
 
     features: int = 0

@@ -12,15 +12,13 @@ from dataclasses import dataclass
 from itertools import islice
 from pathlib import Path
 
-import asking
-import ending
-import limits
-from maps.drawing_in import Drawn, Plain, Wanted, drawn, framed, wanted_of
-from maps.rounds import ProgramEnded, ProgramRefused
-from maps.slots import CORE_MAX
-from maps.task_form import Task
-from maps.whole_maps import Box, Point, Ring
-from sessions import Unusable
+from .. import asking, ending
+from ..sessions import Unusable
+from .drawing_in import Drawn, Plain, Wanted, drawn, framed, wanted_of
+from .rounds import ProgramEnded, ProgramRefused
+from .slots import CORE_MAX
+from .task_form import Task
+from .whole_maps import Box, Point, Ring
 
 WINDOW = "overlay_window"
 TOO_MANY_STEPS = 6  # of a layer
@@ -173,7 +171,3 @@ def drawn_of(core: Box, frame: Box, layers: Sequence[list[Ring] | None]) -> Draw
     """Features by their layers, or nothing where one has too many steps."""
     features = [layer for layer in layers if layer is not None]
     return Drawn(core, frame, features, False) if len(features) == len(layers) else None
-
-
-if __name__ == "__main__":
-    limits.tell(__doc__)

@@ -5,10 +5,9 @@ import gc
 from collections.abc import Iterator
 from dataclasses import dataclass
 
-import limits
-from maps import jobs, quickest
-from maps.rounds import Program, ProgramEnded
-from maps.task_form import Found, Task
+from . import jobs, quickest
+from .rounds import Program, ProgramEnded
+from .task_form import Found, Task
 
 STANDING: dict[str, Program] = {}  # by path: the program that this process has
 
@@ -57,7 +56,3 @@ def close_all() -> None:
     """Ends the programs of this process."""
     while STANDING:
         STANDING.popitem()[1].close()
-
-
-if __name__ == "__main__":
-    limits.tell(__doc__)

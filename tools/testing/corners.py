@@ -6,13 +6,10 @@ import sys
 import unittest
 from fractions import Fraction
 
-import areas
-import scale as scales
-import to_geojson
-import to_rings
-import wkt
-from testing.common import WithProgram, outcome
-from testing.plain import area_twice
+from .. import areas, scale as scales, wkt
+from ..commands import to_geojson, to_rings
+from .common import WithProgram, outcome
+from .plain import area_twice
 
 TRIANGLES = 240
 

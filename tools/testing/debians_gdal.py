@@ -15,12 +15,12 @@ from collections.abc import Iterator
 from fractions import Fraction
 from unittest import mock
 
-import overlay_maps
-from maps import gdal_maps, gdal_writing, numpy_planning, planning, running
-from maps.spooled import Names
-from maps.whole_maps import MapFault, ReadMap
-from sessions import Unusable
-from testing.common import InFolder, outcome
+from ..commands import overlay_maps
+from ..maps import gdal_maps, gdal_writing, numpy_planning, planning, running
+from ..maps.spooled import Names
+from ..maps.whole_maps import MapFault, ReadMap
+from ..sessions import Unusable
+from .common import InFolder, outcome
 
 RING = [(0, 0), (10, 0), (10, 10), (0, 10), (0, 0)]
 HOLE = [(2, 2), (2, 4), (4, 4), (4, 2), (2, 2)]

@@ -11,14 +11,14 @@ from fractions import Fraction
 
 import numpy as np
 
-from maps import (box_pairs, drawing_in, geojson_maps, jobs, numpy_drawing, numpy_maps, numpy_pairs, numpy_planning,
+from ..maps import (box_pairs, drawing_in, geojson_maps, jobs, numpy_drawing, numpy_maps, numpy_pairs, numpy_planning,
                   numpy_windows, planning, rounds, windows)
-from maps.drawing_in import Plain
-from maps.task_form import ALONE, COMMON, GAPS, Task
-from maps.whole_maps import MapFault, ReadMap, Told
-from testing.common import InFolder, Programs
-from testing.map_steps import sees
-from testing.random_maps import Maps, random_maps
+from ..maps.drawing_in import Plain
+from ..maps.task_form import ALONE, COMMON, GAPS, Task
+from ..maps.whole_maps import MapFault, ReadMap, Told
+from .common import InFolder, Programs
+from .map_steps import sees
+from .random_maps import Maps, random_maps
 
 MANY = 30
 
@@ -130,7 +130,7 @@ class Rounding(InFolder):
         found = []
         for _ in range(source.randint(1, 2)):
             size = source.choice([0.0008, 0.01, 1, 700 if source.random() < 0.05 else 2])
-            # Of an even last digit, as of half a unit the text may tell another one than the double.
+            # Of an even last digit, as of half a unit the text may have another one than the double.
             ring = [[self.number(source, size), self.number(source, size)]
                     for _ in range(source.randint(3, 6))]
             found.append([*ring, ring[0]])
@@ -156,7 +156,7 @@ class Rounding(InFolder):
             np.array([outer for _, outer in rings]), counts, Fraction(1000), bend, told), told, None))
 
     def told(self, read: Callable[[], ReadMap]) -> object:
-        """The points and what was told of them, or that the map is refused."""
+        """The points and what was reported of them, or that the map is refused."""
         try:
             got = read()
         except MapFault as fault:

@@ -6,8 +6,8 @@ import subprocess
 import sys
 import unittest
 
-import ending
-from testing.common import SECONDS, SQUARE, InFolder, path
+from .. import ending
+from .common import SECONDS, SQUARE, InFolder, path
 
 COUNT = 20000
 LONG = "PUT A x\n" + "".join(f"DROP L{place}\n" for place in range(COUNT))
@@ -31,8 +31,7 @@ class Endings(InFolder):
         ring = ", ".join(f"{place} {place % 7}" for place in [*range(COUNT), 0])
         drawn, accepted = self.file("drawn.txt", f"PUT A POLYGON (({ring}))\n"), self.file("drawn.replies", "ok 1\n")
         return [
-            ["to_script.py", str(map_file), "--split"],
-            ["refused.py", str(script), str(replies)],
+            ["to_script.py", str(map_file), "--split"], ["refused.py", str(script), str(replies)],
             ["dump_store.py", str(store), "--program", str(program)],
             ["which.py", "--store", str(store), "--program", str(answers), "--points", str(points)],
             ["to_rings.py", str(script), "--questions", "--layer", "A"],

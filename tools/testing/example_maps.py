@@ -9,8 +9,8 @@ from collections.abc import Callable
 from decimal import Decimal
 from fractions import Fraction
 
-from testing import plain, slabs
-from testing.common import TOP
+from ..testing import plain, slabs
+from .common import TOP
 
 FACTOR = 1000
 Inside = Callable[[list[bool]], bool]
@@ -48,7 +48,7 @@ class Example(unittest.TestCase):
         self.parcels, self.zones = features_of("parcels.geojson", "nr"), features_of("zones.geojson", "kind")
 
     def table(self, question: str) -> list[str]:
-        """The rows that stand below a command, without the names of columns."""
+        """The rows below a command, without the names of columns."""
         block = re.search(rf"^\$ tools/overlay_maps.py {question} .*\n((?:.*,.*\n)+)", self.page, re.M)
         assert block
         return block[1].splitlines()[1:]

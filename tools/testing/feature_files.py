@@ -1,4 +1,4 @@
-"""Tests of features: their file, whether it is of a store, and the tools that tell and write them."""
+"""Tests of features: their file, whether it is of a store, and the tools that name and write them."""
 
 import io
 import json
@@ -8,17 +8,10 @@ import unittest.mock
 from dataclasses import replace
 from typing import Any
 
-import asking
-import dump_store
-import features
-import layering
-import sessions
-import simple
-import to_geojson
-import to_script
-import which
-from features import Change, FeaturesFault
-from testing.common import InFolder, WithProgram, outcome
+from .. import asking, features, layering, sessions, simple
+from ..commands import dump_store, to_geojson, to_script, which
+from ..features import Change, FeaturesFault
+from .common import InFolder, WithProgram, outcome
 
 WEST = [[0, 0], [10, 0], [10, 10], [5, 10], [0, 10], [0, 0]]
 EAST = [[10, 0], [20, 0], [20, 10], [10, 10], [10, 0]]
@@ -30,7 +23,7 @@ ODD = {"name": "West", "n": 1, "part": 0.114, "no": None, "is": True, "list": [1
 
 
 def ended(tool: Any, *words: object) -> tuple[int, str]:
-    """The status of a tool and what it told, also where it refuses a word."""
+    """The status of a tool and what it reported, also where it refuses a word."""
     with unittest.mock.patch("sys.stderr", io.StringIO()) as told:
         try:
             status, _, errors = outcome(tool, *words)
@@ -290,7 +283,7 @@ class InStores(WithProgram):
             words = [self.folder / "plan.geojson", "--factor", 1, "--output", self.folder / name]
             status, errors = ended(to_script, *words)
             self.assertEqual((status, "not written over" in errors), (2, True), errors)
-        for name in ("lone.features.json", "lone.names.csv", "lone.txt"):  # no store of this name stands
+        for name in ("lone.features.json", "lone.names.csv", "lone.txt"):  # there is no store of this name
             status, errors = ended(to_geojson, script, *program, "--output", self.folder / name)
             self.assertEqual((status, "not written over" in errors), (2, True), errors)
         self.assertEqual({path: path.read_bytes() for path in before}, before)

@@ -1,4 +1,4 @@
-"""Tests of a first map in one word: a store is made of files, and a front tells its address."""
+"""Tests of a first map in one word: a store is made of files, and a front prints its address."""
 
 import fcntl
 import json
@@ -12,10 +12,9 @@ import unittest.mock
 import urllib.request
 from typing import Any
 
-import first_map
-import map_reading
-from testing.common import TOP, WithProgram, outcome, path
-from testing.feature_files import EAST, ISLE, MAP, WEST, collection, feature
+from .. import first_map, map_reading
+from .common import TOP, WithProgram, outcome, path
+from .feature_files import EAST, ISLE, MAP, WEST, collection, feature
 
 OVER = [[5, 5], [25, 5], [25, 6], [5, 6], [5, 5]]
 
@@ -58,8 +57,8 @@ class FirstMaps(WithProgram):
         before = (self.folder / "maps" / "my_city.db").read_bytes()
         given.write_text(collection(feature([WEST], {"name": "West"})))
         store = self.folder / "maps" / "my_city.db"
-        for later, told in ((-5, "it stands, and is served as it is"),
-                            (5, "it stands, and is older than its map, and is served as it is")):
+        for later, told in ((-5, "made before, and served as it is"),
+                            (5, "made before, older than its map, and served as it is")):
             seconds = store.stat().st_mtime + later
             os.utime(given, (seconds, seconds))
             status, _, errors = self.made(given)
@@ -73,7 +72,7 @@ class FirstMaps(WithProgram):
         self.made(given)
         status, _, errors = self.made(given.with_suffix(".gpkg"))
         self.assertEqual((status, errors), (
-            2, f"{self.folder}/city.gpkg: no such file; the store that stands is shown by overlay_web.py --store "
+            2, f"{self.folder}/city.gpkg: no such file; the store of that name is shown by overlay_web.py --store "
                f"{self.folder}/maps/city.db\n"))
 
     def test_a_feature_that_is_refused_is_told_with_file_number_and_name(self) -> None:
@@ -110,7 +109,7 @@ class FirstMaps(WithProgram):
         for words in ([], ["--again"]):
             status, _, errors = self.made(given, *words)
             self.assertEqual((status, self.names(), store.read_bytes()), (2, ["city.db"], b"another's"), errors)
-            self.assertIn(f"{store}: it stands without the city.txt that it was made of", errors)
+            self.assertIn(f"{store}: the city.txt that it was made of is not there", errors)
 
     def test_a_store_of_another_map_of_the_same_name_stays(self) -> None:
         (self.folder / "north").mkdir()
@@ -143,7 +142,7 @@ class FirstMaps(WithProgram):
             (folder / name).write_text("old")
         status, _, errors = self.made(given)
         self.assertEqual((status, (folder / "city.1.db").read_text()), (2, "old"), errors)
-        self.assertIn("city.1.db: it stands, and others of its map do not", errors)
+        self.assertIn("city.1.db: others of its map are not there", errors)
 
     def test_of_a_map_that_has_become_smaller_no_store_is_left_over(self) -> None:
         given, folder = self.file("city.geojson", MAP), self.folder / "maps"

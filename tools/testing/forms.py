@@ -9,13 +9,10 @@ import subprocess
 import unittest.mock
 from fractions import Fraction
 
-import gdal_files
-import map_reading
-import to_geojson
-import to_script
-import writing
-from testing.common import SECONDS, SQUARE, InFolder, on_file, outcome
-from testing.maps import COUNTIES, area_of_script
+from .. import gdal_files, map_reading, writing
+from ..commands import to_geojson, to_script
+from .common import SECONDS, SQUARE, InFolder, on_file, outcome
+from .maps import COUNTIES, area_of_script
 
 FEATURE = '{{"type": "Feature", "properties": {{"n": "{}"}}, "geometry": {{"type": "Polygon", "coordinates": [{}]}}}}'
 FIRST = FEATURE.format("a", "[[0, 0], [9, 0], [0, 9.5], [0, 0]]")
@@ -128,7 +125,7 @@ class WithoutGdal(InFolder):
 
     def setUp(self) -> None:
         super().setUp()
-        patch = unittest.mock.patch("gdal_files.shutil.which", return_value=None)
+        patch = unittest.mock.patch("tools.gdal_files.shutil.which", return_value=None)
         patch.start()
         self.addCleanup(patch.stop)
 

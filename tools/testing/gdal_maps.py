@@ -6,9 +6,9 @@ import subprocess
 import unittest
 from fractions import Fraction
 
-from maps import gdal_maps, gdal_writing
-from maps.whole_maps import MapFault
-from testing.common import SECONDS, TOOLS, Programs
+from ..maps import gdal_maps, gdal_writing
+from ..maps.whole_maps import MapFault
+from .common import SECONDS, TOP, Programs
 
 DEBIANS = "/usr/bin/python3"
 
@@ -25,8 +25,8 @@ class ByDebiansPython(unittest.TestCase):
     def test_reading_and_writing(self) -> None:
         if not debians_python_has_gdal():
             self.skipTest(f"{DEBIANS} has no python3-gdal and python3-numpy")
-        words = [DEBIANS, "-m", "testing.debians_gdal", Programs.live or ""]
-        run = subprocess.run(words, cwd=TOOLS, capture_output=True, text=True, timeout=120)
+        words = [DEBIANS, "-m", "tools.testing.debians_gdal", Programs.live or ""]
+        run = subprocess.run(words, cwd=TOP, capture_output=True, text=True, timeout=120)
         self.assertEqual(run.returncode, 0, run.stderr)
 
     @unittest.skipIf(importlib.util.find_spec("osgeo"), "GDAL is there")

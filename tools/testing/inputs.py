@@ -8,14 +8,9 @@ import sys
 import unittest.mock
 from typing import Any
 
-import ending
-import to_geojson
-import to_rings
-import to_script
-import to_svg
-import which
-import writing
-from testing.common import SECONDS, SQUARE, TOOLS, InFolder, on_file, outcome
+from .. import ending, writing
+from ..commands import to_geojson, to_rings, to_script, to_svg, which
+from .common import SECONDS, SQUARE, TOOLS, TOP, InFolder, on_file, outcome
 
 RING = [[0, 0], [9, 0], [0, 9], [0, 0]]
 
@@ -95,23 +90,31 @@ class Unforeseen(InFolder):
         code = ("import argparse, runpy, sys\n"
                 "def broken(*_): raise KeyError('odd\\nthing')\n"
                 "argparse.ArgumentParser.parse_args = broken\n"
-                f"sys.path.insert(0, {str(TOOLS)!r})\n"
                 f"sys.argv = [{str(tool)!r}]\n"
                 f"runpy.run_path({str(tool)!r}, run_name='__main__')\n")
-        return subprocess.run([sys.executable, *options, "-c", code], capture_output=True, text=True, check=False, timeout=SECONDS)
+        return subprocess.run([sys.executable, *options, "-c", code], cwd=TOP, capture_output=True, text=True, check=False,
+                              timeout=SECONDS)
 
     def test_one_line_and_status_1(self) -> None:
-        tools = [file for file in sorted(TOOLS.glob("*.py")) if "ending.run(main)" in file.read_text()]
+        tools = [file for file in sorted(TOOLS.glob("*.py")) if file.is_symlink()]
         self.assertGreater(len(tools), 7)
         for tool in tools:
             done = self.call(tool)
             self.assertEqual((done.returncode, done.stdout), (1, ""), tool.name)
             self.assertEqual(done.stderr, f"{tool.name}: KeyError: 'odd\\nthing' (<string>, line 2): a defect of this "
-                                          "tool; python3 -X dev tells more\n")
+                                          "tool; python3 -X dev shows more\n")
         self.assertIn("Traceback", self.call(tools[0], "-X", "dev").stderr)
 
+    def test_a_tool_that_is_stopped_while_it_is_imported(self) -> None:
+        code = ("import importlib, runpy, sys\n"
+                "def stopped(name): raise KeyboardInterrupt\n"
+                "importlib.import_module = stopped\n"
+                "sys.argv = ['tools/which.py']\n"
+                "runpy.run_path('tools/which.py', run_name='__main__')\n")
+        done = subprocess.run([sys.executable, "-c", code], cwd=TOP, capture_output=True, text=True, check=False, timeout=SECONDS)
+        self.assertEqual((done.returncode, done.stdout, done.stderr), (ending.INTERRUPTED, "", ""))
+
     def test_a_tool_that_is_stopped_from_the_keyboard(self) -> None:
-        code = (f"import sys\nsys.path.insert(0, {str(TOOLS)!r})\nimport ending\n"
-                "def main(words): raise KeyboardInterrupt\nending.run(main)\n")
-        done = subprocess.run([sys.executable, "-c", code], capture_output=True, text=True, check=False, timeout=SECONDS)
+        code = "from tools import ending\ndef main(words): raise KeyboardInterrupt\nending.run(main)\n"
+        done = subprocess.run([sys.executable, "-c", code], cwd=TOP, capture_output=True, text=True, check=False, timeout=SECONDS)
         self.assertEqual((done.returncode, done.stdout, done.stderr), (ending.INTERRUPTED, "", ""))

@@ -10,12 +10,10 @@ import unittest.mock
 from fractions import Fraction
 from typing import Any
 
-import layering
-import limits
-import rounding
-import to_script
-from testing.common import SQUARE, InFolder, on_file, outcome
-from testing.plain import below, on, segments_of
+from .. import layering, limits, rounding
+from ..commands import to_script
+from .common import SQUARE, InFolder, on_file, outcome
+from .plain import below, on, segments_of
 
 Ring = list[tuple[int, int]]
 
@@ -37,7 +35,7 @@ def geojson(*features: tuple[str, list[list[Ring]]], crs: str | None = None) -> 
 
 
 def odd_segments(rings: list[Ring]) -> set[Any]:
-    """The segments that stand an odd number of times."""
+    """The segments that occur an odd number of times."""
     counts = collections.Counter(segments_of(rings))
     return {segment for segment, count in counts.items() if count % 2}
 
@@ -52,7 +50,7 @@ class Fitting(InFolder):
     def test_degrees_at_factor_1_are_an_error_with_words_that_work(self) -> None:
         status, output, errors = on_file(to_script, self.degrees)
         self.assertEqual((status, output), (2, ""))
-        # Half of 5.7677 degrees goes 363,600 times into 2^20; 4 digits stand behind the points.
+        # Half of 5.7677 degrees goes 363,600 times into 2^20; 4 digits are after the points.
         self.assertEqual(errors, "at factor 1, origin 0 0: coordinates move by up to 0.473, more than a 1000th of the "
                                  "extent, 5.77; to be fitted: --factor 10000 --origin -78.66 35.08, or --fit\n")
         words = errors.split("fitted: ")[1].split(", or")[0].split()
@@ -117,7 +115,21 @@ class Fitting(InFolder):
         ):
             told = self.sidecar(text, "--factor", 100)
             self.assertEqual((told["crs"], told["unit"]), (crs, unit))
-        self.assertEqual(self.sidecar(lonlat, "--factor", 100, "--crs", "EPSG:4258")["crs"], "EPSG:4258")
+        for word in ("EPSG:4258", "epsg:4258", "urn:ogc:def:crs:EPSG::4258"):
+            self.assertEqual(self.sidecar(lonlat, "--factor", 100, "--crs", word)["crs"], "EPSG:4258")
+
+    def test_coordinates_that_are_none_or_others_are_refused(self) -> None:
+        metres = self.file("metres.geojson", geojson(("b", [[square(500000, 5800000, 9)]]), crs="EPSG:25832"))
+        for word in ("nonsense", "25832", "EPSG:"):
+            with self.assertRaises(SystemExit) as ended, unittest.mock.patch("sys.stderr"):
+                outcome(to_script, metres, "--crs", word)
+            self.assertEqual(ended.exception.code, 2)
+        none = "is longitude and latitude, and 500009 5800009 is none; say by --crs what it is, as EPSG:25832"
+        self.assertEqual(outcome(to_script, metres, "--fit", "--crs", "EPSG:4326"), (2, "", f"EPSG:4326 {none}\n"))
+        called = self.file("called.geojson", geojson(("b", [[square(500000, 5800000, 9)]]), crs="urn:ogc:def:crs:OGC:1.3:CRS84"))
+        self.assertEqual(outcome(to_script, called, "--fit"), (2, "", f"OGC:CRS84 {none}\n"))
+        beyond = self.file("beyond.geojson", geojson(("b", [[square(179, 7, 9)]]), crs="EPSG:4326"))
+        self.assertEqual(outcome(to_script, beyond, "--fit")[0], 0)
 
     def test_a_second_map_by_the_scale_of_the_first(self) -> None:
         self.sidecar(geojson(("a", [[square(5000, 7000, 9)]]), crs="EPSG:2263"), "--fit")
@@ -144,7 +156,7 @@ class Fitting(InFolder):
 
     def test_a_store_is_not_written_over(self) -> None:
         file = self.file("plan.wkt", self.degrees)
-        for slot in (0, 4096):  # of either slot the magic stands 16 bytes behind its begin
+        for slot in (0, 4096):  # of either slot the magic stands 16 bytes after its beginning
             store = bytes(slot + 16) + b"OVLSTORE" + bytes(8192 - slot - 24)
             for name in ("map.db", "map.scale.json", "map.names.csv"):
                 kept = self.file(name, store)
@@ -213,7 +225,7 @@ class Fitting(InFolder):
         file = self.file("plan.wkt", SQUARE)
         status, _, errors = outcome(to_script, file, "--factor", "1/3", "--output", self.folder / "out.txt")
         self.assertEqual(status, 2)
-        self.assertIn("1/3 has no end behind the point", errors)
+        self.assertIn("1/3 has no end after the point", errors)
 
 
 class Splitting(InFolder):

@@ -7,14 +7,14 @@ from collections.abc import Callable, Iterable, Iterator
 from fractions import Fraction
 from unittest import mock
 
-from maps import (auditing, bending, box_pairs, cells, drawing_in, exact_area, jobs, map_checks, planning, rounds,
+from ..maps import (auditing, bending, box_pairs, cells, drawing_in, exact_area, jobs, map_checks, planning, rounds,
                   sewing, slots, tables, touching, windows)
-from maps.task_form import ALONE, COMMON, Found, Row, ShapeOf, Task
-from maps.whole_maps import Box, Point, Ring, WholeMap
-from sessions import Piece, Unusable
-from testing import plain, slabs
-from testing.common import Programs
-from testing.random_maps import random_maps, wrong_answers
+from ..maps.task_form import ALONE, COMMON, Found, Row, ShapeOf, Task
+from ..maps.whole_maps import Box, Point, Ring, WholeMap
+from ..sessions import Piece, Unusable
+from ..testing import plain, slabs
+from .common import Programs
+from .random_maps import random_maps, wrong_answers
 
 SEEDS = 6
 
@@ -301,7 +301,7 @@ class Planted(WithLive):
 
 
 def told_up_to(most: int) -> Callable[[rounds.Program, Iterable[rounds.Round]], Iterator[list[Piece] | None]]:
-    """The `boundaries` of a program that tells no more pieces than so many."""
+    """The `boundaries` of a program that gives no more pieces than so many."""
     def boundaries(program: rounds.Program, asked: Iterable[rounds.Round]) -> Iterator[list[Piece] | None]:
         for pieces in BOUNDARIES(program, asked):
             yield None if pieces is not None and len(pieces) > most else pieces

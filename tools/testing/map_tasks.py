@@ -15,12 +15,12 @@ import time
 import unittest
 from unittest import mock
 
-import overlay_maps
-import progress
-from maps import dask_engine, engines, large_tables, planning, tasks, windows
-from maps.tasks import FolderFault, TaskFolder
-from testing.common import SECONDS, TOOLS, InFolder, Programs, outcome
-from testing.map_works import Refusing, Reversing
+from .. import progress
+from ..commands import overlay_maps
+from ..maps import dask_engine, engines, large_tables, planning, tasks, windows
+from ..maps.tasks import FolderFault, TaskFolder
+from .common import SECONDS, TOOLS, TOP, InFolder, Programs, outcome
+from .map_works import Refusing, Reversing
 
 NAMES = [f"task {number}".encode() for number in range(12)]
 ENDS = [name[::-1] for name in NAMES]
@@ -48,7 +48,7 @@ class InTasks(InFolder):
     def words(self, seconds: str, engine: str = "processes", deaths: str = "0", python: str = sys.executable
               ) -> list[str]:
         """The call of a run in a process of its own."""
-        return [python, "-m", "testing.map_works", str(self.work), str(self.marks), seconds, engine, deaths]
+        return [python, "-m", "tools.testing.map_works", str(self.work), str(self.marks), seconds, engine, deaths]
 
     def begun(self, names: list[bytes] = NAMES, **run: object) -> TaskFolder:
         return tasks.begin(self.work, {"asks": "names", **run}, names)
@@ -167,7 +167,7 @@ class Folders(InTasks):
 
     def test_one_run_at_a_time_has_a_folder(self) -> None:
         words = self.words("60")
-        with subprocess.Popen(words, cwd=TOOLS, stderr=subprocess.DEVNULL) as other:
+        with subprocess.Popen(words, cwd=TOP, stderr=subprocess.DEVNULL) as other:
             self.addCleanup(other.kill)
             wait_for(lambda: (self.work / "run.json").exists())
             with self.assertRaisesRegex(FolderFault, "another run is at work"), tasks.held(self.work):
@@ -272,7 +272,7 @@ class Engines(WithProcesses):
 
     def test_an_interrupt_while_workers_begin_is_not_told_by_these(self) -> None:
         for seconds in (0.05, 0.15, 0.3):
-            with subprocess.Popen(self.words("0.5"), cwd=TOOLS, stderr=subprocess.PIPE, text=True, start_new_session=True) as run:
+            with subprocess.Popen(self.words("0.5"), cwd=TOP, stderr=subprocess.PIPE, text=True, start_new_session=True) as run:
                 self.addCleanup(run.kill)
                 wait_for(lambda: (self.work / "run.json").exists())
                 time.sleep(seconds)
@@ -282,13 +282,13 @@ class Engines(WithProcesses):
             (self.work / "run.json").unlink()
 
     def test_a_run_that_was_killed_leaves_no_process_and_goes_on(self) -> None:
-        with subprocess.Popen(self.words("0.3"), cwd=TOOLS, stderr=subprocess.DEVNULL) as run:
+        with subprocess.Popen(self.words("0.3"), cwd=TOP, stderr=subprocess.DEVNULL) as run:
             self.addCleanup(run.kill)
             wait_for(lambda: len(list(self.work.glob("*.result"))) >= 3)
             os.kill(run.pid, signal.SIGKILL)
         wait_for(lambda: not any(map(is_running, self.processes())))
         done = 12 - len(TaskFolder(self.work).left())
-        again = subprocess.run(self.words("0"), cwd=TOOLS, capture_output=True, text=True, timeout=WAIT)
+        again = subprocess.run(self.words("0"), cwd=TOP, capture_output=True, text=True, timeout=WAIT)
         self.assertIn(f"names: {done} of 12 tasks were done before\n", again.stderr)
         self.assertEqual((again.returncode, list(TaskFolder(self.work).results())), (0, ENDS))
 
@@ -303,13 +303,13 @@ class Dask(WithProcesses):
 
     def test_what_a_dead_worker_had_is_begun_again_and_no_process_is_left(self) -> None:
         words = self.words("0", "dask", "1", DEBIANS)
-        run = subprocess.run(words, cwd=TOOLS, capture_output=True, text=True, timeout=2 * WAIT)
+        run = subprocess.run(words, cwd=TOP, capture_output=True, text=True, timeout=2 * WAIT)
         self.assertEqual((run.returncode, list(TaskFolder(self.work).results())), (0, ENDS), run.stderr)
         self.assertEqual(len(list(self.marks.glob("death *"))), 1)
         wait_for(lambda: not any(map(is_running, self.processes())))
 
     def test_workers_end_with_a_run_that_is_killed(self) -> None:
-        with subprocess.Popen(self.words("0.3", "dask", python=DEBIANS), cwd=TOOLS, stderr=subprocess.DEVNULL) as run:
+        with subprocess.Popen(self.words("0.3", "dask", python=DEBIANS), cwd=TOP, stderr=subprocess.DEVNULL) as run:
             self.addCleanup(run.kill)
             wait_for(lambda: len(list(self.work.glob("*.result"))) >= 3)
             os.kill(run.pid, signal.SIGKILL)
@@ -470,9 +470,10 @@ class Addresses(unittest.TestCase):
     def test_what_is_sent_to_workers_can_be_imported_alone(self) -> None:
         with tempfile.TemporaryDirectory() as folder:
             sent = dask_engine.packed(pathlib.Path(folder))
-            lines = f"import sys; sys.path.insert(0, {str(sent)!r}); from maps import work; print(work.__file__)"
-            words = [sys.executable, "-I", "-c", lines]
-            self.assertIn(".zip", subprocess.run(words, cwd=folder, capture_output=True, text=True, check=True, timeout=SECONDS).stdout)
+            words = [sys.executable, "-c", "from tools.maps import running, work; print(work.__file__)"]
+            done = subprocess.run(words, cwd=folder, env={"PYTHONPATH": str(sent)}, capture_output=True, text=True, check=True,
+                                  timeout=SECONDS)
+            self.assertIn(".zip", done.stdout)
 
     @unittest.skipIf(importlib.util.find_spec("distributed"), "Dask is there")
     def test_without_dask_the_refusal_has_the_line_to_type(self) -> None:

@@ -10,10 +10,10 @@ import unittest
 from typing import Any
 from unittest import mock
 
-import overlay_maps
-import writing
-from maps import boundaries, doing, exact_area
-from testing.common import InFolder, Programs, outcome
+from .. import writing
+from ..commands import overlay_maps
+from ..maps import boundaries, doing, exact_area
+from .common import InFolder, Programs, outcome
 
 Position = list[float]
 
@@ -50,7 +50,7 @@ class WithMaps(InFolder):
         return self.file(f"{name}.geojson", json.dumps(whole))
 
     def asked(self, question: str, *words: object) -> tuple[int, list[list[str]], str]:
-        """The status, the rows of the table, and what was told."""
+        """The status, the rows of the table, and what was reported."""
         status, output, errors = outcome(overlay_maps, question, *words, "--program", Programs.live, "--jobs", 1)
         return status, list(csv.reader(output.splitlines())), errors
 

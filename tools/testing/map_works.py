@@ -7,8 +7,8 @@ import sys
 import time
 from dataclasses import dataclass
 
-import progress
-from maps import dask_engine, engines, tasks
+from .. import progress
+from ..maps import dask_engine, engines, tasks
 
 
 @dataclass(frozen=True)
@@ -51,6 +51,7 @@ def tell(text: str) -> None:
 
 def main() -> None:
     """A run of its own process: FOLDER MARKS SECONDS ENGINE DEATHS; ENGINE is 'processes', 'dask' or an address."""
+    signal.signal(signal.SIGINT, signal.default_int_handler)  # also where a shell has it ignored
     folder, marks = map(pathlib.Path, sys.argv[1:3])
     engine = engines.by_processes(2)
     if sys.argv[4] != "processes":

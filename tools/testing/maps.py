@@ -9,16 +9,12 @@ from decimal import Decimal
 from fractions import Fraction
 from typing import Any
 
-import sessions
-import to_geojson
-import to_rings
-import to_script
-import which
-import wkt
-from to_rings import turn
-from testing.common import WithProgram, outcome, path
-from testing.layouts import geojson, zigzag
-from testing.plain import OPERATIONS, area_twice, below, on, overlay, segments_of
+from .. import sessions, wkt
+from ..commands import to_geojson, to_rings, to_script, which
+from ..commands.to_rings import turn
+from .common import WithProgram, outcome, path
+from .layouts import geojson, zigzag
+from .plain import OPERATIONS, area_twice, below, on, overlay, segments_of
 
 COUNTIES = path("data", "north_carolina.geojson")
 ICELAND = [path("data", f"iceland_{scale}.geojson") for scale in ("110m", "50m")]
@@ -174,7 +170,7 @@ def rectangle(left: int, low: int, right: int, high: int) -> str:
 
 class Overlaps(WithProgram):
     def checked(self, *texts: str, words: tuple[object, ...] = ("--factor", 1)) -> tuple[int, list[str]]:
-        """The status of --check, and the lines that it tells, which are the same by each program."""
+        """The status of --check, and the lines that it prints, which are the same by each program."""
         file = self.file("plan.wkt", " ".join(f"POLYGON (({text}))" for text in texts))
         given = [file, "--coded", "--check", *words, "--output", self.folder / "plan.txt"]
         found = [outcome(to_script, *given, "--program", program) for program in self.readers()]

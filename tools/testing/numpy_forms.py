@@ -4,7 +4,7 @@ import functools
 import subprocess
 import unittest
 
-from testing.common import SECONDS, TOOLS, Programs
+from .common import SECONDS, TOP, Programs
 
 DEBIANS = "/usr/bin/python3"
 
@@ -22,6 +22,6 @@ class ByDebiansPython(unittest.TestCase):
     def test_the_same_answers_as_by_python_alone(self) -> None:
         if not debians_python_has_numpy():
             self.skipTest(f"{DEBIANS} has no python3-numpy")
-        words = [DEBIANS, "-m", "testing.debians_numpy", Programs.live or ""]
-        run = subprocess.run(words, cwd=TOOLS, capture_output=True, text=True, timeout=120, check=False)
+        words = [DEBIANS, "-m", "tools.testing.debians_numpy", Programs.live or ""]
+        run = subprocess.run(words, cwd=TOP, capture_output=True, text=True, timeout=120, check=False)
         self.assertEqual(run.returncode, 0, run.stderr)

@@ -8,13 +8,11 @@ from collections.abc import Callable
 from fractions import Fraction
 from typing import Any
 
-import asking
-import sessions
-import to_rings
-import wkt
-from areas import Ring, area_of
-from testing.common import WithProgram
-from testing.plain import OPERATIONS, area_twice, below, homogeneous, on, overlay, random_rings, segments_of
+from .. import asking, sessions, wkt
+from ..areas import Ring, area_of
+from ..commands import to_rings
+from .common import WithProgram
+from .plain import OPERATIONS, area_twice, below, homogeneous, on, overlay, random_rings, segments_of
 
 
 def contains(ring: Ring, point: sessions.Corner) -> bool:
@@ -72,7 +70,7 @@ class PlainOverlay(unittest.TestCase):
 
     def test_random_layers_in_a_status_of_short_blocks(self) -> None:
         source = random.Random(22)
-        with unittest.mock.patch("sweeping.BLOCK_MAX", 2):
+        with unittest.mock.patch("tools.sweeping.BLOCK_MAX", 2):
             for number in range(60):
                 layers = [random_rings(source, 9), random_rings(source, 9)]
                 inside = OPERATIONS["&|-^"[number % 4]]

@@ -1,11 +1,11 @@
-"""The pages of examples/: each command of their console blocks writes what stands below it."""
+"""The pages of examples/: each command of their console blocks writes what is below it."""
 
 import os
 import pathlib
 import re
 import subprocess
 
-from testing.common import SECONDS, TOP, Programs, WithProgram
+from .common import SECONDS, TOP, Programs, WithProgram
 
 PAGES = ("tasks.md", "beside-geos.md")
 PAGES_OF_LIVE = ("maps.md",)
@@ -23,7 +23,7 @@ def commands_of(text: str) -> list[tuple[str, str]]:
 
 class Pages(WithProgram):
     def environment(self) -> dict[str, str]:
-        """The folder has what the pages ask for, and the program stands on the path."""
+        """The folder has what the pages ask for, and the program is on the path."""
         programs = self.folder / "programs"
         programs.mkdir()
         for program in filter(None, (Programs.batched, Programs.live)):

@@ -4,12 +4,10 @@ import unittest
 import xml.etree.ElementTree
 from fractions import Fraction
 
-import limits
-import scale
-import sessions
-import to_svg
-from testing.common import SQUARE
-from testing.rings import shapes
+from .. import limits, scale, sessions
+from ..commands import to_svg
+from .common import SQUARE
+from .rings import shapes
 
 
 class ToSvg(unittest.TestCase):

@@ -6,7 +6,7 @@ from collections.abc import Callable
 from fractions import Fraction
 from typing import Any
 
-import limits
+from .. import limits
 
 
 Place = tuple[Fraction, Fraction]
@@ -83,9 +83,7 @@ def random_rings(source: random.Random, reach: int) -> list[list[tuple[int, int]
 
 
 OPERATIONS: dict[str, Callable[..., bool]] = {
-    "&": lambda a, b: bool(a and b),
-    "|": lambda a, b: bool(a or b),
-    "-": lambda a, b: bool(a and not b),
+    "&": lambda a, b: bool(a and b), "|": lambda a, b: bool(a or b), "-": lambda a, b: bool(a and not b),
     "^": lambda a, b: bool(a != b),
 }
 

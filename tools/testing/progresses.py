@@ -10,9 +10,9 @@ import unittest
 import unittest.mock
 from typing import Any
 
-import progress
-from testing.common import SECONDS, TOOLS, InFolder
-from testing.layouts import geojson, square
+from .. import progress
+from .common import SECONDS, TOP, InFolder
+from .layouts import geojson, square
 
 
 class Terminal(io.StringIO):
@@ -21,7 +21,7 @@ class Terminal(io.StringIO):
 
 
 class Bar:
-    """What stands for a bar of tqdm."""
+    """What takes the place of a bar of tqdm."""
 
     monitor_interval = 10
     made: list["Bar"] = []
@@ -39,7 +39,7 @@ class Bar:
 
 class Progresses(unittest.TestCase):
     def lines(self, terminal: io.StringIO, times: list[float]) -> list[str]:
-        """What is told where tqdm is not installed, at these times of the begin and of each step."""
+        """What is reported where tqdm is not installed, at these times of the begin and of each step."""
         clock = iter([time for time in times for _ in (0, 1)][1:])
         with unittest.mock.patch.dict("sys.modules", tqdm=None):
             with progress.Progress("work", 10 * len(times), terminal, lambda: next(clock)) as told:
@@ -81,13 +81,13 @@ class OnTerminals(InFolder):
         features = [(f"n{place}", [[square(7 * place, 0, 5)]]) for place in range(300)]
         file, output = self.file("many.geojson", geojson(*features)), self.folder / "many.txt"
         code = ("import sys\n"
-                f"sys.path.insert(0, {str(TOOLS)!r})\n"
                 "sys.modules['tqdm'] = None\n"
-                "import progress, to_script\n"
+                "from tools import progress\n"
+                "from tools.commands import to_script\n"
                 "progress.BEGIN_SECONDS = progress.SECONDS_BETWEEN = 0\n"
                 f"sys.exit(to_script.main([{str(file)!r}, '--coded', '--output', {str(output)!r}]))\n")
         reader, writer = pty.openpty()
-        done = subprocess.run([sys.executable, "-c", code], stdout=subprocess.PIPE, stderr=writer, check=False, timeout=SECONDS)
+        done = subprocess.run([sys.executable, "-c", code], cwd=TOP, stdout=subprocess.PIPE, stderr=writer, check=False, timeout=SECONDS)
         os.close(writer)
         told = b""
         while not told.endswith(b"many.features.json\r\n"):

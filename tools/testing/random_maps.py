@@ -5,13 +5,13 @@ from dataclasses import dataclass
 from fractions import Fraction
 from unittest import mock
 
-import limits
-from maps import cells, jobs, planning, rounds
-from maps.drawing_in import Plain
-from maps.task_form import COMMON, TOUCHES, Task
-from maps.whole_maps import WholeMap
-from testing import slabs
-from testing.slabs import Point, Ring
+from .. import limits
+from ..maps import cells, jobs, planning, rounds
+from ..maps.drawing_in import Plain
+from ..maps.task_form import COMMON, TOUCHES, Task
+from ..maps.whole_maps import WholeMap
+from ..testing import slabs
+from .slabs import Point, Ring
 
 Key = tuple[int, ...]
 """The number of a feature, and of another where a part is common."""
@@ -25,7 +25,7 @@ class Maps:
     wholes: list[WholeMap]
 
     def planned(self, kind: str) -> tuple[list[planning.Job], dict[Key, Fraction]]:
-        """The jobs of a kind, and the area that each row has to tell."""
+        """The jobs of a kind, and the area that each row has to have."""
         a, b = map(planning.boxes_of, self.wholes)
         if kind == COMMON:
             found = planning.common_jobs(a, b, touching=True)

@@ -2,8 +2,8 @@
 
 import unittest
 
-import sessions
-from testing.common import SQUARE
+from .. import sessions
+from .common import SQUARE
 
 LISTED = b"layers 3\nA MULTIPOLYGON (((0 0, 9 0, 9 9, 0 0)))\nI = A\nJ = A & I\n"
 

@@ -1,4 +1,4 @@
-"""Tests of to_rings.py: rings of answers that stand in fixtures/, and of answers that a program gives."""
+"""Tests of to_rings.py: rings of answers of fixtures/, and of answers that a program gives."""
 
 import io
 import pathlib
@@ -6,12 +6,11 @@ import sys
 import unittest
 from fractions import Fraction
 
-import sessions
-import to_rings
-import to_svg
-from scale import decimals
-from testing.common import InFolder, content, outcome, path
-from testing.plain import OPERATIONS, Place, area_twice, overlay
+from .. import sessions
+from ..commands import to_rings, to_svg
+from ..scale import decimals
+from .common import InFolder, content, outcome, path
+from .plain import OPERATIONS, Place, area_twice, overlay
 
 
 def shapes() -> sessions.Session:

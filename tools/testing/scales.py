@@ -4,9 +4,9 @@ import json
 import unittest
 from fractions import Fraction
 
-import scale as scales
-from scale import Scale
-from testing.common import InFolder
+from .. import scale as scales
+from ..scale import Scale
+from .common import InFolder
 
 
 class Numbers(unittest.TestCase):

@@ -4,8 +4,8 @@ import re
 import unittest
 import unittest.mock
 
-import to_script
-from testing.common import SQUARE, content, on_file, outcome, path
+from ..commands import to_script
+from .common import SQUARE, content, on_file, outcome, path
 
 
 class ToScript(unittest.TestCase):

@@ -1,16 +1,12 @@
-"""Tests of what goes with a script: a store that stands keeps the scale and the names that it was made with."""
+"""Tests of what goes with a script: a store keeps the scale and the names that it was made with."""
 
 import json
 import pathlib
 from typing import Any
 
-import dump_store
-import to_geojson
-import to_rings
-import to_script
-import which
-from testing.common import SQUARE, InFolder, WithProgram, outcome, path
-from testing.layouts import geojson, square
+from ..commands import dump_store, to_geojson, to_rings, to_script, which
+from .common import SQUARE, InFolder, WithProgram, outcome, path
+from .layouts import geojson, square
 
 COUNTIES = path("data", "north_carolina.geojson")
 

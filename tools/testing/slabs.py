@@ -36,7 +36,7 @@ def crossing(first: Segment, second: Segment) -> Fraction | None:
 
 
 def area(layers: Sequence[Sequence[Ring]], inside: Callable[[list[bool]], bool]) -> Fraction:
-    """The area of the places that lie inside, told by whether they lie in each layer by even-odd."""
+    """The area of the places that lie inside, by whether they lie in each layer by even-odd."""
     owned = [(segment, number) for number, rings in enumerate(layers) for segment in segments_of(rings)]
     borders = {Fraction(point[0]) for segment, _ in owned for point in segment}
     borders |= {x for (a, _), (b, _) in combinations(owned, 2) if (x := crossing(a, b)) is not None}

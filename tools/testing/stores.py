@@ -8,16 +8,9 @@ import unittest.mock
 import xml.etree.ElementTree
 from types import ModuleType
 
-import asking
-import dump_store
-import refused
-import sessions
-import to_geojson
-import to_rings
-import to_script
-import to_svg
-import which
-from testing.common import SQUARE, InFolder, WithProgram, content, outcome
+from .. import asking, sessions
+from ..commands import dump_store, refused, to_geojson, to_rings, to_script, to_svg, which
+from .common import SQUARE, InFolder, WithProgram, content, outcome
 
 # T without what is left of x = 1 is T in two thirds: 4/3 of an area, with corners at 1/3 and 5/3.
 TRIANGLE = "PUT T POLYGON ((0 0, 3 1, 0 2, 0 0))\n"
@@ -265,7 +258,7 @@ class OverStores(WithProgram):
 
     def test_no_program(self) -> None:
         script = self.file("plan.txt", CUT)
-        nowhere = unittest.mock.patch("asking.TOP", pathlib.Path("/nowhere"))
+        nowhere = unittest.mock.patch("tools.asking.TOP", pathlib.Path("/nowhere"))
         with nowhere, unittest.mock.patch.dict("os.environ", PATH=""):
             status, output, errors = outcome(to_rings, script)
         self.assertEqual((status, output), (1, ""))
@@ -284,7 +277,8 @@ class OverStores(WithProgram):
     def test_a_point_that_is_none_takes_no_answer_along(self) -> None:
         store = self.store("plan.db", BOW + CUT)
         self.file("plan.scale.json", SCALE)
-        self.assertEqual(self.each(which, store, "999999", "2"), (1, "error\t999999 2: point out of range\n", ""))
+        beyond = "point out of range: x is -104357.6 to 105357.6, y -104877.6 to 104837.6"
+        self.assertEqual(self.each(which, store, "999999", "2"), (1, f"error\t999999 2: {beyond}\n", ""))
         none = "no number, or one that is too long"
         self.assertEqual(self.each(which, store, "1", "x"), (1, f"error\t1 x: {none}: x\n", ""))
         points = self.file("points.txt", "\ufeff# x y\n500.2 -19.9\n\n  # far out:\n 1e99; -19.9\n500.01,-19.85\r\n"
@@ -292,13 +286,13 @@ class OverStores(WithProgram):
         status, output, errors = self.each(which, store, "--points", points)
         self.assertEqual((status, errors), (1, ""))
         self.assertEqual(output.splitlines(), [
-            "F", "error\t1e99; -19.9: point out of range", "W", "error\t7: two numbers are a point",
+            "F", f"error\t1e99; -19.9: {beyond}", "W", "error\t7: two numbers are a point",
             "error\t1 2 3: two numbers are a point", f"error\t{'9' * 80} ..: {none}: {'9' * 40}", ""])
         for text in ("", "#\n\n"):
             self.assertEqual(self.each(which, store, "--points", self.file("none.txt", text)), (0, "", ""))
         edge = self.file("edge.txt", "105357.6 0\n105357.7 0\n")  # 2^20 / 10 + 500 is the last that is in range
         self.assertEqual(self.each(which, store, "--points", edge)[:2],
-                         (1, "\nerror\t105357.7 0: point out of range\n"))
+                         (1, f"\nerror\t105357.7 0: {beyond}\n"))
 
 
 class ProgramsThatAreFound(InFolder):
@@ -311,7 +305,7 @@ class ProgramsThatAreFound(InFolder):
             place.parent.mkdir(parents=True, exist_ok=True)
             place.write_text("#!/bin/sh\n")
             place.chmod(0o700)
-        with unittest.mock.patch("asking.TOP", top), unittest.mock.patch.dict("os.environ", PATH=str(path)):
+        with unittest.mock.patch("tools.asking.TOP", top), unittest.mock.patch.dict("os.environ", PATH=str(path)):
             for place in places:
                 self.assertEqual(asking.found_program((asking.LIVE, asking.BATCHED)), str(place))
                 place.unlink()

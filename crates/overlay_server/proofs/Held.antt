@@ -20,7 +20,7 @@ use Rattle.session_threads.specs.declared.running.Script.{Script}
 use Rattle.session_threads.specs.declared.running.Ended.{Ended}
 use Rattle.overlay_server.specs.Moments.{HasOnlyNow}
 use Rattle.overlay_server.specs.Serving.{IsHeldOf, IsStoredOf, WasHeld, first_log}
-use Rattle.overlay_server.proofs.Weaker.{session_weaker}
+use Rattle.server_session.proofs.Weaker.{session_weaker}
 
 module _ {D : Type 0} (g : Ghosts D) (now : HasOnlyNow g) (start : Version) (stored : List Entry → ℕ → Type 0) where
   -- a history that goes on from a log goes on from each beginning of it to which the first version's store was followed
@@ -56,7 +56,7 @@ module _ {D : Type 0} (g : Ghosts D) (now : HasOnlyNow g) (start : Version) (sto
     stored = is;
   }
 
-  was_held : (store : Option (Flusher D g)) → ((log : List Entry) (number : ℕ) → stored log number → IsStoredOf g start store log number) → IsTrue (is_some store)
+  pub was_held : (store : Option (Flusher D g)) → ((log : List Entry) (number : ℕ) → stored log number → IsStoredOf g start store log number) → IsTrue (is_some store)
       → (history : History) → BeginsWith history (history_of (first_log start)) → IsToldOf stored history → IsHeldOf g start store history
   was_held None meant there history on told = absurd (false≢true there)
   was_held (Some old) meant there history on (log, same, inl first) =

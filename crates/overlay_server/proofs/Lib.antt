@@ -6,6 +6,7 @@ pub mod Held
 pub mod Lists
 pub mod Parts
 mod Refusals
+mod Reporting
 pub mod Runs
 pub mod Sent
 pub mod ServedParts
@@ -13,4 +14,3 @@ pub mod StoppedParts
 pub mod Stopping
 pub mod Stores
 pub mod Strangers
-pub mod Weaker

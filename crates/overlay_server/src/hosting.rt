@@ -1,12 +1,12 @@
 //! The book of a server, from its opening to its end.
 ghost use Rattle.std.specs.Prelude.{◌≡◌, ◌<◌, ◌≤◌, ◌↔◌, ℕ, List, length, IfOk, IfErr};
 ghost use Rattle.book_history.specs.Rules.{head_of};
-ghost use Rattle.overlay_terms.specs.Histories.{Entry};
+ghost use Rattle.overlay_terms.specs.Histories.{Entry, History};
 ghost use Rattle.store_flushing.specs.Stores.{flusher_in};
 ghost use Rattle.overlay_server.specs.Given.{Given, bytes_of, given_by, given_to};
 ghost use Rattle.overlay_server.specs.Hosting.{IsHosted};
 ghost use Rattle.overlay_server.specs.Refusing.{IsRefusedFrom};
-ghost use Rattle.overlay_server.specs.Serving.{IsLeftFrom, IsStoredOf, first_log, flusher_of, start_of};
+ghost use Rattle.overlay_server.specs.Serving.{IsHeldOf, IsLeftFrom, IsStoredOf, first_log, flusher_of, start_of};
 
 use crate::hosted::Hosted;
 use crate::listening::listened;
@@ -18,12 +18,13 @@ use crate::threads::{Work, run_threads};
 use disk_model::disk::Disk;
 use flush_core::flusher::Flusher;
 use overlay_engine::engine::Engine;
+use server_session::reply_writer::ReplyWriter;
 use session_threads::counting::{any_begun, await_number, made_by_all};
 use session_threads::halt::Halt;
 use session_threads::port::Port;
 use session_threads::seating::seated;
 use std::alloc::Global;
-use std::io::{Read, Write};
+use std::io::Read;
 use std::snapshot::Snapshot;
 use std::sync::Wait;
 use std::thread::Threads;
@@ -132,7 +133,7 @@ where
     J: BookName + Send + Sync,
     D: Disk + Send + Drop,
     R: Read + Send + Drop,
-    W: Write + Send + Drop,
+    W: ReplyWriter + Send + Drop,
     G: Gate + Sync,
     Q: Threads + Wait + Sync,
     requires head { opened.0 ≡ head_of J.book }
@@ -140,6 +141,7 @@ where
     requires begun { opened.1.log ≡ first_log (start_of engine) }
     requires stored { (log : List Entry) (number : ℕ) → J.stored log number ↔ IsStoredOf D.Disk (start_of engine) (flusher_of engine) log number }
     requires ports { (0 < length ports.items) × (length ports.items ≤ 4) }
+    requires told { (history : History) → IsHeldOf D.Disk (start_of engine) (flusher_of engine) history → W.may_report history }
     ensures left { IfOk result (IsLeftFrom W.contents D.Disk (start_of engine) (flusher_of engine) (given_to R.remaining W.contents ports.items)) }
     ensures refused { IfErr result (IsRefusedFrom D.Disk (start_of engine) (flusher_of engine) (given_to R.remaining W.contents ports.items)) }
 {
@@ -164,11 +166,12 @@ where
     ) -> Result<Left<W, D>, ServerFault<D>>
     where
         R: Read + Send + Drop,
-        W: Write + Send + Drop,
+        W: ReplyWriter + Send + Drop,
         G: Gate + Sync,
         Q: Threads + Wait + Sync,
         requires ports { 0 < length ports.items }
         requires hosted { IsHosted J.book (length ports.items) self }
+        requires told { (history : History) → IsHeldOf D.Disk self.version.value (flusher_in self.store) history → W.may_report history }
         requires meant { (log : List Entry) (number : ℕ) → J.stored log number ↔ IsStoredOf D.Disk self.version.value (flusher_in self.store) log number }
         ensures left { IfOk result (IsLeftFrom W.contents D.Disk self.version.value (flusher_in self.store) (given_to R.remaining W.contents ports.items)) }
         ensures refused { IfErr result (IsRefusedFrom D.Disk self.version.value (flusher_in self.store) (given_to R.remaining W.contents ports.items)) }

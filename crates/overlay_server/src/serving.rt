@@ -3,15 +3,17 @@ ghost use Rattle.std.specs.Prelude.{◌≡◌, ◌<◌, ◌≤◌, is_some, leng
 ghost use Rattle.book_history.specs.Rules.{head_of};
 ghost use Rattle.overlay_server.specs.Given.{bytes_of, given_by, given_to};
 ghost use Rattle.overlay_server.specs.Refusing.{IsRefusedFrom};
-ghost use Rattle.overlay_server.specs.Serving.{IsLeftFrom, first_log, flusher_of, start_of};
+ghost use Rattle.overlay_terms.specs.Histories.{History};
+ghost use Rattle.overlay_server.specs.Serving.{IsHeldOf, IsLeftFrom, first_log, flusher_of, start_of};
 
 use crate::hosting::{listen_in, serve_in};
 use crate::outcome::{Left, ServeOptions, Served, ServerFault};
 use disk_model::disk::Disk;
 use overlay_engine::engine::Engine;
+use server_session::reply_writer::ReplyWriter;
 use session_threads::port::Port;
 use std::alloc::Global;
-use std::io::{Read, Write};
+use std::io::Read;
 use std::marker::Brand;
 use std::sync::Wait;
 use std::thread::Threads;
@@ -67,10 +69,13 @@ pub fn serve_ports<D, R, W, G, Q>(
 where
     D: Disk + Send + Drop,
     R: Read + Send + Drop,
-    W: Write + Send + Drop,
+    W: ReplyWriter + Send + Drop,
     G: Gate + Sync,
     Q: Threads + Wait + Sync,
     requires ports { (0 < length ports.items) × (length ports.items ≤ 4) }
+    // To the writers may be reported what the store holds, and nothing else: this says what counts as stored, also in a call
+    // that never returns. Each writer of bytes meets it.
+    requires told { (history : History) → IsHeldOf D.Disk (start_of engine) (flusher_of engine) history → W.may_report history }
     ensures left { IfOk result (IsLeftFrom W.contents D.Disk (start_of engine) (flusher_of engine) (given_to R.remaining W.contents ports.items)) }
     ensures disk { IfOk result (λ left. is_some left.closed.disk ≡ is_some engine) }
     ensures refused { IfErr result (IsRefusedFrom D.Disk (start_of engine) (flusher_of engine) (given_to R.remaining W.contents ports.items)) }

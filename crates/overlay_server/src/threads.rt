@@ -6,10 +6,11 @@ ghost use Rattle.version_book.specs.Store.{has_store};
 
 use crate::storing::start_store;
 use disk_model::disk::Disk;
+use server_session::reply_writer::ReplyWriter;
 use session_threads::halt::Halt;
 use session_threads::running::{Seats, run_sessions};
 use std::alloc::Global;
-use std::io::{Read, Write};
+use std::io::Read;
 use std::sync::Wait;
 use std::thread;
 use std::thread::{Scope, Threads};
@@ -21,7 +22,7 @@ use version_book::shared::Shared;
 
 /// What the threads work on: how many of them build tiles, the store, and the sessions with their scripts.
 #[derive(Drop)]
-pub struct Work<J: BookName, R: Read, W: Write, D: Disk> {
+pub struct Work<J: BookName, R: Read, W: ReplyWriter, D: Disk> {
     pub workers: usize,
     pub store: Store<D>,
     pub seats: Seats<J, R, W>,
@@ -44,16 +45,16 @@ where
     G: Gate + Sync,
     Q: Threads + Wait + Sync,
     R: Read + Send + Drop,
-    W: Write + Send + Drop,
+    W: ReplyWriter + Send + Drop,
     D: Disk + Send + Drop,
-    requires { IsReady J.book J.stored work }
+    requires { IsReady J.book J.stored (has_store shared.now) W.may_report work }
     ensures { HasWorked J.book (store_of J.stored (has_store shared.now)) R.remaining W.contents D.Disk work result }
 {
     thread::scope(
         thread::scope_env(),
         rt,
         |scope| -> Work<J, R, W, D>
-            requires { IsReady J.book J.stored work }
+            requires { IsReady J.book J.stored (has_store shared.now) W.may_report work }
             ensures { HasWorked J.book (store_of J.stored (has_store shared.entry.now)) R.remaining W.contents D.Disk work result }
         { run_in(scope, rt, alloc, gate, shared, halt, work) },
     )
@@ -75,9 +76,9 @@ where
     G: Gate + Sync,
     Q: Threads + Wait + Sync,
     R: Read + Send + Drop + 's,
-    W: Write + Send + Drop + 's,
+    W: ReplyWriter + Send + Drop + 's,
     D: Disk + Send + Drop + 's,
-    requires { IsReady J.book J.stored work }
+    requires { IsReady J.book J.stored (has_store shared.now) W.may_report work }
     ensures { HasWorked J.book (store_of J.stored (has_store shared.now)) R.remaining W.contents D.Disk work result }
 {
     let Work {

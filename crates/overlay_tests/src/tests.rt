@@ -10,6 +10,7 @@ mod place_tests;
 mod point_tests;
 mod rings;
 mod rows;
+mod strips;
 mod sweep_tests;
 mod testing;
 mod threads;

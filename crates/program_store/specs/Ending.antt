@@ -39,12 +39,13 @@ ends_of all = record {
   written = list_all (λ one. was_written one.end) all;
 }
 
--- the fault of which no session's replies report
+-- the fault that no session's replies report: a session was not run, or its replies could not be written
 abbrev pub unsaid_by : (run written : Bool) → Option ProgramFault
 unsaid_by false written = Some OutOfMemory
 unsaid_by true false = Some Write
 unsaid_by true true = None
 
+-- the same, of how all sessions ended
 abbrev pub unsaid : Ends → Option ProgramFault
 unsaid ends = unsaid_by ends.run ends.written
 
@@ -82,14 +83,10 @@ is_kept keeping closed = is_read_only keeping.opening || not (is_some keeping.st
 
 -- why a version is not stored: of a store that failed, the device's fault that it failed by
 abbrev pub told_of : StoreFault → StoreFault
-told_of store.Device = store.Device
-told_of store.Full = store.Full
-told_of (store.Damaged damage) = store.Damaged damage
-told_of store.NotEmpty = store.NotEmpty
 told_of store.Failed = store.Device
-told_of store.SequenceLimit = store.SequenceLimit
-told_of store.OutOfMemory = store.OutOfMemory
+told_of fault = fault
 
+-- what is reported where the newest version is not stored: the store's fault, if it has one
 abbrev pub unstored : Option StoreFault → Result Bool ProgramFault
 unstored None = Ok false
 unstored (Some fault) = Err (Store (told_of fault))

@@ -1,3 +1,9 @@
+mod Asked
+mod Asking
+mod Line
+mod Live
 mod LiveLemmas
 mod NumberLemmas
+mod Overlayd
 mod RequestLemmas
+mod Rows

@@ -10,7 +10,9 @@ use Rattle.clap.specs.declared.error.Error.{Error}
 use Rattle.clap.specs.declared.error.kind.ErrorKind.TheVariants as kinds
 use Rattle.clap.proofs.OnLiterals.{clap_on_literals}
 use Rattle.program_words.proofs.RequestLemmas.{none_if}
-use Rattle.program_words.specs.LiveLine.{LiveRequest, is_known_live, live_line, live_request_in, live_request_of, paths_of}
+use Rattle.program_words.specs.LiveLine.{is_known_live, live_line, live_request_in, live_request_of}
+use Rattle.program_words.specs.Plans.{paths_of}
+use Rattle.program_words.specs.Synopsis.{RunRequest}
 
 is_simple_line : is_simple live_line ≡ true
 unfolding clap_on_literals live_line
@@ -32,7 +34,7 @@ faults_of_live_line a words result is h = subst (λ (b : App). FailsBy (fault_of
 pub unknown_live : (words : List Text) → list_all is_known_live words ≡ false → live_request_of words ≡ None
 unknown_live words fails = rw fails refl
 
-asked_if : (known : Bool) (kinds : Kinds) (request : Option LiveRequest) → known ≡ true → kinds ≡ [] → (if known && (length kinds == 0) then request else None) ≡ request
+asked_if : (known : Bool) (kinds : Kinds) (request : Option RunRequest) → known ≡ true → kinds ≡ [] → (if known && (length kinds == 0) then request else None) ≡ request
 asked_if known kinds request is none = rw (is, none) refl
 
 pub taken_live : (words all : List Text) (rows : List Row) → list_all is_known_live words ≡ true → all ≡ codes "overlay_live" ∷ words → fault_of live_line all ≡ []

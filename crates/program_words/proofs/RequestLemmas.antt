@@ -1,13 +1,15 @@
 -- What `clap` says of the program's command line, and what words ask for by it.
-use Rattle.std.proofs.Common.{◌≡◌, ◌≢◌, ℕ, suc, inl, inr, arith, List, [], ◌∷◌, length, ◌==◌, ◌&&◌, Bool, true, false, Option, None, Result, if◌then◌else◌, codes, refl, sym, subst, ap, ◌∙◌}
+use Rattle.std.proofs.Common.{◌≡◌, ◌≢◌, ℕ, suc, inl, inr, arith, List, [], ◌∷◌, length, ◌==◌, ◌&&◌, Bool, true, false, Option, None, Some, Result, if◌then◌else◌, codes, refl, sym, subst, ap, ◌∙◌}
 use Rattle.std.proofs.lemmas.Bool.Decides.{nat_tests}
+use Rattle.std.proofs.lemmas.Option.{none-some}
 use Rattle.std.specs.List.{list_all}
 use Rattle.clap.specs.Words.{App, FailsBy, HasKind, IsAmong, Kinds, Row, Text, fault_of, kind_of, is_simple, is_simple_and_free, matches_of}
 use Rattle.clap.specs.declared.error.Error.{Error}
 use Rattle.clap.specs.declared.error.kind.ErrorKind.{ErrorKind}
 use Rattle.clap.specs.declared.error.kind.ErrorKind.TheVariants as kinds
 use Rattle.clap.proofs.OnLiterals.{clap_on_literals}
-use Rattle.program_words.specs.CommandLine.{RunRequest, command_line, is_known, request_in, run_request_of}
+use Rattle.program_words.specs.CommandLine.{command_line, is_known, request_in, run_request_of}
+use Rattle.program_words.specs.Synopsis.{RunRequest}
 
 is_simple_line : is_simple command_line ≡ true
 unfolding clap_on_literals command_line
@@ -29,7 +31,7 @@ faults_of_line a words result is h = subst (λ (b : App). FailsBy (fault_of b wo
 pub unknown : (words : List Text) → list_all is_known words ≡ false → run_request_of words ≡ None
 unknown words fails = rw fails refl
 
-asked_if : (known : Bool) (kinds : Kinds) (request : Option RunRequest) → known ≡ true → kinds ≡ [] → (if known && (length kinds == 0) then request else None) ≡ request
+pub asked_if : (known : Bool) (kinds : Kinds) (request : Option RunRequest) → known ≡ true → kinds ≡ [] → (if known && (length kinds == 0) then request else None) ≡ request
 asked_if known kinds request is none = rw (is, none) refl
 
 pub taken : (words all : List Text) (rows : List Row) → list_all is_known words ≡ true → all ≡ codes "overlayd" ∷ words → fault_of command_line all ≡ []
@@ -55,3 +57,10 @@ refused words all error is (inr among) other =
     none_if (list_all is_known words) (fault_of command_line (codes "overlayd" ∷ words))
     (request_in (matches_of command_line (codes "overlayd" ∷ words))) (kind_of error)
     (subst (λ (them : List Text). IsAmong (kind_of error) (fault_of command_line them)) is among)
+
+-- what a request that was tested so has
+pub asked_parts : (known : Bool) (kinds : Kinds) (request : Option RunRequest) (r : RunRequest) → (if known && (length kinds == 0) then request else None) ≡ Some r
+    → (known ≡ true) × (kinds ≡ []) × (request ≡ Some r)
+asked_parts false kinds request r e = absurd (none-some r e)
+asked_parts true [] request r e = (refl, refl, e)
+asked_parts true (k ∷ kinds) request r e = absurd (none-some r (sym (ap (λ (b : Bool). if b then request else None) (is_no (length kinds))) ∙ e))

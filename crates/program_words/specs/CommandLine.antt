@@ -1,14 +1,14 @@
--- What the words after the program's name ask for: `clap` finds what belongs to each option and which words are
--- scripts, and the limits are tested on that.
-use Rattle.std.specs.Prelude.{ℕ, ◌==◌, nat_le, Bool, true, false, ◌&&◌, ◌||◌, not, if◌then◌else◌, List, [], ◌∷◌, length, map}
-use Rattle.std.specs.Prelude.{Option, Some, None, is_some, unwrap_or, option_and_then, option_map, codes, bytes_eq, string_bytes}
+-- How the words after the program's name are read: `clap` finds what belongs to each option and which words are scripts,
+-- and the limits are tested on that. Only private functions cite this: what words ask for, Synopsis says alone.
+use Rattle.std.specs.Prelude.{ℕ, ◌==◌, nat_le, Bool, true, false, ◌&&◌, ◌||◌, not, if◌then◌else◌, List, [], ◌∷◌, length}
+use Rattle.std.specs.Prelude.{Option, Some, None, is_some, unwrap_or, option_and_then, codes, bytes_eq}
 use Rattle.std.specs.List.{list_all}
 use Rattle.clap.specs.Words.{App, Row, Rule, Text, all_of, fault_of, first_of, matches_of, new_app, new_rule, with_rule}
 use Rattle.clap.specs.declared.builder.action.ArgAction.TheVariants.{Append, SetTrue}
-use Rattle.program_words.specs.Number.{number_of}
+use Rattle.program_words.specs.Number.{word_number}
+use Rattle.program_words.specs.Synopsis.{RunRequest}
 use Rattle.program_words.specs.declared.keeping.Opening.{Opening}
 use Rattle.program_words.specs.declared.keeping.Opening.TheVariants.{Existing, New, ReadOnly}
-use Rattle.program_words.specs.declared.plan.Plan.{Plan}
 
 -- whether a word is allowed: one that begins with a hyphen is one of the four options, or the hyphen alone
 abbrev pub is_known : Text → Bool
@@ -46,25 +46,17 @@ opening_of true false true = Some New
 opening_of false true true = Some ReadOnly
 opening_of _ _ _ = None
 
--- what words ask for
-pub record RunRequest : Type 0 where
-  pub store : Option Text
-  pub opening : Opening
-  pub workers : ℕ
-  pub max_blocks : ℕ
-  pub scripts : List Text
-
 -- the number that a text spells if it is 1 to `most`, and the usual one where there is no text
 abbrev pub number_or : Option Text → ℕ → ℕ → Option ℕ
 number_or None usual most = Some usual
-number_or (Some text) usual most = option_and_then (λ n. if nat_le 1 n && nat_le n most then Some n else None) (number_of text)
+number_or (Some text) usual most = option_and_then (λ n. if nat_le 1 n && nat_le n most then Some n else None) (word_number text)
 
 -- at most four scripts
 abbrev pub are_few : ℕ → Bool
 are_few scripts = nat_le scripts 4
 
 abbrev pub within_limits : RunRequest → Option RunRequest
-within_limits r = if are_few (length r.scripts) then Some r else None
+within_limits r = if are_few (length r.paths) then Some r else None
 
 -- what the values that belong to the options ask for
 abbrev pub request_in : List Row → Option RunRequest
@@ -74,7 +66,7 @@ request_in rows =
       opening = opening;
       workers = workers;
       max_blocks = max_blocks;
-      scripts = unwrap_or (all_of (codes "script") rows) [];
+      paths = unwrap_or (all_of (codes "script") rows) [];
     })) (number_or (first_of (codes "max-blocks") rows) 65536 1048576)) (number_or (first_of (codes "workers") rows) 2 8))
     (opening_of (is_set (first_of (codes "create") rows)) false (is_some (first_of (codes "store") rows)))
 
@@ -83,13 +75,3 @@ abbrev pub run_request_of : List Text → Option RunRequest
 run_request_of words =
     let all = codes "overlayd" ∷ words in
     if list_all is_known words && (length (fault_of command_line all) == 0) then request_in (matches_of command_line all) else None
-
--- what a plan has
-abbrev pub request_kept : Plan → RunRequest
-request_kept plan = record {
-  store = option_map string_bytes plan.keeping.store;
-  opening = plan.keeping.opening;
-  workers = plan.keeping.workers;
-  max_blocks = plan.keeping.max_blocks;
-  scripts = map string_bytes plan.scripts.items;
-}

@@ -3,6 +3,7 @@
 
 pub mod fault;
 pub mod keeping;
+pub mod laws;
 pub mod live_plan;
 pub mod live_reading;
 mod matching;

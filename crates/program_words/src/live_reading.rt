@@ -3,7 +3,9 @@ ghost use Rattle.std.specs.Prelude.{◌≡◌, ◌*◌, ◌%◌, length, map, st
 ghost use Rattle.std.specs.Prelude.{IfOk, IfErr, Some, None};
 ghost use Rattle.std.specs.List.{list_all};
 ghost use Rattle.clap.specs.Words.{app_of, fault_of, found_of, matches_of, rows_of, FailsBy};
-ghost use Rattle.program_words.specs.LiveLine.{are_paired, is_alone, is_known_live, live_line, live_request_in, live_request_kept, live_request_of, paths_of, question_kept, question_of};
+ghost use Rattle.program_words.specs.LiveLine.{are_paired, is_alone, is_known_live, live_line, live_request_in, live_request_of};
+ghost use Rattle.program_words.specs.Plans.{live_request_kept, paths_of, question_kept};
+ghost use Rattle.program_words.specs.Synopsis.{AsksLive, LiveRequest};
 ghost use Rattle.program_words.specs.declared.fault.WordFault.TheVariants.{Words};
 
 use crate::fault::WordFault;
@@ -23,8 +25,8 @@ use std::alloc::{AllocError, Global};
 /// the other of its pair, more than four pairs, and `--create` or `--read-only` without `--store` or beside one another
 /// are the fault `Words`.
 pub fn read_live_words(alloc: Global, words: &[String]) -> Result<Asked, WordFault>
-    ensures ok { IfOk result (λ asked. question_of (map string_bytes words.now) ≡ Some (question_kept asked)) }
-    ensures refused { IfErr result (λ fault. fault ≡ Words → question_of (map string_bytes words.now) ≡ None) }
+    ensures ok { IfOk result (λ asked. AsksLive (map string_bytes words.now) (question_kept asked)) }
+    ensures refused { IfErr result (λ fault. fault ≡ Words → (question : LiveRequest) → ¬ (AsksLive (map string_bytes words.now) question)) }
 {
     if is_alone(words, "--help") {
         return Ok(Asked::Help);

@@ -2,14 +2,14 @@
 ghost use Rattle.std.specs.Prelude.{◌≡◌, ◌<◌, ◌≤◌, ◌^◌, IfSome, IsTrue, length};
 ghost use Rattle.std.specs.List.{list_all};
 ghost use Rattle.std.specs.Char.{is_ascii_digit};
-ghost use Rattle.program_words.specs.Number.{digits_value, number_of};
+ghost use Rattle.program_words.specs.Number.{digits_value, word_number};
 
 /// The most digits of a number.
 pub const DIGITS_MAX: usize = 7;
 
 /// The number that one to seven decimal digits spell.
 pub fn number_of(text: &[u8]) -> Option<u32>
-    ensures { result ≡ number_of text.now }
+    ensures { result ≡ word_number text.now }
 {
     if text.is_empty() {
         return None;

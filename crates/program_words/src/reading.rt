@@ -3,7 +3,9 @@ ghost use Rattle.std.specs.Prelude.{◌≡◌, ◌≤◌, map, string_bytes};
 ghost use Rattle.std.specs.Prelude.{IfOk, IfErr, IsTrue, Some, None};
 ghost use Rattle.std.specs.List.{list_all};
 ghost use Rattle.clap.specs.Words.{app_of, fault_of, found_of, matches_of, rows_of, FailsBy};
-ghost use Rattle.program_words.specs.CommandLine.{are_few, command_line, is_known, request_in, request_kept, run_request_of};
+ghost use Rattle.program_words.specs.CommandLine.{are_few, command_line, is_known, request_in};
+ghost use Rattle.program_words.specs.Plans.{request_kept};
+ghost use Rattle.program_words.specs.Synopsis.{AsksOverlayd, RunRequest};
 ghost use Rattle.program_words.specs.declared.fault.WordFault.TheVariants.{Words};
 
 use crate::fault::WordFault;
@@ -21,8 +23,8 @@ use std::alloc::{AllocError, Global};
 /// comes twice or lacks its value, a number outside its limits, more than four scripts and `--create` without
 /// `--store` are the fault `Words`.
 pub fn read_words(alloc: Global, words: &[String]) -> Result<Plan, WordFault>
-    ensures ok { IfOk result (λ plan. run_request_of (map string_bytes words.now) ≡ Some (request_kept plan)) }
-    ensures refused { IfErr result (λ fault. fault ≡ Words → run_request_of (map string_bytes words.now) ≡ None) }
+    ensures ok { IfOk result (λ plan. AsksOverlayd (map string_bytes words.now) (request_kept plan)) }
+    ensures refused { IfErr result (λ fault. fault ≡ Words → (request : RunRequest) → ¬ (AsksOverlayd (map string_bytes words.now) request)) }
 {
     if !all_known(words) {
         return Err(WordFault::Words);

@@ -1,7 +1,6 @@
 pub mod NumberLemmas
 pub mod Pieces
 pub mod LongLines
-pub mod Texts
 pub mod ReadLemmas
 pub mod TranscriptLemmas
 pub mod TurnLemmas

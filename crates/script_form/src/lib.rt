@@ -24,7 +24,7 @@ pub use line_reply::LineReply;
 pub use line_turn::{LineTurn, take_line};
 pub use open_batch::{LinesFault, OpenBatch};
 pub use reading::{read_define, read_name, read_put, read_remove};
-pub use reply_writer::{write_reply, write_text};
+pub use reply_writer::write_reply;
 pub use request::{LINE_MAX, Request, request_of};
 pub use script_reader::{SCRIPT_MAX, read_chunk};
 pub use session_end::SessionEnd;

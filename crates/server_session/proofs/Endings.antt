@@ -103,56 +103,52 @@ fault_line (Failed code) number line mid all (inl (is, appended)) = inl (ap Fail
 fault_line (Failed code) number line mid all (inr (is, front, short, appended)) = inr (ap Failed is, (front, short, appended))
 
 -- a read failed
-pub ends-at_read : (most : ℕ) (stored : BookStore) (was : Known) (end : SessionEnd) (input left left_after output mid all : Option (List ℕ)) (count : ℕ) (state : SessionState) (now : Known) (text : List ℕ)
-    → IsUnderWay most stored was input left output mid count state now → count ≤ most → Keeps left left_after → text ≡ error_line Read → EndsBy end 48 text mid all
+pub ends-at_read : (most : ℕ) (stored : BookStore) (was : Known) (end : SessionEnd) (input left left_after output mid all : Option (List ℕ)) (count : ℕ) (state : SessionState) (now : Known)
+    → IsUnderWay most stored was input left output mid count state now → count ≤ most → Keeps left left_after → EndsBy end 48 (error_line Read) mid all
     → IsSessionWithin most stored end was now input left_after output all
-ends-at_read most stored was end input left left_after output mid all count state now text way within kept is ends =
+ends-at_read most stored was end input left left_after output mid all count state now way within kept ends =
     let short = subst (λ n. n ≤ most) (sym way.as_many) within in
     let told = subst (λ t. IsSharedRun stored was (turns_of (ended_lines t)) now way.written) (in_limit most way.taken short) way.told in
     let reads = Consumes-kept input left left_after way.taken way.reads kept in
-    by_line (fault_line end 48 text mid all ends) (λ line. record { short = short; replies = way.written; told = told; fault = refl }) reads where
-      by_line : ((end ≡ Failed 48) × Appends mid all text) ⊎ ((end ≡ Failed 49) × ((front : List ℕ) × IsCutShort text front × Appends mid all front))
+    by_line (fault_line end 48 (error_line Read) mid all ends) (λ line. record { short = short; replies = way.written; told = told; fault = refl }) reads where
+      by_line : ((end ≡ Failed 48) × Appends mid all (error_line Read)) ⊎ ((end ≡ Failed 49) × ((front : List ℕ) × IsCutShort (error_line Read) front × Appends mid all front))
           → ((line : List ℕ) → IsReadFault most stored was now way.taken line (way.written ++ line)) → Consumes input left_after way.taken → IsSessionWithin most stored end was now input left_after output all
       by_line (inl (same, appended)) fault reads = record {
         taken = way.taken;
-        written = way.written ++ text;
+        written = way.written ++ error_line Read;
         reads = reads;
-        writes = Appends-trans output mid all way.written text way.writes appended;
-        ended = subst (λ e. EndsSo most stored e was now way.taken left_after (way.written ++ text)) (sym same)
-            (inr (inl (refl, subst (λ line. IsReadFault most stored was now way.taken line (way.written ++ text)) is (fault text))));
+        writes = Appends-trans output mid all way.written (error_line Read) way.writes appended;
+        ended = subst (λ e. EndsSo most stored e was now way.taken left_after (way.written ++ error_line Read)) (sym same) (inr (inl (refl, fault (error_line Read))));
       }
       by_line (inr (same, (front, cut, appended))) fault reads = record {
         taken = way.taken;
         written = way.written ++ front;
         reads = reads;
         writes = Appends-trans output mid all way.written front way.writes appended;
-        ended = subst (λ e. EndsSo most stored e was now way.taken left_after (way.written ++ front)) (sym same)
-            (inr (inr (inl (refl, inr (inr (inr (front, subst (λ line. IsCutShort line front) is cut, fault front)))))));
+        ended = subst (λ e. EndsSo most stored e was now way.taken left_after (way.written ++ front)) (sym same) (inr (inr (inl (refl, inr (inr (inr (front, cut, fault front)))))));
       }
 
 -- a byte too many was read
-pub ends-past_limit : (most : ℕ) (stored : BookStore) (was : Known) (end : SessionEnd) (input left output mid all : Option (List ℕ)) (count : ℕ) (state : SessionState) (now : Known) (text : List ℕ)
-    → IsUnderWay most stored was input left output mid count state now → count ≡ most + 1 → text ≡ error_line ReadLimit → EndsBy end 47 text mid all
+pub ends-past_limit : (most : ℕ) (stored : BookStore) (was : Known) (end : SessionEnd) (input left output mid all : Option (List ℕ)) (count : ℕ) (state : SessionState) (now : Known)
+    → IsUnderWay most stored was input left output mid count state now → count ≡ most + 1 → EndsBy end 47 (error_line ReadLimit) mid all
     → IsSessionWithin most stored end was now input left output all
-ends-past_limit most stored was end input left output mid all count state now text way past is ends =
-    by_line (fault_line end 47 text mid all ends) (λ line. record { one_more = way.as_many ∙ past; replies = way.written; told = way.told; fault = refl }) where
-      by_line : ((end ≡ Failed 47) × Appends mid all text) ⊎ ((end ≡ Failed 49) × ((front : List ℕ) × IsCutShort text front × Appends mid all front))
+ends-past_limit most stored was end input left output mid all count state now way past ends =
+    by_line (fault_line end 47 (error_line ReadLimit) mid all ends) (λ line. record { one_more = way.as_many ∙ past; replies = way.written; told = way.told; fault = refl }) where
+      by_line : ((end ≡ Failed 47) × Appends mid all (error_line ReadLimit)) ⊎ ((end ≡ Failed 49) × ((front : List ℕ) × IsCutShort (error_line ReadLimit) front × Appends mid all front))
           → ((line : List ℕ) → IsPastLimit most stored was now way.taken line (way.written ++ line)) → IsSessionWithin most stored end was now input left output all
       by_line (inl (same, appended)) fault = record {
         taken = way.taken;
-        written = way.written ++ text;
+        written = way.written ++ error_line ReadLimit;
         reads = way.reads;
-        writes = Appends-trans output mid all way.written text way.writes appended;
-        ended = subst (λ e. EndsSo most stored e was now way.taken left (way.written ++ text)) (sym same)
-            (inl (refl, subst (λ line. IsPastLimit most stored was now way.taken line (way.written ++ text)) is (fault text)));
+        writes = Appends-trans output mid all way.written (error_line ReadLimit) way.writes appended;
+        ended = subst (λ e. EndsSo most stored e was now way.taken left (way.written ++ error_line ReadLimit)) (sym same) (inl (refl, fault (error_line ReadLimit)));
       }
       by_line (inr (same, (front, cut, appended))) fault = record {
         taken = way.taken;
         written = way.written ++ front;
         reads = way.reads;
         writes = Appends-trans output mid all way.written front way.writes appended;
-        ended = subst (λ e. EndsSo most stored e was now way.taken left (way.written ++ front)) (sym same)
-            (inr (inr (inl (refl, inr (inr (inl (front, subst (λ line. IsCutShort line front) is cut, fault front)))))));
+        ended = subst (λ e. EndsSo most stored e was now way.taken left (way.written ++ front)) (sym same) (inr (inr (inl (refl, inr (inr (inl (front, cut, fault front)))))));
       }
 
 -- the front of a front

@@ -4,10 +4,10 @@ use Rattle.overlay_terms.specs.Histories.{Entry, History, BeginsWith}
 use Rattle.book_history.specs.Known.{Known, seen}
 use Rattle.server_session.specs.Session.{Stays}
 
-begins_self : (h : History) → BeginsWith h h
+pub begins_self : (h : History) → BeginsWith h h
 begins_self h = ([], ap (λ (es : List Entry). record { start = h.start; entries = es }) (sym (append-nil h.entries)))
 
-begins_trans : (a b c : History) → BeginsWith b a → BeginsWith c b → BeginsWith c a
+pub begins_trans : (a b c : History) → BeginsWith b a → BeginsWith c b → BeginsWith c a
 begins_trans a b c one two = (
   one.0 ++ two.0,
   two.1 ∙ ap (λ (h : History). record { start = h.start; entries = h.entries ++ two.0 }) one.1

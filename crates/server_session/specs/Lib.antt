@@ -5,3 +5,4 @@ pub mod Turn
 pub mod Answering
 pub mod SessionState
 pub mod Loop
+pub mod Replying

@@ -5,8 +5,10 @@
 pub mod answering;
 mod answering_all;
 mod fault;
+pub mod reply_writer;
 pub mod session;
 pub mod session_state;
 
+pub use reply_writer::ReplyWriter;
 pub use session::{session_run, session_run_within};
 pub use session_state::SessionState;

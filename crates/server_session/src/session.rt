@@ -3,13 +3,17 @@ ghost use Rattle.std.specs.Prelude.{◌≡◌, ◌<◌, ◌^◌, [], false, leng
 ghost use Rattle.overlay_terms.specs.Histories.{BeginsWith, IsHistory};
 ghost use Rattle.book_history.specs.Known.{seen};
 ghost use Rattle.version_book.specs.Store.{has_store};
+ghost use Rattle.script_form.specs.Fault.{code_of};
+ghost use Rattle.script_form.specs.Replies.{error_line};
+ghost use Rattle.server_session.specs.Replying.{MayReport};
 ghost use Rattle.server_session.specs.Stores.{store_of};
 ghost use Rattle.server_session.specs.Session.{IsSharedSession, IsSessionWithin, Stays};
 ghost use Rattle.server_session.specs.SessionState.{has_ended, HasTaken};
 ghost use Rattle.server_session.specs.Loop.{Finishes, EndsBy};
 
+use crate::reply_writer::ReplyWriter;
 use crate::session_state::SessionState;
-use script_form::{SCRIPT_MAX, SessionEnd, read_chunk, write_text};
+use script_form::{CommandFault, LineReply, SCRIPT_MAX, SessionEnd, read_chunk};
 use std::alloc::{AllocError, Global};
 use std::io::{Read, Write};
 use std::sync::Wait;
@@ -44,7 +48,13 @@ pub fn session_run<J: BookName, S: Wait + Drop, Q: Wait + Threads + Sync, R: Rea
 }
 
 /// The same, of a script that may have so many bytes.
-pub fn session_run_within<J: BookName, S: Wait + Drop, Q: Wait + Threads + Sync, R: Read, W: Write>(
+pub fn session_run_within<
+    J: BookName,
+    S: Wait + Drop,
+    Q: Wait + Threads + Sync,
+    R: Read,
+    W: ReplyWriter,
+>(
     rt: &Q,
     alloc: Global,
     shared: &Shared<J, S>,
@@ -55,6 +65,7 @@ pub fn session_run_within<J: BookName, S: Wait + Drop, Q: Wait + Threads + Sync,
 ) -> SessionEnd
     requires book { me.old.book ≡ J.book }
     requires countable { most < 2 ^ 63 }
+    requires told { MayReport J.stored (has_store shared.now) me.old W.may_report }
     ensures run { IsSessionWithin most (store_of J.stored (has_store shared.now)) result me.old me.new (R.remaining reader.old)
         (R.remaining reader.new) (W.contents writer.old) (W.contents writer.new) }
     ensures goes_on { BeginsWith (seen me.new) (seen me.old) }
@@ -97,7 +108,7 @@ fn rooms(alloc: Global) -> Result<(SessionState, Vec<u8>), AllocError>
     Ok((state, chunk))
 }
 
-fn run<J: BookName, S: Wait + Drop, Q: Wait + Threads + Sync, R: Read, W: Write>(
+fn run<J: BookName, S: Wait + Drop, Q: Wait + Threads + Sync, R: Read, W: ReplyWriter>(
     rt: &Q,
     alloc: Global,
     shared: &Shared<J, S>,
@@ -113,6 +124,7 @@ fn run<J: BookName, S: Wait + Drop, Q: Wait + Threads + Sync, R: Read, W: Write>
     requires going { has_ended state.old ≡ false }
     requires room { 0 < length chunk.old }
     requires countable { most < 2 ^ 63 }
+    requires told { MayReport J.stored (has_store shared.now) me.old W.may_report }
     ensures run { IsSessionWithin most (store_of J.stored (has_store shared.now)) result me.old me.new (R.remaining reader.old)
         (R.remaining reader.new) (W.contents writer.old) (W.contents writer.new) }
     ensures stays { Stays me.old me.new }
@@ -120,7 +132,7 @@ fn run<J: BookName, S: Wait + Drop, Q: Wait + Threads + Sync, R: Read, W: Write>
     let mut taken = 0;
     while taken <= most {
         let count = match read_chunk(reader, chunk, taken, most) {
-            Err(_) => return end_by(48, b"error 48 read\n", writer),
+            Err(_) => return end_by(me, CommandFault::Read, writer),
             Ok(0) => return finish(rt, alloc, shared, me, state, writer),
             Ok(count) => count,
         };
@@ -131,11 +143,11 @@ fn run<J: BookName, S: Wait + Drop, Q: Wait + Threads + Sync, R: Read, W: Write>
         }
         taken += count;
     }
-    end_by(47, b"error 47 read limit\n", writer)
+    end_by(me, CommandFault::ReadLimit, writer)
 }
 
 /// At the end of the script.
-fn finish<J: BookName, S: Wait + Drop, Q: Wait + Threads + Sync, W: Write>(
+fn finish<J: BookName, S: Wait + Drop, Q: Wait + Threads + Sync, W: ReplyWriter>(
     rt: &Q,
     alloc: Global,
     shared: &Shared<J, S>,
@@ -145,6 +157,7 @@ fn finish<J: BookName, S: Wait + Drop, Q: Wait + Threads + Sync, W: Write>(
 ) -> SessionEnd
     requires book { me.old.book ≡ J.book }
     requires going { has_ended state.old ≡ false }
+    requires told { MayReport J.stored (has_store shared.now) me.old W.may_report }
     ensures finishes { Finishes (store_of J.stored (has_store shared.now)) result state.old me.old me.new (W.contents writer.old)
         (W.contents writer.new) }
     ensures stays { Stays me.old me.new }
@@ -156,11 +169,11 @@ fn finish<J: BookName, S: Wait + Drop, Q: Wait + Threads + Sync, W: Write>(
 }
 
 /// Writes the line of the fault that ends the session.
-fn end_by<W: Write>(number: u8, line: &[u8], writer: &mut W) -> SessionEnd
-    ensures { EndsBy result number line.now (W.contents writer.old) (W.contents writer.new) }
+fn end_by<W: ReplyWriter>(me: &Session, fault: CommandFault, writer: &mut W) -> SessionEnd
+    ensures { EndsBy result (code_of fault) (error_line fault) (W.contents writer.old) (W.contents writer.new) }
 {
-    match write_text(writer, line) {
-        Ok(()) => SessionEnd::Failed(number),
+    match writer.reply(me, &LineReply::Fault(fault)) {
+        Ok(()) => SessionEnd::Failed(fault.code()),
         Err(_) => SessionEnd::Failed(49),
     }
 }

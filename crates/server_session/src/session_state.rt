@@ -3,15 +3,16 @@ ghost use Rattle.std.specs.Prelude.{◌≡◌, Bool, ◌∷◌, ◌++◌, [], Li
 ghost use Rattle.overlay_terms.specs.Histories.{IsHistory};
 ghost use Rattle.book_history.specs.Known.{seen};
 ghost use Rattle.version_book.specs.Store.{has_store};
+ghost use Rattle.server_session.specs.Replying.{MayReport};
 ghost use Rattle.server_session.specs.Stores.{store_of};
 ghost use Rattle.server_session.specs.Session.{Stays};
 ghost use Rattle.server_session.specs.SessionState.{has_ended, HasTaken, turns_ended, turns_at_end, AnswersTurns, AnswersInPart};
 ghost use Rattle.server_session.specs.Loop.{AnswersLine, EndsBatch};
 
 use crate::answering::answer;
-use script_form::{CommandFault, LineBuffer, LineReply, OpenBatch, write_reply};
+use crate::reply_writer::ReplyWriter;
+use script_form::{CommandFault, LineBuffer, LineReply, OpenBatch};
 use std::alloc::{AllocError, Global};
-use std::io::Write;
 use std::sync::Wait;
 use std::thread::Threads;
 use version_book::seen_log::BookName;
@@ -49,7 +50,7 @@ impl SessionState {
     }
 
     /// Takes more bytes of the script, and answers each turn that they end before it looks at the bytes after it.
-    pub fn take<J: BookName, S: Wait + Drop, Q: Wait + Threads + Sync, W: Write>(
+    pub fn take<J: BookName, S: Wait + Drop, Q: Wait + Threads + Sync, W: ReplyWriter>(
         &mut self,
         rt: &Q,
         alloc: Global,
@@ -60,6 +61,7 @@ impl SessionState {
     ) -> Result<(), CommandFault>
         requires book { me.old.book ≡ J.book }
         requires going { has_ended self.old ≡ false }
+        requires told { MayReport J.stored (has_store shared.now) me.old W.may_report }
         ensures takes { OnOk result ((taken : List ℕ) → HasTaken self.old taken → HasTaken self.new (taken ++ bytes.now)) }
         ensures answers { OnOk result ((taken : List ℕ) → HasTaken self.old taken
             → AnswersTurns (store_of J.stored (has_store shared.now)) me.old (turns_ended taken bytes.now) me.new (W.contents writer.old) (W.contents writer.new)) }
@@ -77,7 +79,7 @@ impl SessionState {
         told
     }
 
-    fn answer_bytes<J: BookName, S: Wait + Drop, Q: Wait + Threads + Sync, W: Write>(
+    fn answer_bytes<J: BookName, S: Wait + Drop, Q: Wait + Threads + Sync, W: ReplyWriter>(
         &mut self,
         rt: &Q,
         alloc: Global,
@@ -88,6 +90,7 @@ impl SessionState {
     ) -> Result<(), CommandFault>
         requires book { me.old.book ≡ J.book }
         requires going { has_ended self.old ≡ false }
+        requires told { MayReport J.stored (has_store shared.now) me.old W.may_report }
         ensures takes { OnOk result ((taken : List ℕ) → HasTaken self.old taken → HasTaken self.new (taken ++ bytes.now)) }
         ensures answers { OnOk result ((taken : List ℕ) → HasTaken self.old taken
             → AnswersTurns (store_of J.stored (has_store shared.now)) me.old (turns_ended taken bytes.now) me.new (W.contents writer.old) (W.contents writer.new)) }
@@ -103,7 +106,7 @@ impl SessionState {
         Ok(())
     }
 
-    fn take_byte<J: BookName, S: Wait + Drop, Q: Wait + Threads + Sync, W: Write>(
+    fn take_byte<J: BookName, S: Wait + Drop, Q: Wait + Threads + Sync, W: ReplyWriter>(
         &mut self,
         rt: &Q,
         alloc: Global,
@@ -114,6 +117,7 @@ impl SessionState {
     ) -> Result<(), CommandFault>
         requires book { me.old.book ≡ J.book }
         requires going { has_ended self.old ≡ false }
+        requires told { MayReport J.stored (has_store shared.now) me.old W.may_report }
         ensures takes { OnOk result ((taken : List ℕ) → HasTaken self.old taken → HasTaken self.new (taken ++ byte ∷ [])) }
         ensures answers { OnOk result ((taken : List ℕ) → HasTaken self.old taken
             → AnswersTurns (store_of J.stored (has_store shared.now)) me.old (turns_ended taken (byte ∷ [])) me.new (W.contents writer.old) (W.contents writer.new)) }
@@ -138,7 +142,7 @@ impl SessionState {
 
     /// Takes the end of the script: answers a last line that lacks its line feed, and refuses a batch whose lines did not
     /// all come.
-    pub fn finish<J: BookName, S: Wait + Drop, Q: Wait + Threads + Sync, W: Write>(
+    pub fn finish<J: BookName, S: Wait + Drop, Q: Wait + Threads + Sync, W: ReplyWriter>(
         &mut self,
         rt: &Q,
         alloc: Global,
@@ -148,6 +152,7 @@ impl SessionState {
     ) -> Result<(), CommandFault>
         requires book { me.old.book ≡ J.book }
         requires going { has_ended self.old ≡ false }
+        requires told { MayReport J.stored (has_store shared.now) me.old W.may_report }
         ensures answers { OnOk result ((taken : List ℕ) → HasTaken self.old taken
             → AnswersTurns (store_of J.stored (has_store shared.now)) me.old (turns_at_end taken) me.new (W.contents writer.old) (W.contents writer.new)) }
         ensures stops { OnErr result ((taken : List ℕ) → HasTaken self.old taken
@@ -162,7 +167,7 @@ impl SessionState {
         told
     }
 
-    fn answer_end<J: BookName, S: Wait + Drop, Q: Wait + Threads + Sync, W: Write>(
+    fn answer_end<J: BookName, S: Wait + Drop, Q: Wait + Threads + Sync, W: ReplyWriter>(
         &mut self,
         rt: &Q,
         alloc: Global,
@@ -172,6 +177,7 @@ impl SessionState {
     ) -> Result<(), CommandFault>
         requires book { me.old.book ≡ J.book }
         requires going { has_ended self.old ≡ false }
+        requires told { MayReport J.stored (has_store shared.now) me.old W.may_report }
         ensures answers { OnOk result ((taken : List ℕ) → HasTaken self.old taken
             → AnswersTurns (store_of J.stored (has_store shared.now)) me.old (turns_at_end taken) me.new (W.contents writer.old) (W.contents writer.new)) }
         ensures stops { OnErr result ((taken : List ℕ) → HasTaken self.old taken
@@ -184,15 +190,15 @@ impl SessionState {
         let mut waiting = self.waiting.take();
         let line = self.line.bytes();
         if line.is_empty() {
-            return end_batch::<J, W>(&waiting, writer);
+            return end_batch::<J, W>(me, &waiting, writer);
         }
         answer_line(rt, alloc, shared, me, &mut waiting, line, writer)?;
-        end_batch::<J, W>(&waiting, writer)
+        end_batch::<J, W>(me, &waiting, writer)
     }
 }
 
 /// Answers the turn that a line ends, if it ends one.
-fn answer_line<J: BookName, S: Wait + Drop, Q: Wait + Threads + Sync, W: Write>(
+fn answer_line<J: BookName, S: Wait + Drop, Q: Wait + Threads + Sync, W: ReplyWriter>(
     rt: &Q,
     alloc: Global,
     shared: &Shared<J, S>,
@@ -201,17 +207,19 @@ fn answer_line<J: BookName, S: Wait + Drop, Q: Wait + Threads + Sync, W: Write>(
     line: &[u8],
     writer: &mut W,
 ) -> Result<(), CommandFault>
-    requires { me.old.book ≡ J.book }
+    requires book { me.old.book ≡ J.book }
+    requires told { MayReport J.stored (has_store shared.now) me.old W.may_report }
     ensures answers { AnswersLine (store_of J.stored (has_store shared.now)) result me.old waiting.old line.now me.new waiting.new
         (W.contents writer.old) (W.contents writer.new) }
     ensures fault { IfErr result (λ fault. fault ≡ CommandFault.Write) }
 {
     let reply = answer(rt, alloc, shared, me, waiting, line);
-    write_reply(writer, &reply)
+    writer.reply(me, &reply)
 }
 
 /// After the last line: refuses a batch that waits.
-fn end_batch<J: BookName, W: Write>(
+fn end_batch<J: BookName, W: ReplyWriter>(
+    me: &Session,
     waiting: &Option<OpenBatch>,
     writer: &mut W,
 ) -> Result<(), CommandFault>
@@ -221,5 +229,5 @@ fn end_batch<J: BookName, W: Write>(
     if waiting.is_none() {
         return Ok(());
     }
-    write_reply(writer, &LineReply::Fault(CommandFault::CommandSyntax))
+    writer.reply(me, &LineReply::Fault(CommandFault::CommandSyntax))
 }

@@ -1,5 +1,6 @@
 //! Sessions in threads of their own, one for each reader.
 ghost use Rattle.std.specs.Prelude.{◌≡◌, ◌<◌, All, length, MatchResult};
+ghost use Rattle.server_session.specs.Replying.{MayReport};
 ghost use Rattle.server_session.specs.Stores.{store_of};
 ghost use Rattle.session_threads.specs.Rooms.{HasRoom, IsReserved};
 ghost use Rattle.session_threads.specs.Running.{IsNotBegunOf, IsRunOf};
@@ -9,9 +10,10 @@ ghost use Rattle.version_book.specs.Store.{has_store};
 use crate::halt::Halt;
 use crate::port::{Finished, Port};
 use script_form::SessionEnd;
+use server_session::reply_writer::ReplyWriter;
 use server_session::session::session_run_within;
 use std::alloc::Global;
-use std::io::{Read, Write};
+use std::io::Read;
 use std::marker::PhantomData;
 use std::snapshot::Snapshot;
 use std::sync::Wait;
@@ -44,7 +46,7 @@ pub struct RunsScript<J: BookName, R, W> {
     of: PhantomData<J>,
 }
 
-impl<J: BookName, R: Read, W: Write> Promise<Ended<R, W>> for RunsScript<J, R, W> {
+impl<J: BookName, R: Read, W: ReplyWriter> Promise<Ended<R, W>> for RunsScript<J, R, W> {
     ghost use Rattle.server_session.specs.Stores.{store_of};
     ghost use Rattle.session_threads.specs.Running.{IsRunOf};
 
@@ -60,7 +62,7 @@ pub type Begun<J, R, W> = Result<Running<J, R, W>, Ended<R, W>>;
 /// The scripts, each with the session that runs it, room for their threads, and what the sessions that have ended leave, or
 /// room for that.
 #[derive(Drop)]
-pub struct Seats<J: BookName, R: Read, W: Write> {
+pub struct Seats<J: BookName, R: Read, W: ReplyWriter> {
     pub scripts: Vec<Script<R, W>>,
     pub running: Vec<Begun<J, R, W>>,
     pub sessions: Vec<Session>,
@@ -83,8 +85,9 @@ where
     S: Wait + Drop + Send + 's,
     Q: Threads + Wait + Sync,
     R: Read + Send + Drop + 's,
-    W: Write + Send + Drop + 's,
+    W: ReplyWriter + Send + Drop + 's,
     requires scripts { All (λ script. script.session.book ≡ J.book) seats.scripts.items }
+    requires told { All (λ script. MayReport J.stored (has_store shared.now) script.session W.may_report) seats.scripts.items }
     requires room { HasRoom seats (length seats.scripts.items) }
     ensures { Leave (λ script ended. IsRunOf J.book (store_of J.stored (has_store shared.now)) R.remaining W.contents script ended) seats.scripts.items
         result.sessions.items result.finished.items }
@@ -116,8 +119,9 @@ where
     S: Wait + Drop + Send + 's,
     Q: Threads + Wait + Sync,
     R: Read + Send + Drop + 's,
-    W: Write + Send + Drop + 's,
-    requires { script.session.book ≡ J.book }
+    W: ReplyWriter + Send + Drop + 's,
+    requires book { script.session.book ≡ J.book }
+    requires told { MayReport J.stored (has_store shared.now) script.session W.may_report }
     ensures { MatchResult result
         (λ h. (h.promise.begun.value ≡ script) × (h.promise.stored ≡ has_store shared.now))
         (λ back. IsRunOf J.book (store_of J.stored (has_store shared.now)) R.remaining W.contents script back) }
@@ -133,7 +137,8 @@ where
     let started = scope.spawn_with(
         promise,
         move || -> Ended<R, W>
-            requires { script.session.book ≡ J.book }
+            requires book { script.session.book ≡ J.book }
+            requires told { MayReport J.stored (has_store shared.now) script.session W.may_report }
             ensures { IsRunOf J.book (store_of J.stored (has_store shared.entry.now)) R.remaining W.contents script result }
         { begin_script(rt, alloc, shared, halt, script) },
     );
@@ -149,7 +154,7 @@ where
 }
 
 /// Takes the threads of the scripts in, in their order, into lists that have room for what they leave.
-fn join_sessions<J: BookName, Q: Threads, R: Read + Drop, W: Write + Drop>(
+fn join_sessions<J: BookName, Q: Threads, R: Read + Drop, W: ReplyWriter + Drop>(
     rt: &Q,
     alloc: Global,
     running: Vec<Begun<J, R, W>>,
@@ -180,7 +185,7 @@ fn join_sessions<J: BookName, Q: Threads, R: Read + Drop, W: Write + Drop>(
 }
 
 /// Takes the thread of a script in, where it has one.
-fn join_session<J: BookName, Q: Threads, R: Read + Drop, W: Write + Drop>(
+fn join_session<J: BookName, Q: Threads, R: Read + Drop, W: ReplyWriter + Drop>(
     rt: &Q,
     begun: Begun<J, R, W>,
 ) -> Ended<R, W>
@@ -195,14 +200,15 @@ fn join_session<J: BookName, Q: Threads, R: Read + Drop, W: Write + Drop>(
 }
 
 /// Runs a script, where the run has not halted.
-fn begin_script<J: BookName, S: Wait + Drop, Q: Threads + Wait + Sync, R: Read, W: Write>(
+fn begin_script<J: BookName, S: Wait + Drop, Q: Threads + Wait + Sync, R: Read, W: ReplyWriter>(
     rt: &Q,
     alloc: Global,
     shared: &Shared<J, S>,
     halt: &Halt,
     script: Script<R, W>,
 ) -> Ended<R, W>
-    requires { script.session.book ≡ J.book }
+    requires book { script.session.book ≡ J.book }
+    requires told { MayReport J.stored (has_store shared.now) script.session W.may_report }
     ensures { IsRunOf J.book (store_of J.stored (has_store shared.now)) R.remaining W.contents script result }
 {
     if halt.is_set() {
@@ -227,13 +233,14 @@ fn not_begun<R, W>(script: Script<R, W>) -> Ended<R, W>
 }
 
 /// Runs a script into its writer.
-fn run_script<J: BookName, S: Wait + Drop, Q: Threads + Wait + Sync, R: Read, W: Write>(
+fn run_script<J: BookName, S: Wait + Drop, Q: Threads + Wait + Sync, R: Read, W: ReplyWriter>(
     rt: &Q,
     alloc: Global,
     shared: &Shared<J, S>,
     script: Script<R, W>,
 ) -> Ended<R, W>
-    requires { script.session.book ≡ J.book }
+    requires book { script.session.book ≡ J.book }
+    requires told { MayReport J.stored (has_store shared.now) script.session W.may_report }
     ensures { IsRunOf J.book (store_of J.stored (has_store shared.now)) R.remaining W.contents script result }
 {
     let Script { mut session, port } = script;

@@ -5,14 +5,15 @@ ghost use Rattle.session_threads.specs.Seats.{port_of, session_of};
 
 use crate::port::Port;
 use crate::running::{Script, Seats};
+use server_session::reply_writer::ReplyWriter;
 use std::alloc::Global;
-use std::io::{Read, Write};
+use std::io::Read;
 use version_book::seen_log::BookName;
 use version_book::session::Session;
 
 /// Gives each reader's script the session of its place, and takes the memory for the lists that are filled later. None
 /// comes where memory is refused.
-pub fn seated<J: BookName, R: Read + Drop, W: Write + Drop>(
+pub fn seated<J: BookName, R: Read + Drop, W: ReplyWriter + Drop>(
     alloc: Global,
     sessions: Vec<Session>,
     ports: Vec<Port<R, W>>,

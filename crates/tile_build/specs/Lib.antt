@@ -1,3 +1,4 @@
 pub mod Piece
 pub mod Tile
 pub mod Counted
+pub mod StripTiles

@@ -7,11 +7,15 @@ pub mod counted;
 pub mod counting;
 pub mod ends;
 pub mod piece;
+pub mod strip_tiles;
 pub mod tile;
 
 pub use building::build;
 pub use built::{Built, PIECES_MAX};
 pub use counted::Counted;
 pub use counting::build_counted;
+pub use crossing_sweep::Strip;
 pub use piece::Piece;
+pub use strip_inputs::StripInput;
+pub use strip_tiles::build_strip;
 pub use tile::Tile;

@@ -1,19 +1,20 @@
 //! The loop of a worker.
 ghost use Rattle.std.specs.Prelude.{◌≡◌};
+ghost use Rattle.version_book.specs.Strips.{AreNext};
 
 use crate::gate::Gate;
 use std::alloc::Global;
 use std::sync::Wait;
-use tile_build::Built;
-use version_book::job::Job;
+use tile_build::{Built, build_strip};
 use version_book::resting::rest;
 use version_book::seen_log::BookName;
 use version_book::shared::Shared;
+use version_book::strip_job::StripJob;
 
-/// Builds tiles until the book closes. Where a tile is not handed out for want of memory (40), it sleeps a moment
-/// and asks again; where memory runs out later, it gives the tile back.
+/// Builds tiles until the book closes. Where none are handed out for want of memory (40), it sleeps a moment and asks
+/// again; where memory runs out later, it gives back those that are left.
 // It has no clause on what it built, as nothing of what lies under the lock can be said once that is given up. But each
-// job is spent, as it is no value that may be dropped, and only with a tile that is built of the job's own input.
+// strip is spent, as it is no value that may be dropped, and each of its tiles only with one that is built of its own input.
 pub fn worker_loop<J: BookName, R: Wait + Drop, G: Gate, W: Wait>(
     rt: &W,
     alloc: Global,
@@ -21,8 +22,8 @@ pub fn worker_loop<J: BookName, R: Wait + Drop, G: Gate, W: Wait>(
     shared: &Shared<J, R>,
 ) {
     for _ in rt.forever() {
-        match shared.take_job(rt, alloc) {
-            Ok(Some(job)) => work(rt, alloc, gate, shared, job),
+        match shared.take_strip(rt, alloc) {
+            Ok(Some(strip)) => work(rt, alloc, gate, shared, strip),
             Ok(None) => return,
             Err(_) => rest(rt),
         }
@@ -30,26 +31,49 @@ pub fn worker_loop<J: BookName, R: Wait + Drop, G: Gate, W: Wait>(
     unreachable!()
 }
 
-/// Enters the gate and builds the tile of a job. The job is given back where memory runs out.
+/// Enters the gate for each column of a strip, and builds its tiles. What is left of it is given back where memory runs
+/// out.
 fn work<J: BookName, R: Wait + Drop, G: Gate, W: Wait>(
     rt: &W,
     alloc: Global,
     gate: &G,
     shared: &Shared<J, R>,
-    job: Job,
+    mut strip: StripJob,
 )
-    requires { job.book ≡ J.book }
+    requires book { strip.book ≡ J.book }
+    requires whole { strip.next ≡ strip.input.strip.first }
 {
-    gate.enter(job.name(), job.input().column().number());
-    let Ok(input) = job.input().try_copy(alloc) else {
-        shared.give_back(rt, job);
-        return;
-    };
-    let Ok(built) = Built::new(alloc, input) else {
-        shared.give_back(rt, job);
-        return;
-    };
-    if let Err((job, _built, _fault)) = shared.finish(rt, alloc, job, built) {
-        shared.give_back(rt, job);
+    enter(gate, &strip);
+    if let Ok(built) = build_strip(alloc, strip.input()) {
+        finish_each(rt, alloc, shared, &mut strip, &built);
+    }
+    shared.give_back_strip(rt, strip);
+}
+
+/// Enters the gate for each column of a strip.
+fn enter<G: Gate>(gate: &G, strip: &StripJob) {
+    let columns = strip.input().strip();
+    for number in columns.first().number()..columns.last().number() + 1 {
+        gate.enter(strip.name(), number);
+    }
+}
+
+/// Spends the tiles of a strip in order with those that were built, until memory runs out.
+fn finish_each<J: BookName, R: Wait + Drop, W: Wait>(
+    rt: &W,
+    alloc: Global,
+    shared: &Shared<J, R>,
+    strip: &mut StripJob,
+    built: &[Built],
+)
+    requires book { strip.old.book ≡ J.book }
+    requires tiles { AreNext strip.old built.now }
+    ensures { strip.new.book ≡ strip.old.book }
+{
+    for one in built {
+        match shared.finish_next(rt, alloc, strip, one) {
+            Ok((_is_kept, _log)) => {}
+            Err(_fault) => return,
+        }
     }
 }

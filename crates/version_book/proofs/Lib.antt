@@ -3,4 +3,6 @@ pub mod Sent
 pub mod SentBook
 pub mod Told
 pub mod Marking
+pub mod HandingOut
+pub mod StripLemmas
 mod RowLooks

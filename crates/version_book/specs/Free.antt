@@ -25,7 +25,7 @@ abbrev pub AreHeld : Version → List HeldTile → Name → Type 0
 AreHeld version held name =
     (column : ℕ) → column < column_count → tile_at version.tiles name column ≡ None → is_held name column held ≡ true
 
--- the same of the layer at a place, counted from 0, where there is a derived one there
+-- the same of the layer at a place, counted from 0, where a derived layer is there
 abbrev pub AreHeldAt : Version → List HeldTile → ℕ → Type 0
 AreHeldAt version held place =
     IfSome (slice_get version.layers place) (λ (layer : Layer). IsTrue (stands_as_derived version.layers layer.name) → AreHeld version held layer.name)

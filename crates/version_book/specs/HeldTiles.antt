@@ -1,7 +1,8 @@
 -- Tiles that are handed out, and tiles that wait for memory.
-use Rattle.std.specs.Prelude.{ℕ, ◌==◌, Bool, true, false, ◌&&◌, ◌||◌, not, List, [], ◌∷◌, ◌++◌, filter, map, bytes_eq, if◌then◌else◌}
-use Rattle.std.specs.List.{list_any}
+use Rattle.std.specs.Prelude.{ℕ, ◌+◌, ◌-◌, ◌==◌, nat_le, Bool, true, false, ◌&&◌, ◌||◌, not, List, [], ◌∷◌, ◌++◌, filter, map, bytes_eq, if◌then◌else◌}
+use Rattle.std.specs.List.{list_any, range_with_len}
 use Rattle.overlay_terms.specs.Layers.{Name}
+use Rattle.crossing_sweep.specs.StripInput.{Span}
 use Rattle.version_book.specs.declared.held_tiles.HeldTile.{HeldTile}
 
 -- whether it is this tile
@@ -20,6 +21,14 @@ has_mark name held = list_any (λ tile. tile.marked && bytes_eq tile.name name) 
 abbrev pub handed_out : Name → ℕ → List HeldTile → List HeldTile
 handed_out name column held = held ++ record { name = name; column = column; marked = false } ∷ []
 
+-- so many tiles of neighbouring columns, from one on, as they are handed out
+abbrev pub tiles_from : Name → ℕ → ℕ → List HeldTile
+tiles_from name first count = map (λ column. record { name = name; column = column; marked = false }) (range_with_len first count)
+
+-- the tiles of a strip are handed out
+abbrev pub strip_handed_out : Name → Span → List HeldTile → List HeldTile
+strip_handed_out name strip held = held ++ tiles_from name strip.first (strip.last + 1 - strip.first)
+
 -- a tile is not handed out any more
 abbrev pub taken_in : Name → ℕ → List HeldTile → List HeldTile
 taken_in name column held = filter (λ tile. tile.marked || not (is_of name column tile)) held
@@ -32,6 +41,19 @@ marked_if name column tile =
 -- a tile that was handed out is marked, and so is not handed out again
 abbrev pub given_back : Name → ℕ → List HeldTile → List HeldTile
 given_back name column held = map (marked_if name column) held
+
+-- whether it is a tile of these columns, from one to another
+abbrev pub is_within : Name → ℕ → ℕ → HeldTile → Bool
+is_within name first last tile = bytes_eq tile.name name && (nat_le first tile.column && nat_le tile.column last)
+
+-- a tile, marked if it is one of these
+abbrev pub marked_within : Name → ℕ → ℕ → HeldTile → HeldTile
+marked_within name first last tile =
+    record { name = tile.name; column = tile.column; marked = tile.marked || is_within name first last tile }
+
+-- tiles that were handed out, from one column to another, are marked, and so are not handed out again
+abbrev pub strip_given_back : Name → ℕ → ℕ → List HeldTile → List HeldTile
+strip_given_back name first last held = map (marked_within name first last) held
 
 -- no tile is marked
 abbrev pub unmarked : List HeldTile → List HeldTile

@@ -1,5 +1,6 @@
 pub use Rattle.book_lock.specs.Heard
 pub mod Jobs
+pub mod Strips
 pub mod Store
 pub mod Waits
 pub use Rattle.book_lock.specs.Steps

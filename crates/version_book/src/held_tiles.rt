@@ -1,11 +1,12 @@
 //! Tiles that are handed out, and tiles that wait for memory.
-ghost use Rattle.std.specs.Prelude.{◌≡◌, [], OnErr, OnOk};
-ghost use Rattle.version_book.specs.HeldTiles.{given_back, handed_out, has_mark, is_held, is_of, marked_if, taken_in};
-ghost use Rattle.version_book.specs.HeldTiles.{unmarked, unmarked_of};
+ghost use Rattle.std.specs.Prelude.{◌≡◌, [], length, take, OnErr, OnOk};
+ghost use Rattle.version_book.specs.HeldTiles.{given_back, handed_out, has_mark, is_held, is_of, is_within, marked_if};
+ghost use Rattle.version_book.specs.HeldTiles.{marked_within, strip_given_back, strip_handed_out, taken_in, unmarked, unmarked_of};
 
 use layer_expr::name::Name;
 use plane_base::Column;
 use std::alloc::{AllocError, Global};
+use tile_build::Strip;
 
 /// A tile by its layer's name and its column.
 #[derive(Drop)]
@@ -29,6 +30,20 @@ impl HeldTile {
         if self.is_of(name, column) {
             self.marked = true;
         }
+    }
+
+    fn is_within(&self, name: &Name, first: u8, last: u8) -> bool
+        ensures { result ≡ is_within name.now first last self.now }
+    {
+        let number = self.column.number();
+        self.name.bytes() == name.bytes() && (first <= number && number <= last)
+    }
+
+    fn mark_within(&mut self, name: &Name, first: u8, last: u8)
+        ensures { self.new ≡ marked_within name.now first last self.old }
+    {
+        let within = self.is_within(name, first, last);
+        self.marked = self.marked || within;
     }
 }
 
@@ -77,6 +92,35 @@ impl HeldTiles {
         Ok(())
     }
 
+    /// Hands the tiles of a strip out: all of them or none.
+    pub fn hand_out_strip(&mut self, name: &Name, strip: Strip) -> Result<(), AllocError>
+        ensures ok { OnOk result (self.new.list.items ≡ strip_handed_out name.now strip self.old.list.items) }
+        ensures err { OnErr result (self.new.list.items ≡ self.old.list.items) }
+    {
+        let before = self.list.len();
+        match self.hand_out_each(name, strip) {
+            Ok(()) => Ok(()),
+            Err(error) => {
+                self.list.truncate(before);
+                Err(error)
+            }
+        }
+    }
+
+    // Hands the tiles of a strip out, one after another.
+    fn hand_out_each(&mut self, name: &Name, strip: Strip) -> Result<(), AllocError>
+        ensures ok { OnOk result (self.new.list.items ≡ strip_handed_out name.now strip self.old.list.items) }
+        ensures err { OnErr result (take (length self.old.list.items) self.new.list.items ≡ self.old.list.items) }
+    {
+        for number in strip.first().number()..strip.last().number() + 1 {
+            let Some(column) = Column::new(u64::from(number)) else {
+                unreachable!()
+            };
+            self.hand_out(name, column)?;
+        }
+        Ok(())
+    }
+
     /// Takes a tile in that was handed out.
     pub fn take_in(&mut self, name: &Name, column: Column)
         ensures { self.new.list.items ≡ taken_in name.now column self.old.list.items }
@@ -91,6 +135,15 @@ impl HeldTiles {
     {
         for tile in self.list.iter_mut() {
             tile.mark(name, column);
+        }
+    }
+
+    /// Marks the tiles of a layer that were handed out, from one column to another.
+    pub fn give_back_strip(&mut self, name: &Name, first: u8, last: u8)
+        ensures { self.new.list.items ≡ strip_given_back name.now first last self.old.list.items }
+    {
+        for tile in self.list.iter_mut() {
+            tile.mark_within(name, first, last);
         }
     }
 

@@ -7,6 +7,7 @@ mod locked_book;
 mod pending;
 pub mod sending;
 pub mod shared;
+mod strips;
 mod turns;
 
 /// What is left of a book that closes.
@@ -17,6 +18,11 @@ pub mod closing {
 /// A tile that is handed out.
 pub mod job {
     pub use crate::locked_book::job::Job;
+}
+
+/// A strip of tiles that are handed out as one.
+pub mod strip_job {
+    pub use crate::locked_book::strip_job::StripJob;
 }
 
 /// Why a call on the book is refused.

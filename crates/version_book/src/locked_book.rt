@@ -23,6 +23,8 @@ pub mod closing;
 mod handouts;
 pub mod job;
 pub mod reports;
+pub mod strip_job;
+mod strips;
 pub mod waits;
 
 /// What lies under the lock. Its parts are changed by its own calls alone.

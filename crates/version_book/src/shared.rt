@@ -12,7 +12,9 @@ ghost use Rattle.book_history.specs.Telling.{IsToldIn};
 ghost use Rattle.book_lock.specs.Steps.{beginners, HasAllOf, IsAcceptedIn, IsRefusedIn};
 ghost use Rattle.book_lock.specs.Heard.{HasHeard, IsReportedBy};
 ghost use Rattle.version_book.specs.Jobs.{IsFinishedBy, IsJob};
+ghost use Rattle.crossing_sweep.specs.StripInput.{part};
 ghost use Rattle.version_book.specs.Store.{has_store};
+ghost use Rattle.version_book.specs.Strips.{job_in, without_next, IsStripJob};
 ghost use Rattle.version_book.specs.Waits.{IsBuiltAt, IsSyncRefused, IsWaitRefused};
 
 use crate::closing::ClosedBook;
@@ -21,6 +23,7 @@ use crate::locked_book::LockedBook;
 use crate::locked_book::closing::{begin_close, has_all_of, into_closed};
 use crate::locked_book::reports::{report, store_failed};
 use crate::locked_book::waits::{Awaited, tell_built, tell_durable, tell_news, tell_no_store};
+use crate::strip_job::StripJob;
 use crate::turns::{TurnKind, Turns};
 use book_history::fault::{BookFault, ToldFault};
 use book_history::seen_log::{BookName, LogWord, SeenLog};
@@ -193,6 +196,64 @@ impl<J: BookName, R: Wait + Drop> Shared<J, R> {
     {
         let mut turn = self.turns.next(rt, TurnKind::GivenBack);
         turn.book.give_back(job);
+    }
+
+    /// Hands out a strip of tiles of one layer: from a pending tile on that is neither handed out nor marked, as long as
+    /// that of the next column is so, too, and the strip is small enough. It waits for one; None comes at closing.
+    pub fn take_strip<W: Wait>(&self, rt: &W, alloc: Global) -> Result<Option<StripJob>, BookFault>
+        ensures book { IfOk result (λ o. IfSome o (λ strip. strip.book ≡ J.book)) }
+        ensures strip { IfOk result (λ o. IfSome o (λ strip. IsStripJob strip)) }
+        ensures whole { IfOk result (λ o. IfSome o (λ strip. strip.next ≡ strip.input.strip.first)) }
+        ensures err { IfErr result (λ fault. fault ≡ no_memory) }
+    {
+        let awaited = Awaited::Tile;
+        let mut turn = self.turns.behind(rt, &awaited, TurnKind::HandedOut);
+        turn.book.take_strip(alloc)
+    }
+
+    /// Spends the next tile of a strip with the tile that was built of its input, as `finish` does with a job. Where that
+    /// cannot be written down, for want of memory, the strip stays as it was.
+    pub fn finish_next<W: Wait>(
+        &self,
+        rt: &W,
+        alloc: Global,
+        strip: &mut StripJob,
+        built: &Built,
+    ) -> Result<(bool, SeenLog), BookFault>
+        requires book { strip.old.book ≡ J.book }
+        requires left { strip.old.next ≤ strip.old.input.strip.last }
+        requires input { built.now.0 ≡ part strip.old.input strip.old.next }
+        ensures finished { IfOk result
+            (λ r. IsFinishedBy (job_in strip.old strip.old.next) built.now.1 r.0 r.1.log) }
+        ensures log { IfOk result (λ r. (r.1.book ≡ J.book) × IsLog r.1.log) }
+        ensures next { IfOk result (λ _. strip.new ≡ without_next strip.old) }
+        ensures err { IfErr result (λ _. strip.new ≡ strip.old) }
+        ensures refused { IfErr result (λ fault. (fault ≡ no_memory) ⊎ (fault ≡ BookFault.Gone)) }
+    {
+        let mut turn = self.turns.next(rt, TurnKind::Unsaid);
+        let layer = strip.name().clone().ok();
+        let is_kept = match turn.book.finish_next(alloc, strip, built) {
+            Ok(is_kept) => is_kept,
+            Err(fault) => return Err(fault),
+        };
+        turn.kind = TurnKind::Finished {
+            layer,
+            kept: is_kept,
+        };
+        Ok((is_kept, turn.book.end()))
+    }
+
+    /// Ends a strip. Where some of its tiles are not spent, as memory ran out, these are marked.
+    // It has no clause, for the reason that `give_back` has none: `LockedBook::give_back_strip` says what it does.
+    pub fn give_back_strip<W: Wait>(&self, rt: &W, strip: StripJob)
+        requires { strip.book ≡ J.book }
+    {
+        if strip.is_spent() {
+            strip.end_spent();
+            return;
+        }
+        let mut turn = self.turns.next(rt, TurnKind::GivenBack);
+        turn.book.give_back_strip(strip);
     }
 
     /// Waits until the tiles of a layer are finished, and answers the number of such a version.

@@ -100,6 +100,48 @@ fn each_tile_is_handed_out_once_and_a_late_one_is_not_kept(rt: HostRuntime) {
     play(&rt, rt.alloc(), false, IN_TIME_AND_LATE, 5);
 }
 
+const PUT_WIDE: Call = Call::Submit(Change::Put("A", WIDE));
+
+/// A strip has at most 17 columns. The left half lies in column 16 alone, so where it takes the place of the other square, that
+/// column's tile is stale and its neighbours' are kept.
+const STRIPS: &[&[Row]] = &[
+    OVERLAP,
+    &[
+        Row::BuildsStrip(None, 17, 17),
+        Row::BuildsStrip(None, 16, 16),
+        Row::Calls(Call::WaitBuilt("I"), Ok(Some(3))),
+        Row::Calls(PUT_WIDE, Ok(Some(4))),
+        Row::BuildsStrip(Some(Call::Submit(Change::Put("B", LEFT_HALF))), 17, 16),
+        Row::BuildsStrip(Some(Call::BeginClose), 17, 17),
+        Row::BuildsStrip(None, 0, 0),
+    ],
+];
+
+#[test]
+fn each_tile_of_a_strip_is_kept_by_its_own_column(rt: HostRuntime) {
+    play(&rt, rt.alloc(), false, STRIPS, 5);
+}
+
+/// A tile that is handed out while a strip is in hand is the next one. What is given back is marked.
+const STRIPS_BESIDE: &[&[Row]] = &[
+    OVERLAP,
+    &[
+        Row::BuildsStrip(Some(Call::Build), 17, 17),
+        Row::BuildsStrip(None, 15, 15),
+        Row::Calls(PUT_WIDE, Ok(Some(4))),
+        Row::GivesBackStrip(17),
+        Row::BuildsStrip(None, 16, 16),
+        Row::Calls(Call::WaitBuilt("I"), Err(NO_MEMORY)),
+        Row::BuildsStrip(None, 16, 16),
+        Row::Calls(Call::WaitBuilt("I"), Ok(Some(4))),
+    ],
+];
+
+#[test]
+fn no_tile_is_in_two_hands_and_those_of_a_strip_that_is_given_back_are_marked(rt: HostRuntime) {
+    play(&rt, rt.alloc(), false, STRIPS_BESIDE, 4);
+}
+
 const GIVEN_BACK: &[&[Row]] = &[
     OVERLAP,
     &[BUILDS; 32],

@@ -4,6 +4,7 @@ ghost use Rattle.version_book.specs.Logs.{entry, no_event};
 ghost use Rattle.version_book.specs.Rules.{head_of};
 
 use crate::tests::rows::check;
+use crate::tests::strips::{build_late, give_back_strip};
 use crate::tests::testing::{Change, batch, command, name_of};
 use crate::tests::threads::{Work, ask_beside, beside, news_beside, submit_beside, wait_beside};
 use crate::tests::tokens::Tokens;
@@ -76,6 +77,11 @@ pub enum Row {
     Builds(bool),
     /// A tile is asked for and given back: whether there is one.
     GivesBack(bool),
+    /// A strip of tiles is taken, a call is made, and the tiles are finished in order then: how many there are, and how many
+    /// of them are kept.
+    BuildsStrip(Option<Call>, usize, u64),
+    /// A strip of so many tiles is taken. The first one is built, which is kept, and the others are given back.
+    GivesBackStrip(usize),
     /// A tile is asked for and built in a thread of its own, beside a wait for a layer's tiles: what the wait answers.
     BuildsBeside(&'static str, Answer),
     /// A worker or the first session waits in a thread of its own, until a call ends that: what the wait answers.
@@ -215,6 +221,15 @@ fn play_row<J: BookName + Send + Sync, R: Threads + Wait + Clock + Abort + Sync>
         Row::Builds(is_kept) => Some((take(rt, alloc, shared).expect(rt, "no tile"), *is_kept)),
         Row::GivesBack(is_there) => {
             check(rt, at, &give_back(rt, alloc, shared), is_there);
+            None
+        }
+        Row::BuildsStrip(asked, count, kept) => {
+            let told = build_late(rt, alloc, shared, tokens, asked);
+            check(rt, at, &told, &(*count, *kept));
+            None
+        }
+        Row::GivesBackStrip(count) => {
+            check(rt, at, &give_back_strip(rt, alloc, shared), count);
             None
         }
         Row::BuildsBeside(name, want) => {

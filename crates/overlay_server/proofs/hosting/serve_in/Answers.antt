@@ -1,9 +1,10 @@
 use Rattle.std.proofs.Common.{rules, ◌≡◌, IfErr, IfOk, length, subst, sym}
+use Rattle.overlay_terms.specs.Histories.{History}
 use Rattle.store_flushing.specs.Stores.{flusher_in}
 use Rattle.overlay_server.specs.Given.{given_to}
 use Rattle.overlay_server.specs.Hosting.{IsHosted}
 use Rattle.overlay_server.specs.Refusing.{IsRefusedFrom}
-use Rattle.overlay_server.specs.Serving.{IsLeftFrom, flusher_of, start_of}
+use Rattle.overlay_server.specs.Serving.{IsHeldOf, IsLeftFrom, flusher_of, start_of}
 use Rattle.overlay_server.proofs.Refusals.{passed_on}
 use Rattle.overlay_server.proofs.Stores.{CountsAs}
 use Rattle.overlay_server.proofs.hosting.serve_in.Goals as goal
@@ -19,9 +20,16 @@ run-requires-clause-meant g c κs within =
     subst (λ v. CountsAs g.D.Disk g.J.BookName.stored v (flusher_in hosted.hosted.store)) (sym hosted.ensures.version)
     (subst (CountsAs g.D.Disk g.J.BookName.stored (start_of c.args.engine)) (sym hosted.ensures.flusher) c.requires.stored)
 
+pub run-requires-clause-told : goal.run-requires-clause-told
+run-requires-clause-told g c κs within =
+    let hosted = c.in_ok-hosted in
+    let may = g.W.ReplyWriter.may_report in
+    subst (λ v. (history : History) → IsHeldOf g.D.Disk v (flusher_in hosted.hosted.store) history → may history) (sym hosted.ensures.version)
+    (subst (λ f. (history : History) → IsHeldOf g.D.Disk (start_of c.args.engine) f history → may history) (sym hosted.ensures.flusher) c.requires.told)
+
 pub returns-in_err-hosted-clause-refused : goal.returns-in_err-hosted-clause-refused
 returns-in_err-hosted-clause-refused g c =
-    let all = given_to g.R.Read.remaining g.W.Write.contents c.args.ports.items in
+    let all = given_to g.R.Read.remaining g.W.ReplyWriter.contents c.args.ports.items in
     passed_on (IsRefusedFrom g.D.Disk (start_of c.args.engine) (flusher_of c.args.engine) all) c.from_residual.result c.in_err-hosted.field-0.0 c.from_residual.ensures.1
     (c.in_err-hosted.ensures.refused all)
 
@@ -29,14 +37,14 @@ pub returns-clause-left : goal.returns-clause-left
 returns-clause-left g c =
     let engine = c.args.engine in
     let hosted = c.in_ok-hosted in
-    let all = given_to g.R.Read.remaining g.W.Write.contents c.args.ports.items in
-    subst (λ v. IfOk c.run.result (IsLeftFrom g.W.Write.contents g.D.Disk v (flusher_of engine) all)) hosted.ensures.version
-    (subst (λ f. IfOk c.run.result (IsLeftFrom g.W.Write.contents g.D.Disk hosted.hosted.version.value f all)) hosted.ensures.flusher c.run.ensures.left)
+    let all = given_to g.R.Read.remaining g.W.ReplyWriter.contents c.args.ports.items in
+    subst (λ v. IfOk c.run.result (IsLeftFrom g.W.ReplyWriter.contents g.D.Disk v (flusher_of engine) all)) hosted.ensures.version
+    (subst (λ f. IfOk c.run.result (IsLeftFrom g.W.ReplyWriter.contents g.D.Disk hosted.hosted.version.value f all)) hosted.ensures.flusher c.run.ensures.left)
 
 pub returns-clause-refused : goal.returns-clause-refused
 returns-clause-refused g c =
     let engine = c.args.engine in
     let hosted = c.in_ok-hosted in
-    let all = given_to g.R.Read.remaining g.W.Write.contents c.args.ports.items in
+    let all = given_to g.R.Read.remaining g.W.ReplyWriter.contents c.args.ports.items in
     subst (λ v. IfErr c.run.result (IsRefusedFrom g.D.Disk v (flusher_of engine) all)) hosted.ensures.version
     (subst (λ f. IfErr c.run.result (IsRefusedFrom g.D.Disk hosted.hosted.version.value f all)) hosted.ensures.flusher c.run.ensures.refused)

@@ -5,4 +5,4 @@ use Rattle.overlay_server.proofs.serving.serve_ports.Goals as goal
 
 pub returns-clause-disk : goal.returns-clause-disk
 returns-clause-disk g c =
-    left_disk g.D.Disk (start_of c.args.engine) c.args.engine g.W.Write.contents (given_to g.R.Read.remaining g.W.Write.contents c.args.ports.items) c.serve_in.result c.serve_in.ensures.left
+    left_disk g.D.Disk (start_of c.args.engine) c.args.engine g.W.ReplyWriter.contents (given_to g.R.Read.remaining g.W.ReplyWriter.contents c.args.ports.items) c.serve_in.result c.serve_in.ensures.left

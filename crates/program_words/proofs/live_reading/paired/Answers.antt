@@ -1,5 +1,5 @@
 use Rattle.std.proofs.Common.{ap, arith, rules, []}
-use Rattle.program_words.specs.LiveLine.{paths_of}
+use Rattle.program_words.specs.Plans.{paths_of}
 use Rattle.program_words.proofs.LiveLemmas.{paths_more}
 use Rattle.program_words.proofs.live_reading.paired.Goals as goal
 

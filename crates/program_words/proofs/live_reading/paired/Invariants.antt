@@ -1,5 +1,5 @@
 use Rattle.std.proofs.Common.{◌≡◌, ◌*◌, map, take, vec_len}
-use Rattle.program_words.specs.LiveLine.{paths_of}
+use Rattle.program_words.specs.Plans.{paths_of}
 use Rattle.program_words.proofs.live_reading.paired.Given as goal
 
 -- the pairs so far

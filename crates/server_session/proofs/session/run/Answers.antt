@@ -1,6 +1,6 @@
-use Rattle.std.proofs.Common.{◌≡◌, ◌+◌, ◌≤◌, codes, refl, sym, arith, rules, ◌∙◌}
-use Rattle.script_form.proofs.Texts.{read, read_limit}
+use Rattle.std.proofs.Common.{◌≡◌, ◌+◌, ◌≤◌, refl, sym, arith, rules, ◌∙◌}
 use Rattle.server_session.proofs.Endings.{begins, goes_on, ends-finished, ends-at_read, ends-past_limit, ends-stopped, reads_none, when_err, when_ok}
+use Rattle.server_session.proofs.Replies.{may_report-on}
 use Rattle.server_session.proofs.Turns.{stays_self, stays_trans}
 use Rattle.server_session.proofs.session.run.Goals as goal
 
@@ -16,16 +16,22 @@ loop-taken-init g c = record {
 pub returns-in-Err-clause-run : goal.returns-in-Err-clause-run
 returns-in-Err-clause-run g c =
     let within : c.loop-taken.taken ≤ c.args.most = c.loop-taken-test.true in
-    ends-at_read c.args.most _ c.args.me.now c.end_by.result _ _ _ _ (g.W.Write.contents c.loop-taken.writer) (g.W.Write.contents c.end_by.new.writer) _ c.loop-taken.state c.loop-taken.me (codes "error 48 read\n")
-    c.loop-taken.invariant.way within c.in-Err.ensures.err read c.end_by.ensures
+    ends-at_read c.args.most _ c.args.me.now c.end_by.result _ _ _ _ (g.W.ReplyWriter.contents c.loop-taken.writer) (g.W.ReplyWriter.contents c.end_by.new.writer) _ c.loop-taken.state c.loop-taken.me
+    c.loop-taken.invariant.way within c.in-Err.ensures.err c.end_by.ensures
 
 pub returns-in-Err-clause-stays : goal.returns-in-Err-clause-stays
 returns-in-Err-clause-stays g c = c.loop-taken.invariant.stays
 
+pub finish-requires-clause-told : goal.finish-requires-clause-told
+finish-requires-clause-told g c κs within = may_report-on _ _ _ c.args.me.now c.loop-taken.me c.loop-taken.invariant.stays c.requires.told
+
+pub take-told-requires-clause-told : goal.take-told-requires-clause-told
+take-told-requires-clause-told g c κs within = may_report-on _ _ _ c.args.me.now c.loop-taken.me c.loop-taken.invariant.stays c.requires.told
+
 pub returns-in-Ok-eq0-clause-run : goal.returns-in-Ok-eq0-clause-run
 returns-in-Ok-eq0-clause-run g c =
     let within : c.loop-taken.taken ≤ c.args.most = c.loop-taken-test.true in
-    ends-finished c.args.most _ c.args.me.now c.finish.result _ (g.R.Read.remaining c.loop-taken.reader) (g.R.Read.remaining c.read_chunk.new.reader) _ (g.W.Write.contents c.loop-taken.writer) (g.W.Write.contents c.finish.new.writer) _ c.loop-taken.state c.loop-taken.me c.finish.new.me
+    ends-finished c.args.most _ c.args.me.now c.finish.result _ (g.R.Read.remaining c.loop-taken.reader) (g.R.Read.remaining c.read_chunk.new.reader) _ (g.W.ReplyWriter.contents c.loop-taken.writer) (g.W.ReplyWriter.contents c.finish.new.writer) _ c.loop-taken.state c.loop-taken.me c.finish.new.me
     c.loop-taken.invariant.way c.loop-taken.invariant.stays within
     (reads_none _ _ c.in-Ok-eq0.field-0 c.read_chunk.new.chunk c.in-Ok-eq0.field-0-test c.in-Ok-eq0.ensures.bytes)
     (c.in-Ok-eq0.ensures.at_end c.in-Ok-eq0.field-0-test) c.finish.ensures.finishes
@@ -37,7 +43,7 @@ pub returns-then-is_err-clause-run : goal.returns-then-is_err-clause-run
 returns-then-is_err-clause-run g c =
     let within : c.loop-taken.taken ≤ c.args.most = c.loop-taken-test.true in
     let stops = when_err _ c.take-told.result (sym c.if-is_err.ensures.value) c.take-told.ensures.stops in
-    ends-stopped c.args.most _ c.args.me.now _ (g.R.Read.remaining c.loop-taken.reader) (g.R.Read.remaining c.read_chunk.new.reader) _ (g.W.Write.contents c.loop-taken.writer) (g.W.Write.contents c.take-told.new.writer)
+    ends-stopped c.args.most _ c.args.me.now _ (g.R.Read.remaining c.loop-taken.reader) (g.R.Read.remaining c.read_chunk.new.reader) _ (g.W.ReplyWriter.contents c.loop-taken.writer) (g.W.ReplyWriter.contents c.take-told.new.writer)
     _ c.in-Ok.count c.min-allowed.result c.read_chunk.new.chunk c.loop-taken.state c.loop-taken.me c.take-told.new.me
     c.loop-taken.invariant.way c.loop-taken.invariant.stays within c.min-allowed.ensures c.in-Ok.ensures.bytes stops
 
@@ -56,7 +62,7 @@ loop-taken-preserved g c =
       going = c.take-told.ensures.ended ∙ works;
       stays = stays_trans _ _ _ c.loop-taken.invariant.stays c.take-told.ensures.stays;
       way =
-          goes_on c.args.most _ c.args.me.now _ (g.R.Read.remaining c.loop-taken.reader) (g.R.Read.remaining c.read_chunk.new.reader) _ (g.W.Write.contents c.loop-taken.writer) (g.W.Write.contents c.take-told.new.writer)
+          goes_on c.args.most _ c.args.me.now _ (g.R.Read.remaining c.loop-taken.reader) (g.R.Read.remaining c.read_chunk.new.reader) _ (g.W.ReplyWriter.contents c.loop-taken.writer) (g.W.ReplyWriter.contents c.take-told.new.writer)
           c.loop-taken.taken c.in-Ok.count c.min-allowed.result c.read_chunk.new.chunk c.loop-taken.state c.take-told.new.self c.loop-taken.me c.take-told.new.me
           c.loop-taken.invariant.way c.loop-taken.invariant.stays within c.in-Ok.ensures.within c.min-allowed.ensures c.in-Ok.ensures.bytes takes answers;
     }
@@ -64,8 +70,8 @@ loop-taken-preserved g c =
 pub returns-clause-run : goal.returns-clause-run
 returns-clause-run g c =
     let past : c.loop-taken.taken ≡ c.args.most + 1 = omega arith in
-    ends-past_limit c.args.most _ c.args.me.now c.end_by-2.result _ _ _ (g.W.Write.contents c.loop-taken.writer) (g.W.Write.contents c.end_by-2.new.writer) _ c.loop-taken.state c.loop-taken.me (codes "error 47 read limit\n")
-    c.loop-taken.invariant.way past read_limit c.end_by-2.ensures
+    ends-past_limit c.args.most _ c.args.me.now c.end_by-2.result _ _ _ (g.W.ReplyWriter.contents c.loop-taken.writer) (g.W.ReplyWriter.contents c.end_by-2.new.writer) _ c.loop-taken.state c.loop-taken.me
+    c.loop-taken.invariant.way past c.end_by-2.ensures
 
 pub returns-clause-stays : goal.returns-clause-stays
 returns-clause-stays g c = c.loop-taken.invariant.stays

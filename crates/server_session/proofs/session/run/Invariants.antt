@@ -13,7 +13,7 @@ invariant-loop-taken g l = record {
   room : length l.chunk ≡ length l.initial.chunk;
   going : has_ended l.state ≡ false;
   stays : Stays l.initial.me l.me;
-  way : IsUnderWay l.most (store_of g.J.BookName.stored (has_store l.shared)) l.initial.me (g.R.Read.remaining l.initial.reader) (g.R.Read.remaining l.reader) (g.W.Write.contents l.initial.writer) (g.W.Write.contents l.writer) l.taken l.state l.me;
+  way : IsUnderWay l.most (store_of g.J.BookName.stored (has_store l.shared)) l.initial.me (g.R.Read.remaining l.initial.reader) (g.R.Read.remaining l.reader) (g.W.ReplyWriter.contents l.initial.writer) (g.W.ReplyWriter.contents l.writer) l.taken l.state l.me;
 }
 
 abbrev pub decreases-loop-taken : goal.decreases-loop-taken

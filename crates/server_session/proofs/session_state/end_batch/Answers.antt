@@ -1,9 +1,14 @@
+use Rattle.script_form.specs.declared.fault.CommandFault.TheVariants.{CommandSyntax}
 use Rattle.server_session.specs.Stores.{store_of}
 use Rattle.server_session.proofs.Steps.{ends_alone, ends_refused}
+use Rattle.server_session.proofs.Replies.{fault_right}
 use Rattle.server_session.proofs.session_state.end_batch.Goals as goal
+
+pub reply-requires : goal.reply-requires
+reply-requires g c = record { right = fault_right _ c.args.me.now CommandSyntax }
 
 pub returns-then-is_none-clause-ends : goal.returns-then-is_none-clause-ends
 returns-then-is_none-clause-ends g c there = ends_alone _ _ c.if-is_none.ensures (store_of g.J.BookName.stored there)
 
 pub returns-clause-ends : goal.returns-clause-ends
-returns-clause-ends g c there = ends_refused _ _ _ _ c.if-is_none.ensures c.write_reply.ensures.writes (store_of g.J.BookName.stored there)
+returns-clause-ends g c there = ends_refused _ _ _ _ c.if-is_none.ensures c.reply.ensures.writes (store_of g.J.BookName.stored there)

@@ -5,18 +5,28 @@ use Rattle.std.specs.Vec.Iter.{into_iter_items}
 use Rattle.overlay_terms.proofs.Lists.{in_middle}
 use Rattle.version_book.specs.Store.{has_store}
 use Rattle.session_threads.specs.Rooms.{IsReserved}
+use Rattle.server_session.specs.Replying.{MayReport}
 use Rattle.server_session.specs.Stores.{store_of}
+use Rattle.session_threads.specs.declared.running.Script.{Script}
 use Rattle.session_threads.specs.Running.{IsRunOf}
 use Rattle.session_threads.proofs.Lists.{beside_length, beside_pushed, beside_through, gone_by_count, one_less, one_longer, one_on, room_left}
 use Rattle.session_threads.proofs.running.run_sessions.Goals as goal
 
-pub start_session-requires-after_bounds : goal.start_session-requires-after_bounds
-start_session-requires-after_bounds g c κs within =
+pub start_session-requires-clause-book : goal.start_session-requires-clause-book
+start_session-requires-clause-book g c κs within =
     let at = c.loop-script in
     let rest = into_iter_items c.next.new.self in
     let parts = ap (λ ss. at.yielded ++ ss) (sym c.in-Some.ensures.steps.0) ∙ at.invariant.all ∙ c.into_iter-script-iterator.ensures.into_iter_gives.0 in
     in_middle (λ script. script.session.book ≡ g.J.BookName.book) at.yielded c.in-Some.script rest
     (subst (All (λ script. script.session.book ≡ g.J.BookName.book)) (sym parts) c.requires.scripts)
+
+pub start_session-requires-clause-told : goal.start_session-requires-clause-told
+start_session-requires-clause-told g c κs within =
+    let at = c.loop-script in
+    let rest = into_iter_items c.next.new.self in
+    let parts = ap (λ ss. at.yielded ++ ss) (sym c.in-Some.ensures.steps.0) ∙ at.invariant.all ∙ c.into_iter-script-iterator.ensures.into_iter_gives.0 in
+    let may : Script _ _ → Type 0 = λ script. MayReport g.J.BookName.stored (has_store c.args.shared.now) script.session g.W.ReplyWriter.may_report in
+    in_middle may at.yielded c.in-Some.script rest (subst (All may) (sym parts) c.requires.told)
 
 pub push_reserved-requires : goal.push_reserved-requires
 push_reserved-requires g c =
@@ -33,7 +43,7 @@ loop-script-preserved g c =
       left = one_less _ _ script _ _ c.in-Some.ensures.steps.0 c.in-Some.ensures.steps.1 at.invariant.left;
       grown = one_longer at.yielded script _ _ c.push_reserved.ensures.len at.invariant.grown;
       room = omega (arith, at.invariant.room, c.push_reserved.ensures.capacity);
-      begun = beside_pushed (λ script begun. MatchResult begun (λ h. (h.promise.begun.value ≡ script) × (h.promise.stored ≡ has_store c.args.shared.now)) (λ back. IsRunOf g.J.BookName.book (store_of g.J.BookName.stored (has_store c.args.shared.now)) g.R.Read.remaining g.W.Write.contents script back))
+      begun = beside_pushed (λ script begun. MatchResult begun (λ h. (h.promise.begun.value ≡ script) × (h.promise.stored ≡ has_store c.args.shared.now)) (λ back. IsRunOf g.J.BookName.book (store_of g.J.BookName.stored (has_store c.args.shared.now)) g.R.Read.remaining g.W.ReplyWriter.contents script back))
           at.yielded at.running.items _ script c.start_session.result c.push_reserved.ensures.items at.invariant.begun c.start_session.ensures;
     }
 
@@ -45,9 +55,9 @@ join_sessions-requires g c =
     let stored = has_store c.args.shared.now in
     let all = gone_by_count _ scripts at.yielded (into_iter_items at.script-iterator) _ at.invariant.all
     c.into_iter-script-iterator.ensures.into_iter_gives.0 at.invariant.left c.in-None.ensures.steps.0 in
-    let begun = subst (λ ss. AllZip (λ script begun. MatchResult begun (λ h. (h.promise.begun.value ≡ script) × (h.promise.stored ≡ stored)) (λ back. IsRunOf g.J.BookName.book (store_of g.J.BookName.stored stored) g.R.Read.remaining g.W.Write.contents script back)) ss running.items) all at.invariant.begun in
+    let begun = subst (λ ss. AllZip (λ script begun. MatchResult begun (λ h. (h.promise.begun.value ≡ script) × (h.promise.stored ≡ stored)) (λ back. IsRunOf g.J.BookName.book (store_of g.J.BookName.stored stored) g.R.Read.remaining g.W.ReplyWriter.contents script back)) ss running.items) all at.invariant.begun in
     subst (λ n. IsReserved c.args.seats.sessions n × IsReserved c.args.seats.finished n)
-    (beside_length (λ script begun. MatchResult begun (λ h. (h.promise.begun.value ≡ script) × (h.promise.stored ≡ stored)) (λ back. IsRunOf g.J.BookName.book (store_of g.J.BookName.stored stored) g.R.Read.remaining g.W.Write.contents script back)) scripts running.items begun)
+    (beside_length (λ script begun. MatchResult begun (λ h. (h.promise.begun.value ≡ script) × (h.promise.stored ≡ stored)) (λ back. IsRunOf g.J.BookName.book (store_of g.J.BookName.stored stored) g.R.Read.remaining g.W.ReplyWriter.contents script back)) scripts running.items begun)
     (c.requires.room.sessions, c.requires.room.finished)
 
 pub returns : goal.returns
@@ -58,20 +68,20 @@ returns g c =
     let stored = has_store c.args.shared.now in
     let all = gone_by_count _ scripts at.yielded (into_iter_items at.script-iterator) _ at.invariant.all
     c.into_iter-script-iterator.ensures.into_iter_gives.0 at.invariant.left c.in-None.ensures.steps.0 in
-    let begun = subst (λ ss. AllZip (λ script begun. MatchResult begun (λ h. (h.promise.begun.value ≡ script) × (h.promise.stored ≡ stored)) (λ back. IsRunOf g.J.BookName.book (store_of g.J.BookName.stored stored) g.R.Read.remaining g.W.Write.contents script back)) ss running.items) all at.invariant.begun in
+    let begun = subst (λ ss. AllZip (λ script begun. MatchResult begun (λ h. (h.promise.begun.value ≡ script) × (h.promise.stored ≡ stored)) (λ back. IsRunOf g.J.BookName.book (store_of g.J.BookName.stored stored) g.R.Read.remaining g.W.ReplyWriter.contents script back)) ss running.items) all at.invariant.begun in
     let joined = c.join_sessions.ensures in
     record {
       ended = joined.ended;
       each =
-          beside_through (λ script begun. MatchResult begun (λ h. (h.promise.begun.value ≡ script) × (h.promise.stored ≡ stored)) (λ back. IsRunOf g.J.BookName.book (store_of g.J.BookName.stored stored) g.R.Read.remaining g.W.Write.contents script back))
-          (λ begun ended. MatchResult begun (λ h. IsRunOf g.J.BookName.book (store_of g.J.BookName.stored h.promise.stored) g.R.Read.remaining g.W.Write.contents h.promise.begun.value ended) (λ back. ended ≡ back))
-          (λ script ended. IsRunOf g.J.BookName.book (store_of g.J.BookName.stored stored) g.R.Read.remaining g.W.Write.contents script ended)
-          (λ script begun ended. elim begun as (λ b. MatchResult b (λ h. (h.promise.begun.value ≡ script) × (h.promise.stored ≡ stored)) (λ back. IsRunOf g.J.BookName.book (store_of g.J.BookName.stored stored) g.R.Read.remaining g.W.Write.contents script back)
-          → MatchResult b (λ h. IsRunOf g.J.BookName.book (store_of g.J.BookName.stored h.promise.stored) g.R.Read.remaining g.W.Write.contents h.promise.begun.value ended) (λ back. ended ≡ back)
-          → IsRunOf g.J.BookName.book (store_of g.J.BookName.stored stored) g.R.Read.remaining g.W.Write.contents script ended) [
-            | Ok h ↦ λ same ran. subst (λ b. IsRunOf g.J.BookName.book (store_of g.J.BookName.stored b) g.R.Read.remaining g.W.Write.contents script ended) same.1
-                (subst (λ s. IsRunOf g.J.BookName.book (store_of g.J.BookName.stored h.promise.stored) g.R.Read.remaining g.W.Write.contents s ended) same.0 ran)
-            | Err back ↦ λ ran is. subst (λ e. IsRunOf g.J.BookName.book (store_of g.J.BookName.stored stored) g.R.Read.remaining g.W.Write.contents script e) (sym is) ran
+          beside_through (λ script begun. MatchResult begun (λ h. (h.promise.begun.value ≡ script) × (h.promise.stored ≡ stored)) (λ back. IsRunOf g.J.BookName.book (store_of g.J.BookName.stored stored) g.R.Read.remaining g.W.ReplyWriter.contents script back))
+          (λ begun ended. MatchResult begun (λ h. IsRunOf g.J.BookName.book (store_of g.J.BookName.stored h.promise.stored) g.R.Read.remaining g.W.ReplyWriter.contents h.promise.begun.value ended) (λ back. ended ≡ back))
+          (λ script ended. IsRunOf g.J.BookName.book (store_of g.J.BookName.stored stored) g.R.Read.remaining g.W.ReplyWriter.contents script ended)
+          (λ script begun ended. elim begun as (λ b. MatchResult b (λ h. (h.promise.begun.value ≡ script) × (h.promise.stored ≡ stored)) (λ back. IsRunOf g.J.BookName.book (store_of g.J.BookName.stored stored) g.R.Read.remaining g.W.ReplyWriter.contents script back)
+          → MatchResult b (λ h. IsRunOf g.J.BookName.book (store_of g.J.BookName.stored h.promise.stored) g.R.Read.remaining g.W.ReplyWriter.contents h.promise.begun.value ended) (λ back. ended ≡ back)
+          → IsRunOf g.J.BookName.book (store_of g.J.BookName.stored stored) g.R.Read.remaining g.W.ReplyWriter.contents script ended) [
+            | Ok h ↦ λ same ran. subst (λ b. IsRunOf g.J.BookName.book (store_of g.J.BookName.stored b) g.R.Read.remaining g.W.ReplyWriter.contents script ended) same.1
+                (subst (λ s. IsRunOf g.J.BookName.book (store_of g.J.BookName.stored h.promise.stored) g.R.Read.remaining g.W.ReplyWriter.contents s ended) same.0 ran)
+            | Err back ↦ λ ran is. subst (λ e. IsRunOf g.J.BookName.book (store_of g.J.BookName.stored stored) g.R.Read.remaining g.W.ReplyWriter.contents script e) (sym is) ran
           ])
           scripts running.items joined.ended begun joined.each;
       sessions_are = joined.sessions_are;

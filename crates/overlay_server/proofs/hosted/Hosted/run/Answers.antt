@@ -17,6 +17,7 @@ use Rattle.overlay_server.specs.Given.{given_to}
 use Rattle.overlay_server.specs.Serving.{first_log}
 use Rattle.overlay_server.proofs.Held.{runs_held}
 use Rattle.overlay_server.proofs.Refusals.{MayAnswer, refused_at_once}
+use Rattle.overlay_server.proofs.Reporting.{may_report_all}
 use Rattle.overlay_server.proofs.Parts.{AreSeated, all_of_book, as_many, begin_there, of_ended}
 use Rattle.overlay_server.proofs.Stopping.{any_of, come_to, stopped_from}
 use Rattle.overlay_server.proofs.Stores.{holds_first, holds_on, kept_twice, stopped_at_once}
@@ -31,7 +32,7 @@ pub returns-in_default-clause-refused : goal.returns-in_default-clause-refused
 returns-in_default-clause-refused g c =
     let self = c.args.self in
     let fault = c.refused.result in
-    refused_at_once g.D.Disk self.version.value (flusher_in self.store) (given_to g.R.Read.remaining g.W.Write.contents c.args.ports.items) fault self.answer
+    refused_at_once g.D.Disk self.version.value (flusher_in self.store) (given_to g.R.Read.remaining g.W.ReplyWriter.contents c.args.ports.items) fault self.answer
     (record { code = c.refused.ensures.code; same = c.refused.ensures.answer; may = subst MayAnswer (sym c.requires.hosted.answer) tt })
     (ap (λ (l : BookLog). l.log) c.refused.ensures.seen_log ∙ c.requires.hosted.first) c.refused.ensures.told c.refused.ensures.sessions
     (stopped_at_once g.D.Disk self.version.value (flusher_in self.store) fault.disk c.refused.ensures.now
@@ -48,6 +49,8 @@ run_threads-work-requires-after_bounds g c κs within =
       store = c.requires.hosted.of;
       durable = holds_first g.D.Disk g.J.BookName.stored start self.store c.requires.hosted.begun c.requires.meant;
       scripts = all_of_book g.J.BookName.book start ports seats.scripts.items seated;
+      told = may_report_all g.D.Disk c.requires.hosted.now start g.J.BookName.stored (flusher_in self.store) (λ log number. (c.requires.meant log number).0)
+          g.W.ReplyWriter.may_report c.requires.told _ c.requires.hosted.stored seats.scripts.items (begin_there g.J.BookName.book start ports seats.scripts.items seated);
       room = subst (HasRoom seats) (sym (as_many g.J.BookName.book start ports seats.scripts.items seated)) c.in-Some.ensures.room;
     }
 
@@ -62,7 +65,7 @@ pub close-closed-requires-clause-sessions : goal.close-closed-requires-clause-se
 close-closed-requires-clause-sessions g c =
     let left = c.run_threads-work.ensures.left in
     subst (All (λ (k : Known). k.book ≡ g.J.BookName.book)) (sym (c.deref-2.ensures.value ∙ left.sessions_are))
-    (of_ended g.J.BookName.book (store_of g.J.BookName.stored (has_store c.args.self.shared)) g.R.Read.remaining g.W.Write.contents c.in-Some.seats.scripts.items left.ended left.each)
+    (of_ended g.J.BookName.book (store_of g.J.BookName.stored (has_store c.args.self.shared)) g.R.Read.remaining g.W.ReplyWriter.contents c.in-Some.seats.scripts.items left.ended left.each)
 
 pub returns-then-is_set-clause-refused : goal.returns-then-is_set-clause-refused
 returns-then-is_set-clause-refused g c =
@@ -76,12 +79,12 @@ returns-then-is_set-clause-refused g c =
     let closed = c.close-closed in
     let these : work.result.seats.sessions.items ≡ map ended_session left.ended = left.sessions_are in
     let seated : AreSeated g.J.BookName.book start ports scripts = record { sessions = c.in-Some.ensures.sessions ∙ c.requires.hosted.sessions; ports_are = c.in-Some.ensures.ports } in
-    let there = subst (λ b. AllZip (IsRunOf g.J.BookName.book (store_of g.J.BookName.stored b) g.R.Read.remaining g.W.Write.contents) scripts left.ended) c.requires.hosted.stored left.each in
+    let there = subst (λ b. AllZip (IsRunOf g.J.BookName.book (store_of g.J.BookName.stored b) g.R.Read.remaining g.W.ReplyWriter.contents) scripts left.ended) c.requires.hosted.stored left.each in
     let held =
-    runs_held g.D.Disk c.requires.hosted.now start g.J.BookName.stored g.J.BookName.book (flusher_in self.store) g.R.Read.remaining g.W.Write.contents
+    runs_held g.D.Disk c.requires.hosted.now start g.J.BookName.stored g.J.BookName.book (flusher_in self.store) g.R.Read.remaining g.W.ReplyWriter.contents
     (λ log number. (c.requires.meant log number).0) scripts left.ended (begin_there g.J.BookName.book start ports scripts seated) there in
     let fault = c.stopped in
-    stopped_from g.D.Disk g.J.BookName.book g.R.Read.remaining g.W.Write.contents start ports self.store after scripts left.ended fault.result
+    stopped_from g.D.Disk g.J.BookName.book g.R.Read.remaining g.W.ReplyWriter.contents start ports self.store after scripts left.ended fault.result
     (record { log = c.requires.hosted.begun; none_told = c.requires.hosted.untold; some = c.requires.ports; seated = seated })
     (record { sessions = held; kept = kept_twice g.D.Disk g.J.BookName.book self.store work.result.store after work.ensures.store c.keep_store-store.ensures })
     c.any_begun-begun.result self.answer closed.result
@@ -118,11 +121,11 @@ returns-clause-left g c =
     let closed = c.close-closed in
     let these : work.result.seats.sessions.items ≡ map ended_session left.ended = left.sessions_are in
     let seated : AreSeated g.J.BookName.book start ports scripts = record { sessions = c.in-Some.ensures.sessions ∙ c.requires.hosted.sessions; ports_are = c.in-Some.ensures.ports } in
-    let there = subst (λ b. AllZip (IsRunOf g.J.BookName.book (store_of g.J.BookName.stored b) g.R.Read.remaining g.W.Write.contents) scripts left.ended) c.requires.hosted.stored left.each in
+    let there = subst (λ b. AllZip (IsRunOf g.J.BookName.book (store_of g.J.BookName.stored b) g.R.Read.remaining g.W.ReplyWriter.contents) scripts left.ended) c.requires.hosted.stored left.each in
     let held =
-    runs_held g.D.Disk c.requires.hosted.now start g.J.BookName.stored g.J.BookName.book (flusher_in self.store) g.R.Read.remaining g.W.Write.contents
+    runs_held g.D.Disk c.requires.hosted.now start g.J.BookName.stored g.J.BookName.book (flusher_in self.store) g.R.Read.remaining g.W.ReplyWriter.contents
     (λ log number. (c.requires.meant log number).0) scripts left.ended (begin_there g.J.BookName.book start ports scripts seated) there in
-    served_from g.D.Disk g.J.BookName.book g.R.Read.remaining g.W.Write.contents start ports self.store after scripts left.ended
+    served_from g.D.Disk g.J.BookName.book g.R.Read.remaining g.W.ReplyWriter.contents start ports self.store after scripts left.ended
     (record { sessions = work.result.seats.finished; closed = closed.result })
     (record { log = c.requires.hosted.begun; none_told = c.requires.hosted.untold; some = c.requires.ports; seated = seated })
     (record { sessions = held; kept = kept_twice g.D.Disk g.J.BookName.book self.store work.result.store after work.ensures.store c.keep_store-store.ensures })

@@ -1,6 +1,7 @@
 use Rattle.std.proofs.Common.{◌+◌, ◌++◌, take, drop, sym, ap, ◌∙◌, take-append-drop}
 use Rattle.std.proofs.lemmas.List.{take_more}
 use Rattle.server_session.proofs.Steps.{takes_none, answers_nothing, takes_more, answers_more, stops_there, at_err}
+use Rattle.server_session.proofs.Replies.{may_report-on}
 use Rattle.server_session.proofs.Turns.{stays_self, stays_trans}
 use Rattle.server_session.proofs.session_state.SessionState.answer_bytes.Goals as goal
 
@@ -12,6 +13,9 @@ loop-byte-init g c = record {
   stays = stays_self _;
 }
 
+pub take_byte-requires-clause-told : goal.take_byte-requires-clause-told
+take_byte-requires-clause-told g c κs within = may_report-on _ _ _ c.args.me.now c.loop-byte.me c.loop-byte.invariant.stays c.requires.told
+
 pub loop-byte-preserved : goal.loop-byte-preserved
 loop-byte-preserved g c =
     let i = c.loop-byte.byte-index in
@@ -20,8 +24,8 @@ loop-byte-preserved g c =
     let next = c.in_ok-take_byte.ensures in
     let joined = sym (take_more bytes i _ c.loop-byte-test.true) in
     record {
-      takes = takes_more _ c.args.self.now c.loop-byte.self _ _ c.take_byte.new.me (take i bytes) _ _ _ _ (g.W.Write.contents c.take_byte.new.writer) joined here.stays here.takes here.answers c.take_byte.new.self next.takes;
-      answers = answers_more _ c.args.self.now c.loop-byte.self _ _ c.take_byte.new.me (take i bytes) _ _ _ _ (g.W.Write.contents c.take_byte.new.writer) joined here.stays here.takes here.answers next.answers;
+      takes = takes_more _ c.args.self.now c.loop-byte.self _ _ c.take_byte.new.me (take i bytes) _ _ _ _ (g.W.ReplyWriter.contents c.take_byte.new.writer) joined here.stays here.takes here.answers c.take_byte.new.self next.takes;
+      answers = answers_more _ c.args.self.now c.loop-byte.self _ _ c.take_byte.new.me (take i bytes) _ _ _ _ (g.W.ReplyWriter.contents c.take_byte.new.writer) joined here.stays here.takes here.answers next.answers;
       going = next.ended;
       stays = stays_trans _ _ _ here.stays next.stays;
     }

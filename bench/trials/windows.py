@@ -1,11 +1,11 @@
-#!/usr/bin/env python3
-"""Tests of overlay_window, the program of windows, by points that are fractions. The last line is 'N passed, M failed'.
+"""Is a window of overlay_window, whose core is asked at points that are fractions, as the map is?
 
-    .ci/window-tests PROGRAM [--seed N] [--parts N]
+    python3 -m bench.trials.windows PROGRAM [--seed N] [--parts N]
 
 Random rings, which cross themselves and have far corners, are drawn in round random boxes. From each of some points of the
 box, its corners and borders among them, the layer has to be seen as the map is, inside even-odd and on an edge; and from
-points off the frame nothing of it. What tools/maps/drawing_in.py draws of the same rings is looked at beside it.
+points off the frame nothing of it. What tools/maps/drawing_in.py draws of the same rings is looked at beside it. The last line is
+'N passed, M failed'.
 """
 
 import argparse
@@ -16,11 +16,8 @@ import subprocess
 import sys
 from fractions import Fraction
 
-TOP = pathlib.Path(__file__).resolve().parent.parent
-sys.path.insert(0, str(TOP / "tools"))
-
-from maps import drawing_in, windows  # noqa: E402
-from maps.whole_maps import Box, Point, Ring  # noqa: E402
+from tools.maps import drawing_in, windows
+from tools.maps.whole_maps import Box, Point, Ring
 
 FAR = 2**40
 Place = tuple[Fraction, Fraction]

@@ -9,7 +9,7 @@ use Rattle.script_form.specs.Requests.{Request, nothing, too_long, malformed, pu
 use Rattle.script_form.specs.Transcript.{store_by, IsAnswered, IsTurnAnswered, IsTranscript}
 use Rattle.script_form.specs.Turns.{Turn, alone, together, cut_off}
 use Rattle.server_session.specs.Session.{IsSharedRun, IsPastLimit, IsReadFault, IsCutOff, IsWriteFault, EndsSo, IsSessionWithin}
-use Rattle.store_flushing.proofs.Histories.{begins_trans}
+use Rattle.server_session.proofs.Turns.{begins_trans}
 
 -- of a book with a store, by the histories that go on from a first one
 module _ (told more : History → Type 0) (there : Bool) (first : History) (weak : IsTrue there → (history : History) → BeginsWith history first → told history → more history) where

@@ -1,0 +1,4 @@
+pub mod Parts
+pub mod Few
+pub mod Gathered
+pub mod Valid

@@ -1,0 +1,89 @@
+//! The input of a strip.
+ghost use Rattle.std.specs.Prelude.{◌≡◌, ◌≤◌, ℕ, map, length, IfOk};
+ghost use Rattle.overlay_terms.specs.Layers.{marked_segments};
+ghost use Rattle.arrange.specs.Marked.{kept_in as kept_in_column};
+ghost use Rattle.crossing_sweep.specs.StripInput.{part, IsStripInput};
+ghost use Rattle.strip_inputs.specs.Strips.{kept_in, IsColumnOf};
+
+use crate::gathering::add_segments;
+use arrange::{MarkedSeg, TileInput};
+use crossing_sweep::{PassInput, Strip};
+use layer_expr::StepList;
+use plane_base::{BaseLayer, Column};
+use std::alloc::{AllocError, Global};
+use std::marker::Model;
+
+/// The segments of the base layers in reach that have a point in a strip of neighbouring columns, each with the number
+/// of its layer, and the definitions in reach.
+#[derive(Debug, Drop)]
+pub struct StripInput {
+    strip: Strip,
+    marked: Vec<MarkedSeg>,
+    steps: StepList,
+}
+
+impl Model for StripInput {
+    ghost use Rattle.std.specs.Prelude.{◌≤◌, length, map};
+    ghost use Rattle.arrange.specs.Marked.{marked_of, segments_max};
+    ghost use Rattle.crossing_sweep.specs.StripInput as terms;
+    ghost use Rattle.crossing_sweep.specs.StripInput.{strip_input_code, IsStripInput};
+
+    ghost Value = { terms.StripInput };
+
+    ghost coded = { strip_input_code };
+
+    ghost view = { λ i. record { strip = i.strip; marked = map marked_of i.marked.items; steps = i.steps } };
+
+    ghost invariant = { λ i. IsStripInput (record { strip = i.strip; marked = map marked_of i.marked.items; steps = i.steps }) × (length (map marked_of i.marked.items) ≤ segments_max) };
+}
+
+impl StripInput {
+    /// The input of a strip over as many base layers as the steps know.
+    pub fn of(
+        alloc: Global,
+        strip: Strip,
+        bases: &[&BaseLayer],
+        steps: StepList,
+    ) -> Result<StripInput, AllocError>
+        requires { length bases.now ≡ steps.bases }
+        ensures ok { IfOk result (λ input. input ≡ record { strip = strip; marked = kept_in strip (marked_segments (map (λ b. b.now) bases.now)); steps = steps }) }
+        ensures strip { IfOk result (λ input. input.strip ≡ strip) }
+        // The part of each column is what `TileInput::of` gathers there.
+        ensures part { IfOk result (λ input. (k : ℕ) → strip.first ≤ k → k ≤ strip.last
+            → part input k ≡ record { column = k; marked = kept_in_column k (marked_segments (map (λ b. b.now) bases.now)); steps = steps }) }
+    {
+        // The strip's columns are in order, and there are so many: the type rests on that.
+        let _ = strip.last().number();
+        let mut marked = Vec::new(alloc);
+        for layer in 0..steps.bases() {
+            add_segments(&mut marked, strip, layer, bases[usize::from(layer)])?;
+        }
+        Ok(StripInput {
+            strip,
+            marked,
+            steps,
+        })
+    }
+
+    pub fn strip(&self) -> Strip
+        ensures value { result ≡ self.now.strip }
+        ensures valid { IsStripInput self.now }
+    {
+        self.strip
+    }
+
+    /// The same, lent for a pass over the strip.
+    pub fn pass(&self) -> PassInput<'_>
+        ensures { result ≡ self.now }
+    {
+        PassInput::of_strip(self.strip, &self.marked, &self.steps)
+    }
+
+    /// The input of the tile of one of its columns, in memory of its own.
+    pub fn column_input(&self, alloc: Global, column: Column) -> Result<TileInput, AllocError>
+        requires { IsColumnOf self.now column }
+        ensures { IfOk result (λ input. input ≡ part self.now column) }
+    {
+        TileInput::of_marked(alloc, column, &self.marked, &self.steps)
+    }
+}

@@ -1,0 +1,124 @@
+//! Building the tiles of neighbouring columns.
+ghost use Rattle.std.specs.Prelude.{◌≡◌, ◌+◌, ◌<◌, ◌≤◌, ℕ, true, false, map, length, get_or, All, IfOk, IfSome};
+ghost use Rattle.overlay_terms.specs.Column.{is_in_column};
+ghost use Rattle.overlay_terms.specs.Histories as terms;
+ghost use Rattle.overlay_terms.specs.Histories.{pieces_max};
+ghost use Rattle.overlay_terms.specs.Tiles.{Input};
+ghost use Rattle.crossing_sweep.specs.Crossed.{IsSpan};
+ghost use Rattle.crossing_sweep.specs.NodeNames.{named_ends, AreNumbered};
+ghost use Rattle.crossing_sweep.specs.StripInput.{part, IsStripTile};
+ghost use Rattle.tile_build.specs.StripTiles.{AreOfStrip};
+
+use crate::building::pieces_of;
+use crate::built::{Built, PIECES_MAX};
+use crate::ends::is_name_in;
+use crate::tile::Tile;
+use crossing_sweep::{NodeName, Row, cross_strip, name_of};
+use plane_base::Column;
+use std::alloc::{AllocError, Global};
+use strip_inputs::StripInput;
+
+/// Builds the tiles of a strip's columns in order, each of its own column's input. They are found by one pass over the strip;
+/// where it has more pieces in all than a tile holds, by one pass over each column.
+pub fn build_strip(alloc: Global, input: &StripInput) -> Result<Vec<Built>, AllocError>
+    ensures each { IfOk result (λ list. length list.items + input.now.strip.first ≡ input.now.strip.last + 1) }
+    ensures inputs { IfOk result (λ list. (i : ℕ) (d : Input × terms.Tile) → i < length list.items → (get_or list.items i d).0 ≡ part input.now (input.now.strip.first + i)) }
+{
+    if let Some(list) = build_whole(alloc, input)? {
+        return Ok(list);
+    }
+    build_apart(alloc, input)
+}
+
+/// The tiles by one pass over the strip. None come where it has more pieces in all than a tile holds.
+fn build_whole(alloc: Global, input: &StripInput) -> Result<Option<Vec<Built>>, AllocError>
+    ensures { IfOk result (λ o. IfSome o (λ list. AreOfStrip input.now list.items)) }
+{
+    let pass = input.pass();
+    let found = cross_strip(alloc, &pass, PIECES_MAX, false)?;
+    if found.rows.len() > PIECES_MAX {
+        return Ok(None);
+    }
+    let list = split(alloc, input, &found.names, &found.rows)?;
+    Ok(Some(list))
+}
+
+/// The tiles by one pass over each column.
+fn build_apart(alloc: Global, input: &StripInput) -> Result<Vec<Built>, AllocError>
+    ensures { IfOk result (λ list. AreOfStrip input.now list.items) }
+{
+    let mut list = Vec::new(alloc);
+    let strip = input.strip();
+    let first = strip.first().number();
+    let end = strip.last().number() + 1;
+    for number in first..end {
+        let Some(column) = Column::new(u64::from(number)) else {
+            unreachable!()
+        };
+        let own = input.column_input(alloc, column)?;
+        match Built::new(alloc, own) {
+            Ok(built) => list.push(built)?,
+            Err((_own, error)) => return Err(error),
+        }
+    }
+    Ok(list)
+}
+
+/// Rows that have these names for their ends as the tiles of the strip's columns, where they are all pieces of the boundary
+/// in the strip.
+fn split(
+    alloc: Global,
+    input: &StripInput,
+    names: &[NodeName],
+    rows: &[Row],
+) -> Result<Vec<Built>, AllocError>
+    requires spans { All (IsSpan names.now) rows.now }
+    requires numbered { AreNumbered names.now }
+    requires tile { IsStripTile input.now (map (named_ends names.now) rows.now) }
+    requires few { length rows.now ≤ pieces_max }
+    ensures { IfOk result (λ list. AreOfStrip input.now list.items) }
+{
+    let mut list = Vec::new(alloc);
+    let mut start = 0;
+    let strip = input.strip();
+    let first = strip.first().number();
+    let end = strip.last().number() + 1;
+    for number in first..end {
+        let Some(column) = Column::new(u64::from(number)) else {
+            unreachable!()
+        };
+        let next = part_end(column, names, rows, start);
+        let pieces = pieces_of(alloc, names, &rows[start..next])?;
+        let own = input.column_input(alloc, column)?;
+        list.push(Built::of(own, Tile::Pieces(pieces)))?;
+        start = next;
+    }
+    Ok(list)
+}
+
+/// Where the rows end that begin in a column, from some row on.
+fn part_end(column: Column, names: &[NodeName], rows: &[Row], start: usize) -> usize
+    requires known { start ≤ length rows.now }
+    requires spans { All (IsSpan names.now) rows.now }
+    requires numbered { AreNumbered names.now }
+    ensures from { start ≤ result }
+    ensures to { result ≤ length rows.now }
+    ensures within { (i : ℕ) (d : _) → start ≤ i → i < result → is_in_column column (named_ends names.now (get_or rows.now i d)).0 ≡ true }
+    ensures next { (d : _) → result < length rows.now → is_in_column column (named_ends names.now (get_or rows.now result d)).0 ≡ false }
+{
+    for end in start..rows.len() {
+        if !begins_in(column, names, &rows[end]) {
+            return end;
+        }
+    }
+    rows.len()
+}
+
+/// Whether a row begins in a column.
+fn begins_in(column: Column, names: &[NodeName], row: &Row) -> bool
+    requires span { IsSpan names.now row.now }
+    requires numbered { AreNumbered names.now }
+    ensures { result ≡ is_in_column column (named_ends names.now row.now).0 }
+{
+    is_name_in(column, &name_of(names, row.first))
+}

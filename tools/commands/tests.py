@@ -1,0 +1,43 @@
+"""Tests of the tools.
+
+    tools/tests.py [PROGRAM [LIVE]]
+
+PROGRAM is the built overlayd, LIVE the built overlay_live. Without them the tests of the tools over a program and its
+stores are left out, and so are those of packages that are not installed; how many is reported. The last line is 'N passed,
+M failed'.
+"""
+
+import argparse
+import collections
+import importlib
+import pathlib
+import sys
+import unittest
+
+from ..testing.common import Programs
+
+MODULES = (
+    "helps", "endings", "scales", "scripts", "layouts", "replies", "rings", "pictures", "overlays", "stores",
+    "maps", "feature_files", "first_maps", "map_steps", "map_words", "numpy_forms", "map_tasks", "gdal_maps", "pages", "example_maps",
+    "corners", "sidecars", "inputs", "forms", "progresses",
+)
+
+
+def main(arguments: list[str]) -> int:
+    parser = argparse.ArgumentParser(description=__doc__, formatter_class=argparse.RawDescriptionHelpFormatter)
+    parser.add_argument("program", metavar="PROGRAM", nargs="?", type=pathlib.Path)
+    parser.add_argument("live", metavar="LIVE", nargs="?", type=pathlib.Path)
+    words = parser.parse_args(arguments)
+    for given in (words.program, words.live):
+        if given and not given.is_file():
+            parser.error(f"{given}: no file")
+    Programs.batched = words.program and str(words.program.resolve())
+    Programs.live = words.live and str(words.live.resolve())
+    load = unittest.defaultTestLoader.loadTestsFromModule
+    suite = unittest.TestSuite(load(importlib.import_module(f"tools.testing.{name}")) for name in MODULES)
+    result = unittest.TextTestRunner(stream=sys.stdout, verbosity=1).run(suite)
+    failed = len({test.id() for test, _ in result.failures + result.errors})
+    for reason, count in collections.Counter(reason for _, reason in result.skipped).items():
+        print(f"left out: {count} tests: {reason}")
+    print(f"{result.testsRun - failed - len(result.skipped)} passed, {failed} failed")
+    return 1 if failed else 0

@@ -1,0 +1,50 @@
+"""Tests of web/ over a built overlay_live: the client, exact shapes, and the front called as a function and as a process.
+
+    python3 web/tests.py crates/overlay_live/out/overlay_live [NAME]..
+
+They need no package. A NAME is a test, or a class of them; the last line counts what passed.
+"""
+
+from __future__ import annotations
+
+import argparse
+import pathlib
+import sys
+import unittest
+
+from .. import (
+    test_client, test_features, test_front, test_openapi, test_process, test_refusals, test_rescue, test_serving,
+    test_shapes, test_stress, test_systems, testing,
+)
+
+MODULES = (
+    test_shapes, test_client, test_front, test_refusals, test_features, test_openapi, test_systems, test_stress, test_rescue,
+    test_serving, test_process,
+)
+
+
+def chosen(names: list[str]) -> unittest.TestSuite:
+    """All tests, or those of which a name is a part of the name."""
+
+    def flat(suite: unittest.TestSuite) -> list[unittest.TestCase]:
+        return [case for one in suite for case in (flat(one) if isinstance(one, unittest.TestSuite) else [one])]
+
+    found = [case for module in MODULES for case in flat(unittest.defaultTestLoader.loadTestsFromModule(module))]
+    return unittest.TestSuite(case for case in found if not names or any(name in case.id() for name in names))
+
+
+def main(arguments: list[str]) -> int:
+    parser = argparse.ArgumentParser(description=__doc__, formatter_class=argparse.RawDescriptionHelpFormatter)
+    parser.add_argument("program", type=pathlib.Path, metavar="PROGRAM")
+    parser.add_argument("names", nargs="*", metavar="NAME")
+    words = parser.parse_args(arguments)
+    if not words.program.is_file():
+        parser.error(f"{words.program} is no program")
+    testing.PROGRAM = str(words.program.resolve())
+    result = unittest.TextTestRunner(stream=sys.stdout, verbosity=1).run(chosen(words.names))
+    for test, reason in result.skipped:
+        print(f"skipped {test.id()}: {reason}")
+    print(test_openapi.judges())
+    failed = len({test.id() for test, _ in result.failures + result.errors})
+    print(f"{result.testsRun - failed - len(result.skipped)} passed, {failed} failed")
+    return 1 if failed else 0
