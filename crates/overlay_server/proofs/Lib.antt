@@ -9,7 +9,6 @@ mod Refusals
 mod Reporting
 pub mod Runs
 pub mod Sent
-pub mod SentStore
 pub mod ServedParts
 pub mod StoppedParts
 pub mod Stopping

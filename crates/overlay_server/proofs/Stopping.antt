@@ -1,5 +1,5 @@
 -- From what the threads of a server gave back that could not run, and what its book came to, to what it owes.
-use Rattle.std.proofs.Common.{◌≡◌, ◌+◌, ◌<◌, ◌∷◌, ◌||◌, ℕ, zero, suc, Bool, true, false, List, [], Option, None, Some, MatchBool, MatchOption, All, length, map, refl, sym, ap, subst, ◌∙◌, arith}
+use Rattle.std.proofs.Common.{◌≡◌, ◌+◌, ◌<◌, ◌∷◌, ◌||◌, ℕ, zero, suc, Bool, true, false, List, [], Option, MatchBool, All, length, map, refl, sym, ap, subst, ◌∙◌, arith}
 use Rattle.std.specs.List.{AllZip, list_any}
 use Rattle.std.proofs.lemmas.Bool.{true≢false}
 use Rattle.std.proofs.lemmas.List.{length-map, nil_from_length}
@@ -10,15 +10,16 @@ use Rattle.disk_model.specs.declared.disk.Disk.{Ghosts}
 use Rattle.overlay_terms.specs.Batches.{Batch}
 use Rattle.overlay_terms.specs.Histories.{Version, Entry, commands_in}
 use Rattle.overlay_terms.proofs.HistoryFolds.{newest_has_commands}
-use Rattle.flush_core.specs.declared.flusher.Flusher.{Flusher}
 use Rattle.book_history.specs.BookLogs.{BookLog}
 use Rattle.book_history.specs.Known.{Known}
 use Rattle.book_history.specs.Logs.{history_of, newest_in, IsLog}
-use Rattle.book_history.proofs.Chains.{begins_with, is_history}
+use Rattle.book_history.proofs.Chains.{is_history}
 use Rattle.book_lock.specs.Steps.{beginners, HasAllOf}
-use Rattle.book_lock.specs.Heard.{HasHeard}
 use Rattle.store_flushing.specs.Told.{told_in}
-use Rattle.store_flushing.specs.declared.keeper.told_log.Told.{Told}
+use Rattle.store_flushing.specs.Stores.{flusher_in}
+use Rattle.store_flushing.specs.declared.closed.Closed.{Closed}
+use Rattle.store_flushing.specs.declared.keeper.store.Store.{Store}
+use Rattle.store_flushing.specs.declared.keeper.told_log.ToldLog.{ToldLog}
 use Rattle.script_form.specs.Transcript.{BookStore}
 use Rattle.session_threads.specs.Counting.{made_in}
 use Rattle.session_threads.specs.Running.{IsRunOf, was_begun}
@@ -34,12 +35,11 @@ use Rattle.overlay_server.specs.Refusing.{AreStopped, IsRefusedFrom, StoreComesB
 use Rattle.overlay_server.specs.Serving.{first_log, store_from}
 use Rattle.overlay_server.specs.declared.opening.BookAnswer.{BookAnswer}
 use Rattle.overlay_server.specs.declared.outcome.ServerFault.{ServerFault}
-use Rattle.overlay_server.specs.declared.storing.Store.{Store}
 use Rattle.overlay_server.proofs.Parts.{as_many, begins_first}
 use Rattle.overlay_server.proofs.Refusals.{IsAnswered, IsHistoryLeft, refused_from}
-use Rattle.overlay_server.proofs.ServedParts.{Began, Ran}
+use Rattle.overlay_server.proofs.ServedParts.{Began, IsClosed, Ran}
 use Rattle.overlay_server.proofs.StoppedParts.{are_stopped, none_stopped}
-use Rattle.overlay_server.proofs.Stores.{stopped_by}
+use Rattle.overlay_server.proofs.Stores.{back_from, left_by}
 use Rattle.overlay_server.proofs.Strangers.{no_other}
 
 -- ---- where no session was begun, nothing was made
@@ -88,22 +88,19 @@ come_to false back given all is same = is
 -- ---- what a server owes
 
 -- its book has ended
-pub record IsEndedSo {R W D : Type 0} (g : Ghosts D) (start : Version) (after : Store D g) (ended : List (Ended R W)) (begun : Bool) (fault : ServerFault D) : Type 0 where
-  pub log : IsLog fault.seen_log.log
-  pub heard : HasHeard fault.seen_log.log after.reporter
-  pub sessions : All (HasAllOf fault.seen_log.log) (map ended_session ended)
-  pub number : (newest_in fault.seen_log.log).number ≡ start.number + made_in (map ended_session ended)
-  pub begun_is : begun ≡ any_of (map finished_of ended)
-  pub come : MatchBool begun (fault.sessions.items ≡ map ended_session ended) (fault.sessions.items ≡ [])
-  pub told : told_in fault.told ≡ told_in after.told
-  pub disk : MatchOption after.flusher (fault.disk ≡ None) (λ (f : Flusher D g). fault.disk ≡ Some f.commit.disk)
+record IsEndedSo {R W D : Type 0} (start : Version) (ended : List (Ended R W)) (begun : Bool) (fault : ServerFault D) : Type 0 where
+  log : IsLog fault.seen_log.log
+  sessions : All (HasAllOf fault.seen_log.log) (map ended_session ended)
+  number : (newest_in fault.seen_log.log).number ≡ start.number + made_in (map ended_session ended)
+  begun_is : begun ≡ any_of (map finished_of ended)
+  come : MatchBool begun (fault.sessions.items ≡ map ended_session ended) (fault.sessions.items ≡ [])
 
 module _ {R W D : Type 0} (g : Ghosts D) (book : Book) (remaining : R → Option (List ℕ)) (contents : W → Option (List ℕ)) (start : Version) (ports : List (Port R W)) (store after : Store D g)
     (scripts : List (Script R W)) (ended : List (Ended R W)) (fault : ServerFault D) (began : Began book start ports store scripts) (ran : Ran g book start remaining contents store after scripts ended) where
   abbrev stored : BookStore
-  stored = store_from g start store.flusher
+  stored = store_from g start (flusher_in store)
 
-  history_left : (begun : Bool) → IsEndedSo g start after ended begun fault → IsHistoryLeft g start store.flusher (given_to remaining contents ports) fault
+  history_left : (begun : Bool) → IsEndedSo start ended begun fault → IsHistoryLeft g start (flusher_in store) (given_to remaining contents ports) fault
   history_left true so =
       let log = fault.seen_log.log in
       let entries = (history_of log).entries in
@@ -137,11 +134,20 @@ module _ {R W D : Type 0} (g : Ghosts D) (book : Book) (remaining : R → Option
         sessions = none_stopped stored start log (given_to remaining contents ports) fault.sessions.items book so.come;
       }
 
-  pub stopped_from : (begun : Bool) (answer : BookAnswer) → IsAnswered fault answer
-      → IsEndedSo g start after ended begun fault → IsRefusedFrom g start store.flusher (given_to remaining contents ports) fault
-  stopped_from begun answer answered so =
-      let log = fault.seen_log.log in
-      refused_from g start store.flusher (given_to remaining contents ports) fault answer answered (history_left begun so)
-      (subst (λ (ts : List Told). StoreComesBack g start log ts store.flusher fault.disk) (sym so.told)
-      (stopped_by g start store.reporter after.reporter log (told_in store.told) (told_in after.told) store.flusher after.flusher fault.disk began.log began.none_told
-      (begins_with after.reporter.log log ran.kept.begun so.heard.longer) (is_history log so.log) so.heard.durable ran.kept.flushed so.disk))
+  pub stopped_from : (begun : Bool) (answer : BookAnswer) (closed : Closed D) → IsAnswered fault answer → IsClosed g start after ended closed
+      → (fault.disk ≡ closed.disk) × ((fault.seen_log ≡ closed.seen_log) × (fault.told ≡ closed.told)) → begun ≡ any_of (map finished_of ended)
+      → MatchBool begun (fault.sessions.items ≡ map ended_session ended) (fault.sessions.items ≡ []) → IsRefusedFrom g start (flusher_in store) (given_to remaining contents ports) fault
+  stopped_from begun answer closed answered so same begun_is come =
+      let log : fault.seen_log ≡ closed.seen_log = same.1.0 in
+      refused_from g start (flusher_in store) (given_to remaining contents ports) fault answer answered
+      (history_left begun (record {
+        log = subst (λ (l : BookLog). IsLog l.log) (sym log) so.store.log;
+        sessions = subst (λ (l : BookLog). All (HasAllOf l.log) (map ended_session ended)) (sym log) so.sessions;
+        number = ap (λ (l : BookLog). (newest_in l.log).number) log ∙ so.number;
+        begun_is = begun_is;
+        come = come;
+      }))
+      (subst (λ (d : Option D). StoreComesBack g start fault.seen_log.log (told_in fault.told) (flusher_in store) d) (sym same.0)
+      (subst (λ (l : BookLog). StoreComesBack g start l.log (told_in fault.told) (flusher_in store) closed.disk) (sym log)
+      (subst (λ (t : ToldLog). StoreComesBack g start closed.seen_log.log (told_in t) (flusher_in store) closed.disk) (sym same.1.1)
+      (back_from g start (flusher_in store) closed (left_by g start store after closed began.log began.none_told ran.kept.flushed so.store)))))

@@ -1,32 +1,36 @@
 -- The store of a server through its runs, and what is left of it at the end.
-use Rattle.std.proofs.Common.{◌≡◌, ◌⊎◌, inl, inr, ⊎_elim, false, ℕ, ◌≤◌, List, [], Option, Some, None, IfSome, MatchOption, All, refl, sym, ◌∙◌, ◌↔◌, subst, arith}
+use Rattle.std.proofs.Common.{◌≡◌, ◌⊎◌, inl, inr, ⊎_elim, false, ℕ, ◌<◌, ◌≤◌, List, [], length, Option, Some, None, MatchOption, All, refl, sym, ◌∙◌, ◌↔◌, subst, arith}
 use Rattle.logbook.specs.Pages.{Book}
 use Rattle.disk_model.specs.declared.disk.Disk.{Ghosts}
-use Rattle.disk_model.specs.Moments.{Leaves, LeavesOnly}
+use Rattle.disk_model.specs.Moments.{LeavesOnly}
 use Rattle.disk_model.proofs.Runs.{widened}
-use Rattle.overlay_terms.specs.Histories.{Entry, History, Version, BeginsWith, IsHistory}
+use Rattle.overlay_terms.specs.Histories.{Entry, History, Version, BeginsWith}
 use Rattle.std.proofs.lemmas.Bool.{false≢true}
 use Rattle.root_store.specs.declared.phase.Phase.{Phase}
 use Rattle.root_store.specs.declared.phase.Phase.TheVariants.{Idle, Close, Settle, Put, Open, Finish, Failed}
 use Rattle.root_store.specs.Running.{is_busy}
 use Rattle.flush_core.specs.declared.flusher.Flusher.{Flusher}
-use Rattle.book_history.specs.Logs.{history_of, newest_in}
-use Rattle.book_lock.specs.Heard.{Heard}
-use Rattle.store_flushing.specs.Among.{IsFileIn, IsFileExactlyIn}
-use Rattle.store_flushing.specs.Storing.{IsStoreOf}
+use Rattle.book_history.specs.Logs.{history_of, newest_in, IsLog}
+use Rattle.book_history.proofs.Chains.{begins_with, is_history}
+use Rattle.book_lock.specs.Heard.{HasHeard}
+use Rattle.store_flushing.specs.Among.{IsFileIn}
+use Rattle.store_flushing.specs.Storing.{IsStoreOf, HoldsOfStored}
+use Rattle.store_flushing.specs.Stores.{flusher_in, reporter_of, told_by}
 use Rattle.store_flushing.specs.Told.{StaysTold, TellsOn, told_in}
+use Rattle.store_flushing.specs.declared.closed.Closed.{Closed}
+use Rattle.store_flushing.specs.declared.keeper.Keeper.{Keeper}
+use Rattle.store_flushing.specs.declared.keeper.store.Store.{Store}
+use Rattle.store_flushing.specs.declared.keeper.store.Store.TheVariants.{Kept, Alone}
+use Rattle.store_flushing.specs.declared.keeper.told_log.Told.{Told}
+use Rattle.store_flushing.proofs.Closings.{exactly_on}
 use Rattle.store_flushing.proofs.Following.{by_run, handed_on}
 use Rattle.store_flushing.proofs.Histories.{file_more}
 use Rattle.store_flushing.proofs.Storage.{begun, store_leaves, then}
-use Rattle.store_flushing.proofs.ToldLemmas.{none_yet, tells_then, told_at_end}
-use Rattle.store_flushing.specs.declared.closed.Closed.{Closed}
-use Rattle.store_flushing.specs.declared.keeper.told_log.Told.{Told}
-use Rattle.overlay_server.specs.Closing.{IsClosedOf}
+use Rattle.store_flushing.proofs.ToldLemmas.{none_yet, telling_then, tells_then, told_at_end}
 use Rattle.overlay_server.specs.Moments.{HasOnlyNow}
 use Rattle.overlay_server.specs.Keeping.{AreFlushed, HoldsOfStore, IsStoreKept}
 use Rattle.overlay_server.specs.Refusing.{StoreComesBack}
 use Rattle.overlay_server.specs.Serving.{IsLeftOfStore, IsStoredOf, first_log}
-use Rattle.overlay_server.specs.declared.storing.Store.{Store}
 
 -- no commit is under way
 at_rest : (p : Phase) → is_busy p ≡ false → (p ≡ Idle) ⊎ (p ≡ Failed)
@@ -41,27 +45,21 @@ at_rest Failed rests = inr refl
 module _ {D : Type 0} (g : Ghosts D) where
   -- ---- two runs in a row
 
-  flushed_twice : (a b c : Heard) (x y z : List Told) (f h k : Option (Flusher D g)) → AreFlushed g a x f b y h → AreFlushed g b y h c z k → AreFlushed g a x f c z k
-  flushed_twice a b c x y z None None None first second = second ∙ first
-  flushed_twice a b c x y z None None (Some w) first second = absurd second
-  flushed_twice a b c x y z None (Some v) k first second = absurd first
-  flushed_twice a b c x y z (Some u) None k first second = absurd first
-  flushed_twice a b c x y z (Some u) (Some v) None first second = absurd second
-  flushed_twice a b c x y z (Some u) (Some v) (Some w) first second = record {
+  flushed_twice : (a b c : Store D g) → AreFlushed g a b → AreFlushed g b c → AreFlushed g a c
+  flushed_twice (Kept a) (Kept b) (Kept c) first second = record {
     flushes = λ is. let one = first.flushes is in
-        then g (history_of a.log) (history_of b.log) (history_of c.log) u v w one (second.flushes one.store);
+        then g (history_of a.reporter.log) (history_of b.reporter.log) (history_of c.reporter.log) a.flusher b.flusher c.flusher one (second.flushes one.store);
     rests = second.rests;
-    tells = λ is. tells_then g (history_of a.log) (history_of b.log) (history_of c.log) x y z u.commit.disk v.commit.disk w.commit.disk
-        (first.tells is) (second.tells (first.flushes is).store);
+    tells = telling_then g a b c first.tells (λ is. (first.flushes is).store) second.tells;
   }
+  flushed_twice (Kept a) (Kept b) (Alone c) first second = absurd second
+  flushed_twice (Kept a) (Alone b) c first second = absurd first
+  flushed_twice (Alone a) (Kept b) c first second = absurd first
+  flushed_twice (Alone a) (Alone b) (Kept c) first second = absurd second
+  flushed_twice (Alone a) (Alone b) (Alone c) first second = second ∙ first
 
   pub kept_twice : (book : Book) (a b c : Store D g) → IsStoreKept book g a b → IsStoreKept book g b c → IsStoreKept book g a c
-  kept_twice book a b c first second = record {
-    of = second.of;
-    valid = second.valid;
-    begun = second.begun;
-    flushed = flushed_twice a.reporter b.reporter c.reporter (told_in a.told) (told_in b.told) (told_in c.told) a.flusher b.flusher c.flusher first.flushed second.flushed;
-  }
+  kept_twice book a b c first second = record { of = second.of; flushed = flushed_twice a b c first.flushed second.flushed }
 
   -- ---- what may be reported durable
 
@@ -70,90 +68,90 @@ module _ {D : Type 0} (g : Ghosts D) where
   CountsAs stored start store = (log : List Entry) (number : ℕ) → stored log number ↔ IsStoredOf g start store log number
 
   -- what holds of all that the store of a book comes to hold
-  pub holds_first : (stored : List Entry → ℕ → Type 0) (start : Version) (store : Option (Flusher D g)) → CountsAs stored start store
-      → HoldsOfStore g stored (first_log start) store
-  holds_first stored start None same = tt
-  holds_first stored start (Some f) same = λ log h on. (same log h.commit.root.version).1 (λ is. record { store = h; followed = on is; at = refl })
+  pub holds_first : (stored : List Entry → ℕ → Type 0) (start : Version) (store : Store D g) → (reporter_of store).log ≡ first_log start
+      → CountsAs stored start (flusher_in store) → HoldsOfStore g stored store
+  holds_first stored start (Kept k) first same =
+      subst (λ (es : List Entry). HoldsOfStored g stored (history_of es) k.flusher) (sym first)
+      (λ log h on. (same log h.commit.root.version).1 (λ is. record { store = h; followed = on is; at = refl }))
+  holds_first stored start (Alone r) first same = tt
 
   -- it holds after a run too
-  pub holds_on : (stored : List Entry → ℕ → Type 0) (a b : Heard) (x y : List Told) (f h : Option (Flusher D g)) → AreFlushed g a x f b y h
-      → HoldsOfStore g stored a.log f → HoldsOfStore g stored b.log h
-  holds_on stored a b x y f None run all = tt
-  holds_on stored a b x y None (Some v) run all = absurd run
-  holds_on stored a b x y (Some u) (Some v) run all =
-      handed_on g stored (history_of a.log) (history_of b.log) u v (λ is. by_run g (history_of a.log) (history_of b.log) u v (run.flushes is)) all
+  pub holds_on : (stored : List Entry → ℕ → Type 0) (a b : Store D g) → AreFlushed g a b → HoldsOfStore g stored a → HoldsOfStore g stored b
+  holds_on stored (Kept a) (Kept b) run all =
+      let was = history_of a.reporter.log in
+      let now = history_of b.reporter.log in
+      handed_on g stored was now a.flusher b.flusher (λ is. by_run g was now a.flusher b.flusher (run.flushes is)) all
+  holds_on stored (Kept a) (Alone b) run all = absurd run
+  holds_on stored (Alone a) (Kept b) run all = absurd run
+  holds_on stored (Alone a) (Alone b) run all = tt
 
   -- ---- at the end of a book
 
-  -- what a run leaves, said of a longer history
-  moments_on : (was now : History) (least : ℕ) (old new : D) → BeginsWith now was → LeavesOnly g old new (IsFileIn was least) → LeavesOnly g old new (IsFileIn now least)
-  moments_on was now least old new on run =
-      widened g old new (IsFileIn was least) (IsFileIn now least) (λ c file. file_more was now least least c on (omega arith) file) run
-
-  -- what is said of the number and the disk that are left
-  at_disk : (P : ℕ → List ℕ → Type 0) (back : Option D) (disk : D) (stored number : ℕ) → back ≡ Some disk → stored ≡ number
-      → IfSome back (λ (d : D). Leaves g d (P stored)) → Leaves g disk (P number)
-  at_disk P back disk stored number is same left =
-      subst (λ (n : ℕ). Leaves g disk (P n)) same (subst (λ (o : Option D). IfSome o (λ (d : D). Leaves g d (P stored))) is left)
+  -- what is said of a store and of what is left as its book closes
+  pub record HasClosed (whole : Store D g) (closed : Closed D) : Type 0 where
+    pub log : IsLog closed.seen_log.log
+    pub begun : 0 < length (reporter_of whole).log
+    pub heard : HasHeard closed.seen_log.log (reporter_of whole)
+    pub durable : All (λ (e : Entry). e.version.durable ≤ (newest_in closed.seen_log.log).durable) closed.seen_log.log
+    pub store : MatchOption (flusher_in whole) ((closed.stored ≡ 0) × (closed.disk ≡ None)) (λ (f : Flusher D g). (closed.stored ≡ f.commit.root.version) × (closed.disk ≡ Some f.commit.disk))
+    pub told : told_in closed.told ≡ told_by whole
 
   -- nothing was reported as the book began
-  none_yet_by : (start : Version) (was : Heard) (told : List Told) (disk : D) → was.log ≡ first_log start → told ≡ []
-      → StaysTold g (history_of was.log) told disk disk
-  none_yet_by start was told disk first none =
-      subst (λ (ts : List Told). StaysTold g (history_of was.log) ts disk disk) (sym none)
+  none_yet_by : (start : Version) (k : Keeper D g) (disk : D) → k.reporter.log ≡ first_log start → told_in k.told ≡ [] → StaysTold g (history_of k.reporter.log) (told_in k.told) disk disk
+  none_yet_by start k disk first none =
+      subst (λ (ts : List Told). StaysTold g (history_of k.reporter.log) ts disk disk) (sym none)
       (subst (λ (es : List Entry). StaysTold g (history_of es) [] disk disk) (sym first) (none_yet g start disk))
 
-  pub left_by : (start : Version) (was now : Heard) (x y : List Told) (old new : Option (Flusher D g)) (closed : Closed D) → was.log ≡ first_log start → x ≡ []
-      → AreFlushed g was x old now y new → IsClosedOf g now y new closed → IsLeftOfStore g start old closed
-  left_by start was now x y None None closed first none flushed closes = closes.none
-  left_by start was now x y None (Some l) closed first none flushed closes = absurd flushed
-  left_by start was now x y (Some f) None closed first none flushed closes = absurd flushed
-  left_by start was now x y (Some f) (Some l) closed first none flushed closes = record {
-    last = l;
-    disk = closes.disk.1;
-    stored = closes.disk.0;
+  pub left_by : (start : Version) (was now : Store D g) (closed : Closed D) → (reporter_of was).log ≡ first_log start → told_by was ≡ []
+      → AreFlushed g was now → HasClosed now closed → IsLeftOfStore g start (flusher_in was) closed
+  left_by start (Alone f) (Alone l) closed first none flushed closes = closes.store
+  left_by start (Alone f) (Kept l) closed first none flushed closes = absurd flushed
+  left_by start (Kept f) (Alone l) closed first none flushed closes = absurd flushed
+  left_by start (Kept f) (Kept l) closed first none flushed closes = record {
+    last = l.flusher;
+    disk = closes.store.1;
+    stored = closes.store.0;
     rests = flushed.rests;
     left = λ is.
-        let was_store = subst (λ (log : List Entry). IsStoreOf g (history_of log) f) (sym first) is in
-        let run = flushed.flushes was_store in
+        let was = history_of f.reporter.log in
+        let now = history_of l.reporter.log in
         let log = closed.seen_log.log in
-        let end = subst (λ (o : Option D). IfSome o (λ (d : D). TellsOn g (history_of now.log) y l.commit.disk (history_of log) (told_in closed.told) d)) closes.disk.1 closes.told in
-        let whole = tells_then g (history_of was.log) (history_of now.log) (history_of log) x y (told_in closed.told) f.commit.disk l.commit.disk l.commit.disk (flushed.tells was_store) end in
+        let end = history_of log in
+        let old = f.flusher in
+        let last = l.flusher in
+        let level = old.commit.root.version in
+        let stored = last.commit.root.version in
+        let on : BeginsWith end now = begins_with l.reporter.log log closes.begun closes.heard.longer in
+        let was_store = subst (λ (es : List Entry). IsStoreOf g (history_of es) old) (sym first) is in
+        let run = flushed.flushes was_store in
+        let low : (newest_in l.reporter.log).durable ≤ stored = run.store.reported in
+        let rest = told_at_end g now end (told_in l.told) last.commit.disk on (is_history log closes.log) closes.heard.durable in
+        let whole : TellsOn g was (told_in f.told) old.commit.disk end (told_in closed.told) last.commit.disk =
+        subst (λ (ts : List Told). TellsOn g was (told_in f.told) old.commit.disk end ts last.commit.disk) (sym closes.told)
+        (tells_then g was now end (told_in f.told) (told_in l.told) (told_in l.told) old.commit.disk last.commit.disk last.commit.disk (flushed.tells was_store) rest) in
         record {
           no_less = run.no_less;
-          moments = moments_on (history_of now.log) (history_of log) f.commit.root.version f.commit.disk l.commit.disk closes.on run.moments;
-          reported = subst (λ (n : ℕ). All (λ (e : Entry). e.version.durable ≤ n) log) closes.disk.0 (closes.reported run.store.reported);
-          files = at_disk (IsFileIn (history_of log)) closed.disk l.commit.disk closed.stored l.commit.root.version closes.disk.1 closes.disk.0
-              (closes.files (store_leaves g (history_of now.log) l run.store));
-          exactly = ⊎_elim
-              (λ idle. inr (inr (at_disk (IsFileExactlyIn (history_of log)) closed.disk l.commit.disk closed.stored l.commit.root.version closes.disk.1 closes.disk.0
-              (closes.exactly run.store idle))))
+          moments =
+              widened g old.commit.disk last.commit.disk (IsFileIn now level) (IsFileIn end level) (λ c file. file_more now end level level c on (omega arith) file) run.moments;
+          reported = λ k d at. omega (arith, closes.durable k d at, closes.heard.durable, low);
+          files = λ c at. file_more now end stored stored c on (omega arith) (store_leaves g now last run.store c at);
+          exactly = ⊎_elim (λ idle. inr (inr (exactly_on g now end on last run.store idle)))
               (λ failed. ⊎_elim inl (λ rose. inr (inl rose)) (run.by_device.failed failed))
-              (at_rest l.commit.phase flushed.rests);
-          told = whole.stays f.commit.disk (omega arith) (none_yet_by start was x f.commit.disk first none);
+              (at_rest last.commit.phase flushed.rests);
+          told = whole.stays old.commit.disk (omega arith) (none_yet_by start f old.commit.disk first none);
         };
   }
 
   -- ---- where a server could not run
 
-  -- after its threads have returned, said of the longer log that the book has then
-  pub stopped_by : (start : Version) (was now : Heard) (log : List Entry) (x y : List Told) (old new : Option (Flusher D g)) (back : Option D) → was.log ≡ first_log start → x ≡ []
-      → BeginsWith (history_of log) (history_of now.log) → IsHistory (history_of log) → (newest_in log).durable ≡ (newest_in now.log).durable
-      → AreFlushed g was x old now y new → MatchOption new (back ≡ None) (λ (f : Flusher D g). back ≡ Some f.commit.disk) → StoreComesBack g start log y old back
-  stopped_by start was now log x y None None back first none on valid durable flushed is = is
-  stopped_by start was now log x y None (Some l) back first none on valid durable flushed is = absurd flushed
-  stopped_by start was now log x y (Some f) None back first none on valid durable flushed is = absurd flushed
-  stopped_by start was now log x y (Some f) (Some l) back first none on valid durable flushed is = record {
-    disk = l.commit.disk;
-    there = is;
-    stopped = λ store.
-        let was_store = subst (λ (es : List Entry). IsStoreOf g (history_of es) f) (sym first) store in
-        let end = told_at_end g (history_of now.log) (history_of log) y l.commit.disk on valid durable in
-        let whole = tells_then g (history_of was.log) (history_of now.log) (history_of log) x y y f.commit.disk l.commit.disk l.commit.disk (flushed.tells was_store) end in
-        record {
-          moments = moments_on (history_of now.log) (history_of log) f.commit.root.version f.commit.disk l.commit.disk on (flushed.flushes was_store).moments;
-          told = whole.stays f.commit.disk (omega arith) (none_yet_by start was x f.commit.disk first none);
-        };
+  -- after its threads have returned
+  pub back_from : (start : Version) (old : Option (Flusher D g)) (closed : Closed D) → IsLeftOfStore g start old closed
+      → StoreComesBack g start closed.seen_log.log (told_in closed.told) old closed.disk
+  back_from start None closed left = left.1
+  back_from start (Some f) closed left = record {
+    disk = left.last.commit.disk;
+    there = left.disk;
+    stopped = λ is. let by = left.left is in record { moments = by.moments; told = by.told };
   }
 
   -- before any session was begun

@@ -3,7 +3,7 @@ use Rattle.std.specs.Prelude.{◌≡◌, ℕ, is_some, None, []}
 use Rattle.logbook.specs.Pages.{Book}
 use Rattle.disk_model.specs.declared.disk.Disk.{Ghosts}
 use Rattle.book_lock.specs.Steps.{beginners}
-use Rattle.store_flushing.specs.Told.{told_in}
+use Rattle.store_flushing.specs.Stores.{flusher_in, reporter_of, told_by}
 use Rattle.version_book.specs.Store.{has_store}
 use Rattle.overlay_server.specs.Answering.{answer_in}
 use Rattle.overlay_server.specs.Moments.{HasOnlyNow}
@@ -17,8 +17,8 @@ pub record IsHosted {J S D : Type 0} {g : Ghosts D} (book : Book) (count : ℕ) 
   pub first : hosted.seen_log.log ≡ first_log hosted.version.value
   pub answer : answer_in hosted.answer ≡ None
   pub now : HasOnlyNow g
-  pub stored : has_store hosted.shared ≡ is_some hosted.store.flusher
-  pub of : hosted.store.reporter.book ≡ book
-  pub begun : hosted.store.reporter.log ≡ first_log hosted.version.value
-  pub untold : told_in hosted.store.told ≡ []
+  pub stored : has_store hosted.shared ≡ is_some (flusher_in hosted.store)
+  pub of : (reporter_of hosted.store).book ≡ book
+  pub begun : (reporter_of hosted.store).log ≡ first_log hosted.version.value
+  pub untold : told_by hosted.store ≡ []
   pub sessions : hosted.sessions.items ≡ beginners (record { book = book; log = first_log hosted.version.value }) count

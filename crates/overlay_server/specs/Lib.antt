@@ -1,6 +1,5 @@
 pub mod Alone
 pub mod Answering
-pub mod Closing
 pub mod Durability
 pub mod Given
 pub mod Hosting

@@ -1,30 +1,29 @@
 -- What the threads of a server begin with, and what they give back.
 use Rattle.std.specs.Prelude.{◌≡◌, ℕ, Bool, List, length, All, Option}
-use Rattle.std.specs.List.{AllZip}
 use Rattle.logbook.specs.Pages.{Book}
 use Rattle.disk_model.specs.declared.disk.Disk.{Ghosts}
 use Rattle.overlay_terms.specs.Histories.{Entry, History}
 use Rattle.script_form.specs.Transcript.{BookStore}
+use Rattle.store_flushing.specs.Stores.{reporter_of}
 use Rattle.server_session.specs.Replying.{MayReport}
-use Rattle.session_threads.specs.Rooms.{HasRooms}
+use Rattle.session_threads.specs.Rooms.{HasRoom}
 use Rattle.session_threads.specs.Running.{IsRunOf}
-use Rattle.session_threads.specs.declared.running.Ended.{Ended}
+use Rattle.session_threads.specs.Seats.{Leave}
 use Rattle.session_threads.specs.declared.running.Script.{Script}
 use Rattle.overlay_server.specs.Keeping.{HoldsOfStore, IsStoreKept}
-use Rattle.overlay_server.specs.declared.threads.Returned.{Returned}
 use Rattle.overlay_server.specs.declared.threads.Work.{Work}
 
 -- store and sessions are of this book, what the store comes to hold may be reported durable, what was stored may be
 -- reported to the writers, and there is room for what the sessions leave; `there` says whether the book has a store
 pub record IsReady {J R W D : Type 0} {g : Ghosts D} (book : Book) (stored : List Entry → ℕ → Type 0) (there : Bool) (may : History → Type 0) (work : Work J R W D g) : Type 0 where
-  pub store : work.store.reporter.book ≡ book
-  pub durable : HoldsOfStore g stored work.store.reporter.log work.store.flusher
-  pub scripts : All (λ (script : Script R W). script.session.book ≡ book) work.scripts.items
-  pub told : All (λ (script : Script R W). MayReport stored there script.session may) work.scripts.items
-  pub rooms : HasRooms work.rooms (length work.scripts.items)
+  pub store : (reporter_of work.store).book ≡ book
+  pub durable : HoldsOfStore g stored work.store
+  pub scripts : All (λ (script : Script R W). script.session.book ≡ book) work.seats.scripts.items
+  pub told : All (λ (script : Script R W). MayReport stored there script.session may) work.seats.scripts.items
+  pub room : HasRoom work.seats (length work.seats.scripts.items)
 
 -- the threads have returned: the store's committed versions of the book alone, and each session ran its script, or was not
 -- begun and is as it was; `stored` is what is known of the book's store
-pub record HasWorked {J R W D : Type 0} (book : Book) (stored : BookStore) (remaining : R → Option (List ℕ)) (contents : W → Option (List ℕ)) (g : Ghosts D) (work : Work J R W D g) (returned : Returned R W D g) : Type 0 where
-  pub store : IsStoreKept book g work.store returned.store
-  pub ended : AllZip (λ (script : Script R W) (ended : Ended R W). IsRunOf book stored remaining contents script ended) work.scripts.items returned.ended.items
+pub record HasWorked {J R W D : Type 0} (book : Book) (stored : BookStore) (remaining : R → Option (List ℕ)) (contents : W → Option (List ℕ)) (g : Ghosts D) (work after : Work J R W D g) : Type 0 where
+  pub store : IsStoreKept book g work.store after.store
+  pub left : Leave (IsRunOf book stored remaining contents) work.seats.scripts.items after.seats.sessions.items after.seats.finished.items

@@ -2,6 +2,7 @@
 ghost use Rattle.std.specs.Prelude.{◌≡◌, ◌<◌, ◌≤◌, ◌↔◌, ℕ, List, length, IfOk, IfErr};
 ghost use Rattle.book_history.specs.Rules.{head_of};
 ghost use Rattle.overlay_terms.specs.Histories.{Entry, History};
+ghost use Rattle.store_flushing.specs.Stores.{flusher_in};
 ghost use Rattle.overlay_server.specs.Given.{Given, bytes_of, given_by, given_to};
 ghost use Rattle.overlay_server.specs.Hosting.{IsHosted};
 ghost use Rattle.overlay_server.specs.Refusing.{IsRefusedFrom};
@@ -11,23 +12,23 @@ use crate::hosted::Hosted;
 use crate::listening::listened;
 use crate::opening::open_book;
 use crate::outcome::{Left, Served, ServerFault};
-use crate::refusing::{only_now, refused};
-use crate::storing::{Store, keep_store};
-use crate::threads::{Returned, Work, run_threads};
+use crate::refusing::{only_now, refused, stopped};
+use crate::storing::keep_store;
+use crate::threads::{Work, run_threads};
 use disk_model::disk::Disk;
 use flush_core::flusher::Flusher;
 use overlay_engine::engine::Engine;
 use server_session::reply_writer::ReplyWriter;
-use session_threads::counting::any_begun;
+use session_threads::counting::{any_begun, await_number, made_by_all};
 use session_threads::halt::Halt;
 use session_threads::port::Port;
-use session_threads::seating::{Parts, Seats, parted, seated};
+use session_threads::seating::seated;
 use std::alloc::Global;
 use std::io::Read;
 use std::snapshot::Snapshot;
 use std::sync::Wait;
 use std::thread::Threads;
-use store_flushing::keeper::told_log::ToldLog;
+use store_flushing::keeper::store::Store;
 use tile_workers::gate::Gate;
 use version_book::seen_log::{BookName, LogWord, SeenLog};
 use versions::Version;
@@ -46,7 +47,7 @@ fn host<J: BookName, S: Wait + Drop, D: Disk>(
     requires begun { opened.1.log ≡ first_log (start_of engine) }
     requires sessions { (0 < sessions) × (sessions ≤ 4) }
     ensures version { IfOk result (λ hosted. hosted.version.value ≡ start_of engine) }
-    ensures flusher { IfOk result (λ hosted. hosted.store.flusher ≡ flusher_of engine) }
+    ensures flusher { IfOk result (λ hosted. flusher_in hosted.store ≡ flusher_of engine) }
     ensures hosted { IfOk result (IsHosted J.book sessions) }
     ensures refused { IfErr result (λ fault. (all : List Given) → IsRefusedFrom D.Disk (start_of engine) (flusher_of engine) all fault) }
 {
@@ -66,11 +67,7 @@ fn host<J: BookName, S: Wait + Drop, D: Disk>(
             seen_log: first,
             answer,
             shared,
-            store: Store {
-                reporter,
-                flusher,
-                told: ToldLog::none(),
-            },
+            store: Store::new(reporter, flusher),
             sessions,
         }),
         Err(_) => Err(refused(alloc, answer, flusher, first)),
@@ -174,16 +171,16 @@ where
         Q: Threads + Wait + Sync,
         requires ports { 0 < length ports.items }
         requires hosted { IsHosted J.book (length ports.items) self }
-        requires told { (history : History) → IsHeldOf D.Disk self.version.value self.store.flusher history → W.may_report history }
-        requires meant { (log : List Entry) (number : ℕ) → J.stored log number ↔ IsStoredOf D.Disk self.version.value self.store.flusher log number }
-        ensures left { IfOk result (IsLeftFrom W.contents D.Disk self.version.value self.store.flusher (given_to R.remaining W.contents ports.items)) }
-        ensures refused { IfErr result (IsRefusedFrom D.Disk self.version.value self.store.flusher (given_to R.remaining W.contents ports.items)) }
+        requires told { (history : History) → IsHeldOf D.Disk self.version.value (flusher_in self.store) history → W.may_report history }
+        requires meant { (log : List Entry) (number : ℕ) → J.stored log number ↔ IsStoredOf D.Disk self.version.value (flusher_in self.store) log number }
+        ensures left { IfOk result (IsLeftFrom W.contents D.Disk self.version.value (flusher_in self.store) (given_to R.remaining W.contents ports.items)) }
+        ensures refused { IfErr result (IsRefusedFrom D.Disk self.version.value (flusher_in self.store) (given_to R.remaining W.contents ports.items)) }
         // The book gave its places, so 44 is not answered.
         ensures code { IfErr result (λ fault. fault.code ≡ 40) }
     {
         let Hosted {
             number,
-            version,
+            version: _version,
             seen_log,
             answer,
             shared,
@@ -191,39 +188,29 @@ where
             sessions,
         } = self;
         let Some(seats) = seated::<J, R, W>(alloc, sessions, ports) else {
-            return Err(refused(alloc, answer, store.flusher, seen_log));
+            return Err(refused(alloc, answer, store.into_flusher(), seen_log));
         };
-        let Seats {
-            scripts,
-            rooms,
-            parts,
-        } = seats;
+        let halt = Halt::new();
         let work = Work {
             workers,
             store,
-            scripts,
-            rooms,
+            seats,
         };
-        let halt = Halt::new();
-        let Returned { store, ended } = run_threads(rt, alloc, gate, &shared, &halt, work);
+        let work = run_threads(rt, alloc, gate, &shared, &halt, work);
         // What was finished after the last commit is committed now that the workers have returned.
-        let store = keep_store(rt, alloc, &shared, store);
-        let Parts { sessions, finished } = parted(ended, parts);
-        let hosted = Hosted {
-            number,
-            version,
-            seen_log,
-            answer,
-            shared,
-            store,
-            sessions,
-        };
+        let store = keep_store(rt, alloc, &shared, work.store);
+        let seats = work.seats;
+        let made = made_by_all(rt, &seats.sessions);
+        let closed = store.close(rt, alloc, shared, &seats.sessions);
+        // Were its last number not the first one and so many more as the sessions made batches, which cannot come, it
+        // would wait for ever.
+        await_number(rt, number, made, &closed.version);
         if halt.is_set() {
-            return Err(hosted.refused(rt, alloc, any_begun(&finished)));
+            let begun = any_begun(&seats.finished);
+            return Err(stopped(alloc, answer, closed, seats.sessions, begun));
         }
-        let closed = hosted.closed(rt, alloc);
         Ok(Left {
-            sessions: finished,
+            sessions: seats.finished,
             closed,
         })
     }

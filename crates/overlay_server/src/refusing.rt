@@ -1,5 +1,5 @@
 //! A server that could not run: why, the disk that comes back, and what is left of a book of which no session was begun.
-ghost use Rattle.std.specs.Prelude.{◌≡◌, [], None, Some, MatchOption};
+ghost use Rattle.std.specs.Prelude.{◌≡◌, [], None, Some, MatchBool, MatchOption};
 ghost use Rattle.store_flushing.specs.Told.{told_in};
 ghost use Rattle.overlay_server.specs.Answering.{answer_in, refusal_code};
 ghost use Rattle.overlay_server.specs.Moments.{HasOnlyNow};
@@ -9,8 +9,10 @@ use crate::outcome::ServerFault;
 use disk_model::disk::Disk;
 use flush_core::flusher::Flusher;
 use std::alloc::Global;
+use store_flushing::closed::Closed;
 use store_flushing::keeper::told_log::ToldLog;
 use version_book::seen_log::SeenLog;
+use version_book::session::Session;
 
 /// No memory, no thread, or no places, by what the book answered, before any session was begun: the disk comes back, and
 /// the book's history is this one.
@@ -35,6 +37,31 @@ pub fn refused<D: Disk>(
         seen_log,
         told: ToldLog::none(),
         sessions: Vec::new(alloc),
+    }
+}
+
+/// A thread was refused: the disk comes back, and what the book has come to. The sessions come back where one of them was
+/// begun.
+pub fn stopped<D: Drop>(
+    alloc: Global,
+    answer: BookAnswer,
+    closed: Closed<D>,
+    sessions: Vec<Session>,
+    begun: bool,
+) -> ServerFault<D>
+    ensures code { result.code ≡ refusal_code (answer_in answer) }
+    ensures answer { result.answer ≡ answer }
+    ensures closed { (result.disk ≡ closed.disk) × ((result.seen_log ≡ closed.seen_log) × (result.told ≡ closed.told)) }
+    ensures sessions { MatchBool begun (result.sessions.items ≡ sessions.items) (result.sessions.items ≡ []) }
+{
+    let code = answer.code();
+    ServerFault {
+        code,
+        disk: closed.disk,
+        answer,
+        seen_log: closed.seen_log,
+        told: closed.told,
+        sessions: if begun { sessions } else { Vec::new(alloc) },
     }
 }
 

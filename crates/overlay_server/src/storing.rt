@@ -1,27 +1,18 @@
 //! The store in a thread of its own.
 ghost use Rattle.std.specs.Prelude.{◌≡◌, MatchResult};
+ghost use Rattle.store_flushing.specs.Stores.{reporter_of};
 ghost use Rattle.overlay_server.specs.Keeping.{HoldsOfStore, IsStoreKept};
 
 use disk_model::disk::Disk;
-use flush_core::flusher::Flusher;
 use std::alloc::Global;
 use std::marker::PhantomData;
 use std::snapshot::Snapshot;
 use std::sync::Wait;
 use std::thread::{Promise, PromisedHandle, Scope, Threads};
-use store_flushing::keeper::flusher_loop;
-use store_flushing::keeper::told_log::ToldLog;
-use version_book::reporter::Reporter;
+use store_flushing::keeper::flush;
+use store_flushing::keeper::store::Store;
 use version_book::seen_log::BookName;
 use version_book::shared::Shared;
-
-/// Who reports durable numbers, the store that versions are written to, where there is one, and what was reported.
-#[derive(Drop)]
-pub struct Store<D: Disk> {
-    pub reporter: Reporter,
-    pub flusher: Option<Flusher<D>>,
-    pub told: ToldLog,
-}
 
 /// What the store's thread promises: it committed versions of the book alone.
 #[derive(Drop)]
@@ -49,8 +40,8 @@ where
     S: Wait + Drop + Send + 's,
     Q: Threads + Wait + Sync,
     D: Disk + Send + Drop + 's,
-    requires book { store.reporter.book ≡ J.book }
-    requires stored { HoldsOfStore D.Disk J.stored store.reporter.log store.flusher }
+    requires book { (reporter_of store).book ≡ J.book }
+    requires stored { HoldsOfStore D.Disk J.stored store }
     ensures { MatchResult result (λ h. h.promise.begun.value ≡ store) (λ after. IsStoreKept J.book D.Disk store after) }
 {
     let promise = KeepsStore {
@@ -60,8 +51,8 @@ where
     let started = scope.spawn_with(
         promise,
         move || -> Store<D>
-            requires book { store.reporter.book ≡ J.book }
-            requires stored { HoldsOfStore D.Disk J.stored store.reporter.log store.flusher }
+            requires book { (reporter_of store).book ≡ J.book }
+            requires stored { HoldsOfStore D.Disk J.stored store }
             ensures { IsStoreKept J.book D.Disk store result }
         { keep_store(rt, alloc, shared, store) },
     );
@@ -82,30 +73,16 @@ pub fn keep_store<J: BookName, S: Wait + Drop, Q: Wait, D: Disk>(
     shared: &Shared<J, S>,
     store: Store<D>,
 ) -> Store<D>
-    requires book { store.reporter.book ≡ J.book }
+    requires book { (reporter_of store).book ≡ J.book }
     // What the store comes to hold may be reported durable.
-    requires stored { HoldsOfStore D.Disk J.stored store.reporter.log store.flusher }
+    requires stored { HoldsOfStore D.Disk J.stored store }
     ensures { IsStoreKept J.book D.Disk store result }
 {
-    let Store {
-        reporter,
-        flusher,
-        told,
-    } = store;
-    let (reporter, flusher, told) = match flusher {
-        Some(flusher) => {
-            let (reporter, flusher, told) = flusher_loop(
-                rt, alloc, shared, reporter, flusher, told,
-            );
-            (reporter, Some(flusher), told)
+    match store {
+        Store::Kept(mut keeper) => {
+            flush(rt, alloc, shared, &mut keeper);
+            Store::Kept(keeper)
         }
-        None => (reporter, None, told),
-    };
-    // What the reporter has seen is a log with a first entry: the clauses rest on that.
-    let _ = reporter.given();
-    Store {
-        reporter,
-        flusher,
-        told,
+        Store::Alone(reporter) => Store::Alone(reporter),
     }
 }

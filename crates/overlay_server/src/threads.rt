@@ -4,35 +4,28 @@ ghost use Rattle.overlay_server.specs.Working.{HasWorked, IsReady};
 ghost use Rattle.server_session.specs.Stores.{store_of};
 ghost use Rattle.version_book.specs.Store.{has_store};
 
-use crate::storing::{Store, start_store};
+use crate::storing::start_store;
 use disk_model::disk::Disk;
 use server_session::reply_writer::ReplyWriter;
 use session_threads::halt::Halt;
-use session_threads::running::{Ended, Rooms, Script, run_sessions};
+use session_threads::running::{Seats, run_sessions};
 use std::alloc::Global;
 use std::io::Read;
 use std::sync::Wait;
 use std::thread;
 use std::thread::{Scope, Threads};
+use store_flushing::keeper::store::Store;
 use tile_workers::gate::Gate;
 use tile_workers::worker::worker_loop;
 use version_book::seen_log::BookName;
 use version_book::shared::Shared;
 
-/// What the threads begin with: how many workers, the store, and the scripts with room for what these leave.
+/// What the threads work on: how many of them build tiles, the store, and the sessions with their scripts.
 #[derive(Drop)]
 pub struct Work<J: BookName, R: Read, W: ReplyWriter, D: Disk> {
     pub workers: usize,
     pub store: Store<D>,
-    pub scripts: Vec<Script<R, W>>,
-    pub rooms: Rooms<J, R, W>,
-}
-
-/// What the threads gave back: the store, and the sessions that have ended or were not begun.
-#[derive(Drop)]
-pub struct Returned<R, W, D: Disk> {
-    pub store: Store<D>,
-    pub ended: Vec<Ended<R, W>>,
+    pub seats: Seats<J, R, W>,
 }
 
 /// Runs workers, the store and a session for each script in threads of their own, and takes them in. Where a thread is
@@ -45,7 +38,7 @@ pub fn run_threads<J, S, G, Q, R, W, D>(
     shared: &Shared<J, S>,
     halt: &Halt,
     work: Work<J, R, W, D>,
-) -> Returned<R, W, D>
+) -> Work<J, R, W, D>
 where
     S: Wait + Drop + Send,
     J: BookName + Send + Sync,
@@ -60,7 +53,7 @@ where
     thread::scope(
         thread::scope_env(),
         rt,
-        |scope| -> Returned<R, W, D>
+        |scope| -> Work<J, R, W, D>
             requires { IsReady J.book J.stored (has_store shared.now) W.may_report work }
             ensures { HasWorked J.book (store_of J.stored (has_store shared.entry.now)) R.remaining W.contents D.Disk work result }
         { run_in(scope, rt, alloc, gate, shared, halt, work) },
@@ -76,7 +69,7 @@ fn run_in<'s, E, J, S, G, Q, R, W, D>(
     shared: &'s Shared<J, S>,
     halt: &'s Halt,
     work: Work<J, R, W, D>,
-) -> Returned<R, W, D>
+) -> Work<J, R, W, D>
 where
     S: Wait + Drop + Send + 's,
     J: BookName + Send + Sync,
@@ -91,21 +84,24 @@ where
     let Work {
         workers,
         store,
-        scripts,
-        rooms,
+        seats,
     } = work;
     let working = start_workers(scope, rt, alloc, gate, shared, workers);
     let keeping = start_store(scope, rt, alloc, shared, store);
     if !working || keeping.is_err() {
         halt.set();
     }
-    let ended = run_sessions(scope, rt, alloc, shared, halt, scripts, rooms);
+    let seats = run_sessions(scope, rt, alloc, shared, halt, seats);
     shared.begin_close(rt);
     let store = match keeping {
         Ok(handle) => handle.join(rt),
         Err(store) => store,
     };
-    Returned { store, ended }
+    Work {
+        workers,
+        store,
+        seats,
+    }
 }
 
 /// Starts so many workers, and says whether each has its thread.

@@ -2,6 +2,10 @@
 use Rattle.std.proofs.Common.{◌≡◌, ◌++◌, ◌∷◌, [], ℕ, suc, ◌+◌, ◌<◌, ◌≤◌, List, length, append-nil, length-append, map, refl, ap, sym, subst, ◌∙◌, append_assoc, arith}
 use Rattle.std.proofs.lemmas.List.{map-append, nil_from_length}
 use Rattle.std.specs.List.{AllZip}
+use Rattle.book_history.specs.Known.{Known}
+use Rattle.session_threads.specs.Seats.{Leave, ended_session, finished_of}
+use Rattle.session_threads.specs.declared.port.Finished.{Finished}
+use Rattle.session_threads.specs.declared.running.Ended.{Ended}
 
 -- what is gone through and what is left, with one more gone through
 pub one_on : {X : Type 0} (all past left rest : List X) (x : X) → past ++ left ≡ all → left ≡ x ∷ rest → (past ++ x ∷ []) ++ rest ≡ all
@@ -63,3 +67,25 @@ beside_pushed R xs ys zs x y is h k = subst (λ bs. AllZip R (xs ++ x ∷ []) bs
 -- a list of what is taken of each gone through, with one more
 pub told_pushed : {X C : Type 0} (f : X → C) (xs : List X) (ys zs : List C) (x : X) → zs ≡ ys ++ f x ∷ [] → ys ≡ map f xs → zs ≡ map f (xs ++ x ∷ [])
 told_pushed {X} {C} f xs ys zs x is same = is ∙ ap (λ (bs : List C). bs ++ f x ∷ []) same ∙ sym (map-append f xs (x ∷ []))
+
+module _ {X R W : Type 0} {so : X → Ended R W → Type 0} where
+  -- what has ended, at first, with one more, and of the same list
+  pub leave_none : (sessions : List Known) (finished : List (Finished W)) → sessions ≡ [] → finished ≡ [] → Leave so [] sessions finished
+  leave_none sessions finished none nor = record { ended = []; each = tt; sessions_are = none; finished_are = nor }
+
+  pub leave_more : (xs : List X) (was now : List Known) (old new : List (Finished W)) (x : X) (e : Ended R W) → now ≡ was ++ ended_session e ∷ [] → new ≡ old ++ finished_of e ∷ []
+      → Leave so xs was old → so x e → Leave so (xs ++ x ∷ []) now new
+  leave_more xs was now old new x e one_session one_finished left one = record {
+    ended = left.ended ++ e ∷ [];
+    each = beside_push so xs left.ended x e left.each one;
+    sessions_are = told_pushed ended_session left.ended was now e one_session left.sessions_are;
+    finished_are = told_pushed finished_of left.ended old new e one_finished left.finished_are;
+  }
+
+  pub leave_same : {xs ys : List X} {sessions : List Known} {finished : List (Finished W)} → xs ≡ ys → Leave so xs sessions finished → Leave so ys sessions finished
+  leave_same same left = record {
+    ended = left.ended;
+    each = subst (λ zs. AllZip so zs left.ended) same left.each;
+    sessions_are = left.sessions_are;
+    finished_are = left.finished_are;
+  }

@@ -1,4 +1,6 @@
 -- Who runs which script, and what a session leaves.
+use Rattle.std.specs.Prelude.{◌≡◌, List, map}
+use Rattle.std.specs.List.{AllZip}
 use Rattle.book_history.specs.Known.{Known}
 use Rattle.session_threads.specs.declared.running.Script.{Script}
 use Rattle.session_threads.specs.declared.running.Ended.{Ended}
@@ -18,3 +20,10 @@ module _ {R W : Type 0} where
 
   abbrev pub finished_of : Ended R W → Finished W
   finished_of ended = record { writer = ended.port.writer; end = ended.end }
+
+-- something has ended for each of a list, as is said of both, and left these sessions and what they finished
+pub record Leave {X R W : Type 0} (so : X → Ended R W → Type 0) (xs : List X) (sessions : List Known) (finished : List (Finished W)) : Type 0 where
+  pub ended : List (Ended R W)
+  pub each : AllZip so xs ended
+  pub sessions_are : sessions ≡ map ended_session ended
+  pub finished_are : finished ≡ map finished_of ended

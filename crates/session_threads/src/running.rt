@@ -1,14 +1,14 @@
 //! Sessions in threads of their own, one for each reader.
 ghost use Rattle.std.specs.Prelude.{◌≡◌, ◌<◌, All, length, MatchResult};
-ghost use Rattle.std.specs.List.{AllZip};
 ghost use Rattle.server_session.specs.Replying.{MayReport};
 ghost use Rattle.server_session.specs.Stores.{store_of};
-ghost use Rattle.session_threads.specs.Rooms.{IsReserved, HasRooms};
+ghost use Rattle.session_threads.specs.Rooms.{HasRoom, IsReserved};
 ghost use Rattle.session_threads.specs.Running.{IsNotBegunOf, IsRunOf};
+ghost use Rattle.session_threads.specs.Seats.{Leave};
 ghost use Rattle.version_book.specs.Store.{has_store};
 
 use crate::halt::Halt;
-use crate::port::Port;
+use crate::port::{Finished, Port};
 use script_form::SessionEnd;
 use server_session::reply_writer::ReplyWriter;
 use server_session::session::session_run_within;
@@ -59,11 +59,14 @@ pub type Running<J, R, W> = PromisedHandle<Ended<R, W>, RunsScript<J, R, W>>;
 /// A thread that runs a script, or the script that came back as none could start.
 pub type Begun<J, R, W> = Result<Running<J, R, W>, Ended<R, W>>;
 
-/// Room for the threads of sessions, and for what they leave.
+/// The scripts, each with the session that runs it, room for their threads, and what the sessions that have ended leave, or
+/// room for that.
 #[derive(Drop)]
-pub struct Rooms<J: BookName, R: Read, W: ReplyWriter> {
+pub struct Seats<J: BookName, R: Read, W: ReplyWriter> {
+    pub scripts: Vec<Script<R, W>>,
     pub running: Vec<Begun<J, R, W>>,
-    pub ended: Vec<Ended<R, W>>,
+    pub sessions: Vec<Session>,
+    pub finished: Vec<Finished<W>>,
 }
 
 /// Runs a thread for each script, and takes them in, in their order. Where a thread is refused, the run halts and the book
@@ -75,25 +78,30 @@ pub fn run_sessions<'s, E, J, S, Q, R, W>(
     alloc: Global,
     shared: &'s Shared<J, S>,
     halt: &'s Halt,
-    scripts: Vec<Script<R, W>>,
-    rooms: Rooms<J, R, W>,
-) -> Vec<Ended<R, W>>
+    seats: Seats<J, R, W>,
+) -> Seats<J, R, W>
 where
     J: BookName + Send + Sync,
     S: Wait + Drop + Send + 's,
     Q: Threads + Wait + Sync,
     R: Read + Send + Drop + 's,
     W: ReplyWriter + Send + Drop + 's,
-    requires scripts { All (λ script. script.session.book ≡ J.book) scripts.items }
-    requires rooms { HasRooms rooms (length scripts.items) }
-    requires told { All (λ script. MayReport J.stored (has_store shared.now) script.session W.may_report) scripts.items }
-    ensures { AllZip (λ script ended. IsRunOf J.book (store_of J.stored (has_store shared.now)) R.remaining W.contents script ended) scripts.items result.items }
+    requires scripts { All (λ script. script.session.book ≡ J.book) seats.scripts.items }
+    requires told { All (λ script. MayReport J.stored (has_store shared.now) script.session W.may_report) seats.scripts.items }
+    requires room { HasRoom seats (length seats.scripts.items) }
+    ensures { Leave (λ script ended. IsRunOf J.book (store_of J.stored (has_store shared.now)) R.remaining W.contents script ended) seats.scripts.items
+        result.sessions.items result.finished.items }
 {
-    let Rooms { mut running, ended } = rooms;
+    let Seats {
+        scripts,
+        mut running,
+        sessions,
+        finished,
+    } = seats;
     for script in scripts {
         running.push_reserved(start_session(scope, rt, alloc, shared, halt, script));
     }
-    join_sessions(rt, running, ended)
+    join_sessions(rt, alloc, running, sessions, finished)
 }
 
 /// Starts a thread for a script, where the run has not halted. Where it is refused the run halts, the book closes, and the
@@ -145,21 +153,35 @@ where
     }
 }
 
-/// Takes the threads of the scripts in, in their order.
+/// Takes the threads of the scripts in, in their order, into lists that have room for what they leave.
 fn join_sessions<J: BookName, Q: Threads, R: Read + Drop, W: ReplyWriter + Drop>(
     rt: &Q,
+    alloc: Global,
     running: Vec<Begun<J, R, W>>,
-    mut list: Vec<Ended<R, W>>,
-) -> Vec<Ended<R, W>>
-    requires { IsReserved list (length running.items) }
-    ensures { AllZip (λ begun ended. MatchResult begun
+    mut sessions: Vec<Session>,
+    mut finished: Vec<Finished<W>>,
+) -> Seats<J, R, W>
+    requires { IsReserved sessions (length running.items) × IsReserved finished (length running.items) }
+    ensures { Leave (λ begun ended. MatchResult begun
         (λ h. IsRunOf J.book (store_of J.stored h.promise.stored) R.remaining W.contents h.promise.begun.value ended)
-        (λ back. ended ≡ back)) running.items result.items }
+        (λ back. ended ≡ back)) running.items result.sessions.items result.finished.items }
 {
     for begun in running {
-        list.push_reserved(join_session(rt, begun));
+        let Ended { session, port, end } = join_session(rt, begun);
+        let Port {
+            reader: _reader,
+            most: _,
+            writer,
+        } = port;
+        sessions.push_reserved(session);
+        finished.push_reserved(Finished { writer, end });
     }
-    list
+    Seats {
+        scripts: Vec::new(alloc),
+        running: Vec::new(alloc),
+        sessions,
+        finished,
+    }
 }
 
 /// Takes the thread of a script in, where it has one.

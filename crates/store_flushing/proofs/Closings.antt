@@ -29,7 +29,7 @@ reported_left (Some f) stored disk is reporter log heard all = λ less k d at. o
 
 module _ {D : Type 0} (g : Ghosts D) (was now : History) (on : BeginsWith now was) where
   -- a store at rest: each file stands for the version that is stored
-  exactly_on : (f : Flusher D g) → IsStoreOf g was f → f.commit.phase ≡ Idle → Leaves g f.commit.disk (IsFileExactlyIn now f.commit.root.version)
+  pub exactly_on : (f : Flusher D g) → IsStoreOf g was f → f.commit.phase ≡ Idle → Leaves g f.commit.disk (IsFileExactlyIn now f.commit.root.version)
   exactly_on f store idle c left =
       let rest = subst (λ (p : Phase). IsStoreAt g was p f) idle store.store in
       record {

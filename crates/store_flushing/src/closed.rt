@@ -1,10 +1,11 @@
 //! The end of a book and its store.
-ghost use Rattle.std.specs.Prelude.{◌≡◌, ◌<◌, ◌≤◌, All, IfSome, IfNone, Some, None};
+ghost use Rattle.std.specs.Prelude.{◌≡◌, ◌<◌, ◌≤◌, length, All, IfSome, IfNone, Some, None};
 ghost use Rattle.std.specs.Arc.{arc_value};
 ghost use mathlib.Core.List.{IsPrefix};
 ghost use Rattle.disk_model.specs.Moments.{Leaves};
 ghost use Rattle.root_store.specs.declared.phase.Phase.TheVariants as phases;
 ghost use Rattle.book_history.specs.Logs.{history_of, newest_in, IsLog};
+ghost use Rattle.book_lock.specs.Heard.{HasHeard};
 ghost use Rattle.book_lock.specs.Steps.{HasAllOf};
 ghost use Rattle.store_flushing.specs.Among.{IsFileExactlyIn, IsFileIn};
 ghost use Rattle.store_flushing.specs.Storing.{IsStoreOf};
@@ -80,52 +81,56 @@ pub fn close<J: BookName, R: Wait + Drop, D: Disk, W: Wait>(
     ensures told { IfSome flusher (λ f. IfSome result.disk (λ disk. TellsOn D.Disk (history_of reporter.log) (told_in told) f.commit.disk
         (history_of result.seen_log.log) (told_in result.told) disk)) }
 {
-    // What the reporter has seen is a log with a first entry: the clauses rest on that.
-    let _ = reporter.given();
-    let closed = shared.into_closed(rt, &reporter, &sessions);
-    let LeftStore {
-        stored,
-        fault,
-        disk,
-    } = left_of(alloc, flusher, &closed.version);
-    Closed {
-        version: closed.version,
-        seen_log: closed.seen_log,
-        stored,
-        fault,
-        disk,
-        told,
-    }
+    end_book(rt, alloc, shared, &reporter, flusher, told, &sessions)
 }
 
-/// What is left of a store.
-struct LeftStore<D> {
-    stored: u64,
-    fault: Option<StoreFault>,
-    disk: Option<D>,
-}
-
-/// The number of the version that is stored, why a version is not, and the disk.
-fn left_of<D: Disk>(alloc: Global, flusher: Option<Flusher<D>>, version: &Version) -> LeftStore<D>
+/// Ends a book, which may have a store, and gives that up.
+pub(crate) fn end_book<J: BookName, R: Wait + Drop, D: Disk, W: Wait>(
+    rt: &W,
+    alloc: Global,
+    shared: Shared<J, R>,
+    reporter: &Reporter,
+    flusher: Option<Flusher<D>>,
+    told: ToldLog,
+    sessions: &[Session],
+) -> Closed<D>
+    requires reporter { reporter.now.book ≡ J.book }
+    requires sessions { All (λ session. session.book ≡ J.book) sessions.now }
+    ensures version { arc_value result.version ≡ newest_in result.seen_log.log }
+    ensures log { (result.seen_log.book ≡ J.book) × IsLog result.seen_log.log }
+    ensures reporter { HasHeard result.seen_log.log reporter.now }
+    ensures begun { 0 < length reporter.now.log }
+    ensures sessions { All (λ session. HasAllOf result.seen_log.log session) sessions.now }
+    ensures durable { All (λ entry. entry.version.durable ≤ (newest_in result.seen_log.log).durable) result.seen_log.log }
     ensures none { IfNone flusher ((result.stored ≡ 0) × (result.disk ≡ None)) }
     ensures some { IfSome flusher (λ f. (result.stored ≡ f.commit.root.version) × (result.disk ≡ Some f.commit.disk)) }
-    ensures fault { IfSome result.fault (λ fault. IfSome flusher (λ f. IsUnstoredFor fault f version.now)) }
-    ensures failed { IfSome flusher (λ f. f.commit.phase ≡ phases.Failed → f.commit.root.version < version.now.number
+    ensures fault { IfSome result.fault (λ fault. IfSome flusher (λ f. IsUnstoredFor fault f (arc_value result.version))) }
+    ensures failed { IfSome flusher (λ f. f.commit.phase ≡ phases.Failed → f.commit.root.version < (arc_value result.version).number
         → result.fault ≡ Some StoreFault.Failed) }
+    ensures told { result.told ≡ told }
 {
+    // What the reporter has seen is a log with a first entry: the clauses rest on that.
+    let _ = reporter.given();
+    let book = shared.into_closed(rt, reporter, sessions);
     match flusher {
         Some(mut flusher) => {
-            let fault = refusal_of(alloc, &mut flusher, version);
-            LeftStore {
+            let fault = refusal_of(alloc, &mut flusher, &book.version);
+            Closed {
+                version: book.version,
+                seen_log: book.seen_log,
                 stored: flusher.stored(),
                 fault,
                 disk: Some(flusher.into_disk()),
+                told,
             }
         }
-        None => LeftStore {
+        None => Closed {
+            version: book.version,
+            seen_log: book.seen_log,
             stored: 0,
             fault: None,
             disk: None,
+            told,
         },
     }
 }

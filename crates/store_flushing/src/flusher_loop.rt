@@ -55,7 +55,7 @@ pub fn flusher_loop<J: BookName, R: Wait + Drop, D: Disk, W: Wait>(
 /// fails (30, 35) ends the loop, and the book hears of it. At closing the commit under way is ended, and what the book
 /// still gives is committed. Called once more then, when the workers have returned, it commits the tiles that they
 /// finished meanwhile.
-fn flush<J: BookName, R: Wait + Drop, D: Disk, W: Wait>(
+pub fn flush<J: BookName, R: Wait + Drop, D: Disk, W: Wait>(
     rt: &W,
     alloc: Global,
     shared: &Shared<J, R>,

@@ -14,7 +14,7 @@ ghost use Rattle.store_flushing.specs.Since.{IsRemembered};
 ghost use Rattle.store_flushing.specs.Storing.{AllReported, IsStoreOf, Keeps};
 ghost use Rattle.store_flushing.specs.ToldFaults.{told_fault_of};
 
-pub use crate::flusher_loop::flusher_loop;
+pub use crate::flusher_loop::{flush, flusher_loop};
 use crate::keeper::told_log::ToldLog;
 use crate::keeper::version_mark::VersionMark;
 use crate::reports;
@@ -31,6 +31,7 @@ use version_book::seen_log::BookName;
 use version_book::shared::Shared;
 use versions::Version;
 
+pub mod store;
 pub mod told_log;
 mod version_mark;
 
@@ -38,6 +39,7 @@ mod version_mark;
 /// the disk and reports: so what was reported durable to a session by the end of a call was stored as the call began,
 /// whenever within it that was. What a keeper reports it writes down in the same call, with the disk's moment, and
 /// nothing else can write there.
+#[derive(Drop)]
 pub struct Keeper<D: Disk> {
     reporter: Reporter,
     flusher: Flusher<D>,

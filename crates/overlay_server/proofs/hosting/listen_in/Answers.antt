@@ -1,4 +1,5 @@
 use Rattle.std.proofs.Common.{rules, ◌≡◌, ◌∙◌, IfErr, IfOk, length, subst, sym}
+use Rattle.store_flushing.specs.Stores.{flusher_in}
 use Rattle.overlay_server.specs.Given.{bytes_of, given_by, given_to}
 use Rattle.overlay_server.specs.Hosting.{IsHosted}
 use Rattle.overlay_server.specs.Refusing.{IsRefusedFrom}
@@ -21,7 +22,7 @@ run-requires-clause-hosted g c κs within =
 pub run-requires-clause-meant : goal.run-requires-clause-meant
 run-requires-clause-meant g c κs within =
     let hosted = c.in_ok-hosted in
-    subst (λ v. CountsAs g.D.Disk g.J.BookName.stored v hosted.hosted.store.flusher) (sym hosted.ensures.version)
+    subst (λ v. CountsAs g.D.Disk g.J.BookName.stored v (flusher_in hosted.hosted.store)) (sym hosted.ensures.version)
     (subst (CountsAs g.D.Disk g.J.BookName.stored (start_of c.args.engine)) (sym hosted.ensures.flusher) c.requires.stored)
 
 pub returns-clause-left : goal.returns-clause-left

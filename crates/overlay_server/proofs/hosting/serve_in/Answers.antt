@@ -1,5 +1,6 @@
 use Rattle.std.proofs.Common.{rules, ◌≡◌, IfErr, IfOk, length, subst, sym}
 use Rattle.overlay_terms.specs.Histories.{History}
+use Rattle.store_flushing.specs.Stores.{flusher_in}
 use Rattle.overlay_server.specs.Given.{given_to}
 use Rattle.overlay_server.specs.Hosting.{IsHosted}
 use Rattle.overlay_server.specs.Refusing.{IsRefusedFrom}
@@ -16,14 +17,14 @@ run-requires-clause-hosted g c κs within =
 pub run-requires-clause-meant : goal.run-requires-clause-meant
 run-requires-clause-meant g c κs within =
     let hosted = c.in_ok-hosted in
-    subst (λ v. CountsAs g.D.Disk g.J.BookName.stored v hosted.hosted.store.flusher) (sym hosted.ensures.version)
+    subst (λ v. CountsAs g.D.Disk g.J.BookName.stored v (flusher_in hosted.hosted.store)) (sym hosted.ensures.version)
     (subst (CountsAs g.D.Disk g.J.BookName.stored (start_of c.args.engine)) (sym hosted.ensures.flusher) c.requires.stored)
 
 pub run-requires-clause-told : goal.run-requires-clause-told
 run-requires-clause-told g c κs within =
     let hosted = c.in_ok-hosted in
     let may = g.W.ReplyWriter.may_report in
-    subst (λ v. (history : History) → IsHeldOf g.D.Disk v hosted.hosted.store.flusher history → may history) (sym hosted.ensures.version)
+    subst (λ v. (history : History) → IsHeldOf g.D.Disk v (flusher_in hosted.hosted.store) history → may history) (sym hosted.ensures.version)
     (subst (λ f. (history : History) → IsHeldOf g.D.Disk (start_of c.args.engine) f history → may history) (sym hosted.ensures.flusher) c.requires.told)
 
 pub returns-in_err-hosted-clause-refused : goal.returns-in_err-hosted-clause-refused

@@ -2,8 +2,8 @@ use denote.Exit.{no}
 use denote.Param.{param}
 use denote.Param.Send.{arg_send, param_send}
 use Rattle.session_threads.proofs.Sent.{taking_send}
-use Rattle.overlay_server.specs.contracts.storing.Store as store
-use Rattle.overlay_server.proofs.SentStore.{store_send}
+use Rattle.store_flushing.specs.contracts.keeper.store.Store as store
+use Rattle.store_flushing.proofs.keeper.Sent.{store_send}
 use Rattle.overlay_server.proofs.storing.start_store.Goals as goal
 
 pub spawn_with-started-requires-send-F : goal.spawn_with-started-requires-send-F

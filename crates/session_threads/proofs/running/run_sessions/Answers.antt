@@ -50,30 +50,40 @@ loop-script-preserved g c =
 pub join_sessions-requires : goal.join_sessions-requires
 join_sessions-requires g c =
     let at = c.loop-script in
+    let scripts = c.args.seats.scripts.items in
     let running = at.running in
     let stored = has_store c.args.shared.now in
-    let all = gone_by_count _ c.args.scripts.items at.yielded (into_iter_items at.script-iterator) _ at.invariant.all
+    let all = gone_by_count _ scripts at.yielded (into_iter_items at.script-iterator) _ at.invariant.all
     c.into_iter-script-iterator.ensures.into_iter_gives.0 at.invariant.left c.in-None.ensures.steps.0 in
-    let begun = subst (λ scripts. AllZip (λ script begun. MatchResult begun (λ h. (h.promise.begun.value ≡ script) × (h.promise.stored ≡ stored)) (λ back. IsRunOf g.J.BookName.book (store_of g.J.BookName.stored stored) g.R.Read.remaining g.W.ReplyWriter.contents script back)) scripts running.items) all at.invariant.begun in
-    subst (λ n. IsReserved c.args.rooms.ended n)
-    (beside_length (λ script begun. MatchResult begun (λ h. (h.promise.begun.value ≡ script) × (h.promise.stored ≡ stored)) (λ back. IsRunOf g.J.BookName.book (store_of g.J.BookName.stored stored) g.R.Read.remaining g.W.ReplyWriter.contents script back)) c.args.scripts.items running.items begun) c.requires.rooms.ended
+    let begun = subst (λ ss. AllZip (λ script begun. MatchResult begun (λ h. (h.promise.begun.value ≡ script) × (h.promise.stored ≡ stored)) (λ back. IsRunOf g.J.BookName.book (store_of g.J.BookName.stored stored) g.R.Read.remaining g.W.ReplyWriter.contents script back)) ss running.items) all at.invariant.begun in
+    subst (λ n. IsReserved c.args.seats.sessions n × IsReserved c.args.seats.finished n)
+    (beside_length (λ script begun. MatchResult begun (λ h. (h.promise.begun.value ≡ script) × (h.promise.stored ≡ stored)) (λ back. IsRunOf g.J.BookName.book (store_of g.J.BookName.stored stored) g.R.Read.remaining g.W.ReplyWriter.contents script back)) scripts running.items begun)
+    (c.requires.room.sessions, c.requires.room.finished)
 
 pub returns : goal.returns
 returns g c =
     let at = c.loop-script in
+    let scripts = c.args.seats.scripts.items in
     let running = at.running in
     let stored = has_store c.args.shared.now in
-    let all = gone_by_count _ c.args.scripts.items at.yielded (into_iter_items at.script-iterator) _ at.invariant.all
+    let all = gone_by_count _ scripts at.yielded (into_iter_items at.script-iterator) _ at.invariant.all
     c.into_iter-script-iterator.ensures.into_iter_gives.0 at.invariant.left c.in-None.ensures.steps.0 in
-    let begun = subst (λ scripts. AllZip (λ script begun. MatchResult begun (λ h. (h.promise.begun.value ≡ script) × (h.promise.stored ≡ stored)) (λ back. IsRunOf g.J.BookName.book (store_of g.J.BookName.stored stored) g.R.Read.remaining g.W.ReplyWriter.contents script back)) scripts running.items) all at.invariant.begun in
-    beside_through (λ script begun. MatchResult begun (λ h. (h.promise.begun.value ≡ script) × (h.promise.stored ≡ stored)) (λ back. IsRunOf g.J.BookName.book (store_of g.J.BookName.stored stored) g.R.Read.remaining g.W.ReplyWriter.contents script back))
-    (λ begun ended. MatchResult begun (λ h. IsRunOf g.J.BookName.book (store_of g.J.BookName.stored h.promise.stored) g.R.Read.remaining g.W.ReplyWriter.contents h.promise.begun.value ended) (λ back. ended ≡ back))
-    (λ script ended. IsRunOf g.J.BookName.book (store_of g.J.BookName.stored stored) g.R.Read.remaining g.W.ReplyWriter.contents script ended)
-    (λ script begun ended. elim begun as (λ b. MatchResult b (λ h. (h.promise.begun.value ≡ script) × (h.promise.stored ≡ stored)) (λ back. IsRunOf g.J.BookName.book (store_of g.J.BookName.stored stored) g.R.Read.remaining g.W.ReplyWriter.contents script back)
-    → MatchResult b (λ h. IsRunOf g.J.BookName.book (store_of g.J.BookName.stored h.promise.stored) g.R.Read.remaining g.W.ReplyWriter.contents h.promise.begun.value ended) (λ back. ended ≡ back)
-    → IsRunOf g.J.BookName.book (store_of g.J.BookName.stored stored) g.R.Read.remaining g.W.ReplyWriter.contents script ended) [
-      | Ok h ↦ λ same ran. subst (λ b. IsRunOf g.J.BookName.book (store_of g.J.BookName.stored b) g.R.Read.remaining g.W.ReplyWriter.contents script ended) same.1
-          (subst (λ s. IsRunOf g.J.BookName.book (store_of g.J.BookName.stored h.promise.stored) g.R.Read.remaining g.W.ReplyWriter.contents s ended) same.0 ran)
-      | Err back ↦ λ ran is. subst (λ e. IsRunOf g.J.BookName.book (store_of g.J.BookName.stored stored) g.R.Read.remaining g.W.ReplyWriter.contents script e) (sym is) ran
-    ])
-    c.args.scripts.items running.items c.join_sessions.result.items begun c.join_sessions.ensures
+    let begun = subst (λ ss. AllZip (λ script begun. MatchResult begun (λ h. (h.promise.begun.value ≡ script) × (h.promise.stored ≡ stored)) (λ back. IsRunOf g.J.BookName.book (store_of g.J.BookName.stored stored) g.R.Read.remaining g.W.ReplyWriter.contents script back)) ss running.items) all at.invariant.begun in
+    let joined = c.join_sessions.ensures in
+    record {
+      ended = joined.ended;
+      each =
+          beside_through (λ script begun. MatchResult begun (λ h. (h.promise.begun.value ≡ script) × (h.promise.stored ≡ stored)) (λ back. IsRunOf g.J.BookName.book (store_of g.J.BookName.stored stored) g.R.Read.remaining g.W.ReplyWriter.contents script back))
+          (λ begun ended. MatchResult begun (λ h. IsRunOf g.J.BookName.book (store_of g.J.BookName.stored h.promise.stored) g.R.Read.remaining g.W.ReplyWriter.contents h.promise.begun.value ended) (λ back. ended ≡ back))
+          (λ script ended. IsRunOf g.J.BookName.book (store_of g.J.BookName.stored stored) g.R.Read.remaining g.W.ReplyWriter.contents script ended)
+          (λ script begun ended. elim begun as (λ b. MatchResult b (λ h. (h.promise.begun.value ≡ script) × (h.promise.stored ≡ stored)) (λ back. IsRunOf g.J.BookName.book (store_of g.J.BookName.stored stored) g.R.Read.remaining g.W.ReplyWriter.contents script back)
+          → MatchResult b (λ h. IsRunOf g.J.BookName.book (store_of g.J.BookName.stored h.promise.stored) g.R.Read.remaining g.W.ReplyWriter.contents h.promise.begun.value ended) (λ back. ended ≡ back)
+          → IsRunOf g.J.BookName.book (store_of g.J.BookName.stored stored) g.R.Read.remaining g.W.ReplyWriter.contents script ended) [
+            | Ok h ↦ λ same ran. subst (λ b. IsRunOf g.J.BookName.book (store_of g.J.BookName.stored b) g.R.Read.remaining g.W.ReplyWriter.contents script ended) same.1
+                (subst (λ s. IsRunOf g.J.BookName.book (store_of g.J.BookName.stored h.promise.stored) g.R.Read.remaining g.W.ReplyWriter.contents s ended) same.0 ran)
+            | Err back ↦ λ ran is. subst (λ e. IsRunOf g.J.BookName.book (store_of g.J.BookName.stored stored) g.R.Read.remaining g.W.ReplyWriter.contents script e) (sym is) ran
+          ])
+          scripts running.items joined.ended begun joined.each;
+      sessions_are = joined.sessions_are;
+      finished_are = joined.finished_are;
+    }

@@ -1,5 +1,6 @@
-use Rattle.std.proofs.Common.{◌∙◌, ap, subst, sym}
+use Rattle.std.proofs.Common.{◌≡◌, ◌∙◌, None, Some, MatchOption, ap, subst, sym}
 use Rattle.book_history.specs.BookLogs.{BookLog}
+use Rattle.store_flushing.specs.Stores.{flusher_in}
 use Rattle.overlay_server.proofs.Refusals.{MayAnswer, refused_at_once}
 use Rattle.overlay_server.proofs.Stores.{stopped_at_once}
 use Rattle.overlay_server.proofs.hosted.Hosted.unserved.Goals as goal
@@ -7,7 +8,9 @@ use Rattle.overlay_server.proofs.hosted.Hosted.unserved.Goals as goal
 pub returns : goal.returns
 returns g c =
     let self = c.args.self in
-    λ all. refused_at_once g.D.Disk self.version.value self.store.flusher all c.refused.result self.answer
+    let fault = c.refused.result in
+    λ all. refused_at_once g.D.Disk self.version.value (flusher_in self.store) all fault self.answer
     (record { code = c.refused.ensures.code; same = c.refused.ensures.answer; may = subst MayAnswer (sym c.requires.answer) tt })
     (ap (λ (l : BookLog). l.log) c.refused.ensures.seen_log ∙ c.requires.first) c.refused.ensures.told c.refused.ensures.sessions
-    (stopped_at_once g.D.Disk self.version.value self.store.flusher c.refused.result.disk c.refused.ensures.now c.refused.ensures.disk)
+    (stopped_at_once g.D.Disk self.version.value (flusher_in self.store) fault.disk c.refused.ensures.now
+    (subst (λ o. MatchOption o (fault.disk ≡ None) (λ f. fault.disk ≡ Some f.commit.disk)) c.into_flusher.ensures c.refused.ensures.disk))

@@ -1,0 +1,99 @@
+//! The store of a book with the book's one reporter, from the first commit to the end.
+ghost use Rattle.std.specs.Prelude.{◌≡◌, ◌<◌, ◌≤◌, [], length, All, MatchOption, None, Some};
+ghost use Rattle.std.specs.Arc.{arc_value};
+ghost use Rattle.book_history.specs.Logs.{newest_in, IsLog};
+ghost use Rattle.book_lock.specs.Heard.{HasHeard};
+ghost use Rattle.book_lock.specs.Steps.{HasAllOf};
+ghost use Rattle.store_flushing.specs.Stores.{flusher_in, reporter_of, told_by};
+ghost use Rattle.store_flushing.specs.Told.{told_in};
+
+use crate::closed::{Closed, end_book};
+use crate::keeper::Keeper;
+use crate::keeper::told_log::ToldLog;
+use disk_model::disk::Disk;
+use flush_core::flusher::Flusher;
+use std::alloc::Global;
+use std::sync::Wait;
+use version_book::reporter::Reporter;
+use version_book::seen_log::BookName;
+use version_book::session::Session;
+use version_book::shared::Shared;
+
+/// A book's store with its keeper, or the book's reporter alone, where there is no store.
+#[derive(Drop)]
+pub enum Store<D: Disk> {
+    Kept(Keeper<D>),
+    Alone(Reporter),
+}
+
+impl<D: Disk> Store<D> {
+    /// That of a book that begins: nothing was reported.
+    pub fn new(reporter: Reporter, flusher: Option<Flusher<D>>) -> Store<D>
+        ensures reporter { reporter_of result ≡ reporter }
+        ensures flusher { flusher_in result ≡ flusher }
+        ensures told { told_by result ≡ [] }
+    {
+        match flusher {
+            Some(flusher) => Store::Kept(Keeper::of(reporter, flusher, ToldLog::none())),
+            None => Store::Alone(reporter),
+        }
+    }
+
+    /// Ends a book once the threads that share it have returned, and gives up its store. The sessions are all that it
+    /// began with.
+    pub fn close<J: BookName, R: Wait + Drop, W: Wait>(
+        self,
+        rt: &W,
+        alloc: Global,
+        shared: Shared<J, R>,
+        sessions: &[Session],
+    ) -> Closed<D>
+        requires reporter { (reporter_of self).book ≡ J.book }
+        requires sessions { All (λ session. session.book ≡ J.book) sessions.now }
+        ensures version { arc_value result.version ≡ newest_in result.seen_log.log }
+        ensures log { IsLog result.seen_log.log }
+        ensures reporter { HasHeard result.seen_log.log (reporter_of self) }
+        ensures begun { 0 < length (reporter_of self).log }
+        ensures sessions { All (λ session. HasAllOf result.seen_log.log session) sessions.now }
+        ensures durable { All (λ entry. entry.version.durable ≤ (newest_in result.seen_log.log).durable) result.seen_log.log }
+        ensures store { MatchOption (flusher_in self) ((result.stored ≡ 0) × (result.disk ≡ None))
+            (λ f. (result.stored ≡ f.commit.root.version) × (result.disk ≡ Some f.commit.disk)) }
+        ensures told { told_in result.told ≡ told_by self }
+    {
+        match self {
+            Store::Kept(keeper) => {
+                let Keeper {
+                    reporter,
+                    flusher,
+                    told,
+                    live: _,
+                    next: _,
+                } = keeper;
+                end_book(rt, alloc, shared, &reporter, Some(flusher), told, sessions)
+            }
+            Store::Alone(reporter) => {
+                let told = ToldLog::none();
+                end_book(rt, alloc, shared, &reporter, None, told, sessions)
+            }
+        }
+    }
+
+    /// Gives the store up, where there is one.
+    pub fn into_flusher(self) -> Option<Flusher<D>>
+        ensures { result ≡ flusher_in self }
+    {
+        match self {
+            Store::Kept(keeper) => {
+                let Keeper {
+                    reporter: _reporter,
+                    flusher,
+                    told: _told,
+                    live: _,
+                    next: _,
+                } = keeper;
+                Some(flusher)
+            }
+            Store::Alone(_reporter) => None,
+        }
+    }
+}
