@@ -3,40 +3,24 @@ ghost use Rattle.std.specs.Prelude.{◌≡◌, ◌<◌, ◌≤◌, ◌^◌, leng
 
 use program_store::fault::ProgramFault;
 use program_store::refusal::Refusal;
+use program_store::replies::Replies;
 use program_store::source::Source;
 use program_store::store::is_store;
 use session_threads::port::Port;
 use std::fs::{File, OpenOptions, TryLockError};
-use std::io::{ErrorKind, Stdin, Stdout, Write};
+use std::io::{ErrorKind, Stdin, Stdout};
 use std::rt::Files;
 use std::{fs, io};
 
 /// The most bytes of a session, 2^62: none gets there.
 const BYTES_MAX: usize = 4_611_686_018_427_387_904;
 
-/// Where replies go. Each write is one of the system's, so that nothing waits in a buffer. Where nobody reads any more it
-/// is an error: no program of the kit is ended by the signal.
-#[derive(Drop)]
-pub enum Replies {
-    Output(Stdout),
-    File(File),
-}
+/// A session's lines, from standard input or from a file.
+type Lines = Source<Stdin, File>;
 
-impl Write for Replies {
-    fn write(&mut self, buf: &[u8]) -> io::Result<usize> {
-        match self {
-            Replies::Output(output) => output.write(buf),
-            Replies::File(file) => file.write(buf),
-        }
-    }
-
-    fn flush(&mut self) -> io::Result<()> {
-        match self {
-            Replies::Output(output) => output.flush(),
-            Replies::File(file) => file.flush(),
-        }
-    }
-}
+/// A session's replies, to standard output or into a file. Where nobody reads any more a write is an error: no program of
+/// the kit is ended by the signal.
+pub type LiveReplies = Replies<Stdout, File>;
 
 /// Opens the pairs of paths in their order, of each first where its lines come from: of a named pipe each opening waits
 /// for the other end. Without a pair there is that of standard input and output. The fault is `Script` where a path
@@ -47,7 +31,7 @@ pub fn open_ports<'p, Q: Files<File = File> + AllocGlobal>(
     input: Stdin,
     output: Stdout,
     pairs: &'p [(String, String)],
-) -> Result<Vec<Port<Source, Replies>>, Refusal<'p>>
+) -> Result<Vec<Port<Lines, LiveReplies>>, Refusal<'p>>
     requires { length pairs.now ≤ 4 }
     ensures each { IfOk result (λ ports. length ports.items ≡ max 1 (length pairs.now)) }
     ensures some { IfOk result (λ ports. 0 < length ports.items) }
@@ -68,7 +52,7 @@ pub fn open_ports<'p, Q: Files<File = File> + AllocGlobal>(
 }
 
 /// A pair that is open, for a session without end.
-fn port(reader: Source, writer: Replies) -> Port<Source, Replies>
+fn port(reader: Lines, writer: LiveReplies) -> Port<Lines, LiveReplies>
     ensures { result.most ≡ 2 ^ 62 }
 {
     Port {

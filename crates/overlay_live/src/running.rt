@@ -1,5 +1,5 @@
 //! What the words ask for, from the store and the pairs to the end of all sessions.
-use crate::ports::{Replies, open_ports};
+use crate::ports::{LiveReplies, open_ports};
 use crate::texts::{HELP, VERSION};
 use overlay_server::outcome::{Left, ServeOptions};
 use overlay_server::serving::serve_ports;
@@ -82,7 +82,7 @@ fn serve_plan<'a, Q: Files<File = File> + Threads + Wait + Sync + AllocGlobal>(
 fn about<'a>(
     fault: ProgramFault,
     plan: &'a LivePlan,
-    sessions: &[Finished<Replies>],
+    sessions: &[Finished<LiveReplies>],
 ) -> Refusal<'a> {
     match (fault, &plan.keeping.store) {
         (ProgramFault::Store(_), Some(path)) => Refusal::about(fault, path),
@@ -95,7 +95,7 @@ fn about<'a>(
 }
 
 /// How many sessions wrote their replies before the first one that could not.
-fn written_before(sessions: &[Finished<Replies>]) -> usize {
+fn written_before(sessions: &[Finished<LiveReplies>]) -> usize {
     sessions
         .iter()
         .take_while(|session| was_written(&session.end))

@@ -14,7 +14,7 @@ pub fn open_scripts<Q: Files<File = File> + AllocGlobal>(
     rt: &Q,
     input: Stdin,
     paths: &[String],
-) -> Result<Vec<Source>, ProgramFault>
+) -> Result<Vec<Source<Stdin, File>>, ProgramFault>
     requires { length paths.now ≤ 4 }
     ensures some { IfOk result (λ scripts. 0 < length scripts.items) }
     ensures few { IfOk result (λ scripts. length scripts.items ≤ 4) }

@@ -4,6 +4,7 @@
 pub mod ending;
 pub mod fault;
 pub mod refusal;
+pub mod replies;
 pub mod source;
 pub mod store;
 pub mod streams;

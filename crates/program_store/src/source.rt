@@ -1,16 +1,19 @@
 //! Where a session's lines come from.
-use std::fs::File;
-use std::io;
-use std::io::{Read, Stdin};
+ghost use Rattle.program_store.specs.Source.{remaining_in};
 
-/// Where lines come from: standard input, or a file.
+use std::io;
+use std::io::Read;
+
+/// Where lines come from: an input such as the standard one, or a file.
 #[derive(Drop)]
-pub enum Source {
-    Input(Stdin),
-    File(File),
+pub enum Source<I, F> {
+    Input(I),
+    File(F),
 }
 
-impl Read for Source {
+impl<I: Read, F: Read> Read for Source<I, F> {
+    ghost remaining = { remaining_in I.remaining F.remaining };
+
     fn read(&mut self, buf: &mut [u8]) -> io::Result<usize> {
         match self {
             Source::Input(input) => input.read(buf),

@@ -1,6 +1,7 @@
 //! The store that a program keeps its layers in.
-ghost use Rattle.std.specs.Prelude.{◌≡◌, false, is_some, IfOk, IfSome, IsOk};
+ghost use Rattle.std.specs.Prelude.{◌≡◌, ◌≢◌, false, is_some, IfOk, IfSome, IsOk};
 ghost use Rattle.overlay_terms.specs.Histories.{empty_version};
+ghost use Rattle.overlay_engine.specs.HonestEngine.{MakesHonestly, RecoversHonestly};
 ghost use Rattle.program_words.specs.declared.keeping.Opening.TheVariants.{New};
 ghost use Rattle.root_store.specs.Running.{KeepsTo};
 ghost use Rattle.root_store.specs.declared.phase.Phase.TheVariants.{Idle};
@@ -8,9 +9,12 @@ ghost use Rattle.root_store.specs.declared.phase.Phase.TheVariants.{Idle};
 use crate::fault::ProgramFault;
 use crate::refusal::Refusal;
 use commit_plan::fault::StoreFault;
+use disk_model::disk::Disk;
 use file_disk::file_disk::FileDisk;
 use overlay_engine::engine::Engine;
 use program_words::keeping::{Keeping, Opening};
+use root_store::open_fault::OpenFault;
+use std::alloc::Global;
 use std::fs::File;
 use std::io;
 use std::os::unix::fs::FileExt;
@@ -43,15 +47,29 @@ pub fn open_store<'k, Q: Files<File = File> + AllocGlobal>(
             reason,
         )),
     };
-    let opened = match keeping.opening {
-        Opening::New => Engine::create(rt.alloc(), disk, keeping.max_blocks),
-        Opening::Existing | Opening::ReadOnly => {
-            Engine::recover(rt.alloc(), disk, keeping.max_blocks)
-        }
-    };
-    match opened {
+    match engine_on(rt.alloc(), disk, keeping.opening, keeping.max_blocks) {
         Ok(engine) => Ok(Some(engine)),
         Err(refused) => Err(Refusal::about(ProgramFault::Store(refused.fault), path)),
+    }
+}
+
+/// The engine of a store that is made on a disk, or of the one that is on it. The file may have at most so many blocks.
+pub fn engine_on<D: Disk>(
+    alloc: Global,
+    disk: D,
+    opening: Opening,
+    max_blocks: u32,
+) -> Result<Engine<D>, OpenFault<D>>
+    // Where the disk keeps the rules, it is what a creation gives, or what a recovery gives, and a refusal leaves what these leave.
+    ensures makes { opening ≡ New → D.is_honest disk → MakesHonestly D.Disk max_blocks disk result }
+    ensures recovers { opening ≢ New → D.is_honest disk → RecoversHonestly D.Disk disk result }
+    ensures limit { IfOk result (λ e. KeepsTo max_blocks e.flusher.commit) }
+    ensures idle { IfOk result (λ e. e.flusher.commit.phase ≡ Idle) }
+    ensures made { opening ≡ New → IfOk result (λ e. e.version ≡ empty_version) }
+{
+    match opening {
+        Opening::New => Engine::create(alloc, disk, max_blocks),
+        Opening::Existing | Opening::ReadOnly => Engine::recover(alloc, disk, max_blocks),
     }
 }
 
