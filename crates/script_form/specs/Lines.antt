@@ -1,6 +1,7 @@
 -- A script as lines.
-use Rattle.std.specs.Prelude.{◌≡◌, ℕ, ◌+◌, ◌==◌, nat_le, Bool, false, IsTrue, not, ◌||◌, List, [], ◌∷◌, ◌++◌, map, length, if◌then◌else◌}
+use Rattle.std.specs.Prelude.{◌≡◌, ℕ, ◌+◌, ◌==◌, nat_le, Bool, IsTrue, not, ◌||◌, List, [], ◌∷◌, ◌++◌, map, length, if◌then◌else◌}
 use Rattle.std.specs.List.{list_all}
+use Rattle.overlay_terms.specs.Bytes.{begins}
 
 -- the most bytes of a line, without its ending
 abbrev pub line_max : ℕ
@@ -81,8 +82,7 @@ is_gap b = b == 32 || b == 9
 
 -- a line without a reply: of gaps alone, or one that begins with `#`
 abbrev pub begins_comment : List ℕ → Bool
-begins_comment [] = false
-begins_comment (b ∷ bs) = b == 35
+begins_comment line = begins (λ b. b == 35) line
 
 abbrev pub is_skipped : List ℕ → Bool
 is_skipped line = begins_comment line || list_all is_gap line

@@ -2,8 +2,9 @@
 use Rattle.std.specs.Prelude.{◌≡◌, ℕ, ℤ, pos, ◌<◌, ◌≤◌, ◌↔◌, ◌⊎◌, Bool, false, IsTrue, List, [], ◌∷◌, ◌++◌, length, Some}
 use Rattle.std.specs.List.{list_all}
 use Rattle.overlay_terms.specs.Blank.{is_blank}
+use Rattle.overlay_terms.specs.Bytes.{begins}
 use Rattle.script_form.specs.Lines.{line_max, is_gap}
-use Rattle.script_form.specs.Words.{is_word_byte, is_name_side, begins, number_of}
+use Rattle.script_form.specs.Words.{is_word_byte, is_name_side, number_of}
 use Rattle.script_form.specs.Requests.{Request, nothing, too_long, malformed, Kind, a_word, a_number, a_number_or_one, a_left_side, a_right_side, a_text, Value, Arguments, ends, takes, forms, arguments_of, request_of}
 
 -- not too long

@@ -1,5 +1,5 @@
 -- Lines in turn: each has a reply of its own, but those of a batch, which have one together.
-use Rattle.std.specs.Prelude.{ℕ, ℤ, pos, negsuc, ◌==◌, nat_le, Bool, true, false, ◌&&◌, List, [], ◌∷◌, ◌++◌, map, fold, length, Option, Some, None, if◌then◌else◌}
+use Rattle.std.specs.Prelude.{ℕ, ℤ, pos, negsuc, ◌==◌, nat_le, Bool, true, false, ◌&&◌, List, [], ◌∷◌, ◌++◌, map, fold, length, Option, Some, None, option_map, if◌then◌else◌}
 use Rattle.overlay_terms.specs.Batches.{batch_max}
 use Rattle.script_form.specs.Requests.{Request, nothing, batch, request_of}
 
@@ -24,14 +24,9 @@ abbrev pub asked_size : ℤ → Option ℕ
 asked_size (pos n) = size_within n
 asked_size (negsuc n) = None
 
--- a batch of so many lines, of which none came yet
-abbrev pub of_size : Option ℕ → Option Waiting
-of_size None = None
-of_size (Some size) = Some (record { size = size; came = [] })
-
--- the batch that a line begins, if it begins one
+-- the batch that a line begins, if it begins one: none of its lines came yet
 abbrev pub begun_by : Request → Option Waiting
-begun_by (batch n) = of_size (asked_size n)
+begun_by (batch n) = option_map (λ size. record { size = size; came = [] }) (asked_size n)
 begun_by other = None
 
 -- whether a line is skipped, which is then none of a batch's lines
