@@ -542,7 +542,7 @@ class MapFeature(Shape):
 class Features:
     """The features of a store's map, by the file of features beside it (docs/FEATURES.md): read, and changed one by one.
 
-    They are those that there are at the time of each call. A change is durable when its call returns; one that cannot be
+    They are read anew by each call. A change is durable when its call returns; one that cannot be
     made is a ValueError that says why.
     """
 
