@@ -55,6 +55,7 @@ pub record Form : Type 0 where
   pub name : List ℕ
   pub arguments : Arguments
 
+-- a command, made of its word and its arguments
 abbrev pub form : List ℕ → Arguments → Form
 form name arguments = record { name = name; arguments = arguments }
 
@@ -101,6 +102,7 @@ abbrev pub arguments_of : List Form → List ℕ → Option Arguments
 arguments_of [] name = None
 arguments_of (form ∷ forms) name = if bytes_eq name form.name then Some form.arguments else arguments_of forms name
 
+-- what the bytes ask for by the arguments of a command, where there is such a command
 abbrev pub asked_by : Option Arguments → List ℕ → Option Request
 asked_by None bytes = None
 asked_by (Some arguments) bytes = asked_in arguments bytes
@@ -109,10 +111,12 @@ asked_by (Some arguments) bytes = asked_in arguments bytes
 abbrev pub asked_of : List ℕ → Option Request
 asked_of line = and_then (word_at line) (λ name behind. asked_by (arguments_of forms name) behind)
 
+-- what a line asks for; a line that is no command is malformed
 abbrev pub or_malformed : Option Request → Request
 or_malformed None = malformed
 or_malformed (Some request) = request
 
+-- what a line asks for: a line that is too long is not read, and a comment or an empty line asks for nothing
 abbrev pub request_of : List ℕ → Request
 request_of line =
     if is_too_long line then too_long
