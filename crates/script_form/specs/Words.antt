@@ -9,6 +9,7 @@ use Rattle.script_form.specs.Lines.{is_gap}
 abbrev pub skip_while : (ℕ → Bool) → List ℕ → List ℕ
 skip_while test bytes = drop (prefix_len test bytes) bytes
 
+-- a word goes on to the next gap
 abbrev pub is_word_byte : ℕ → Bool
 is_word_byte b = not (is_gap b)
 
@@ -21,6 +22,7 @@ abbrev pub begins : (ℕ → Bool) → List ℕ → Bool
 begins test [] = false
 begins test (b ∷ bs) = test b
 
+-- whether there is no byte
 abbrev pub is_empty : List ℕ → Bool
 is_empty bytes = length bytes == 0
 
@@ -36,10 +38,12 @@ are_digits ds = not (is_empty ds) && nat_le (length ds) 18 && list_all is_ascii_
 abbrev pub digits_number : List ℕ → Option ℕ
 digits_number ds = if are_digits ds then Some (digits_value ds) else None
 
+-- a number with its sign, where digits spell one
 abbrev pub signed_by : (ℕ → ℤ) → Option ℕ → Option ℤ
 signed_by sign None = None
 signed_by sign (Some n) = Some (sign n)
 
+-- the number that bytes spell; a number without a sign is positive
 abbrev pub number_of : List ℕ → Option ℤ
 number_of [] = None
 number_of (b ∷ bs) =
@@ -64,6 +68,7 @@ word_at bytes = front_at is_word_byte bytes
 abbrev pub left_side_at : List ℕ → Option (List ℕ × List ℕ)
 left_side_at bytes = front_at is_name_side bytes
 
+-- a number with what comes after it, where there is a number
 abbrev pub with_behind : Option ℤ → List ℕ → Option (ℤ × List ℕ)
 with_behind None behind = None
 with_behind (Some n) behind = Some (n, behind)
