@@ -6,10 +6,8 @@ import sys
 
 if __name__ == "__main__":
     here = pathlib.Path(__file__).resolve()
-    # The packages tools and web are in the folder above, from wherever and by whatever link this file is called.
-    if not sys.flags.safe_path:
-        del sys.path[0]
-    sys.path.insert(0, str(here.parents[1]))
+    # The folder above has the packages tools and web. It takes the place of this one, which python3 -P leaves out.
+    sys.path[: not sys.flags.safe_path] = [str(here.parents[1])]
     from tools import ending
 
     ending.run_module(f"{here.parent.name}.commands.{here.stem}")
