@@ -6,7 +6,7 @@ abbrev pub table : List (ℕ × List ℕ)
 table =
     (1, codes "wkt syntax at #")
     ∷ (2, codes "not whole at #")
-    ∷ (3, codes "coordinate out of range") -- where a text of WKT is read, " at #" follows
+    ∷ (3, codes "coordinate out of range")  -- where a text of WKT is read, " at #" follows
     ∷ (4, codes "ring # open")
     ∷ (5, codes "ring # short")
     ∷ (6, codes "too many segments")
