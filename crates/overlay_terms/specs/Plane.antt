@@ -48,6 +48,10 @@ coordinate_max = 1048576
 abbrev pub InRange : ℤ → Type 0
 InRange n = (neg_ℤ (pos coordinate_max) ≤ℤ n) × (n ≤ℤ pos coordinate_max)
 
+-- whether a number is a coordinate
+abbrev pub is_coordinate : ℤ → Bool
+is_coordinate z = int_le (neg_ℤ (pos coordinate_max)) z && int_le z (pos coordinate_max)
+
 -- how far a point lies above the line of a segment: positive above, 0 on the line. Left of a vertical line counts as above
 abbrev pub height_over : Segment → Point → ℤ
 height_over s p =
