@@ -1,6 +1,6 @@
 -- What is drawn of a map: tests of its points, rings clamped into a frame, and rings without the points that nothing of is seen.
-use Rattle.std.specs.Prelude.{ℤ, pos, neg_ℤ, ◌-ℤ◌, int_lt, int_le, Bool, true, ◌&&◌, ◌||◌, List, [], ◌∷◌, ◌++◌, fold, filter_map, Option, Some, None, if◌then◌else◌}
-use Rattle.overlay_terms.specs.Plane.{WholePoint, coordinate_max}
+use Rattle.std.specs.Prelude.{ℤ, ◌-ℤ◌, int_lt, int_le, Bool, true, ◌&&◌, ◌||◌, List, [], ◌∷◌, ◌++◌, fold, filter_map, Option, Some, None, if◌then◌else◌}
+use Rattle.overlay_terms.specs.Plane.{WholePoint, is_coordinate}
 use Rattle.map_window.specs.Window.{Box, whole_moved}
 
 -- numbers in this order: the middle two strictly between the others
@@ -10,10 +10,6 @@ are_nested a b c d = int_lt a b && int_le b c && int_lt c d
 -- whether a core is a box in the open inside of a frame
 abbrev pub is_framed : Box → Box → Bool
 is_framed core frame = are_nested frame.low_x core.low_x core.high_x frame.high_x && are_nested frame.low_y core.low_y core.high_y frame.high_y
-
--- whether a number is a coordinate
-abbrev pub is_coordinate : ℤ → Bool
-is_coordinate z = int_le (neg_ℤ (pos coordinate_max)) z && int_le z (pos coordinate_max)
 
 -- whether two numbers are coordinates, seen from a third
 abbrev pub are_coordinates : ℤ → ℤ → ℤ → Bool

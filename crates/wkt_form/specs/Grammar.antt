@@ -2,13 +2,13 @@
 use Rattle.std.specs.Prelude.{◌≡◌, ℕ, ◌+◌, ◌⊎◌, Bool, false, true, IsTrue, ◌&&◌, List, [], ◌∷◌, ◌++◌, map, flat_map, length, take, slice_get, All, codes, if◌then◌else◌, Option, Some, None}
 use Rattle.std.specs.List.{list_all}
 use Rattle.std.specs.Str.{str_to_ascii_uppercase}
-use Rattle.overlay_terms.specs.Plane.{WholePoint}
+use Rattle.overlay_terms.specs.Plane.{WholePoint, is_coordinate}
 use Rattle.plane_base.specs.BaseLayer.{rings_fault}
 use Rattle.plane_base.specs.declared.fault.PlaneFault.{PlaneFault}
 use Rattle.wkt_form.specs.declared.fault.WktFault.{WktFault}
 use Rattle.wkt_form.specs.declared.fault.WktFault.TheVariants.{Syntax, NotWhole, CoordRange}
 use Rattle.wkt_form.specs.Fault.{of_rings}
-use Rattle.wkt_form.specs.Number.{is_number, is_whole, number_value, is_coordinate}
+use Rattle.wkt_form.specs.Number.{is_number, is_whole, number_value}
 use Rattle.wkt_form.specs.Token.{Kind, word, run, open_bracket, close_bracket, comma, Token, tokens_of}
 
 -- a point is two numbers, as they are written
