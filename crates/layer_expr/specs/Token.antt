@@ -38,5 +38,6 @@ tokens_after in_name at (b ∷ bs) =
     else (if is_ascii_alphabetic b then record { at = at; kind = name (take_while is_name_byte (b ∷ bs)) } ∷ tokens_after true (at + 1) bs
     else record { at = at; kind = sign_kind b } ∷ tokens_after false (at + 1) bs))
 
+-- the tokens of a whole expression, each with its offset from the expression's beginning
 abbrev pub tokens_of : List ℕ → List Token
 tokens_of bytes = tokens_after false 0 bytes

@@ -20,10 +20,11 @@ abbrev pub lies_in_plane : Box → WholePoint → Bool
 lies_in_plane box o =
     are_coordinates box.low_x box.high_x o.x && are_coordinates box.low_y box.high_y o.y
 
--- whether three numbers are less than a fourth, and whether they are more
+-- whether three numbers are less than a fourth
 abbrev pub are_less : ℤ → ℤ → ℤ → ℤ → Bool
 are_less a b c limit = int_lt a limit && int_lt b limit && int_lt c limit
 
+-- whether three numbers are more than a first one
 abbrev pub are_more : ℤ → ℤ → ℤ → ℤ → Bool
 are_more limit a b c = int_lt limit a && int_lt limit b && int_lt limit c
 
@@ -46,6 +47,7 @@ abbrev pub are_short_from : Box → Box → WholePoint → List WholePoint → B
 are_short_from core frame a [] = true
 are_short_from core frame a (b ∷ rest) = is_short core frame a b && are_short_from core frame b rest
 
+-- whether each step of a ring may be drawn in
 abbrev pub are_short : Box → Box → List WholePoint → Bool
 are_short core frame [] = true
 are_short core frame (a ∷ rest) = are_short_from core frame a rest

@@ -14,7 +14,7 @@ use Rattle.overlay_terms.proofs.NameLemmas.{name_itself}
 use Rattle.layer_book.proofs.Closing.{near_index}
 use Rattle.layer_expr.specs.Name.{is_name}
 use Rattle.layer_tiles.proofs.Stored.{laid_is_stored}
-use Rattle.layer_tiles.specs.Filling.{named, AreBefore, IsLonger}
+use Rattle.layer_tiles.specs.Filling.{finished_as, AreBefore, IsLonger}
 use Rattle.layer_tiles.specs.Table.{laid, tiles_in, IsLaid, Tabled}
 use Rattle.store_terms.specs.declared.damage.Damage.TheVariants.{LayerRefused}
 use Rattle.store_terms.specs.Image.{may_stand, is_accepted, refusal_of_keeping, with_layer}
@@ -98,7 +98,7 @@ next_grows name tree layers table longer valid is same kept =
   where
     first : (known : List Layer) (name : Name) (l : Layer) (f : Finished)
         → index_of (known ++ l ∷ []) name ≡ length known → stands_as_derived known f.name ≡ true
-        → is_tile_before (known ++ l ∷ []) f (named name 0 oversize) ≡ true
+        → is_tile_before (known ++ l ∷ []) f (finished_as name 0 oversize) ≡ true
     first known name l f last as_derived =
         let standing = derived_stands known f.name as_derived in
         let near : index_of known f.name < length known = near_index known f.name standing in
@@ -117,8 +117,8 @@ next_column table name k to = record {
   before = λ i d lt. later table.layers (get_or (tiles_in table) i d) (to.before i d lt);
 }
   where
-    later : (layers : List Layer) (f : Finished) → is_tile_before layers f (named name k oversize) ≡ true
-        → is_tile_before layers f (named name (k + 1) oversize) ≡ true
+    later : (layers : List Layer) (f : Finished) → is_tile_before layers f (finished_as name k oversize) ≡ true
+        → is_tile_before layers f (finished_as name (k + 1) oversize) ≡ true
     later layers f is = ⊎_elim
         (λ one. or_left (nat_lt (index_of layers f.name) (index_of layers name))
         (bytes_eq f.name name && nat_lt f.column (k + 1)) one)
@@ -133,7 +133,7 @@ next_column table name k to = record {
 
 -- the tile of the column itself is there
 pub next_tile : (table more : Tabled) (name : Name) (k : ℕ) (tile : Tile) → more.layers ≡ table.layers
-    → tiles_in more ≡ tiles_in table ++ named name k tile ∷ [] → IsNextTo table name k → IsNextTo more name (k + 1)
+    → tiles_in more ≡ tiles_in table ++ finished_as name k tile ∷ [] → IsNextTo table name k → IsNextTo more name (k + 1)
 next_tile table more name k tile same is to =
     let later = next_column table name k to in
     let less : nat_lt k (k + 1) ≡ true = grind (arith, nat_tests) in
@@ -141,8 +141,8 @@ next_tile table more name k tile same is to =
       derived_layer = subst (λ (ls : List Layer). IsTrue (stands_as_derived ls name)) (sym same) to.derived_layer;
       before = subst (λ (ls : List Layer). AreBefore ls (tiles_in more) name (k + 1)) (sym same)
           (subst (λ (fs : List Finished). AreBefore table.layers fs name (k + 1)) (sym is)
-          (All-push (λ (g : Finished). IsTrue (is_tile_before table.layers g (named name (k + 1) oversize)))
-          (tiles_in table) (named name k tile) later.before
+          (All-push (λ (g : Finished). IsTrue (is_tile_before table.layers g (finished_as name (k + 1) oversize)))
+          (tiles_in table) (finished_as name k tile) later.before
           (or_right (nat_lt (index_of table.layers name) (index_of table.layers name)) (bytes_eq name name && nat_lt k (k + 1))
           (and_from (bytes_eq name name) (nat_lt k (k + 1)) (name_itself name) less))));
     }

@@ -14,7 +14,7 @@ use Rattle.script_form.specs.declared.line_turn.LineTurn.TheVariants.{Whole}
 use Rattle.script_form.specs.Fault.{code_of}
 use Rattle.script_form.specs.OpenBatch.{AreUnread, AreRead, AreReadSoFar, IsOpenBatch, IsOpen, IsLineGathered, unread}
 use Rattle.script_form.specs.Reading.{IsMemory, IsPutRefused}
-use Rattle.script_form.specs.Turns.{Waiting, asked_size, begun_by, is_nothing, is_whole, with_line}
+use Rattle.script_form.specs.Turns.{Waiting, asked_size, begun_by, is_nothing, is_full, with_line}
 use Rattle.script_form.specs.BatchLines.{IsCommandOf, IsNoCommand, AreCommandsOf, IsFirstUnread}
 use Rattle.script_form.specs.Requests.{Request, batch, put_text}
 
@@ -110,10 +110,10 @@ module _ (waiting : Waiting) (asked : Request) (open_batch : OpenBatch) (is : Is
   one_more : length (waiting.came ++ asked ∷ []) ≡ open_batch.came + 1
   one_more = omega (arith, length-append waiting.came (asked ∷ []), is.as_many)
 
-  pub all_came : open_batch.came + 1 ≡ open_batch.size → is_whole (with_line waiting asked) ≡ true
+  pub all_came : open_batch.came + 1 ≡ open_batch.size → is_full (with_line waiting asked) ≡ true
   all_came last = eq-eqb (length (waiting.came ++ asked ∷ [])) waiting.size (one_more ∙ last ∙ is.same_size)
 
-  pub more_to_come : (open_batch.came + 1 ≡ open_batch.size → ⊥) → is_whole (with_line waiting asked) ≡ false
+  pub more_to_come : (open_batch.came + 1 ≡ open_batch.size → ⊥) → is_full (with_line waiting asked) ≡ false
   more_to_come more = ne_eqb (length (waiting.came ++ asked ∷ [])) waiting.size (λ all. more (sym one_more ∙ all ∙ sym is.same_size))
 
   pub counts_on : open_batch.came + 1 ≡ length (waiting.came ++ asked ∷ [])
@@ -121,11 +121,11 @@ module _ (waiting : Waiting) (asked : Request) (open_batch : OpenBatch) (is : Is
 
 -- the last line of a batch
 pub taken_whole : (waiting : Option Waiting) (old : OpenBatch) (asked : Request) (read : Result Batch LinesFault) → is_nothing asked ≡ false → IsOpen waiting (Some old)
-    → ((w : Waiting) → IsOpenBatch w old → (is_whole (with_line w asked) ≡ true) × AreRead (w.came ++ asked ∷ []) read) → IsLineGathered waiting asked None (Whole read)
+    → ((w : Waiting) → IsOpenBatch w old → (is_full (with_line w asked) ≡ true) × AreRead (w.came ++ asked ∷ []) read) → IsLineGathered waiting asked None (Whole read)
 taken_whole None old asked read some there joined = absurd there
 taken_whole (Some waiting) old asked read some there joined =
     let all = joined waiting there in
     record {
-      open_then = subst (λ (o : Option Waiting). IsOpen o None) (sym (cond-false (is_nothing asked) _ _ some ∙ cond-true (is_whole (with_line waiting asked)) _ _ all.0)) tt;
-      ended = (waiting.came ++ asked ∷ [], cond-false (is_nothing asked) _ _ some ∙ cond-true (is_whole (with_line waiting asked)) _ _ all.0, all.1);
+      open_then = subst (λ (o : Option Waiting). IsOpen o None) (sym (cond-false (is_nothing asked) _ _ some ∙ cond-true (is_full (with_line waiting asked)) _ _ all.0)) tt;
+      ended = (waiting.came ++ asked ∷ [], cond-false (is_nothing asked) _ _ some ∙ cond-true (is_full (with_line waiting asked)) _ _ all.0, all.1);
     }

@@ -11,6 +11,7 @@ use Rattle.script_form.specs.Fault.{code_of, text_of}
 abbrev pub numbered_line : List ℕ → ℕ → List ℕ
 numbered_line word number = word ++ (decimal number ++ 10 ∷ [])
 
+-- a refusal has the number of its fault, and the fault's text
 abbrev pub error_line : CommandFault → List ℕ
 error_line fault = codes "error " ++ (decimal (code_of fault) ++ (codes " " ++ (text_of fault ++ 10 ∷ [])))
 
@@ -18,11 +19,13 @@ error_line fault = codes "error " ++ (decimal (code_of fault) ++ (codes " " ++ (
 abbrev pub refused_line : ℕ → CommandFault → List ℕ
 refused_line place fault = codes "refused " ++ (decimal place ++ (codes " " ++ error_line fault))
 
+-- LOCATE is answered by one of three words
 abbrev pub location_line : Location → List ℕ
 location_line inside = codes "in\n"
 location_line outside = codes "out\n"
 location_line edge = codes "edge\n"
 
+-- VERIFY is answered by whether the finished tile is the one that would be built now
 abbrev pub verdict_line : Verdict → List ℕ
 verdict_line Same = codes "same\n"
 verdict_line Different = codes "different\n"

@@ -28,16 +28,16 @@ pub data Request : Type 0 where
 
 -- a kind of argument: a word; a number; a number that is 1 where it is left out; a name that may end at a `=`; the `=` and the
 -- text after it; a text. A text runs to the end of the line
-pub data Kind : Type 0 where
-  a_word : Kind
-  a_number : Kind
-  a_number_or_one : Kind
-  a_left_side : Kind
-  a_right_side : Kind
-  a_text : Kind
+pub data ArgumentKind : Type 0 where
+  a_word : ArgumentKind
+  a_number : ArgumentKind
+  a_number_or_one : ArgumentKind
+  a_left_side : ArgumentKind
+  a_right_side : ArgumentKind
+  a_text : ArgumentKind
 
 -- what an argument is: a number, or bytes
-abbrev pub Value : Kind → Type 0
+abbrev pub Value : ArgumentKind → Type 0
 Value a_word = List ℕ
 Value a_number = ℤ
 Value a_number_or_one = ℤ
@@ -48,13 +48,14 @@ Value a_text = List ℕ
 -- the arguments of a command, one after another, and what it asks for by them
 pub data Arguments : Type 0 where
   ends : Request → Arguments
-  takes : (kind : Kind) → (Value kind → Arguments) → Arguments
+  takes : (kind : ArgumentKind) → (Value kind → Arguments) → Arguments
 
 -- a command: its word, and its arguments
 pub record Form : Type 0 where
   pub name : List ℕ
   pub arguments : Arguments
 
+-- a command, made of its word and its arguments
 abbrev pub form : List ℕ → Arguments → Form
 form name arguments = record { name = name; arguments = arguments }
 
@@ -78,7 +79,7 @@ forms =
 -- ==== The reading
 
 -- an argument in front of bytes, if one is there, and what comes after it
-abbrev pub argument_at : (kind : Kind) → List ℕ → Option (Value kind × List ℕ)
+abbrev pub argument_at : (kind : ArgumentKind) → List ℕ → Option (Value kind × List ℕ)
 argument_at a_word bytes = word_at bytes
 argument_at a_number bytes = number_at bytes
 argument_at a_number_or_one bytes = number_or_one_at bytes
@@ -104,6 +105,7 @@ asked_by (name, behind) = option_and_then (λ arguments. asked_in arguments behi
 abbrev pub asked_of : List ℕ → Option Request
 asked_of line = option_and_then asked_by (word_at line)
 
+-- what a line asks for: a line that is too long is not read, and a comment or an empty line asks for nothing
 abbrev pub request_of : List ℕ → Request
 request_of line =
     if is_too_long line then too_long

@@ -43,6 +43,7 @@ pub record BookStore : Type 1 where
   pub there : Bool
   pub told : History → Type 0
 
+-- a store, by what may be reported of it and whether it is there
 abbrev pub store_by : (History → Type 0) → Bool → BookStore
 store_by told there = record { there = there; told = told }
 
@@ -126,6 +127,7 @@ abbrev pub Drawn : Option GridFault → List ℕ → List Batch → List ℕ →
 Drawn (Some fault) text made reply = IsRefused (of_grid fault) made reply
 Drawn None text made reply = IsTold text made reply
 
+-- the picture of a layer on a grid, or why there is none
 abbrev pub IsPictured : List BookLayer → List ℕ → Grid → List Batch → List ℕ → Type 0
 IsPictured layers name g made reply = Drawn (grid_refusal layers name g) (grid_text layers name g) made reply
 

@@ -39,15 +39,15 @@ abbrev pub with_line : Waiting → Request → Waiting
 with_line waiting request = record { size = waiting.size; came = waiting.came ++ request ∷ [] }
 
 -- whether all lines of a batch came
-abbrev pub is_whole : Waiting → Bool
-is_whole waiting = length waiting.came == waiting.size
+abbrev pub is_full : Waiting → Bool
+is_full waiting = length waiting.came == waiting.size
 
 -- the batch that waits after a line
 abbrev pub waiting_after : Option Waiting → Request → Option Waiting
 waiting_after None request = begun_by request
 waiting_after (Some waiting) request =
     if is_nothing request then Some waiting
-    else (if is_whole (with_line waiting request) then None else Some (with_line waiting request))
+    else (if is_full (with_line waiting request) then None else Some (with_line waiting request))
 
 -- the turn of a line that is in no batch: none where it begins one
 abbrev pub unless_begun : Option Waiting → Request → List Turn
@@ -59,7 +59,7 @@ abbrev pub ended_by : Option Waiting → Request → List Turn
 ended_by None request = unless_begun (begun_by request) request
 ended_by (Some waiting) request =
     if is_nothing request then []
-    else (if is_whole (with_line waiting request) then together (with_line waiting request).came ∷ [] else [])
+    else (if is_full (with_line waiting request) then together (with_line waiting request).came ∷ [] else [])
 
 -- the turns that lines end, where a batch waits before them or none does
 abbrev pub turns_from : Option Waiting → List Request → List Turn

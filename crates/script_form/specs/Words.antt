@@ -9,6 +9,7 @@ use Rattle.script_form.specs.Lines.{is_gap}
 abbrev pub skip_while : (ℕ → Bool) → List ℕ → List ℕ
 skip_while test bytes = drop (prefix_len test bytes) bytes
 
+-- a word goes on to the next gap
 abbrev pub is_word_byte : ℕ → Bool
 is_word_byte b = not (is_gap b)
 
@@ -16,6 +17,7 @@ is_word_byte b = not (is_gap b)
 abbrev pub is_name_side : ℕ → Bool
 is_name_side b = is_word_byte b && not (b == 61)
 
+-- whether there is no byte
 abbrev pub is_empty : List ℕ → Bool
 is_empty bytes = length bytes == 0
 

@@ -12,7 +12,7 @@ use Rattle.store_terms.specs.BaseRecord.{base_of_record}
 use Rattle.store_terms.specs.DefinitionRecord.{definition_of_record}
 use Rattle.store_terms.specs.Catalog.{Records, Listed}
 use Rattle.store_terms.specs.Places.{all_apart, extents_listed}
-use Rattle.store_terms.specs.Image.{or_fault, placed_bytes, refusal_of_keeping, is_accepted, may_stand, with_layer, tiles_of, layer_of, layers_of, Held, listing_of, held_by}
+use Rattle.store_terms.specs.Image.{or_fault, placed_bytes, refusal_of_keeping, is_accepted, may_stand, with_layer, tiles_from_column, layer_of, layers_of, Held, listing_of, held_by}
 use Rattle.store_terms.specs.RecordLaws.{HeldIsOrderly}
 use Rattle.store_terms.proofs.HeldLemmas.{ok_bound, same_ok, tested_ok}
 
@@ -46,7 +46,7 @@ layer_orderly file known name (inr (e, es)) x orderly h =
     let a = ok_bound (placed_bytes RecordPlace file e) _ x h in
     let b = ok_bound (or_fault LayerForm (definition_of_record a.0)) _ x a.2 in
     let c = ok_bound (with_layer known name (derived b.0)) _ x b.2 in
-    let d = ok_bound (tiles_of file name 0 es) _ x c.2 in
+    let d = ok_bound (tiles_from_column file name 0 es) _ x c.2 in
     subst IsOrderly (ap (λ (y : List Layer × List Finished). y.0) (same_ok (c.0, d.0) x d.2)) (last_orderly known name (derived b.0) c.0 orderly c.1)
 
 layers_orderly : (file : List ℕ) (known : List Layer) (ls : List Listed) (x : List Layer × List Finished) → IsOrderly known → layers_of file known ls ≡ Ok x → IsOrderly x.0

@@ -8,6 +8,7 @@ use Rattle.overlay_terms.specs.Bytes.{begins, digits_value}
 abbrev pub is_sign : ℕ → Bool
 is_sign b = b == 43 || b == 45
 
+-- the byte `.`, after which the digits of a fraction come
 abbrev pub is_point : ℕ → Bool
 is_point b = b == 46
 
@@ -29,6 +30,7 @@ is_number bs = is_unsigned (unsigned bs)
 abbrev pub before_point : List ℕ → List ℕ
 before_point bs = before_first is_point bs
 
+-- the bytes after the point; none where there is no point
 abbrev pub behind_point : List ℕ → List ℕ
 behind_point bs = after_first is_point bs
 

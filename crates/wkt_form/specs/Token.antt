@@ -29,6 +29,7 @@ longer b (word bs) = word (b ∷ bs)
 longer b (run bs) = run (b ∷ bs)
 longer b kind = kind
 
+-- a byte before the first token makes that token longer, which then begins at the byte's offset
 abbrev pub first_longer : ℕ → ℕ → List Token → List Token
 first_longer at b [] = []
 first_longer at b (t ∷ ts) = record { at = at; kind = longer b t.kind } ∷ ts
@@ -46,5 +47,6 @@ tokens_from at (b ∷ bs) =
     else (if b == 44 then record { at = at; kind = comma } ∷ rest
     else record { at = at; kind = stray } ∷ rest)))))
 
+-- the tokens of a whole text, each with its offset from the text's beginning
 abbrev pub tokens_of : List ℕ → List Token
 tokens_of bytes = tokens_from 0 bytes
