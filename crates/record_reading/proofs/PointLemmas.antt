@@ -1,15 +1,14 @@
 -- A point is read from eight bytes by one test of their length.
-use Rattle.std.proofs.Common.{◌≡◌, ◌⊎◌, inl, inr, ℕ, ℤ, unsigned_abs, ◌<◌, ◌≤◌, Bool, true, false, cond, List, length, drop, Option, Some, None, refl, ap, sym, ◌∙◌, arith}
-use Rattle.std.proofs.lemmas.Bool.{false≢true, cases_lt, lt-ltb, le-ltb, leb-true}
+use Rattle.std.proofs.Common.{◌≡◌, ◌⊎◌, inl, inr, ℕ, ℤ, ◌<◌, ◌≤◌, Bool, true, false, cond, List, length, drop, Option, Some, None, refl, ap, sym, ◌∙◌, arith}
+use Rattle.std.proofs.lemmas.Bool.{false≢true, cases_lt, lt-ltb, le-ltb}
 use Rattle.std.proofs.lemmas.List.{length-drop, drop-drop}
 use Rattle.std.specs.Int.{w32, cast_signed}
 use Rattle.byteorder.specs.Endian.{big_number}
-use Rattle.overlay_terms.specs.Plane.{WholePoint, InRange, coordinate_max}
-use Rattle.overlay_terms.proofs.Bounds.{within_abs}
+use Rattle.overlay_terms.specs.Plane.{WholePoint, InRange, is_coordinate}
+use Rattle.overlay_terms.proofs.Coordinates.{passes_in_range as in_range, in_range_passes as coordinate_is}
 use Rattle.record_reading.specs.Added.{number_in}
 use Rattle.store_terms.specs.Fields.{◌>>?◌}
-use Rattle.store_terms.specs.BaseRecord.{is_coordinate, coordinate, whole_point}
-use Rattle.store_terms.proofs.BaseLemmas.{coordinate_is_one as coordinate_is}
+use Rattle.store_terms.specs.BaseRecord.{coordinate, whole_point}
 
 abbrev passing : ℕ × List ℕ → Option (ℤ × List ℕ)
 passing n = cond (is_coordinate (cast_signed w32 n.0)) (Some (cast_signed w32 n.0, n.1)) None
@@ -50,10 +49,6 @@ point_short bytes lt =
           ∙ without_y (is_coordinate (number_in bytes)) (number_in bytes) (drop 4 bytes)
           (short (drop 4 bytes) (omega (arith, length-drop 4 bytes)))
     ]
-
-in_range : (z : ℤ) → is_coordinate z ≡ true → InRange z
-in_range z e =
-    let within = within_abs coordinate_max z (leb-true (unsigned_abs z) coordinate_max e) in (within.low, within.high)
 
 out : (b c : Bool) (x y : ℤ) (rest last : List ℕ) → coordinate.read rest ≡ front c y last
     → (b ≡ true → c ≡ true → ⊥) → ((front b x rest >>? behind_x) >>? making) ≡ None

@@ -1,6 +1,7 @@
 -- What a root holds has its form: layers that are added one after another, each with its tiles.
 use Rattle.std.proofs.Common.{◌≡◌, ◌⊎◌, inl, inr, ℕ, zero, suc, ◌+◌, ◌<◌, ◌≤◌, Bool, true, false, not, cond, ◌&&◌, ◌||◌, nat_lt, eqb, List, [], ◌∷◌, ◌++◌, length, Option, Some, None, Result, Ok, Err, refl, sym, ap, subst, ◌∙◌, append_assoc, arith, bytes_eq}
 use Rattle.std.specs.Prelude.{IsTrue, All}
+use Rattle.std.specs.Option.{is_none}
 use Rattle.std.specs.List.{AllByRecursion, AllPairs}
 use Rattle.std.proofs.lemmas.Bool.{and_parts, and_from, or_parts, not-true, lt-ltb, ltb-true, eqb-true}
 use Rattle.std.proofs.lemmas.Option.{cond_some}
@@ -24,7 +25,7 @@ use Rattle.store_terms.specs.TileRecord.{NamedTile, column_of_tile, tile_by_plac
 use Rattle.store_terms.specs.Catalog.{Records, Listed}
 use Rattle.store_terms.specs.Places.{all_apart, extents_listed}
 use Rattle.store_terms.specs.Image as image
-use Rattle.store_terms.specs.Image.{or_fault, placed_bytes, refusal_of_keeping, is_accepted, may_stand, with_layer, tiles_from_column, layer_of, layers_of, Held, listing_of, held_by, held_of}
+use Rattle.store_terms.specs.Image.{or_fault, placed_bytes, refusal_of_keeping, may_stand, with_layer, tiles_from_column, layer_of, layers_of, Held, listing_of, held_by, held_of}
 use Rattle.store_terms.proofs.FieldLemmas.{bound}
 use Rattle.record_writing.specs.Stored.{HeldIsImage, HeldIsStored}
 use Rattle.record_writing.specs.Tiles.{unsieved}
@@ -197,7 +198,7 @@ layer_new : (known : List Layer) (name : Name) (content : Content) (layers : Lis
 layer_new known name content layers e =
     let t = tested_ok (may_stand known name content) LayerRefused (known ++ layer_with name content ∷ []) layers e in
     let first = and_parts (is_name name && not (stands known name))
-    (is_accepted (refusal_of_keeping known name content)) t.0 in
+    (is_none (refusal_of_keeping known name content)) t.0 in
     let second = and_parts (is_name name) (not (stands known name)) first.0 in
     (not-true (stands known name) second.1, t.1)
 

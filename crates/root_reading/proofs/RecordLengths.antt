@@ -2,7 +2,7 @@
 use Rattle.std.proofs.Common.{◌≡◌, ◌⊎◌, inl, inr, ℕ, zero, suc, ℤ, ◌+◌, ◌*◌, ◌-◌, ◌^◌, ◌<◌, ◌≤◌, nat_le, Bool, true, false, cond, ltb, eqb, ◌&&◌, List, [], ◌∷◌, ◌++◌, length, map, take, drop, Option, Some, None, refl, sym, ap, subst, ◌∙◌, arith}
 use Rattle.std.specs.Prelude.{slice_index}
 use Rattle.std.specs.List.{list_all}
-use Rattle.std.specs.Option.{option_map}
+use Rattle.std.specs.Option.{option_map, is_none}
 use Rattle.std.specs.Int.{w32, cast_signed}
 use Rattle.std.proofs.lemmas.Bool.{cases_lt, and_parts, leb-true, ltb-false, eqb-true}
 use Rattle.std.proofs.lemmas.Option.{cond_some, same_Some}
@@ -13,7 +13,7 @@ use Rattle.std.proofs.lemmas.List.Folds.{list_all-append}
 use Rattle.byteorder.specs.Endian.{big_number}
 use Rattle.byteorder.specs.Numbers.{big_from-take, big_from-lt}
 use Rattle.std.specs.Ordering.{is_lt}
-use Rattle.overlay_terms.specs.Plane.{WholePoint, Segment, whole_cmp, ring_step_count, steps_max}
+use Rattle.overlay_terms.specs.Plane.{WholePoint, Segment, whole_cmp, is_coordinate, ring_step_count, steps_max}
 use Rattle.overlay_terms.specs.Column.{column_count, is_in_column}
 use Rattle.overlay_terms.specs.Trees.{Operation, intersection, union, difference, sym_difference, Tree, leaf, combine, leaves}
 use Rattle.overlay_terms.specs.Layers.{Name}
@@ -31,7 +31,7 @@ use Rattle.exact_point.specs.NameCode.{name_parts, name_from}
 use Rattle.exact_point.specs.declared.point_name.PointName.{PointName}
 use Rattle.store_terms.specs.Fields.{◌>>?◌, Field, AreBytes, number, signed, both, made, sieved, read_many, repeated, counted, all_read}
 use Rattle.store_terms.specs.Choices.{either, optional, one_of_three}
-use Rattle.store_terms.specs.BaseRecord.{is_coordinate, coordinate, whole_point, ring, is_good, rings, base_of_record}
+use Rattle.store_terms.specs.BaseRecord.{coordinate, whole_point, ring, rings, base_of_record}
 use Rattle.store_terms.specs.DefinitionRecord.{definition_of_record}
 use Rattle.store_terms.specs.TileRecord.{segment, point_name, is_piece, piece, NamedTile, column_of_tile, tile_by_places, named_tile, tile_of_record}
 use Rattle.store_terms.specs.Catalog.{Listed, extent, listed, catalog, old_column_count, without_tiles, catalog_of_record}
@@ -146,7 +146,7 @@ few_steps rs good =
     (both_absent (first_ring_fault 0 rs)
     (cond (nat_le (ring_step_count rs) steps_max) None (Some TooManySegments)) good).second)
 
-good_is_none : (fault : Option PlaneFault) → is_good fault ≡ true → fault ≡ None
+good_is_none : (fault : Option PlaneFault) → is_none fault ≡ true → fault ≡ None
 good_is_none None e = refl
 good_is_none (Some fault) e = absurd cc
 
@@ -154,9 +154,9 @@ pub base_length : (bytes : List ℕ) (rs : List (List WholePoint)) → base_of_r
 base_length bytes rs e =
     let inner = counted 2 ring in
     let taken = whole_takes rings (λ rs. 2 + rings_size rs)
-    (sieved_takes (λ rs. is_good (rings_fault rs)) inner (λ rs. 2 + rings_size rs)
+    (sieved_takes (λ rs. is_none (rings_fault rs)) inner (λ rs. 2 + rings_size rs)
     (counted_takes 2 ring (λ r. 2 + 8 * length r) rings_size rings_total ring_takes)) bytes rs e in
-    let good = good_is_none (rings_fault rs) (whole_passes (λ rs. is_good (rings_fault rs)) inner bytes rs e) in
+    let good = good_is_none (rings_fault rs) (whole_passes (λ rs. is_none (rings_fault rs)) inner bytes rs e) in
     omega (arith, taken, few_steps rs good, few_rings rs good)
 
 -- ---- definitions: few tokens, and no name is long

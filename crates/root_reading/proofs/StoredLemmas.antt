@@ -1,6 +1,7 @@
 -- What a layer or a tile more leaves of the place after the tiles of a table.
 use Rattle.std.proofs.Common.{◌≡◌, inl, inr, ⊎_elim, ℕ, ◌+◌, ◌<◌, ◌&&◌, not, nat_lt, Bool, true, false, cond, List, [], ◌∷◌, ◌++◌, length, get_or, Ok, Err, refl, sym, ◌∙◌, ap, subst, arith}
 use Rattle.std.specs.Prelude.{bytes_eq, IsTrue}
+use Rattle.std.specs.Option.{is_none}
 use Rattle.std.proofs.lemmas.Bool.{cases_Bool, and_parts, and_from, or_cases, or_parts, or_left, or_right, cond-true, cond-false}
 use Rattle.std.proofs.lemmas.Bool.Decides.{nat_tests}
 use Rattle.std.proofs.lemmas.List.Elements.{All-push}
@@ -17,7 +18,7 @@ use Rattle.layer_tiles.proofs.Stored.{laid_is_stored}
 use Rattle.layer_tiles.specs.Filling.{finished_as, AreBefore, IsLonger}
 use Rattle.layer_tiles.specs.Table.{laid, tiles_in, IsLaid, Tabled}
 use Rattle.store_terms.specs.declared.damage.Damage.TheVariants.{LayerRefused}
-use Rattle.store_terms.specs.Image.{may_stand, is_accepted, refusal_of_keeping, with_layer}
+use Rattle.store_terms.specs.Image.{may_stand, refusal_of_keeping, with_layer}
 use Rattle.root_reading.specs.Stored.{IsNextTo}
 
 -- ---- a layer more
@@ -60,7 +61,7 @@ grown : (known : List Layer) (name : Name) (content : Content) (layers : List La
 grown known name content layers is =
     let t = passes (may_stand known name content) is in
     let p = and_parts (is_name name && not (stands known name))
-    (is_accepted (refusal_of_keeping known name content)) t.0 in
+    (is_none (refusal_of_keeping known name content)) t.0 in
     let q = and_parts (is_name name) (not (stands known name)) p.0 in
     (turned (stands known name) q.1, t.1)
   where

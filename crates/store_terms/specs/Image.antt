@@ -1,5 +1,6 @@
 -- What the catalog of a root holds: layers and finished tiles.
-use Rattle.std.specs.Prelude.{ℕ, ◌+◌, Bool, true, false, not, ◌&&◌, List, [], ◌∷◌, ◌++◌, Option, Some, None, Result, Ok, Err, if◌then◌else◌}
+use Rattle.std.specs.Prelude.{ℕ, ◌+◌, Bool, not, ◌&&◌, List, [], ◌∷◌, ◌++◌, Option, Some, None, Result, Ok, Err, if◌then◌else◌}
+use Rattle.std.specs.Option.{is_none}
 use Rattle.std.proofs.Common.{inl, inr}
 use Rattle.overlay_terms.specs.Layers.{Name, Content, base, derived, Layer}
 use Rattle.overlay_terms.specs.Commands.{Refusal, refusal_of_put, refusal_of_define, stands}
@@ -37,14 +38,9 @@ abbrev pub refusal_of_keeping : List Layer → Name → Content → Option Refus
 refusal_of_keeping known name (base rings) = refusal_of_put known name
 refusal_of_keeping known name (derived expression) = refusal_of_define known name expression
 
--- whether there is no reason to refuse a command
-abbrev pub is_accepted : Option Refusal → Bool
-is_accepted None = true
-is_accepted (Some refusal) = false
-
 -- whether a layer may follow some others: it has a name, none of them has it, and the command that keeps it is accepted
 abbrev pub may_stand : List Layer → Name → Content → Bool
-may_stand known name content = is_name name && not (stands known name) && is_accepted (refusal_of_keeping known name content)
+may_stand known name content = is_name name && not (stands known name) && is_none (refusal_of_keeping known name content)
 
 -- layers with one more after them, where it may follow them
 abbrev pub with_layer : List Layer → Name → Content → Result (List Layer) Damage
