@@ -80,13 +80,10 @@ def sources(top: pathlib.Path = TOP) -> Iterator[Entry]:
         name = path.relative_to(top).as_posix()
         if NOT_PACKED.fullmatch(name):
             continue
-        if path.is_symlink():
-            yield Entry(f"{HOME}/{name}", target=str(path.readlink()))
-            continue
         content = path.read_bytes()
         if path.suffix in (".py", ""):
             content = spelled(content.decode()).encode()
-        yield Entry(f"{HOME}/{name}", content, 0o755 if name == "overlay" else 0o644)
+        yield Entry(f"{HOME}/{name}", content, 0o755 if name in COMMANDS.values() else 0o644)
     for command, name in COMMANDS.items():
         yield Entry(f"bin/{command}", target=f"../{HOME}/{name}")
     for name in PROGRAMS:

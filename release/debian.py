@@ -43,7 +43,7 @@ def package_files(release: list[Entry], version: str, maintainer: str, seconds: 
     more = [
         Entry(f"{contents.DOCUMENTS}/changelog.gz", packing.gzipped(log.encode())),
         Entry(f"share/lintian/overrides/{PACKAGE}", (contents.PARTS / "overrides").read_bytes()),
-        Entry("lib/python3/dist-packages/overlay_client.py", target="../../overlayd/web/overlay_client.py"),
+        Entry("lib/python3/dist-packages/overlay_client.py", target="../../overlayd/tools/overlay_client.py"),
     ]
     # pip has no use of it there: it writes beside what it installs.
     own = [one for one in release if not one.path.startswith(f"{contents.HOME}/web/client/")]

@@ -1,1 +1,1 @@
-"""The tools: their modules. commands/ has what each command does, which is a link to ../overlay."""
+"""The tools: their modules. commands/ has what each command of this folder does."""

@@ -6,6 +6,7 @@ A module for the tools; it is no tool of its own.
 
 import contextlib
 import errno
+import importlib
 import io
 import os
 import pathlib
@@ -96,3 +97,8 @@ def run(main: Callable[[list[str]], int]) -> NoReturn:
         drop_rest()
         status = 1
     sys.exit(status)
+
+
+def run_module(name: str) -> NoReturn:
+    """Runs the tool that a module is, by its `main`. An interrupt while it is imported ends it quietly, too."""
+    run(lambda words: int(importlib.import_module(name).main(words)))

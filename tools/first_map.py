@@ -193,8 +193,7 @@ def stores_for(words: argparse.Namespace, program: str, errors: TextIO) -> tuple
 
 
 def check_maps(words: argparse.Namespace, there: list[pathlib.Path]) -> None:
-    """Refuses a map that is not there, of which nobody knows whether the store is of it, and one that is another than the
-    store was made of."""
+    """Refuses a map that is not there, as the store of its name may be another's, and one that the store was not made of."""
     given = (words.map, *words.others)
     for path in given:
         if not path.exists():

@@ -26,8 +26,8 @@ In the world's coordinates, which `map.scale.json` beside `map.db` gives, and wi
         geopandas.GeoDataFrame.from_features(counties)
         counties.put(37, polygon, {"name": "Wake"})             # one batch of the layers that hold it, durable
 
-It needs the standard library alone. Rings, coordinates of the world and features use tools/, the folder of this file
-(web/overlay_client.py is a link to it), or what was installed with it.
+It needs the standard library alone, and may be handed on as this one file. Rings, coordinates of the world and features
+use the other files of tools/: those beside this file, or those that `pip install web/client` puts beside it.
 """
 
 from __future__ import annotations
@@ -492,11 +492,12 @@ def is_pending(reply: Reply) -> bool:
 
 
 def tools(name: str) -> Any:
-    """A module of the tools: of the package that this file is in, else of the one that pip installs beside it. Where neither
-    is there, as with web/ alone on Python's path, the folder that this file lies in is taken in by that name."""
-    package = __package__ or "overlay_client_tools"
-    if not __package__ and importlib.util.find_spec(package) is None:
-        folder = pathlib.Path(__file__).resolve().parent
+    """A module of the tools: of the package that this file is in, where that has them; else of the one that pip installs;
+    and where that is not there, of the folder of this file, which is taken for it, as with tools/ on Python's path."""
+    if __package__ and importlib.util.find_spec(f"{__package__}.feature_changes"):
+        return importlib.import_module(f"{__package__}.{name}")
+    package, folder = "overlay_client_tools", pathlib.Path(__file__).resolve().parent
+    if importlib.util.find_spec(package) is None and (folder / "feature_changes.py").is_file():
         spec = importlib.util.spec_from_file_location(package, folder / "__init__.py")
         if spec is None or spec.loader is None:
             raise ImportError(f"{folder}: no tools")
@@ -541,7 +542,7 @@ class MapFeature(Shape):
 class Features:
     """The features of a store's map, by the file of features beside it (docs/FEATURES.md): read, and changed one by one.
 
-    They are those that there are at the time of each call. A change is durable when its call returns; one that cannot be
+    They are read anew by each call. A change is durable when its call returns; one that cannot be
     made is a ValueError that says why.
     """
 

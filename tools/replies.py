@@ -1,6 +1,6 @@
 """Which replies have several lines: the one place where tools/ and bench/ have it.
 
-A module for the tools and for bench/; it is no tool of its own. web/overlay_client.py, which is handed on alone, has the
+A module for the tools and for bench/; it is no tool of its own. overlay_client.py, which is handed on alone, has the
 words once more, and a test compares them.
 """
 

@@ -1,1 +1,1 @@
-"""The client and the front. commands/ has what each command does, which is a link to ../overlay."""
+"""The front. commands/ has what each command of this folder does."""

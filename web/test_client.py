@@ -5,9 +5,11 @@ from __future__ import annotations
 import itertools
 import os
 import pathlib
+import shutil
 import signal
 import socket
 import subprocess
+import sys
 import threading
 import time
 import unittest
@@ -137,6 +139,19 @@ class Commands(ClientCase):
         self.assertEqual(overlay_client.SEVERAL, {*replies.SEVERAL})
         for first in ("layers 3", "edges 0", "grid 4 2", "ok 7", "built 3", "in", "same", "error 10 unknown layer", "refused 1 error 10 unknown layer"):
             self.assertEqual(1 + overlay_client.lines_after(first), replies.reply_length(first), first)
+
+    def test_its_file_alone_in_a_package_uses_what_pip_installs(self) -> None:
+        code = ("import own.overlay_client as c\n"
+                "with c.Server(program=sys.argv[1]) as server, server.session() as one:\n"
+                "    one.batch(['PUT A POLYGON ((0 0, 9 0, 9 9, 0 9, 0 0))', 'DEFINE I = A'])\n"
+                "    print(len(one.rings('I')))")
+        with testing.folder() as place:
+            (place / "own").mkdir()
+            shutil.copy(testing.TOP / "tools" / "overlay_client.py", place / "own" / "overlay_client.py")
+            (place / "overlay_client_tools").symlink_to(testing.TOP / "tools")
+            words = [sys.executable, "-c", f"import sys\n{code}", testing.PROGRAM]
+            done = subprocess.run(words, cwd=place, capture_output=True, text=True, check=False)
+        self.assertEqual((done.returncode, done.stdout, done.stderr), (0, "1\n", ""))
 
     def test_lines_up_to_the_limit_are_carried(self) -> None:
         one = self.session

@@ -1,4 +1,4 @@
-"""How long does a pair of polygons take by web/overlay_client.py: one line at a time, and with many lines ahead?
+"""How long does a pair of polygons take by tools/overlay_client.py: one line at a time, and with many lines ahead?
 
     python3 -m bench.measures.ahead PROGRAM [--pairs N]
 

@@ -334,12 +334,11 @@ def test() -> int:
 
 def main() -> int:
     parser = Words(__doc__, test)
-    parser.add_argument("program")
+    parser.add_argument("program", type=os.path.abspath)
     parser.add_argument("--quick", action="store_true")
     parser.add_argument("--install", action="store_true", help="gets SpatiaLite and PostGIS by apt-get first")
     parser.add_argument("--folder", help="where the store is made")
     words = parser.words()
-    words.program = os.path.abspath(words.program)
     if words.install:
         options = ["-y", "-q", "--no-upgrade", "--no-install-recommends"]
         subprocess.run(["apt-get", "install", *options, *PACKAGES], stdout=sys.stderr, check=True)

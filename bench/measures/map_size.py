@@ -3,7 +3,7 @@
     /usr/bin/python3 -m bench.measures.map_size LIVE [--parcels N] [--zones N] [--jobs N] [--maps FOLDER] [-- WORD..]
 
 LIVE is the built overlay_live; overlay_window is taken where it stands beside it. The maps are made by ../map_making.py,
-or stand in --maps; words behind -- go to overlay_maps.py. Told are seconds of processors of the run and all that it
+or stand in --maps; words after -- go to overlay_maps.py. It prints seconds of processors of the run and all that it
 began, seconds by the clock, and the most memory that the run and all processes below it had together at one time: the
 sum of PSS of /proc/PROCESS/smaps_rollup, in which a page that several have counts once, looked at some times a second.
 Status 1: the run fails, or takes more than --seconds or --megabytes.

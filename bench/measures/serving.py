@@ -216,11 +216,10 @@ def test() -> int:
 
 def main() -> int:
     parser = Words(__doc__, test)
-    parser.add_argument("program")
+    parser.add_argument("program", type=os.path.abspath)
     parser.add_argument("--quick", action="store_true")
     parser.add_argument("--folder", help="where the store is made")
     words = parser.words()
-    words.program = os.path.abspath(words.program)
     with tempfile.TemporaryDirectory(prefix="serving", dir=words.folder) as place:
         return measure(words, pathlib.Path(place))
 

@@ -3,7 +3,7 @@
 python3 -m bench.reference.judging OUTPUT SCRIPT..
 python3 -m bench.reference.judging --test
 
-OUTPUT is what the program wrote for the scripts. The numbers behind `ok` give each accepted command its place in the
+OUTPUT is what the program wrote for the scripts. The numbers after `ok` give each accepted command its place in the
 one history: each number from 1 on stands just once, and its command is accepted there. Every other reply is right at
 some version of it that is no older than what the session saw, has all its own accepted commands, and none still to be
 sent. EDGES and VERIFY may be pending only where no session has read that the layer was built, with nothing changed
@@ -163,7 +163,7 @@ class History:
                     self.renew(name, layers, is_other)
 
     def cut(self, last: int) -> None:
-        """Takes back all versions behind one."""
+        """Takes back all versions after one."""
         del self.versions[last + 1 :], self.shapes[bisect.bisect_right(self.shapes, last) :]
         for name, changes in self.changes.items():
             del changes[bisect.bisect_right(changes, last, key=lambda change: change[0]) :]

@@ -304,7 +304,7 @@ def find_root(data: bytes) -> Root:
 
 
 def blocks_of(extent: Extent) -> tuple[int, int]:
-    """The blocks of an extent, from its first to the one behind its last."""
+    """The blocks of an extent, from its first to the one after its last."""
     return (extent.block, extent.block + max(1, -(-extent.size // BLOCK)))
 
 
@@ -325,7 +325,7 @@ def formed(code: int, read: Callable[..., Any], *given: Any) -> Any:
 
 
 def check_place_in_list(known: dict[bytes, Any], listed: Listed, content: Any) -> None:
-    """Refuses a layer that no command could have put behind the known ones."""
+    """Refuses a layer that no command could have put after the known ones."""
     formed(7, read_name, listed.name)
     if listed.name in known or len(known) >= LAYERS_MAX:
         raise Damage("33 7")
@@ -386,7 +386,7 @@ def told(data: bytes) -> list[str]:
 
 
 def table_behind(page: str, head: str) -> list[list[str]]:
-    """The rows of the first table behind some text, each as its cells."""
+    """The rows of the first table after some text, each as its cells."""
     lines = page[page.index(head) + len(head) :].splitlines()
     start = next(i for i, line in enumerate(lines) if line.startswith("|"))
     rows = []

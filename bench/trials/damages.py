@@ -151,7 +151,7 @@ def named_old(six: bytes) -> Iterator[Alteration]:
     slot, catalog = root_of(six)
     assert (slot, catalog) == (BLOCK, read_store.Extent(5, 61)) and old_files.tiles_of(six) == [(2 * BLOCK, 142)]
     at = 5 * BLOCK
-    # behind the count A's entry of 15 bytes, the same of I, then a byte for each of the columns 0 to 7, and I's tile
+    # after the count A's entry of 15 bytes, the same of I, then a byte for each of the columns 0 to 7, and I's tile
     entries, tile = at + 2 + 15 + 15, at + 2 + 15 + 15 + 9
     yield "its gate is 0x00", six, put(slot, b"\0"), "32"
     yield "its format is 2", six, put(slot + 24, struct.pack(">I", 2)), "33 4"

@@ -19,7 +19,7 @@ import sys
 import tempfile
 from typing import Any
 
-from bench.counting import Words, counted
+from bench.counting import counted
 from bench.trials import refusal_cases, refusal_tables, refused_runs, refusing
 
 # What the shim leaves out of a right program, by the number that it is given.
@@ -117,12 +117,7 @@ def test() -> int:
 
 def main() -> int:
     """Fails calls, or tests what does."""
-    parser = Words(__doc__, test)
-    parser.add_argument("program")
-    parser.add_argument("--live", action="store_true", help="the program is overlay_live")
-    parser.add_argument("--seconds", type=int, default=20, help="how long a run may take (20)")
-    words = parser.words()
-    words.program = os.path.abspath(words.program)
+    words = refused_runs.parser_of(__doc__, test).words()
     with tempfile.TemporaryDirectory(prefix="faults") as place:
         return counted(*fail(words, pathlib.Path(place)))
 

@@ -17,7 +17,7 @@ import sys
 import tempfile
 from collections.abc import Iterator
 
-from bench.counting import Words, counted
+from bench.counting import counted
 from bench.trials import refusal_cases, refusal_tables, refused_runs, refusing
 from bench.trials.refusing import many_growths, one_growth
 
@@ -94,14 +94,10 @@ def test() -> int:
 
 def main() -> int:
     """Refuses growths, or tests what does."""
-    parser = Words(__doc__, test)
-    parser.add_argument("program")
+    parser = refused_runs.parser_of(__doc__, test)
     parser.add_argument("--step", type=int, default=1)
-    parser.add_argument("--live", action="store_true", help="the program is overlay_live")
-    parser.add_argument("--seconds", type=int, default=20, help="how long a run may take (20)")
     parser.add_argument("--every", action="store_true", help="also refuses many growths of a run")
     words = parser.words()
-    words.program = os.path.abspath(words.program)
     with tempfile.TemporaryDirectory(prefix="growths") as place:
         return counted(*refuse(words, pathlib.Path(place)))
 

@@ -8,10 +8,11 @@ import pathlib
 import re
 import subprocess
 import tempfile
-from collections.abc import Sequence
+from collections.abc import Callable, Sequence
 from typing import Any
 
 from bench import unproved
+from bench.counting import Words
 from bench.reference import judging, model
 from bench.trials import stress
 
@@ -203,6 +204,15 @@ class LiveRunner(Runner):
         """As overlayd says it, without the file, which has to be one that the program was given."""
         lines = FAULT_LINES.fullmatch(text)
         return lines[1] if lines and lines[2] in (None, *self.words(store)) else text
+
+
+def parser_of(page: str | None, test: Callable[[], int | None]) -> Words:
+    """The words of a script that refuses something to a program."""
+    parser = Words(page, test)
+    parser.add_argument("program", type=os.path.abspath)
+    parser.add_argument("--live", action="store_true", help="the program is overlay_live")
+    parser.add_argument("--seconds", type=int, default=20, help="how long a run may take (20)")
+    return parser
 
 
 def runner_of(words: argparse.Namespace, scenario: Scenario, library: pathlib.Path, folder: pathlib.Path) -> Runner:

@@ -428,12 +428,11 @@ def test() -> int:
 
 def main() -> int:
     parser = Words(__doc__, test)
-    parser.add_argument("program")
+    parser.add_argument("program", type=os.path.abspath)
     parser.add_argument("--most", type=int, help="how many files the program opens (all)")
     parser.add_argument("--forget", type=int, metavar="N", help="leaves the Nth sync out")
     parser.add_argument("--keep", metavar="FOLDER", help="keeps the traces, the store and the wrong files here")
     words = parser.words()
-    words.program = os.path.abspath(words.program)
     kept = Kept(words.keep, "stops")
     with kept.telling(judging.Wrong, subprocess.TimeoutExpired) as folder:
         kept.wrong = replay(words, folder)

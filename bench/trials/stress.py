@@ -336,7 +336,7 @@ def stress(words: argparse.Namespace, folder: pathlib.Path) -> int:
 
 def main() -> int:
     parser = Words(__doc__)
-    parser.add_argument("program")
+    parser.add_argument("program", type=os.path.abspath)
     parser.add_argument("--commands", type=int, default=100000)
     parser.add_argument("--sessions", type=int, default=4)
     parser.add_argument("--workers", type=int, default=8)
@@ -344,7 +344,6 @@ def main() -> int:
     parser.add_argument("--without", metavar="WORD", help="draws no lines with this word")
     parser.add_argument("--keep", metavar="FOLDER", help="keeps the scripts, replies and store here")
     words = parser.words()
-    words.program = os.path.abspath(words.program)
     kept = Kept(words.keep, "stress")
     with kept.telling(judging.Wrong, subprocess.TimeoutExpired) as folder:
         kept.wrong = stress(words, folder)

@@ -101,7 +101,7 @@ def packed(folder: pathlib.Path) -> pathlib.Path:
     """The modules that a task needs, as one file that workers import."""
     made = folder / "overlay_maps_modules.zip"
     with zipfile.ZipFile(made, "w") as file:
-        for source in (path for pattern in SENT for path in TOP.glob(pattern) if not path.is_symlink()):
+        for source in (path for pattern in SENT for path in TOP.glob(pattern)):
             file.write(source, source.relative_to(TOP))
     return made
 

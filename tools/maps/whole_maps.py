@@ -39,7 +39,7 @@ class WholeMap:
         return len(self.feature_at) - 1
 
     def add(self, name: str, rings: Iterable[Sequence[Point]]) -> None:
-        """One feature more, after those that there are."""
+        """One more feature, after the others."""
         for ring in rings:
             self.xs.extend(x for x, _ in ring)
             self.ys.extend(y for _, y in ring)

@@ -10,6 +10,7 @@ from types import ModuleType
 
 TOOLS = pathlib.Path(__file__).resolve().parent.parent
 TOP = TOOLS.parent
+COMMANDS = sorted(TOOLS / one.name for one in TOOLS.glob("commands/*.py") if one.name != "__init__.py")
 SECONDS = 120  # what a program of a test may take before it is ended
 SQUARE = "POLYGON ((0 0, 10 0, 10 10, 0 10, 0 0))"
 

@@ -1,18 +1,20 @@
 """Each command of tools/ says by --help what it does, and tools/README.md names each file there."""
 
+import os
 import pathlib
 import re
+import shutil
 import subprocess
 import sys
 import tempfile
 import unittest
 
-from .common import SECONDS, TOOLS, TOP
+from .common import COMMANDS, SECONDS, TOOLS, TOP
 
 
 class Helps(unittest.TestCase):
     def test_each_command_says_what_it_does(self) -> None:
-        commands = [TOP / "overlay", *(file for file in sorted(TOOLS.glob("*.py")) if file.is_symlink())]
+        commands = [TOP / "overlay", *COMMANDS]
         self.assertEqual(len(commands), 10)
         for file in commands:
             done = subprocess.run([sys.executable, file, "--help"], capture_output=True, text=True, check=False, timeout=SECONDS)
@@ -27,24 +29,25 @@ class Helps(unittest.TestCase):
         modules = [name for name in told if name not in rows]
         self.assertEqual(sorted([*rows, *modules]), sorted(path.name for path in TOOLS.glob("*.py") if path.name != "__init__.py"))
 
-    def test_a_copy_of_a_link_says_what_it_is(self) -> None:
-        with tempfile.TemporaryDirectory() as made:
-            copy = pathlib.Path(made, "which.py")
-            copy.write_bytes((TOP / "overlay").read_bytes())
-            done = subprocess.run([sys.executable, copy, "--help"], cwd=made, capture_output=True, text=True, check=False,
-                                  timeout=SECONDS)
-            self.assertEqual((done.returncode, done.stdout), (2, ""))
-            self.assertEqual(done.stderr, f"{copy}: a copy of a link, which finds no tools; copy with the links kept (cp -a, "
-                                          "rsync -a, zip -y)\n")
+    def test_each_command_is_a_file_of_the_same_lines(self) -> None:
+        commands = [*COMMANDS, TOP / "web" / "overlay_web.py", TOP / "web" / "tests.py"]
+        self.assertEqual({(file.read_bytes(), os.access(file, os.X_OK)) for file in commands}, {(COMMANDS[0].read_bytes(), True)})
+        self.assertEqual([path for folder in (TOOLS, TOP / "web") for path in folder.rglob("*") if path.is_symlink()], [])
 
-    def test_a_command_is_found_by_any_link(self) -> None:
+    def test_a_command_is_found_from_anywhere(self) -> None:
         with tempfile.TemporaryDirectory() as made:
             folder = pathlib.Path(made)
-            for path, usage in (("overlay", "first [-h] [--with MAP]"), ("tools/which.py", "first [-h] --store FILE"),
-                                ("web/overlay_web.py", "first [-h] [--store FILE] [--create]")):
+            (folder / "tree").symlink_to(TOP)
+            for name in ("tools", "web"):
+                shutil.copytree(TOP / name, folder / "copy" / name, ignore=shutil.ignore_patterns("__pycache__", "data", "fixtures"))
+            shutil.copy(TOP / "overlay", folder / "copy" / "overlay")
+            for path, usage in (("overlay", "[-h] [--with MAP]"), ("tools/which.py", "[-h] --store FILE"),
+                                ("web/overlay_web.py", "[-h] [--store FILE] [--create]")):
                 first, second = folder / "first", folder / "second"
                 second.symlink_to(TOP / path)
                 first.symlink_to("second")
-                done = subprocess.run([sys.executable, first, "--help"], capture_output=True, text=True, check=True, timeout=SECONDS)
-                self.assertTrue(done.stdout.startswith(f"usage: {usage}"), done.stdout)
+                for called in (first, folder / "tree" / path, folder / "copy" / path):
+                    words = [sys.executable, *(["-P"] if path != "overlay" else []), called, "--help"]
+                    done = subprocess.run(words, cwd=made, capture_output=True, text=True, check=True, timeout=SECONDS)
+                    self.assertTrue(done.stdout.startswith(f"usage: {called.name} {usage}"), done.stdout)
                 first.unlink(), second.unlink()

@@ -10,7 +10,7 @@ from typing import Any
 
 from .. import ending, writing
 from ..commands import to_geojson, to_rings, to_script, to_svg, which
-from .common import SECONDS, SQUARE, TOOLS, TOP, InFolder, on_file, outcome
+from .common import COMMANDS, SECONDS, SQUARE, TOP, InFolder, on_file, outcome
 
 RING = [[0, 0], [9, 0], [0, 9], [0, 0]]
 
@@ -96,14 +96,13 @@ class Unforeseen(InFolder):
                               timeout=SECONDS)
 
     def test_one_line_and_status_1(self) -> None:
-        tools = [file for file in sorted(TOOLS.glob("*.py")) if file.is_symlink()]
-        self.assertGreater(len(tools), 7)
-        for tool in tools:
+        self.assertGreater(len(COMMANDS), 7)
+        for tool in COMMANDS:
             done = self.call(tool)
             self.assertEqual((done.returncode, done.stdout), (1, ""), tool.name)
             self.assertEqual(done.stderr, f"{tool.name}: KeyError: 'odd\\nthing' (<string>, line 2): a defect of this "
                                           "tool; python3 -X dev shows more\n")
-        self.assertIn("Traceback", self.call(tools[0], "-X", "dev").stderr)
+        self.assertIn("Traceback", self.call(COMMANDS[0], "-X", "dev").stderr)
 
     def test_a_tool_that_is_stopped_while_it_is_imported(self) -> None:
         code = ("import importlib, runpy, sys\n"

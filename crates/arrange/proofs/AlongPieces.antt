@@ -17,26 +17,26 @@ use Rattle.overlay_terms.proofs.Whole.{no_turn}
 use Rattle.exact_point.proofs.OnLine.{parallel_from_turn}
 use Rattle.exact_point.proofs.PlaceOrder.{same_self, alike_left, alike_right, not_before_self, not_after_less}
 use Rattle.exact_point.proofs.Nodes.{left_among, right_among}
-use Rattle.arrange.specs.Arrangement.{segments_in, is_in_closed_column}
+use Rattle.arrange.specs.Arrangement.{input_segments, is_in_closed_column}
 use Rattle.arrange.specs.NamedPlaces.{spot, AreAlong}
 use Rattle.arrange.specs.declared.named_place.NamedPlace.{NamedPlace}
 use Rattle.arrange.proofs.NodeSound.{IsKnown, named_is_node}
 use Rattle.arrange.proofs.SortedPlaces.{spot_positive}
 
 -- a segment of an input is proper
-pub proper_among : (input : Input) (s : Segment) → IsInput input → Contains (segments_in input) s → IsProper s
-proper_among input s valid among = All-contains IsProper (segments_in input) s (All-map IsProper (λ (m : Marked). m.segment) input.marked valid.proper) among
+pub proper_among : (input : Input) (s : Segment) → IsInput input → Contains (input_segments input) s → IsProper s
+proper_among input s valid among = All-contains IsProper (input_segments input) s (All-map IsProper (λ (m : Marked). m.segment) input.marked valid.proper) among
 
 -- a segment of an input is known to it
-pub known_among : (input : Input) (s : Segment) → IsInput input → Contains (segments_in input) s → IsKnown input s
+pub known_among : (input : Input) (s : Segment) → IsInput input → Contains (input_segments input) s → IsKnown input s
 known_among input s valid among = record {
   holder = s;
   among = among;
   same_way = parallel_from_turn s s (no_turn (s.right.x -ℤ s.left.x) (s.right.y -ℤ s.left.y));
   ahead = (proper_among input s valid among).first;
   holds = λ p h on. on;
-  left_end = left_among (segments_in input) s among;
-  right_end = right_among (segments_in input) s among;
+  left_end = left_among (input_segments input) s among;
+  right_end = right_among (input_segments input) s among;
 }
 
 -- a column is part of the closed column
@@ -65,9 +65,9 @@ pub record AreNextTo (list : List NamedPlace) (p r : Point) : Type 0 where
   pub first : IsTrue (same_place p (spot (get_or list at default)))
   pub second : IsTrue (same_place r (spot (get_or list (at + 1) default)))
 
-module _ (input : Input) (s : Segment) (valid : IsInput input) (among : Contains (segments_in input) s) (list : List NamedPlace) (along : AreAlong input s list) (p r : Point) (hp : pos 0 <ℤ p.w) (hr : pos 0 <ℤ r.w)
-    (on_p : IsTrue (is_on s p)) (on_r : IsTrue (is_on s r)) (node_p : IsTrue (is_node (segments_in input) p)) (node_r : IsTrue (is_node (segments_in input) r)) (in_order : point_cmp p r ≡ Less)
-    (none : (q : Point) → pos 0 <ℤ q.w → IsTrue (is_on s q) → point_cmp p q ≡ Less → point_cmp q r ≡ Less → IsTrue (is_node (segments_in input) q) → ⊥)
+module _ (input : Input) (s : Segment) (valid : IsInput input) (among : Contains (input_segments input) s) (list : List NamedPlace) (along : AreAlong input s list) (p r : Point) (hp : pos 0 <ℤ p.w) (hr : pos 0 <ℤ r.w)
+    (on_p : IsTrue (is_on s p)) (on_r : IsTrue (is_on s r)) (node_p : IsTrue (is_node (input_segments input) p)) (node_r : IsTrue (is_node (input_segments input) r)) (in_order : point_cmp p r ≡ Less)
+    (none : (q : Point) → pos 0 <ℤ q.w → IsTrue (is_on s q) → point_cmp p q ≡ Less → point_cmp q r ≡ Less → IsTrue (is_node (input_segments input) q) → ⊥)
     (begins : IsTrue (is_in_column input.column p)) where
   from_there : Any (λ z. IsTrue (same_place p (spot z))) list
   from_there = along.complete p (record { positive = hp; on_segment = on_p; in_column = closed_from input.column p begins; node = node_p })
@@ -76,7 +76,7 @@ module _ (input : Input) (s : Segment) (valid : IsInput input) (among : Contains
   to_there = along.complete r (record {
     positive = hr;
     on_segment = on_r;
-    in_column = closed_end input.column (segments_in input) p r (All-map IsProper (λ (m : Marked). m.segment) input.marked valid.proper) hp begins (record {
+    in_column = closed_end input.column (input_segments input) p r (All-map IsProper (λ (m : Marked). m.segment) input.marked valid.proper) hp begins (record {
       support = s;
       among = among;
       from_positive = hp;

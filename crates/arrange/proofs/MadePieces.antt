@@ -13,7 +13,7 @@ use Rattle.overlay_terms.specs.Tiles.{is_node, midpoint, Input}
 use Rattle.overlay_terms.specs.TileLaws.{IsInput}
 use Rattle.overlay_terms.proofs.Lists.{contains_map}
 use Rattle.exact_point.specs.PlaceOf.{place_of}
-use Rattle.arrange.specs.Arrangement.{segments_in, on_bits}
+use Rattle.arrange.specs.Arrangement.{input_segments, on_bits}
 use Rattle.arrange.specs.NamedPlaces.{spot, names_along, IsFound}
 use Rattle.arrange.specs.Marked.{marked_of}
 use Rattle.arrange.specs.Masks.{holding_bits}
@@ -51,16 +51,16 @@ module _ (input : Input) (s : Segment) (a b : NamedPlace) (n : AreNeighbours inp
   abbrev new : Elementary
   new = record { support = s; from = a.name; to = b.name; mask = mask }
 
-  none : (q : Point) → pos 0 <ℤ q.w → IsTrue (is_on s q) → point_cmp (spot a) q ≡ Less → point_cmp q (spot b) ≡ Less → IsTrue (is_node (segments_in input) q) → ⊥
+  none : (q : Point) → pos 0 <ℤ q.w → IsTrue (is_on s q) → point_cmp (spot a) q ≡ Less → point_cmp q (spot b) ≡ Less → IsTrue (is_node (input_segments input) q) → ⊥
   none =
-      let Q : Segment → Type 0 = λ t. (q : Point) → pos 0 <ℤ q.w → IsTrue (is_on t q) → point_cmp (spot a) q ≡ Less → point_cmp q (spot b) ≡ Less → IsTrue (is_node (segments_in input) q) → ⊥ in
+      let Q : Segment → Type 0 = λ t. (q : Point) → pos 0 <ℤ q.w → IsTrue (is_on t q) → point_cmp (spot a) q ≡ Less → point_cmp q (spot b) ≡ Less → IsTrue (is_node (input_segments input) q) → ⊥ in
       subst Q n.supported n.piece.none_between
 
   -- the segments that hold both ends are those that hold the middle
   middle : (m : MarkedSeg) → Contains items m → (is_on m.seg (spot a) && is_on m.seg (spot b)) ≡ is_on m.seg (midpoint (spot a) (spot b))
   middle m c =
-      let other : Contains (segments_in input) m.seg = contains_map (λ (m : Marked). m.segment) input.marked (marked_of m) (there input items m same c) in
-      middle_held s n.ahead (segments_in input) n.among (spot a) (spot b) n.piece.from_positive n.piece.to_positive n.from_found.on_segment n.to_found.on_segment n.piece.in_order none
+      let other : Contains (input_segments input) m.seg = contains_map (λ (m : Marked). m.segment) input.marked (marked_of m) (there input items m same c) in
+      middle_held s n.ahead (input_segments input) n.among (spot a) (spot b) n.piece.from_positive n.piece.to_positive n.from_found.on_segment n.to_found.on_segment n.piece.in_order none
       m.seg other (proper_among input m.seg valid other).first
 
   made_there : IsMadeAt input new (spot a) (spot b)

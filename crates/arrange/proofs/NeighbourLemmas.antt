@@ -9,7 +9,7 @@ use Rattle.overlay_terms.specs.Column.{border}
 use Rattle.overlay_terms.specs.Tiles.{IsPiece, Input}
 use Rattle.overlay_terms.proofs.InputNumbers.{le_true, true_le, x_in_order, least_through, most_through}
 use Rattle.exact_point.proofs.PlaceOrder.{alike_left, alike_right, not_before_self, same_self, not_after_less}
-use Rattle.arrange.specs.Arrangement.{segments_in, is_in_closed_column}
+use Rattle.arrange.specs.Arrangement.{input_segments, is_in_closed_column}
 use Rattle.arrange.specs.NamedPlaces.{spot, names_along, IsFound, AreAlong}
 use Rattle.arrange.specs.declared.named_place.NamedPlace.{NamedPlace}
 use Rattle.arrange.proofs.NodeSound.{IsKnown, named_is_node}
@@ -25,7 +25,7 @@ closed_between k p q r hp hq hr low high c d =
     (true_le (border k *ℤ q.w) q.x (least_through p q (border k) hp hq (x_in_order p q low) (le_true (border k *ℤ p.w) p.x left.0)))
     (true_le q.x (border (k + 1) *ℤ q.w) (most_through q r (border (k + 1)) hq hr (x_in_order q r high) (le_true r.x (border (k + 1) *ℤ r.w) right.1)))
 
-module _ (input : Input) (s : Segment) (among : Contains (segments_in input) s) (known : IsKnown input s) (list : List NamedPlace) (along : AreAlong input s list) (i : ℕ) (d : NamedPlace) (within : i + 1 < length list) where
+module _ (input : Input) (s : Segment) (among : Contains (input_segments input) s) (known : IsKnown input s) (list : List NamedPlace) (along : AreAlong input s list) (i : ℕ) (d : NamedPlace) (within : i + 1 < length list) where
   at_first : IsFound input.column s (names_along input s) (get_or list i d)
   at_first = along.sound i d (omega (arith, within))
 
@@ -68,7 +68,7 @@ module _ (input : Input) (s : Segment) (among : Contains (segments_in input) s) 
     by (inl h) = after_second (cases_eq (i + 1) j) h
     by (inr h) = to_first (cases_eq j i) h
 
-  pub neighbours_piece : IsPiece (segments_in input) (spot (get_or list i d)) (spot (get_or list (i + 1) d))
+  pub neighbours_piece : IsPiece (input_segments input) (spot (get_or list i d)) (spot (get_or list (i + 1) d))
   neighbours_piece = record {
     support = s;
     among = among;

@@ -19,7 +19,7 @@ use Rattle.exact_point.specs.declared.point_name.PointName.TheVariants.{Vertex, 
 use Rattle.exact_point.proofs.OnLine.{left_on_line, right_on_line, on_line}
 use Rattle.exact_point.proofs.PlaceOrder.{same_turned}
 use Rattle.exact_point.proofs.Nodes.{NodeCause, at_left, at_right, across, over_border, node_cause}
-use Rattle.arrange.specs.Arrangement.{segments_in, IsNodeOn}
+use Rattle.arrange.specs.Arrangement.{input_segments, IsNodeOn}
 use Rattle.arrange.specs.NamedPlaces.{spot, own_names, names_with, names_along, AreFound}
 use Rattle.arrange.specs.declared.named_place.NamedPlace.{NamedPlace}
 
@@ -37,11 +37,11 @@ module _ (input : Input) (s : Segment) (ahead : whole_cmp s.left s.right ≡ Les
   there : (name : PointName) → Contains (names_along input s) name → IsPlaceOf name p → There
   there name c st = h.complete name p c n.positive st n.on_segment n.in_column
 
-  among : (t : Segment) (name : PointName) → Contains (segments_in input) t → Contains (names_with s t) name → Contains (names_along input s) name
-  among t name c d = Contains-append_right (own_names s input.column) (flat_map (names_with s) (segments_in input)) name (in_flat_map (names_with s) (segments_in input) t name c d)
+  among : (t : Segment) (name : PointName) → Contains (input_segments input) t → Contains (names_with s t) name → Contains (names_along input s) name
+  among t name c d = Contains-append_right (own_names s input.column) (flat_map (names_with s) (input_segments input)) name (in_flat_map (names_with s) (input_segments input) t name c d)
 
   own : (name : PointName) → Contains (own_names s input.column) name → Contains (names_along input s) name
-  own name c = Contains-append_left (own_names s input.column) (flat_map (names_with s) (segments_in input)) name c
+  own name c = Contains-append_left (own_names s input.column) (flat_map (names_with s) (input_segments input)) name c
 
   at_left_end : s.left.x <ℤ s.right.x → p.x ≡ s.left.x *ℤ p.w → There
   at_left_end wide e =
@@ -87,8 +87,8 @@ module _ (input : Input) (s : Segment) (ahead : whole_cmp s.left s.right ≡ Les
 
   -- each node on the segment within the closed column is found
   pub node_found : There
-  node_found = by (node_cause (segments_in input) s ahead p n.node) where
-    by : NodeCause (segments_in input) s p → There
+  node_found = by (node_cause (input_segments input) s ahead p n.node) where
+    by : NodeCause (input_segments input) s p → There
     by (at_left t c e) = there (Vertex t.left) (among t (Vertex t.left) c (0, lit< tt, refl)) (same_turned p (whole t.left) e)
     by (at_right t c e) = there (Vertex t.right) (among t (Vertex t.right) c (1, lit< tt, refl)) (same_turned p (whole t.right) e)
     by (across t c np on) =

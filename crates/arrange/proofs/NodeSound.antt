@@ -29,19 +29,19 @@ use Rattle.exact_point.specs.PointName.{HasPlace, IsPlaceOf, IsCutOf}
 use Rattle.exact_point.specs.declared.point_name.PointName.{PointName}
 use Rattle.exact_point.specs.declared.point_name.PointName.TheVariants.{Vertex, Cross, Border}
 use Rattle.arrange.specs.Units.{is_end_along, is_collinear}
-use Rattle.arrange.specs.Arrangement.{segments_in, IsNodeOn, AreNodesOn}
+use Rattle.arrange.specs.Arrangement.{input_segments, IsNodeOn, AreNodesOn}
 use Rattle.arrange.specs.NamedPlaces.{spot, own_names, names_with, names_along, IsFound, AreAlong}
 use Rattle.arrange.specs.declared.named_place.NamedPlace.{NamedPlace}
 
 -- a segment of the input holds s, whose ends are ends of segments of the input
 pub record IsKnown (input : Input) (s : Segment) : Type 0 where
   pub holder : Segment
-  pub among : Contains (segments_in input) holder
+  pub among : Contains (input_segments input) holder
   pub same_way : is_parallel holder s ≡ true
   pub ahead : whole_cmp holder.left holder.right ≡ Less
   pub holds : (p : Point) → pos 0 <ℤ p.w → IsTrue (is_on s p) → IsTrue (is_on holder p)
-  pub left_end : IsTrue (is_end (segments_in input) (whole s.left))
-  pub right_end : IsTrue (is_end (segments_in input) (whole s.right))
+  pub left_end : IsTrue (is_end (input_segments input) (whole s.left))
+  pub right_end : IsTrue (is_end (input_segments input) (whole s.right))
 
 -- a point at the place of an end is at an end
 pub end_same : (segments : List Segment) (v : WholePoint) (p : Point) → pos 0 <ℤ p.w → IsTrue (same_place (whole v) p) → IsTrue (is_end segments (whole v)) → IsTrue (is_end segments p)
@@ -61,11 +61,11 @@ end_same segments v p h e ends =
 
 module _ (input : Input) (s : Segment) (known : IsKnown input s) (p : Point) (hp : pos 0 <ℤ p.w) (on_s : IsTrue (is_on s p)) where
   abbrev Node : Type 0
-  Node = IsTrue (is_node (segments_in input) p)
+  Node = IsTrue (is_node (input_segments input) p)
 
   at_cut : (j : ℕ) → IsCutOf s j p → Node
   at_cut j cut =
-      border_node (segments_in input) known.holder j p cut.cut.known_column cut.on_border (known.holds p hp on_s)
+      border_node (input_segments input) known.holder j p cut.cut.known_column cut.on_border (known.holds p hp on_s)
       (wide_too known.holder s known.ahead (turn_from_parallel known.holder s known.same_way) standing) known.among
     where
       narrow : (a b : ℤ) → a <ℤ (border j) → (border j) <ℤ b → a ≡ b → ⊥
@@ -74,9 +74,9 @@ module _ (input : Input) (s : Segment) (known : IsKnown input s) (p : Point) (hp
       standing : is_vertical s ≡ false
       standing = false_from_ne_true _ (λ w. absurd (narrow s.left.x s.right.x cut.cut.after_left cut.cut.before_right (level_from s.left.x s.right.x w)))
 
-  at_cross : (t : Segment) → Contains (segments_in input) t → IsCrossingOf s t p → Node
+  at_cross : (t : Segment) → Contains (input_segments input) t → IsCrossingOf s t p → Node
   at_cross t c k =
-      crossing_is_node (segments_in input) known.holder t p known.among c (known.holds p hp on_s) k.on_second
+      crossing_is_node (input_segments input) known.holder t p known.among c (known.holds p hp on_s) k.on_second
       (false_from_ne_true _ (λ e. both_ways _ k.not_parallel (parallel_through known.holder s t known.ahead known.same_way e)))
 
   own_node : (name : PointName) → Contains (own_names s input.column) name → IsPlaceOf name p → Node
@@ -92,35 +92,35 @@ module _ (input : Input) (s : Segment) (known : IsKnown input s) (p : Point) (hp
     second : (Vertex s.right ≡ name) ⊎ Contains (Border s input.column ∷ Border s (input.column + 1) ∷ []) name → Node
     second (inl e) =
         let Q : PointName → Type 0 = λ n. IsPlaceOf n p in
-        node_at_end (segments_in input) p (end_same (segments_in input) s.right p hp (subst Q (sym e) st) known.right_end)
+        node_at_end (input_segments input) p (end_same (input_segments input) s.right p hp (subst Q (sym e) st) known.right_end)
     second (inr d) = third (Contains-cons_cases (Border s input.column) (Border s (input.column + 1) ∷ []) name d)
 
     first : (Vertex s.left ≡ name) ⊎ Contains (Vertex s.right ∷ Border s input.column ∷ Border s (input.column + 1) ∷ []) name → Node
     first (inl e) =
         let Q : PointName → Type 0 = λ n. IsPlaceOf n p in
-        node_at_end (segments_in input) p (end_same (segments_in input) s.left p hp (subst Q (sym e) st) known.left_end)
+        node_at_end (input_segments input) p (end_same (input_segments input) s.left p hp (subst Q (sym e) st) known.left_end)
     first (inr d) = second (Contains-cons_cases (Vertex s.right) (Border s input.column ∷ Border s (input.column + 1) ∷ []) name d)
 
-  with_node : (t : Segment) → Contains (segments_in input) t → (name : PointName) → Contains (names_with s t) name → IsPlaceOf name p → Node
+  with_node : (t : Segment) → Contains (input_segments input) t → (name : PointName) → Contains (names_with s t) name → IsPlaceOf name p → Node
   with_node t m name c st = first (Contains-cons_cases (Vertex t.left) (Vertex t.right ∷ Cross s t ∷ []) name c) where
     third : (Cross s t ≡ name) ⊎ Contains [] name → Node
     third (inl e) = let Q : PointName → Type 0 = λ n. IsPlaceOf n p in at_cross t m (subst Q (sym e) st)
     third (inr d) = absurd (omega (arith, d.1))
 
     second : (Vertex t.right ≡ name) ⊎ Contains (Cross s t ∷ []) name → Node
-    second (inl e) = let Q : PointName → Type 0 = λ n. IsPlaceOf n p in node_at_end (segments_in input) p (end_among (segments_in input) t m p (or_right (same_place p (whole t.left)) (same_place p (whole t.right)) (same_turned (whole t.right) p (subst Q (sym e) st))))
+    second (inl e) = let Q : PointName → Type 0 = λ n. IsPlaceOf n p in node_at_end (input_segments input) p (end_among (input_segments input) t m p (or_right (same_place p (whole t.left)) (same_place p (whole t.right)) (same_turned (whole t.right) p (subst Q (sym e) st))))
     second (inr d) = third (Contains-cons_cases (Cross s t) [] name d)
 
     first : (Vertex t.left ≡ name) ⊎ Contains (Vertex t.right ∷ Cross s t ∷ []) name → Node
-    first (inl e) = let Q : PointName → Type 0 = λ n. IsPlaceOf n p in node_at_end (segments_in input) p (end_among (segments_in input) t m p (or_left (same_place p (whole t.left)) (same_place p (whole t.right)) (same_turned (whole t.left) p (subst Q (sym e) st))))
+    first (inl e) = let Q : PointName → Type 0 = λ n. IsPlaceOf n p in node_at_end (input_segments input) p (end_among (input_segments input) t m p (or_left (same_place p (whole t.left)) (same_place p (whole t.right)) (same_turned (whole t.left) p (subst Q (sym e) st))))
     first (inr d) = second (Contains-cons_cases (Vertex t.right) (Cross s t ∷ []) name d)
 
   -- what a name along a known segment stands for on it is a node
   pub named_is_node : (name : PointName) → Contains (names_along input s) name → IsPlaceOf name p → Node
-  named_is_node name c st = by (Contains-append_cases (own_names s input.column) (flat_map (names_with s) (segments_in input)) name c) where
-    by : Contains (own_names s input.column) name ⊎ Contains (flat_map (names_with s) (segments_in input)) name → Node
+  named_is_node name c st = by (Contains-append_cases (own_names s input.column) (flat_map (names_with s) (input_segments input)) name c) where
+    by : Contains (own_names s input.column) name ⊎ Contains (flat_map (names_with s) (input_segments input)) name → Node
     by (inl d) = own_node name d st
-    by (inr d) = let r = from_flat_map (names_with s) (segments_in input) name d in with_node r.0 r.1 name r.2 st
+    by (inr d) = let r = from_flat_map (names_with s) (input_segments input) name d in with_node r.0 r.1 name r.2 st
 
 -- ---- the units
 -- equal whole points are at one place
@@ -165,7 +165,7 @@ pairs_told k s names xs sound up = λ i j d l m.
     ap (λ p. point_cmp p (place_of (get_or xs j d).name)) (sym (sound i d (omega (arith, l, m))).told)
     ∙ ap (λ p. point_cmp (spot (get_or xs i d)) p) (sym (sound j d m).told) ∙ up i j d l m
 
-pub nodes_from_along : (input : Input) (s : Segment) (list : List NamedPlace) → AreAlong input s list → AreNodesOn input s (map (λ (z : NamedPlace). z.name) (filter (λ (z : NamedPlace). is_node (segments_in input) (spot z)) list))
+pub nodes_from_along : (input : Input) (s : Segment) (list : List NamedPlace) → AreAlong input s list → AreNodesOn input s (map (λ (z : NamedPlace). z.name) (filter (λ (z : NamedPlace). is_node (input_segments input) (spot z)) list))
 nodes_from_along input s list along =
     record {
       named = All-map HasPlace name kept (All-weaker Found (λ z. HasPlace z.name) (λ z f. f.named) kept found);
@@ -181,7 +181,7 @@ nodes_from_along input s list along =
     name z = z.name
 
     is_one : NamedPlace → Bool
-    is_one z = is_node (segments_in input) (spot z)
+    is_one z = is_node (input_segments input) (spot z)
 
     kept : List NamedPlace
     kept = filter is_one list
@@ -204,6 +204,6 @@ nodes_from_along input s list along =
     told p n a =
         let there = any_contains (λ z. IsTrue (same_place p (spot z))) list a in
         let f = All-contains Found list a.1 along.sound there in
-        let one : is_one a.1 ≡ true = sym (node_alike p (spot a.1) n.positive (spot_positive a.1) a.4 (segments_in input)) ∙ n.node in
+        let one : is_one a.1 ≡ true = sym (node_alike p (spot a.1) n.positive (spot_positive a.1) a.4 (input_segments input)) ∙ n.node in
         let Q : Point → Type 0 = λ q. IsTrue (same_place p q) in
         any_from (λ n. IsTrue (same_place p (place_of n))) (map name kept) a.1.name (contains_map name kept a.1 (Contains-filter is_one list a.1 there one)) (subst Q f.told a.4)

@@ -12,7 +12,7 @@ use Rattle.overlay_terms.specs.TileLaws.{IsInput}
 use Rattle.overlay_terms.proofs.Lists.{any_from, any_contains}
 use Rattle.exact_point.specs.PlaceOf.{place_of}
 use Rattle.exact_point.proofs.SameMiddle.{in_column_alike}
-use Rattle.arrange.specs.Arrangement.{segments_in}
+use Rattle.arrange.specs.Arrangement.{input_segments}
 use Rattle.arrange.specs.NamedPlaces.{spot, AreAlong}
 use Rattle.arrange.specs.PlacedPieces.{has_ends, AreNeighbours, RunsBetween, HoldsPieces, HoldsOneMore, HoldsNeighbours}
 use Rattle.arrange.specs.declared.named_place.NamedPlace.{NamedPlace}
@@ -33,7 +33,7 @@ told_ends p r a b h ends first second =
     and_from (same_place p (place_of h.piece.from)) (same_place r (place_of h.piece.to)) (subst F ends.0 first) (subst T ends.1 second)
 
 -- neighbours in the list of places along a segment of the input
-pub next_places : (input : Input) (s : Segment) → IsInput input → Contains (segments_in input) s → (list : List NamedPlace) → AreAlong input s list
+pub next_places : (input : Input) (s : Segment) → IsInput input → Contains (input_segments input) s → (list : List NamedPlace) → AreAlong input s list
     → (i j : ℕ) (a b : NamedPlace) → i + 1 ≡ j → j < length list → a ≡ get_or list i a → b ≡ get_or list j b → AreNeighbours input s a b
 next_places input s valid among list along i j a b e within is_a is_b =
     let inside : i + 1 < length list = omega (arith, e, within) in
@@ -77,13 +77,13 @@ next_pair input places i j a b before placed more e within is_a is_b so_far new 
   by n d l m begins (inr f) =
       any_kept (RunsBetween (get_or places n d) (get_or places (n + 1) d)) placed more new.kept (so_far.covered n d (omega (arith, f, l, e)) m begins)
 
-module _ (input : Input) (s : Segment) (valid : IsInput input) (among : Contains (segments_in input) s) (list : List NamedPlace) (along : AreAlong input s list)
+module _ (input : Input) (s : Segment) (valid : IsInput input) (among : Contains (input_segments input) s) (list : List NamedPlace) (along : AreAlong input s list)
     (before placed : List PlacedPiece) (i : ℕ) (whole_list : length list ≤ i) (so_far : HoldsNeighbours input list i before placed) where
   -- a piece on the segment is in the list
-  listed_there : (p r : Point) (piece : IsPiece (segments_in input) p r) → piece.support ≡ s → IsTrue (is_in_column input.column p) → Any (λ h. IsTrue (has_ends p r h.piece)) placed
+  listed_there : (p r : Point) (piece : IsPiece (input_segments input) p r) → piece.support ≡ s → IsTrue (is_in_column input.column p) → Any (λ h. IsTrue (has_ends p r h.piece)) placed
   listed_there p r piece is begins =
       let O : Segment → Type 0 = λ t. IsTrue (is_on t p) × IsTrue (is_on t r) in
-      let N : Segment → Type 0 = λ t. (q : Point) → pos 0 <ℤ q.w → IsTrue (is_on t q) → point_cmp p q ≡ Less → point_cmp q r ≡ Less → IsTrue (is_node (segments_in input) q) → ⊥ in
+      let N : Segment → Type 0 = λ t. (q : Point) → pos 0 <ℤ q.w → IsTrue (is_on t q) → point_cmp p q ≡ Less → point_cmp q r ≡ Less → IsTrue (is_node (input_segments input) q) → ⊥ in
       let on = subst O is (piece.from_on, piece.to_on) in
       let next = ends_next input s valid among list along p r piece.from_positive piece.to_positive on.0 on.1 piece.from_node piece.to_node piece.in_order (subst N is piece.none_between) begins in
       let a : NamedPlace = get_or list next.at next.default in
@@ -97,7 +97,7 @@ module _ (input : Input) (s : Segment) (valid : IsInput input) (among : Contains
     sound = so_far.sound h.sound;
     complete = λ p r piece c begins. by p r piece begins c (Contains-push_cases supports s piece.support c);
   } where
-    by : (p r : Point) (piece : IsPiece (segments_in input) p r) → IsTrue (is_in_column input.column p) → Contains (supports ++ s ∷ []) piece.support
+    by : (p r : Point) (piece : IsPiece (input_segments input) p r) → IsTrue (is_in_column input.column p) → Contains (supports ++ s ∷ []) piece.support
         → Contains supports piece.support ⊎ (s ≡ piece.support) → Any (λ h. IsTrue (has_ends p r h.piece)) placed
     by p r piece begins c (inl d) = any_kept (λ h. IsTrue (has_ends p r h.piece)) before placed so_far.kept (h.complete p r piece d begins)
     by p r piece begins c (inr e) = listed_there p r piece (sym e) begins
@@ -108,7 +108,7 @@ listed_already input supports s placed there h = record {
   sound = h.sound;
   complete = λ p r piece c begins. by p r piece begins (Contains-push_cases supports s piece.support c);
 } where
-  by : (p r : Point) (piece : IsPiece (segments_in input) p r) → IsTrue (is_in_column input.column p) → Contains supports piece.support ⊎ (s ≡ piece.support)
+  by : (p r : Point) (piece : IsPiece (input_segments input) p r) → IsTrue (is_in_column input.column p) → Contains supports piece.support ⊎ (s ≡ piece.support)
       → Any (λ h. IsTrue (has_ends p r h.piece)) placed
   by p r piece begins (inl c) = h.complete p r piece c begins
   by p r piece begins (inr e) = let Q : Segment → Type 0 = λ t. Contains supports t in h.complete p r piece (subst Q e there) begins

@@ -21,7 +21,7 @@ use Rattle.exact_point.specs.Place.{place, hpoint_cmp}
 use Rattle.exact_point.specs.PlaceOf.{place_of}
 use Rattle.exact_point.proofs.PlaceOrder.{Way, before, at, after, way_of, same_from_equal, same_through, same_turned}
 use Rattle.exact_point.proofs.OnLine.{no_turn_back}
-use Rattle.arrange.specs.Arrangement.{segments_in, IsElementary, ComesBefore, ArePieces}
+use Rattle.arrange.specs.Arrangement.{input_segments, IsElementary, ComesBefore, ArePieces}
 use Rattle.arrange.specs.PlacedPieces.{placed_cmp, placed_total, same_placed, same_placed_equiv, IsMadeAt, IsPlaced, has_ends, HoldsPieces}
 use Rattle.arrange.specs.declared.piece.Elementary.{Elementary}
 use Rattle.arrange.specs.declared.placed_piece.PlacedPiece.{PlacedPiece}
@@ -53,9 +53,9 @@ comes_before input a b h g e = by (less_cases (hpoint_cmp a.at b.at) (int_cmp (p
 not_shorter : (input : Input) (d e : Elementary) (p r p' r' : Point) → whole_cmp d.support.left d.support.right ≡ Less → whole_cmp e.support.left e.support.right ≡ Less
     → IsMadeAt input d p r → IsMadeAt input e p' r' → IsTrue (same_place p p') → turn_of e.support d.support ≡ pos 0 → point_cmp r' r ≡ Less → ⊥
 not_shorter input d e p r p' r' ahead other m n same turn short =
-    let N : Segment → Type 0 = λ t. (q : Point) → pos 0 <ℤ q.w → IsTrue (is_on t q) → point_cmp p q ≡ Less → point_cmp q r ≡ Less → IsTrue (is_node (segments_in input) q) → ⊥ in
-    let C : Segment → Type 0 = λ t. Contains (segments_in input) t in
-    no_shorter d.support ahead (segments_in input) (subst C m.supported m.piece.among) p r m.piece.from_positive m.piece.to_positive m.from_on m.to_on m.piece.in_order (subst N m.supported m.piece.none_between)
+    let N : Segment → Type 0 = λ t. (q : Point) → pos 0 <ℤ q.w → IsTrue (is_on t q) → point_cmp p q ≡ Less → point_cmp q r ≡ Less → IsTrue (is_node (input_segments input) q) → ⊥ in
+    let C : Segment → Type 0 = λ t. Contains (input_segments input) t in
+    no_shorter d.support ahead (input_segments input) (subst C m.supported m.piece.among) p r m.piece.from_positive m.piece.to_positive m.from_on m.to_on m.piece.in_order (subst N m.supported m.piece.none_between)
     e.support other turn p' r' n.piece.from_positive n.piece.to_positive same n.from_on n.to_on n.piece.in_order short n.piece.to_node
 
 -- pieces from one place in one direction are one piece
@@ -91,7 +91,7 @@ elementary input h g = record {
   mask = g.made.mask;
 }
 
-module _ (input : Input) (placed sorted : List PlacedPiece) (h : HoldsPieces input (segments_in input) placed) (moved : IsPermutation placed sorted) (up : IsSorted placed_cmp sorted) where
+module _ (input : Input) (placed sorted : List PlacedPiece) (h : HoldsPieces input (input_segments input) placed) (moved : IsPermutation placed sorted) (up : IsSorted placed_cmp sorted) where
   abbrev once : List PlacedPiece
   once = dedup same_placed sorted
 

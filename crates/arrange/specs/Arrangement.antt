@@ -13,8 +13,9 @@ use Rattle.exact_point.specs.PlaceOf.{place_of}
 use Rattle.exact_point.specs.declared.point_name.PointName.{PointName}
 use Rattle.arrange.specs.declared.piece.Elementary.{Elementary}
 
-abbrev pub segments_in : Input → List Segment
-segments_in input = map (λ (m : Marked). m.segment) input.marked
+-- the segments of a column's input, without their layers
+abbrev pub input_segments : Input → List Segment
+input_segments input = map (λ (m : Marked). m.segment) input.marked
 
 -- from the left border of a column to its right border, both included
 abbrev pub is_in_closed_column : ℕ → Point → Bool
@@ -25,7 +26,7 @@ pub record IsNodeOn (input : Input) (s : Segment) (p : Point) : Type 0 where
   pub positive : pos 0 <ℤ p.w
   pub on_segment : IsTrue (is_on s p)
   pub in_column : IsTrue (is_in_closed_column input.column p)
-  pub node : IsTrue (is_node (segments_in input) p)
+  pub node : IsTrue (is_node (input_segments input) p)
 
 -- all nodes on a segment within the closed column, by their names, from left to right
 pub record AreNodesOn (input : Input) (s : Segment) (names : List PointName) : Type 0 where
@@ -48,7 +49,7 @@ pub record IsElementary (input : Input) (e : Elementary) : Type 0 where
   pub to_named : HasPlace e.to
   pub from_on : IsTrue (is_on e.support (place_of e.from))
   pub to_on : IsTrue (is_on e.support (place_of e.to))
-  pub piece : IsPiece (segments_in input) (place_of e.from) (place_of e.to)
+  pub piece : IsPiece (input_segments input) (place_of e.from) (place_of e.to)
   pub begins : IsTrue (is_in_column input.column (place_of e.from))
   pub mask : (k : ℕ) → k < layers_max → mask_bits e.mask k ≡ on_bits input.marked (midpoint (place_of e.from) (place_of e.to)) k
 
@@ -62,5 +63,5 @@ ComesBefore a b =
 pub record ArePieces (input : Input) (list : List Elementary) : Type 0 where
   pub sound : All (IsElementary input) list
   pub ordered : AllPairs ComesBefore list
-  pub complete : (p r : Point) → IsPiece (segments_in input) p r → IsTrue (is_in_column input.column p)
+  pub complete : (p r : Point) → IsPiece (input_segments input) p r → IsTrue (is_in_column input.column p)
       → Any (λ e. IsTrue (same_place p (place_of e.from) && same_place r (place_of e.to))) list

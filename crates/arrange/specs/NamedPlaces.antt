@@ -13,7 +13,7 @@ use Rattle.exact_point.specs.PlaceOf.{place_of}
 use Rattle.exact_point.specs.PointName.{HasPlace, IsPlaceOf}
 use Rattle.exact_point.specs.declared.point_name.PointName.{PointName}
 use Rattle.exact_point.specs.declared.point_name.PointName.TheVariants.{Vertex, Cross, Border}
-use Rattle.arrange.specs.Arrangement.{segments_in, is_in_closed_column, IsNodeOn}
+use Rattle.arrange.specs.Arrangement.{input_segments, is_in_closed_column, IsNodeOn}
 use Rattle.arrange.specs.declared.named_place.NamedPlace.{NamedPlace}
 
 -- where it is
@@ -49,7 +49,7 @@ abbrev pub names_with : Segment → Segment → List PointName
 names_with s t = Vertex t.left ∷ Vertex t.right ∷ Cross s t ∷ []
 
 abbrev pub names_along : Input → Segment → List PointName
-names_along input s = own_names s input.column ++ flat_map (names_with s) (segments_in input)
+names_along input s = own_names s input.column ++ flat_map (names_with s) (input_segments input)
 
 -- a place on a segment within the closed column that one of some names stands for
 pub record IsFound (k : ℕ) (s : Segment) (names : List PointName) (z : NamedPlace) : Type 0 where

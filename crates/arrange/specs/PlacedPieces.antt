@@ -15,7 +15,7 @@ use Rattle.exact_point.specs.Place.{place, hpoint_cmp, hpoint_cmp_total}
 use Rattle.exact_point.specs.PlaceOf.{place_of}
 use Rattle.exact_point.specs.PointName.{HasPlace}
 use Rattle.exact_point.proofs.OnSegment.{leads}
-use Rattle.arrange.specs.Arrangement.{segments_in, on_bits}
+use Rattle.arrange.specs.Arrangement.{input_segments, on_bits}
 use Rattle.arrange.specs.NamedPlaces.{spot, names_along, IsFound}
 use Rattle.arrange.specs.Directions.{Step, step_cmp_total}
 use Rattle.arrange.specs.declared.piece.Elementary.{Elementary}
@@ -54,7 +54,7 @@ placed_po = partial_order_from_agreeing_total placed_cmp placed_total (λ p q. r
 pub record IsMadeAt (input : Input) (e : Elementary) (p r : Point) : Type 0 where
   pub from_on : IsTrue (is_on e.support p)
   pub to_on : IsTrue (is_on e.support r)
-  pub piece : IsPiece (segments_in input) p r
+  pub piece : IsPiece (input_segments input) p r
   pub supported : piece.support ≡ e.support
   pub begins : IsTrue (is_in_column input.column p)
   pub mask : (k : ℕ) → k < layers_max → mask_bits e.mask k ≡ on_bits input.marked (midpoint p r) k
@@ -73,16 +73,16 @@ has_ends p r e = same_place p (place_of e.from) && same_place r (place_of e.to)
 -- pieces that begin in the column, and all of these on some of the segments
 pub record HoldsPieces (input : Input) (supports : List Segment) (placed : List PlacedPiece) : Type 0 where
   pub sound : All (IsPlaced input) placed
-  pub complete : (p r : Point) (piece : IsPiece (segments_in input) p r) → Contains supports piece.support → IsTrue (is_in_column input.column p)
+  pub complete : (p r : Point) (piece : IsPiece (input_segments input) p r) → Contains supports piece.support → IsTrue (is_in_column input.column p)
       → Any (λ h. IsTrue (has_ends p r h.piece)) placed
 
 -- neighbours among the places along a segment of the input
 pub record AreNeighbours (input : Input) (s : Segment) (a b : NamedPlace) : Type 0 where
-  pub among : Contains (segments_in input) s
+  pub among : Contains (input_segments input) s
   pub ahead : whole_cmp s.left s.right ≡ Less
   pub from_found : IsFound input.column s (names_along input s) a
   pub to_found : IsFound input.column s (names_along input s) b
-  pub piece : IsPiece (segments_in input) (spot a) (spot b)
+  pub piece : IsPiece (input_segments input) (spot a) (spot b)
   pub supported : piece.support ≡ s
 
 -- a piece from one place to another

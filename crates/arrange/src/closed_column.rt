@@ -8,7 +8,7 @@ use exact_point::{HPoint, border_side, end_side};
 use plane_base::Column;
 
 /// Whether a point lies from a column's left border to its right border.
-pub fn is_within(column: Column, p: &HPoint) -> bool
+pub(crate) fn is_within(column: Column, p: &HPoint) -> bool
     ensures { result ≡ is_in_closed_column column (place p.now) }
 {
     let from_left = border_side(column, p);
@@ -18,7 +18,7 @@ pub fn is_within(column: Column, p: &HPoint) -> bool
 }
 
 /// Whether a point lies left of a column's right border or on it.
-fn is_up_to(column: Column, p: &HPoint) -> bool
+pub fn is_up_to(column: Column, p: &HPoint) -> bool
     ensures { result ≡ int_le p.now.x (border (column + 1) *ℤ p.now.w) }
 {
     end_side(column, p).is_le()

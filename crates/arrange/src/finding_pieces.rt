@@ -4,7 +4,7 @@ ghost use Rattle.std.specs.List.{list_any};
 ghost use Rattle.overlay_terms.specs.Plane.{Segment};
 ghost use Rattle.overlay_terms.specs.Column.{border};
 ghost use Rattle.overlay_terms.specs.TileLaws.{IsInput};
-ghost use Rattle.arrange.specs.Arrangement.{ArePieces, segments_in};
+ghost use Rattle.arrange.specs.Arrangement.{ArePieces, input_segments};
 ghost use Rattle.arrange.specs.NamedPlaces.{AreAlong};
 ghost use Rattle.overlay_terms.specs.SameInput.{same_segment};
 ghost use Rattle.arrange.specs.PlacedPieces.{HoldsPieces, HoldsOneMore, AreNeighbours};
@@ -59,7 +59,7 @@ fn add_pieces_along(
     seg: &Seg,
     input: &TileInput,
 ) -> Result<(), AllocError>
-    requires among { Contains (segments_in input.now) seg.now }
+    requires among { Contains (input_segments input.now) seg.now }
     ensures { OnOk result (HoldsPieces input.now (map (λ m. m.seg) earlier.now) placed.old.items → HoldsPieces input.now (map (λ m. m.seg) earlier.now ++ seg.now ∷ []) placed.new.items) }
 {
     if is_among(earlier, seg) {
@@ -78,7 +78,7 @@ fn add_along(
     places: &[NamedPlace],
 ) -> Result<(), AllocError>
     requires valid { IsInput input.now }
-    requires among { Contains (segments_in input.now) seg.now }
+    requires among { Contains (input_segments input.now) seg.now }
     requires along { AreAlong input.now seg.now places.now }
     ensures { OnOk result ((supports : List Segment) → HoldsPieces input.now supports placed.old.items → HoldsPieces input.now (supports ++ seg.now ∷ []) placed.new.items) }
 {

@@ -14,11 +14,19 @@ use crate::line_end::LineEnd;
 use crate::line_seg::LineSeg;
 use crate::marked_seg::MarkedSeg;
 use crate::passed_ends::PassedEnds;
+use crate::tile_input::TileInput;
 use crate::unit::Unit;
 use std::alloc::{AllocError, Global};
 
-/// The units of some segments. A unit with no bit is one too: its ends are nodes.
-pub fn units(alloc: Global, marked: &[MarkedSeg]) -> Result<Vec<Unit>, AllocError>
+/// The units of the input's segments. A unit with no bit is one too: its ends are nodes.
+pub fn units(alloc: Global, input: &TileInput) -> Result<Vec<Unit>, AllocError>
+    ensures { IfOk result (λ list. AreUnits input.now.marked list.items) }
+{
+    units_of(alloc, input.marked())
+}
+
+/// The units of some segments, as of those of a strip.
+pub fn units_of(alloc: Global, marked: &[MarkedSeg]) -> Result<Vec<Unit>, AllocError>
     requires layers { All (λ m. m.layer < layers_max) marked.now }
     requires proper { AllProper (map marked_of marked.now) }
     ensures { IfOk result (λ list. AreUnits (map marked_of marked.now) list.items) }

@@ -17,10 +17,10 @@ mod placed_piece;
 pub mod tile_input;
 pub mod unit;
 
-pub use closed_column::is_within;
+pub use closed_column::is_up_to;
 pub use finding_nodes::nodes_on;
 pub use finding_pieces::pieces;
-pub use finding_units::units;
+pub use finding_units::{units, units_of};
 pub use marked_seg::MarkedSeg;
 pub use named_place::NamedPlace;
 pub use piece::Elementary;

@@ -1,10 +1,9 @@
 -- The faults of the book: their numbers and texts, and what each says.
 use Rattle.std.specs.Prelude.{◌≡◌, ◌⊎◌, ℕ, Bool, true, false, IsTrue, List}
 use Rattle.std.specs.Option.{option_map}
+use Rattle.fault_texts.specs.FaultTable.{text}
 use Rattle.overlay_terms.specs.Commands.{Command, refusal_at}
 use Rattle.overlay_terms.specs.Batches.{Batch, batch_refusal_at}
-use Rattle.fault_texts.specs.CommonFault as common
-use Rattle.fault_texts.specs.declared.common_fault.CommonFault.TheVariants as faults
 use Rattle.layer_book.specs.Fault.{RefusedBy}
 use Rattle.layer_book.specs.BatchFault.{RefusedAllBy}
 use Rattle.overlay_terms.specs.Histories.{Version}
@@ -21,18 +20,18 @@ use Rattle.book_history.specs.declared.fault.BookFault.TheVariants as fault
 
 -- the number under which a store's fault is printed
 abbrev pub store_code_of : ToldFault → ℕ
-store_code_of Device = common.code_of faults.Device
-store_code_of Full = common.code_of faults.Full
-store_code_of Failed = common.code_of faults.StoreFailed
-store_code_of SequenceLimit = common.code_of faults.SequenceLimit
-store_code_of OutOfMemory = common.code_of faults.OutOfMemory
+store_code_of Device = 30
+store_code_of Full = 31
+store_code_of Failed = 35
+store_code_of SequenceLimit = 36
+store_code_of OutOfMemory = 40
 
 -- the number under which a fault is printed
 abbrev pub code_of : BookFault → ℕ
 code_of (fault.Version refused) = version_fault.code_of refused
-code_of fault.Closing = common.code_of faults.Closing
-code_of fault.Gone = common.code_of faults.Gone
-code_of fault.NoStore = common.code_of faults.NoStore
+code_of fault.Closing = 43
+code_of fault.Gone = 44
+code_of fault.NoStore = 46
 code_of (fault.Store refused) = store_code_of refused
 
 -- whether an accepted command takes a store's fault away
@@ -45,19 +44,13 @@ passes OutOfMemory = true
 
 -- the text after a store's number
 abbrev pub store_text_of : ToldFault → List ℕ
-store_text_of Device = common.text_of faults.Device
-store_text_of Full = common.text_of faults.Full
-store_text_of Failed = common.text_of faults.StoreFailed
-store_text_of SequenceLimit = common.text_of faults.SequenceLimit
-store_text_of OutOfMemory = common.text_of faults.OutOfMemory
+store_text_of refused = text (store_code_of refused)
 
 -- the text that is printed after the number
 abbrev pub text_of : BookFault → List ℕ
 text_of (fault.Version refused) = version_fault.text_of refused
-text_of fault.Closing = common.text_of faults.Closing
-text_of fault.Gone = common.text_of faults.Gone
-text_of fault.NoStore = common.text_of faults.NoStore
 text_of (fault.Store refused) = store_text_of refused
+text_of refused = text (code_of refused)
 
 -- memory ran out
 abbrev pub no_memory : BookFault

@@ -4,6 +4,7 @@ use Rattle.overlay_terms.specs.Batches.{Batch}
 use Rattle.overlay_terms.specs.Histories.{Version, Event, accepted, durable_to, Entry, History, AllFollow, GoesOnBy, newest}
 use Rattle.overlay_terms.specs.Histories.{empty_version}
 
+-- what happened, and the version after it
 abbrev pub entry : Event → Version → Entry
 entry event version = record { event = event; version = version }
 

@@ -12,7 +12,7 @@ use Rattle.store_terms.specs.DefinitionRecord.{definition_of_record}
 use Rattle.store_terms.specs.TileRecord.{tile_of_record}
 use Rattle.store_terms.specs.declared.root.RecordExtent.{RecordExtent}
 use Rattle.store_terms.specs.Catalog.{Listed, catalog_of_record}
-use Rattle.store_terms.specs.Places.{blocks, bytes_of, is_placed}
+use Rattle.store_terms.specs.Places.{blocks, bytes_at, is_placed}
 use Rattle.store_terms.specs.Image.{listing_of, held_of}
 use Rattle.commit_plan.proofs.Drafts.{bytes_fit}
 use Rattle.commit_plan.proofs.Kept.{extents_are}
@@ -28,7 +28,7 @@ use Rattle.commit_plan.specs.Filed.{Filed, Record, fresh, stays, extent_of, fres
 -- the bytes of a record are at its place
 pub record IsFiled (file : List ℕ) (f : Filed) : Type 0 where
   pub placed : is_placed file f.extent ≡ true
-  pub bytes : bytes_of file f.extent ≡ f.bytes
+  pub bytes : bytes_at file f.extent ≡ f.bytes
 
 blocks_fit : (a n len : ℕ) → 4096 * a + 4096 * n ≤ len → a + n ≤ len / 4096
 blocks_fit a n len le = omega arith

@@ -1,5 +1,5 @@
 -- Records of other layers or columns that stay have no block in common.
-use Rattle.std.proofs.Common.{◌≡◌, ◌⊎◌, inl, inr, ⊎_elim, ℕ, zero, suc, ◌<◌, Bool, true, false, cond, List, [], ◌∷◌, ◌++◌, Option, Some, None, bytes_eq, refl, sym, ◌∙◌, ap, arith}
+use Rattle.std.proofs.Common.{◌≡◌, ◌⊎◌, inl, inr, ⊎_elim, ℕ, zero, suc, ◌<◌, Bool, true, false, cond, List, [], ◌∷◌, ◌++◌, Option, Some, None, option_map, option_and_then, bytes_eq, refl, sym, ◌∙◌, ap, arith}
 use Rattle.overlay_terms.specs.Layers.{Name, Layer}
 use Rattle.overlay_terms.specs.Histories.{Finished, tile_at}
 use Rattle.overlay_terms.proofs.NameLemmas.{same_name}
@@ -7,7 +7,7 @@ use Rattle.layer_book.specs.Layer.{content_named}
 use Rattle.store_terms.specs.declared.root.RecordExtent.{RecordExtent}
 use Rattle.store_terms.specs.Catalog.{Records, Listed}
 use Rattle.store_terms.specs.Places.{all_apart, some_extents, extents_of_records, extents_listed}
-use Rattle.commit_plan.specs.Staying.{LiveContent, own_extent, entry_at, tile_extent, records_named, own_named, tile_named, is_near, if_near, holds_content, holds_tile, layer_stays, tile_stays, near_ones}
+use Rattle.commit_plan.specs.Staying.{LiveContent, own_extent, entry_at, tile_extent, records_named, is_near, if_near, holds_content, holds_tile, layer_stays, record_stays, near_ones}
 use Rattle.commit_plan.proofs.Placed.{Beside, beside_turned}
 use Rattle.commit_plan.proofs.HeldApart.{Among, Before, both_beside, among_front, among_back, before_front, before_back, before_both}
 
@@ -149,12 +149,12 @@ near_is (Some f) e is = by_cases (is_near f) refl is where
   by_cases false near is = absurd (cc)
 
 own_is : (ls : List Listed) (n : Name) (e : RecordExtent) (o : Option Records) → records_named ls n ≡ o
-    → is_near e ≡ true → own_named o ≡ Some e → Sits ls n None e
+    → is_near e ≡ true → option_map own_extent o ≡ Some e → Sits ls n None e
 own_is ls n e None there near is = absurd (cc)
 own_is ls n e (Some r) there near is = record { near = near; records = r; there = there; lies_so = is }
 
 tile_is : (ls : List Listed) (n : Name) (k : ℕ) (e : RecordExtent) (o : Option Records) → records_named ls n ≡ o
-    → is_near e ≡ true → tile_named o k ≡ Some e → Sits ls n (Some k) e
+    → is_near e ≡ true → option_and_then (λ records. tile_extent records k) o ≡ Some e → Sits ls n (Some k) e
 tile_is ls n k e None there near is = absurd (cc)
 tile_is ls n k e (Some r) there near is = record { near = near; records = r; there = there; lies_so = is }
 
@@ -166,20 +166,20 @@ pub layer_sits : (live : LiveContent) (layer : Layer) (e : RecordExtent) → lay
     → Sits live.listing layer.name None e
 layer_sits live layer e is =
     let o = records_named live.listing layer.name in
-    let so = (where_true (holds_content (content_named live.layers layer.name) layer.content) (if_near (own_named o)) e is).1 in
-    let near = near_is (own_named o) e so in
+    let so = (where_true (holds_content (content_named live.layers layer.name) layer.content) (if_near (option_map own_extent o)) e is).1 in
+    let near = near_is (option_map own_extent o) e so in
     own_is live.listing layer.name e o refl near.0 near.1
 
-pub tile_holds : (live : LiveContent) (t : Finished) (e : RecordExtent) → tile_stays live t ≡ Some e
+pub tile_holds : (live : LiveContent) (t : Finished) (e : RecordExtent) → record_stays live t ≡ Some e
     → holds_tile (tile_at live.tiles t.name t.column) t.tile ≡ true
 tile_holds live t e is = (where_true (holds_tile (tile_at live.tiles t.name t.column) t.tile) _ e is).0
 
-pub tile_sits : (live : LiveContent) (t : Finished) (e : RecordExtent) → tile_stays live t ≡ Some e
+pub tile_sits : (live : LiveContent) (t : Finished) (e : RecordExtent) → record_stays live t ≡ Some e
     → Sits live.listing t.name (Some t.column) e
 tile_sits live t e is =
     let o = records_named live.listing t.name in
-    let so = (where_true (holds_tile (tile_at live.tiles t.name t.column) t.tile) (if_near (tile_named o t.column)) e is).1 in
-    let near = near_is (tile_named o t.column) e so in
+    let so = (where_true (holds_tile (tile_at live.tiles t.name t.column) t.tile) (if_near (option_and_then (λ records. tile_extent records t.column) o)) e is).1 in
+    let near = near_is (option_and_then (λ records. tile_extent records t.column) o) e so in
     tile_is live.listing t.name t.column e o refl near.0 near.1
 
 pub sits_among : (ls : List Listed) (n : Name) (k : Option ℕ) (e : RecordExtent) → Sits ls n k e

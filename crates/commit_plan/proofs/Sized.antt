@@ -6,14 +6,14 @@ use Rattle.std.proofs.lemmas.Option.{same_Some}
 use Rattle.overlay_terms.specs.Layers.{Name, Layer}
 use Rattle.tile_build.specs.Tile.{named_pieces, tile_of}
 use Rattle.tile_build.specs.declared.tile.Tile.{Tile}
-use Rattle.layer_tiles.specs.Filling.{named}
+use Rattle.layer_tiles.specs.Filling.{finished_as}
 use Rattle.layer_tiles.specs.TileCode.{by_places, Named}
 use Rattle.layer_tiles.proofs.Placed.{by_its_names}
 use Rattle.record_writing.specs.Tiles.{named_by}
 use Rattle.store_terms.specs.TileRecord.{named_tile}
 use Rattle.store_terms.specs.declared.root.RecordExtent.{RecordExtent}
 use Rattle.commit_plan.specs.Drafted.{Drafted, HasNoRunFor}
-use Rattle.commit_plan.specs.Staying.{LiveContent, layer_stays, tile_stays}
+use Rattle.commit_plan.specs.Staying.{LiveContent, layer_stays, record_stays}
 use Rattle.commit_plan.specs.Sizes.{own_record, tile_size, if_new, own_sizes, tile_sizes, row_sizes, layer_sizes, sizes_of_layers}
 use Rattle.commit_plan.proofs.Drafts.{no_run_more}
 
@@ -37,18 +37,18 @@ module _ (live : LiveContent) where
   kept_own layer e is = kept_sizes (layer_stays live layer) (length (own_record layer.content)) e is
 
   -- the tile of the code, by the names of its ends
-  stays_same : (name : Name) (k : ℕ) (tile : Tile) → tile_stays live (named name k (by_places (named_pieces tile))) ≡ tile_stays live (named name k (tile_of tile))
-  stays_same name k tile = ap (λ t. tile_stays live (named name k t)) (by_its_names tile)
+  stays_same : (name : Name) (k : ℕ) (tile : Tile) → record_stays live (finished_as name k (by_places (named_pieces tile))) ≡ record_stays live (finished_as name k (tile_of tile))
+  stays_same name k tile = ap (λ t. record_stays live (finished_as name k t)) (by_its_names tile)
 
-  pub new_tile : (name : Name) (k : ℕ) (tile : Tile) (bytes : List ℕ) → tile_stays live (named name k (tile_of tile)) ≡ None → bytes ≡ named_tile.text (named_by k tile)
+  pub new_tile : (name : Name) (k : ℕ) (tile : Tile) (bytes : List ℕ) → record_stays live (finished_as name k (tile_of tile)) ≡ None → bytes ≡ named_tile.text (named_by k tile)
       → length bytes ∷ [] ≡ tile_sizes live name k (named_pieces tile)
   new_tile name k tile bytes none spelled =
       ap (λ (l : List ℕ). length l ∷ []) spelled
-      ∙ sym (new_sizes (tile_stays live (named name k (by_places (named_pieces tile)))) (tile_size k (named_pieces tile)) (stays_same name k tile ∙ none))
+      ∙ sym (new_sizes (record_stays live (finished_as name k (by_places (named_pieces tile)))) (tile_size k (named_pieces tile)) (stays_same name k tile ∙ none))
 
-  pub kept_tile : (name : Name) (k : ℕ) (tile : Tile) (e : RecordExtent) → tile_stays live (named name k (tile_of tile)) ≡ Some e → tile_sizes live name k (named_pieces tile) ≡ []
+  pub kept_tile : (name : Name) (k : ℕ) (tile : Tile) (e : RecordExtent) → record_stays live (finished_as name k (tile_of tile)) ≡ Some e → tile_sizes live name k (named_pieces tile) ≡ []
   kept_tile name k tile e is =
-      kept_sizes (tile_stays live (named name k (by_places (named_pieces tile)))) (tile_size k (named_pieces tile)) e (stays_same name k tile ∙ is)
+      kept_sizes (record_stays live (finished_as name k (by_places (named_pieces tile)))) (tile_size k (named_pieces tile)) e (stays_same name k tile ∙ is)
 
   -- ---- rows
 

@@ -11,7 +11,7 @@ use Rattle.overlay_terms.specs.Histories.{Tile, Finished}
 use Rattle.layer_book.proofs.Answering.{take_there}
 use Rattle.tile_build.specs.Tile.{named_pieces, tile_of}
 use Rattle.tile_build.specs.declared.tile.Tile as code
-use Rattle.layer_tiles.specs.Filling.{named}
+use Rattle.layer_tiles.specs.Filling.{finished_as}
 use Rattle.layer_tiles.specs.TileCode.{by_places, Named}
 use Rattle.layer_tiles.specs.Table.{row_tiles, tiles_of, places_in, placed_rows}
 use Rattle.layer_tiles.proofs.FillingLemmas.{column_more, layer_more, tiles_whole}
@@ -89,7 +89,7 @@ module _ (live : LiveContent) where
 
   -- the tile of a column has its record
   pub slot_filed : (name : Name) (k : ℕ) (tile : code.Tile) (slot : Option Named) (e : RecordExtent) (old new : Drafted) → slot ≡ Some (named_pieces tile)
-      → IsFiled old (SaysTile live (named name k (tile_of tile))) e new → IsSlotFiled live old name k slot (Some e) new
+      → IsFiled old (SaysTile live (finished_as name k (tile_of tile))) e new → IsSlotFiled live old name k slot (Some e) new
   slot_filed name k tile slot e old new is own = record {
     filed = Some own.filed;
     extent = ap (λ (x : RecordExtent). Some x) own.extent;
@@ -97,7 +97,7 @@ module _ (live : LiveContent) where
     spelled = (
       tile_of tile,
       [],
-      ap (λ (o : Option Named). row_tiles name k (places_in (o ∷ []))) is ∙ ap (λ (t : Tile). named name k t ∷ []) (by_its_names tile),
+      ap (λ (o : Option Named). row_tiles name k (places_in (o ∷ []))) is ∙ ap (λ (t : Tile). finished_as name k t ∷ []) (by_its_names tile),
       own.says,
       refl,
     );

@@ -1,10 +1,9 @@
 -- The faults of a store: their numbers and texts.
-use Rattle.std.specs.Prelude.{ℕ, List, codes}
+use Rattle.std.specs.Prelude.{ℕ, List}
+use Rattle.fault_texts.specs.FaultTable.{text}
 use Rattle.extent_map.specs.declared.fault.ExtentFault.{ExtentFault}
 use Rattle.extent_map.specs.declared.fault.ExtentFault.TheVariants as extents
 use Rattle.store_terms.specs.declared.damage.Damage.TheVariants as damage
-use Rattle.fault_texts.specs.CommonFault as common
-use Rattle.fault_texts.specs.declared.common_fault.CommonFault.TheVariants as faults
 use Rattle.record_reading.specs.Fault as records
 use Rattle.record_reading.specs.declared.fault.RecordFault.TheVariants as failed
 use Rattle.root_reading.specs.declared.load_fault.LoadFault.{LoadFault}
@@ -26,20 +25,15 @@ fault_told loads.OutOfMemory = OutOfMemory
 
 -- the number under which a fault is printed
 abbrev pub code_of : StoreFault → ℕ
-code_of Device = common.code_of faults.Device
-code_of Full = common.code_of faults.Full
+code_of Device = 30
+code_of Full = 31
 code_of (Damaged damage) = records.code_of (failed.Damaged damage)
 code_of NotEmpty = 34
-code_of Failed = common.code_of faults.StoreFailed
-code_of SequenceLimit = common.code_of faults.SequenceLimit
-code_of OutOfMemory = common.code_of faults.OutOfMemory
+code_of Failed = 35
+code_of SequenceLimit = 36
+code_of OutOfMemory = 40
 
 -- the text that is printed after the number
 abbrev pub text_of : StoreFault → List ℕ
-text_of Device = common.text_of faults.Device
-text_of Full = common.text_of faults.Full
 text_of (Damaged damage) = records.text_of (failed.Damaged damage)
-text_of NotEmpty = codes "not empty"
-text_of Failed = common.text_of faults.StoreFailed
-text_of SequenceLimit = common.text_of faults.SequenceLimit
-text_of OutOfMemory = common.text_of faults.OutOfMemory
+text_of fault = text (code_of fault)

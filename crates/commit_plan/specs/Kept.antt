@@ -20,10 +20,11 @@ pub record Kept : Type 0 where
 abbrev pub extents_in : Kept → List RecordExtent
 extents_in x = x.root.catalog ∷ extents_listed x.listing
 
--- the slot of a root, and the other one
+-- the slot that a root is in
 abbrev pub own : Root → ℕ
 own r = r.sequence % 2
 
+-- the slot into which the root after it goes
 abbrev pub other : Root → ℕ
 other r = (r.sequence + 1) % 2
 

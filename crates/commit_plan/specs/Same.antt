@@ -11,16 +11,18 @@ use Rattle.exact_point.specs.declared.point_name.PointName.{PointName}
 use Rattle.exact_point.specs.declared.point_name.PointName.TheVariants.{Vertex, Cross, Border}
 use Rattle.overlay_terms.specs.Histories.{Tile, pieces, oversize}
 
--- the same rings in the same order, or the same expression
+-- the same expression: the same operators over the same names, grouped alike
 abbrev pub same_tree : Tree Name → Tree Name → Bool
 same_tree (leaf a) (leaf b) = bytes_eq a b
 same_tree (leaf a) (combine p m s) = false
 same_tree (combine o l r) (leaf b) = false
 same_tree (combine o l r) (combine p m s) = same_operation o p && same_tree l m && same_tree r s
 
+-- the same rings in the same order, each with the same points in the same order
 abbrev pub same_rings : List (List WholePoint) → List (List WholePoint) → Bool
 same_rings a b = pointwise (pointwise same_whole) a b
 
+-- the same rings, or the same expression
 abbrev pub same_content : Content → Content → Bool
 same_content (base a) (base b) = same_rings a b
 same_content (base a) (derived t) = false
@@ -43,10 +45,11 @@ same_point_name (Border s k) (Border t l) = same_segment s t && (k == l)
 abbrev pub same_numbers : Point → Point → Bool
 same_numbers p q = int_eq p.x q.x && int_eq p.y q.y && int_eq p.w q.w
 
--- the same ends of the same pieces, or both too many
+-- the same two ends of a piece
 abbrev pub same_ends : Point × Point → Point × Point → Bool
 same_ends a b = same_numbers a.0 b.0 && same_numbers a.1 b.1
 
+-- the same pieces in the same order, or both too many
 abbrev pub same_tile : Tile → Tile → Bool
 same_tile (pieces a) (pieces b) = pointwise same_ends a b
 same_tile (pieces a) oversize = false

@@ -5,7 +5,7 @@ use Rattle.overlay_terms.specs.Layers.{Name, Content, base, derived, Layer}
 use Rattle.overlay_terms.specs.Commands.{is_derived}
 use Rattle.layer_expr.specs.Spelling.{expression_text}
 use Rattle.layer_tiles.specs.TileCode.{by_places, Named}
-use Rattle.layer_tiles.specs.Filling.{named}
+use Rattle.layer_tiles.specs.Filling.{finished_as}
 use Rattle.layer_tiles.specs.Table.{tiles_in, Tabled}
 use Rattle.store_terms.specs.BaseRecord as bases
 use Rattle.store_terms.specs.TileRecord.{named_tile}
@@ -13,7 +13,7 @@ use Rattle.store_terms.specs.declared.root.RecordExtent.{RecordExtent}
 use Rattle.store_terms.specs.Image.{Held}
 use Rattle.record_writing.specs.Tiles.{named_at}
 use Rattle.commit_plan.specs.declared.image.Image.{Image}
-use Rattle.commit_plan.specs.Staying.{LiveContent, layer_stays, tile_stays}
+use Rattle.commit_plan.specs.Staying.{LiveContent, layer_stays, record_stays}
 
 -- a layer's own record: its rings, or its expression
 abbrev pub own_record : Content → List ℕ
@@ -29,12 +29,13 @@ abbrev pub if_new : Option RecordExtent → ℕ → List ℕ
 if_new None n = n ∷ []
 if_new (Some e) n = []
 
--- those of a layer's own record, if it is new, and of a tile's
+-- those of a layer's own record, if it is new
 abbrev pub own_sizes : LiveContent → Layer → List ℕ
 own_sizes live layer = if_new (layer_stays live layer) (length (own_record layer.content))
 
+-- those of a tile's record, if it is new
 abbrev pub tile_sizes : LiveContent → Name → ℕ → Named → List ℕ
-tile_sizes live name k tile = if_new (tile_stays live (named name k (by_places tile))) (tile_size k tile)
+tile_sizes live name k tile = if_new (record_stays live (finished_as name k (by_places tile))) (tile_size k tile)
 
 -- those of the new records of a layer's tiles, from a column on
 abbrev pub row_sizes : LiveContent → Name → ℕ → List (Option Named) → List ℕ
@@ -68,11 +69,12 @@ record_sizes live table = sizes_of_layers live table.layers table.rows ++ catalo
 abbrev pub sizes_of : LiveContent → Image → List ℕ
 sizes_of live image = record_sizes live image.table.value
 
--- how many records of what is held are new, beside the catalog
+-- 1 for a record that is new, 0 for one that stays
 abbrev pub new_count : Option RecordExtent → ℕ
 new_count None = 1
 new_count (Some e) = 0
 
+-- how many records a commit writes beside the catalog: those of layers and of tiles that do not stay
 abbrev pub new_records : LiveContent → Held → ℕ
 new_records live x =
-    sum_by (λ layer. new_count (layer_stays live layer)) x.layers + sum_by (λ t. new_count (tile_stays live t)) x.tiles
+    sum_by (λ layer. new_count (layer_stays live layer)) x.layers + sum_by (λ t. new_count (record_stays live t)) x.tiles

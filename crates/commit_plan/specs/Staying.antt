@@ -1,5 +1,5 @@
 -- Which records stay in a commit: those that the live root already holds with an equal value.
-use Rattle.std.specs.Prelude.{◌≡◌, ℕ, zero, suc, ◌+◌, ◌^◌, nat_lt, Bool, true, false, List, [], ◌∷◌, Option, Some, None, bytes_eq, if◌then◌else◌}
+use Rattle.std.specs.Prelude.{◌≡◌, ℕ, zero, suc, ◌+◌, ◌^◌, nat_lt, Bool, true, false, List, [], ◌∷◌, Option, Some, None, option_map, option_and_then, bytes_eq, if◌then◌else◌}
 use Rattle.std.proofs.Common.{inl, inr}
 use Rattle.std.specs.List.{filter}
 use Rattle.extent_map.specs.declared.extent.Extent as runs
@@ -20,6 +20,7 @@ pub record LiveContent : Type 0 where
   pub layers : List Layer
   pub tiles : List Finished
 
+-- the same of a root, with what its catalog lists and what it holds
 abbrev pub kept_content : Kept → LiveContent
 kept_content x = record { listing = x.listing; layers = x.held.layers; tiles = x.held.tiles }
 
@@ -37,6 +38,7 @@ abbrev pub own_extent : Records → RecordExtent
 own_extent (inl e) = e
 own_extent (inr both) = both.0
 
+-- the entry at an index; none past the end of the list
 abbrev pub entry_at : List (Option RecordExtent) → ℕ → Option RecordExtent
 entry_at [] k = None
 entry_at (e ∷ es) zero = e
@@ -52,28 +54,23 @@ abbrev pub records_named : List Listed → Name → Option Records
 records_named [] name = None
 records_named (l ∷ ls) name = if bytes_eq l.name name then Some l.records else records_named ls name
 
-abbrev pub own_named : Option Records → Option RecordExtent
-own_named None = None
-own_named (Some records) = Some (own_extent records)
-
-abbrev pub tile_named : Option Records → ℕ → Option RecordExtent
-tile_named None k = None
-tile_named (Some records) k = tile_extent records k
-
 -- whether the end of an extent is a number of 64 bits, as in any file
 abbrev pub is_near : RecordExtent → Bool
 is_near e = nat_lt (e.block + blocks e.size) (2 ^ 64)
 
+-- the extent, where its end is such a number
 abbrev pub if_near : Option RecordExtent → Option RecordExtent
 if_near None = None
 if_near (Some e) = if is_near e then Some e else None
 
 -- ---- what stays
 
+-- whether a layer is held, with an equal content
 abbrev pub holds_content : Option Content → Content → Bool
 holds_content None content = false
 holds_content (Some held) content = same_content held content
 
+-- whether a tile is held that is equal
 abbrev pub holds_tile : Option Tile → Tile → Bool
 holds_tile None tile = false
 holds_tile (Some held) tile = same_tile held tile
@@ -82,13 +79,13 @@ holds_tile (Some held) tile = same_tile held tile
 abbrev pub layer_stays : LiveContent → Layer → Option RecordExtent
 layer_stays live layer =
     if holds_content (content_named live.layers layer.name) layer.content
-    then if_near (own_named (records_named live.listing layer.name)) else None
+    then if_near (option_map own_extent (records_named live.listing layer.name)) else None
 
 -- where a tile's record stays: the live root has a tile of this name and column that is equal
-abbrev pub tile_stays : LiveContent → Finished → Option RecordExtent
-tile_stays live t =
+abbrev pub record_stays : LiveContent → Finished → Option RecordExtent
+record_stays live t =
     if holds_tile (tile_at live.tiles t.name t.column) t.tile
-    then if_near (tile_named (records_named live.listing t.name) t.column) else None
+    then if_near (option_and_then (λ records. tile_extent records t.column) (records_named live.listing t.name)) else None
 
 -- ---- what it takes
 

@@ -6,7 +6,7 @@ ghost use Rattle.overlay_terms.specs.Commands.{is_derived};
 ghost use Rattle.overlay_terms.specs.Histories.{is_formed, tile_at};
 ghost use Rattle.tile_build.specs.Tile.{named_pieces, tile_of};
 ghost use Rattle.layer_book.specs.Layer.{content};
-ghost use Rattle.layer_tiles.specs.Filling.{named};
+ghost use Rattle.layer_tiles.specs.Filling.{finished_as};
 ghost use Rattle.layer_tiles.specs.Table.{places_in, row_tiles, tiles_in};
 ghost use Rattle.layer_tiles.specs.TileCode.{by_places, Named};
 ghost use Rattle.store_terms.specs.Listing.{entry_of, entries_of, records_of, IsListable};
@@ -90,7 +90,7 @@ fn file_tile(
     requires listed { option_map (λ records. records_of records.now) records ≡ records_named (live_content live.now).listing name.now }
     requires formed { IsTrue (is_formed (tile_of tile.now) column) }
     requires known { IsTrue known → tile_at (live_content live.now).tiles name.now column ≡ Some (tile_of tile.now) }
-    ensures ok { IfOk result (λ e. IsFiled draft.old (SaysTile (live_content live.now) (named name.now column (tile_of tile.now))) e draft.new) }
+    ensures ok { IfOk result (λ e. IsFiled draft.old (SaysTile (live_content live.now) (finished_as name.now column (tile_of tile.now))) e draft.new) }
     ensures sizes { IfOk result (λ _. sizes_in draft.new ≡ sizes_in draft.old ++ tile_sizes (live_content live.now) name.now column (named_pieces tile.now)) }
     ensures full { IsErrOf result StoreFault.Full → HasNoRunFor draft.old (tile_sizes (live_content live.now) name.now column (named_pieces tile.now)) }
     ensures err { IfErr result (λ fault. (fault ≡ StoreFault.Full) ⊎ (fault ≡ StoreFault.OutOfMemory)) }

@@ -37,7 +37,7 @@ use Rattle.std.proofs.lemmas.Grind.{flat_map-append}
 use Rattle.crossing_sweep.specs.StripInput.{StripInput, IsStripInput, segments_in, is_in_closed_strip, Span}
 use Rattle.crossing_sweep.specs.Leaning.{IsSmall}
 use Rattle.crossing_sweep.specs.Queue.{IsUpTo, IsQueued}
-use Rattle.crossing_sweep.specs.Ahead.{points_of, cut_names, own_names, HasAdded, IsOffered, AreOffered, AreKnownPlaces}
+use Rattle.crossing_sweep.specs.Ahead.{points_of, cut_names, known_names, HasAdded, IsOffered, AreOffered, AreKnownPlaces}
 use Rattle.crossing_sweep.proofs.PassLemmas.{all_of}
 
 -- ---- one more name
@@ -106,10 +106,10 @@ within_alike strip p z hp hz same = same_tests (is_in_closed_strip strip p) (is_
 
 -- one more segment offers its names
 pub own_more : (k : Span) (items : List MarkedSeg) (i : ℕ) (x : MarkedSeg) → i < length items → x ≡ get_or items i x
-    → flat_map (λ s. own_names s k) (map (λ (m : MarkedSeg). m.seg) (take i items)) ++ own_names x.seg k ≡ flat_map (λ s. own_names s k) (map (λ (m : MarkedSeg). m.seg) (take (i + 1) items))
+    → flat_map (λ s. known_names s k) (map (λ (m : MarkedSeg). m.seg) (take i items)) ++ known_names x.seg k ≡ flat_map (λ s. known_names s k) (map (λ (m : MarkedSeg). m.seg) (take (i + 1) items))
 own_more k items i x h e =
     let seg : MarkedSeg → Segment = λ m. m.seg in
-    let own : Segment → List PointName = λ s. own_names s k in
+    let own : Segment → List PointName = λ s. known_names s k in
     sym (
     ap (λ xs. flat_map own (map seg xs)) (take_more items i x h)
     ∙ ap (flat_map own) (map-append seg (take i items) (get_or items i x ∷ []))
@@ -158,12 +158,12 @@ cut_there s strip j from to =
       get_or-map-range_with_len (λ (k : ℕ). Border s k) strip.first (strip.last + 2 - strip.first) (j - strip.first) j (Border s j) inside back,
     )
 
-module _ (input : StripInput) (is : IsStripInput input) (found : List (HPoint × PointName)) (are : AreOffered input.strip (flat_map (λ s. own_names s input.strip) (segments_in input)) found) where
+module _ (input : StripInput) (is : IsStripInput input) (found : List (HPoint × PointName)) (are : AreOffered input.strip (flat_map (λ s. known_names s input.strip) (segments_in input)) found) where
   abbrev segments : List Segment
   segments = segments_in input
 
   abbrev own : Segment → List PointName
-  own s = own_names s input.strip
+  own s = known_names s input.strip
 
   entry : (e : HPoint × PointName) → Contains found e → IsOffered input.strip (flat_map own segments) e
   entry e c = All-contains (IsOffered input.strip (flat_map own segments)) found e are.sound c

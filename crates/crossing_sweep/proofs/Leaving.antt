@@ -561,15 +561,14 @@ module _ (input : StripInput) (valid : IsStripInput input) (full status after : 
   turned : AllPairs (λ a b. pos 0 ≤ℤ turn_of a b) (segs_of staying)
   turned = turned_order (filter (λ m. ends_after (place at) m.unit.seg) together)
 
-  tested : AreSeamsTested input.strip (place at) (segs_of full_after) (seams_at (is_in_strip input.strip (place at)) low_full (low_full + length stay)) search search
-  tested =
-      subst (λ t. AreSeamsTested input.strip (place at) (segs_of full_after) (seams_at t low_full (low_full + length stay)) search search) (sym out) (no_seams input.strip (place at) (segs_of full_after) search)
+  tested : AreSeamsTested input.strip (place at) (segs_of full_after) (seams_at false low_full (low_full + length stay)) search search
+  tested = no_seams input.strip (place at) (segs_of full_after) search
 
   steps : IsStepped input at begin full full_after coming rest search search rows more_rows
   steps =
       stepped input at begin full full_after staying stay low_full high_full (length stay) entering_count coming search search rows more_rows (omega arith) (high_few (place at) full falls_full)
       (λ fall. split_there (place at) full falls_full) refl moved turned (relabel_units begin (mask_over 0 u) staying)
-      (subst (λ t. AreBegun input.steps (mask_over 0 u) begin t stay) (sym out) (relabel_begun begin input.steps (mask_over 0 u) staying)) rows_same refl refl tested
+      (subst (λ t. AreBegun input.steps (mask_over 0 u) begin t stay) (sym out) (relabel_begun begin input.steps (mask_over 0 u) staying)) rows_same refl refl false (λ e. inl out) tested
 
   leaves_way : IsUnderWay input search.listed full_after rest search.ahead search.tests.items more_rows (names ++ name ∷ [])
   leaves_way = goes_way input valid full full_after coming rest at name begin search search rows more_rows names way least numbered steps

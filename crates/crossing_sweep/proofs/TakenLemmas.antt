@@ -61,7 +61,8 @@ module _ (input : StripInput) (n : ℤ) (units : List Unit) (q : Point) (at : HP
     (enters : entering ≡ take (prefix_len (λ s. same_hpoint s.at at) coming) coming) (remains : rest ≡ drop (prefix_len (λ s. same_hpoint s.at at) coming) coming)
     (split_of : SidesFallAlong (place at) (segs_of (under ++ bundle ++ over)) → IsSplitAt (place at) (segs_of under) (segs_of bundle) (segs_of over))
     (moved : IsPermutation (filter (ends_after (place at)) (segs_of bundle ++ segs_to_come entering)) (segs_of stay)) (sorted : AllPairs (λ a b. pos 0 ≤ℤ turn_of a b) (segs_of stay))
-    (tested : AreSeamsTested input.strip (place at) (segs_of (under ++ stay ++ over)) (seams_at (is_in_strip input.strip (place at)) (length under) (length (under ++ stay))) old new) where
+    (tests : Bool) (known : tests ≡ false → (is_in_strip input.strip (place at) ≡ false) ⊎ (segs_of stay ≡ segs_of bundle))
+    (tested : AreSeamsTested input.strip (place at) (segs_of (under ++ stay ++ over)) (seams_at tests (length under) (length (under ++ stay))) old new) where
   abbrev r : Point
   r = place at
 
@@ -231,16 +232,28 @@ module _ (input : StripInput) (n : ℤ) (units : List Unit) (q : Point) (at : HP
       node : IsTrue (is_node segments p)
       node = stretches_cross segments a b p (whole a among_a) (whole b among_b) hp crossing.on_first crossing.on_second crossing.not_parallel
 
-  -- in it the two seams are tested
-  in_strip : is_in_strip input.strip r ≡ true → (i : ℕ) (d : Segment) (p : Point) → (i + 1 ≡ length u) ⊎ (i + 1 ≡ length (u ++ s)) → i + 1 < length (u ++ s ++ o)
+  -- where the neighbours are those that there were, their crossings were known before
+  by_old : s ≡ b → (i : ℕ) (d : Segment) (p : Point) → i + 1 < length (u ++ s ++ o) → Found (get_or (u ++ s ++ o) i d) (get_or (u ++ s ++ o) (i + 1) d) p
+  by_old same i d p inside hp crossing less up_to =
+      kept p hp (seams i d p inside hp crossing (less_through q r p stands.come.full.status_at.small.positive hr hp first.after less) up_to) less
+    where
+      WereKnown : List Segment → Type 0
+      WereKnown us = (i : ℕ) (d : Segment) (p : Point) → i + 1 < length us → pos 0 <ℤ p.w → IsCrossingOf (get_or us i d) (get_or us (i + 1) d) p → point_cmp q p ≡ Less → IsUpTo input.strip p
+          → IsQueued (r ∷ keys) p
+
+      seams : WereKnown (u ++ s ++ o)
+      seams = subst (λ (us : List Segment). WereKnown (u ++ us ++ o)) (sym same) come.queue.seams
+
+  -- else the two seams are tested
+  at_seams : tests ≡ true → (i : ℕ) (d : Segment) (p : Point) → (i + 1 ≡ length u) ⊎ (i + 1 ≡ length (u ++ s)) → i + 1 < length (u ++ s ++ o)
       → Found (get_or (u ++ s ++ o) i d) (get_or (u ++ s ++ o) (i + 1) d) p
-  in_strip inner i d p which inside hp crossing less up_to = found i d p (seam i which) inside hp crossing less (within p hp less up_to)
+  at_seams test i d p which inside hp crossing less up_to = found i d p (seam i which) inside hp crossing less (within p hp less up_to)
     where
       seams : List ℕ
       seams = length under ∷ length (under ++ stay) ∷ []
 
       both : AreSeamsTested input.strip r (segs_of (under ++ stay ++ over)) seams old new
-      both = subst (λ b. AreSeamsTested input.strip r (segs_of (under ++ stay ++ over)) (seams_at b (length under) (length (under ++ stay))) old new) inner tested
+      both = subst (λ b. AreSeamsTested input.strip r (segs_of (under ++ stay ++ over)) (seams_at b (length under) (length (under ++ stay))) old new) test tested
 
       found : (i : ℕ) (d : Segment) (p : Point) → Contains seams (i + 1) → i + 1 < length (u ++ s ++ o) → pos 0 <ℤ p.w → IsCrossingOf (get_or (u ++ s ++ o) i d) (get_or (u ++ s ++ o) (i + 1) d) p
           → point_cmp r p ≡ Less → IsTrue (is_in_closed_strip input.strip p) → IsQueued (points_of new.ahead) p
@@ -257,16 +270,20 @@ module _ (input : StripInput) (n : ℤ) (units : List Unit) (q : Point) (at : HP
           (contains_rest (length under) (length (under ++ stay) ∷ []) (length (under ++ stay)) (contains_first (length (under ++ stay)) []))
 
   grown : IsGrown input.strip r u s o (r ∷ keys) (points_of new.ahead)
-  grown = record { kept = kept; tested = λ i d p which inside. by i d p which inside (told (is_in_strip input.strip r)) }
+  grown = record { kept = kept; tested = λ i d p which inside. by i d p which inside (told tests) }
     where
-      by : (i : ℕ) (d : Segment) (p : Point) → (i + 1 ≡ length u) ⊎ (i + 1 ≡ length (u ++ s)) → i + 1 < length (u ++ s ++ o) → Told (is_in_strip input.strip r)
-          → Found (get_or (u ++ s ++ o) i d) (get_or (u ++ s ++ o) (i + 1) d) p
-      by i d p which inside (yes e) = in_strip e i d p which inside
-      by i d p which inside (no e) =
-          on_border e (get_or (u ++ s ++ o) i d) (get_or (u ++ s ++ o) (i + 1) d) p (Contains-get_or (u ++ s ++ o) i d (before_next i (length (u ++ s ++ o)) inside)) (Contains-get_or (u ++ s ++ o) (i + 1) d inside)
+      untested : (i : ℕ) (d : Segment) (p : Point) → i + 1 < length (u ++ s ++ o) → (is_in_strip input.strip r ≡ false) ⊎ (s ≡ b) → Found (get_or (u ++ s ++ o) i d) (get_or (u ++ s ++ o) (i + 1) d) p
+      untested i d p inside (inr same) = by_old same i d p inside
+      untested i d p inside (inl out) =
+          on_border out (get_or (u ++ s ++ o) i d) (get_or (u ++ s ++ o) (i + 1) d) p (Contains-get_or (u ++ s ++ o) i d (before_next i (length (u ++ s ++ o)) inside)) (Contains-get_or (u ++ s ++ o) (i + 1) d inside)
         where
           before_next : (i n : ℕ) → i + 1 < n → i < n
           before_next i n l = omega (arith, l)
+
+      by : (i : ℕ) (d : Segment) (p : Point) → (i + 1 ≡ length u) ⊎ (i + 1 ≡ length (u ++ s)) → i + 1 < length (u ++ s ++ o) → Told tests
+          → Found (get_or (u ++ s ++ o) i d) (get_or (u ++ s ++ o) (i + 1) d) p
+      by i d p which inside (yes e) = at_seams e i d p which inside
+      by i d p which inside (no e) = untested i d p inside (known e)
 
   pub is_step : IsStepTo segments input.strip r u b o e s t keys (points_of new.ahead)
   is_step = record {
@@ -289,7 +306,8 @@ module _ (input : StripInput) (at : HPoint) (begin : ℕ) (ms after turned stay 
     (moved : IsPermutation (filter (unit_after (place at)) (units_of (slice_range ms low high) ++ map (λ (s : Start). s.unit) (take k coming))) (units_of turned))
     (sorted : AllPairs (λ a b. pos 0 ≤ℤ turn_of a b) (segs_of turned)) (labelled : units_of stay ≡ units_of turned)
     (begun : AreBegun input.steps (mask_over 0 (take low ms)) begin (is_in_strip input.strip (place at)) stay) (closed : more_rows ≡ rows ++ rows_of begin (slice_range ms low high))
-    (is : after ≡ take low ms ++ stay ++ drop high ms) (long : len ≡ length stay) (tested : AreSeamsTested input.strip (place at) (segs_of after) (seams_at (is_in_strip input.strip (place at)) low (low + len)) old new) where
+    (is : after ≡ take low ms ++ stay ++ drop high ms) (long : len ≡ length stay) (tests : Bool)
+    (known : tests ≡ false → (is_in_strip input.strip (place at) ≡ false) ⊎ (segs_of stay ≡ segs_of (slice_range ms low high))) (tested : AreSeamsTested input.strip (place at) (segs_of after) (seams_at tests low (low + len)) old new) where
   was : ms ≡ take low ms ++ slice_range ms low high ++ drop high ms
   was =
       sym (take-append-drop low ms) ∙ ap (λ ys. take low ms ++ ys) (drop_split ms low high in_order) ∙ sym (append_assoc (take low ms) (slice_range ms low high) (drop high ms))
@@ -300,13 +318,10 @@ module _ (input : StripInput) (at : HPoint) (begin : ℕ) (ms after turned stay 
   up : low + len ≡ length (take low ms ++ stay)
   up = omega (arith, length-append (take low ms) stay, below, long)
 
-  abbrev inside : Bool
-  inside = is_in_strip input.strip (place at)
-
-  at_seams : AreSeamsTested input.strip (place at) (segs_of after) (seams_at inside (length (take low ms)) (length (take low ms ++ stay))) old new
-  at_seams =
-      subst (λ j. AreSeamsTested input.strip (place at) (segs_of after) (seams_at inside j (length (take low ms ++ stay))) old new) (sym below)
-      (subst (λ j. AreSeamsTested input.strip (place at) (segs_of after) (seams_at inside low j) old new) up tested)
+  seams_tested : AreSeamsTested input.strip (place at) (segs_of after) (seams_at tests (length (take low ms)) (length (take low ms ++ stay))) old new
+  seams_tested =
+      subst (λ j. AreSeamsTested input.strip (place at) (segs_of after) (seams_at tests j (length (take low ms ++ stay))) old new) (sym below)
+      (subst (λ j. AreSeamsTested input.strip (place at) (segs_of after) (seams_at tests low j) old new) up tested)
 
   stay_moved : IsPermutation (filter (unit_after (place at)) (units_of (slice_range ms low high) ++ map (λ (s : Start). s.unit) (take k coming))) (units_of stay)
   stay_moved =
@@ -328,10 +343,12 @@ module _ (input : StripInput) (at : HPoint) (begin : ℕ) (ms after turned stay 
     among = stay_units (place at) (slice_range ms low high) stay (take k coming) stay_moved;
     begun = begun;
     closed = closed;
-    tested = at_seams;
+    tests = tests;
+    known = known;
+    tested = seams_tested;
     step = λ n units q stands.
         is_step input n units q at (take low ms) (slice_range ms low high) (drop high ms) stay coming (take k coming) (drop k coming) old new
         (subst (λ (xs : List Member). StandsBefore n input units q at xs coming old.ahead) was stands) (ap (λ j. take j coming) count) (ap (λ j. drop j coming) count)
         (λ falls. split (subst (λ (xs : List Member). SidesFallAlong (place at) (segs_of xs)) (sym was) falls)) (segs_moved (place at) (slice_range ms low high) stay (take k coming) stay_moved) stay_sorted
-        (subst (λ (xs : List Member). AreSeamsTested input.strip (place at) (segs_of xs) (seams_at inside (length (take low ms)) (length (take low ms ++ stay))) old new) is at_seams);
+        tests known (subst (λ (xs : List Member). AreSeamsTested input.strip (place at) (segs_of xs) (seams_at tests (length (take low ms)) (length (take low ms ++ stay))) old new) is seams_tested);
   }

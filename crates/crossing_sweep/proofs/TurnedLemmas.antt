@@ -1,7 +1,7 @@
 -- The units and segments of members that a sort has put in the order of their directions.
-use Rattle.std.proofs.Common.{◌≡◌, ◌⊎◌, inl, inr, Bool, ℕ, ℤ, pos, neg_ℤ, ◌<◌, ◌<ℤ◌, ◌≤ℤ◌, false, List, [], ◌∷◌, ◌++◌, map, get_or, length, refl, ap, sym, subst, ◌∙◌, arith}
+use Rattle.std.proofs.Common.{◌≡◌, ◌⊎◌, inl, inr, Bool, cond, ℕ, ℤ, pos, neg_ℤ, ◌-◌, ◌≤◌, ◌<◌, ◌<ℤ◌, ◌≤ℤ◌, false, List, [], ◌∷◌, ◌++◌, map, take, drop, get_or, length, refl, ap, sym, subst, ◌∙◌, arith}
 use Rattle.std.specs.Prelude.{filter, All, Contains}
-use Rattle.std.specs.List.{AllPairs}
+use Rattle.std.specs.List.{AllPairs, slice_range}
 use Rattle.std.specs.List.Sorted.{IsPermutation, IsSorted}
 use Rattle.std.specs.Ordering.{is_lt, int_cmp}
 use Rattle.std.specs.Cmp.{int_cmp_is}
@@ -9,13 +9,13 @@ use Rattle.std.specs.declared.cmp.Ordering.TheVariants.{Less}
 use Rattle.std.proofs.lemmas.Int.{ints, by_lt_z}
 use Rattle.std.proofs.lemmas.Bool.{both_ways}
 use Rattle.std.proofs.lemmas.List.Elements.{filter-append, Contains-append_cases, All-contains}
-use Rattle.std.proofs.lemmas.List.{map-append}
+use Rattle.std.proofs.lemmas.List.{map-append, length-take-le, length-drop}
 use Rattle.std.proofs.lemmas.Simd.{map-map}
-use Rattle.overlay_terms.proofs.Lists.{contains_map, from_map}
+use Rattle.overlay_terms.proofs.Lists.{contains_map, from_map, contains_first, none_in_empty, Contains-cons_cases}
 use Rattle.arrange.specs.declared.unit.Unit.{Unit}
 use Rattle.crossing_sweep.specs.declared.start.Start.{Start}
 use Rattle.crossing_sweep.proofs.PassLemmas.{all_of, filter_contains}
-use Rattle.std.proofs.lemmas.List.Sorted.{sorted_far, ranks_by, IsPermutation-map, IsPermutation-sym, Contains-permutation}
+use Rattle.std.proofs.lemmas.List.Sorted.{sorted_far, ranks_by, IsPermutation-map, IsPermutation-sym, Contains-permutation, length_permutation}
 use Rattle.overlay_terms.specs.Plane.{Point, Segment}
 use Rattle.overlay_terms.proofs.Pairs.{pairs_map}
 use Rattle.overlay_terms.proofs.Whole.{turn_back}
@@ -124,3 +124,41 @@ module _ (stay : List Member) (sorted : IsSorted member_cmp stay) where
 
   pub all_turned : AllPairs (λ a b. pos 0 ≤ℤ turn_of a b) (segs_of stay)
   all_turned = pairs_map (λ a b. pos 0 ≤ℤ turn_of a b) seg_of stay left
+
+-- where one member alone is in a bundle, none enters and one stays, it is that one
+module _ (r : Point) where
+  sole : (m s : Member) → IsPermutation (filter (unit_after r) (m.unit ∷ [])) (s.unit ∷ []) → m.unit ≡ s.unit
+  sole m s moved = by (told (unit_after r m.unit)) moved
+    where
+      only : (m.unit ≡ s.unit) ⊎ Contains [] s.unit → m.unit ≡ s.unit
+      only (inl e) = e
+      only (inr h) = absurd (none_in_empty s.unit h)
+
+      one : IsPermutation (m.unit ∷ []) (s.unit ∷ []) → m.unit ≡ s.unit
+      one same =
+          only (Contains-cons_cases m.unit [] s.unit
+          (Contains-permutation (s.unit ∷ []) (m.unit ∷ []) s.unit (IsPermutation-sym (m.unit ∷ []) (s.unit ∷ []) same) (contains_first s.unit [])))
+
+      none : IsPermutation [] (s.unit ∷ []) → m.unit ≡ s.unit
+      none same = absurd (omega (arith, length_permutation [] (s.unit ∷ []) same))
+
+      by : Told (unit_after r m.unit) → IsPermutation (filter (unit_after r) (m.unit ∷ [])) (s.unit ∷ []) → m.unit ≡ s.unit
+      by (yes e) same = one (subst (λ b. IsPermutation (cond b (m.unit ∷ []) []) (s.unit ∷ [])) e same)
+      by (no e) same = none (subst (λ b. IsPermutation (cond b (m.unit ∷ []) []) (s.unit ∷ [])) e same)
+
+  alone_units : (bundle stay : List Member) (entering : List Start) → length bundle ≡ 1 → length entering ≡ 0 → length stay ≡ 1
+      → IsPermutation (filter (unit_after r) (units_of bundle ++ map (λ (s : Start). s.unit) entering)) (units_of stay) → segs_of stay ≡ segs_of bundle
+  alone_units (m ∷ []) (s ∷ []) [] e f g moved = ap (λ (u : Unit). u.seg ∷ []) (sym (sole m s moved))
+  alone_units [] stay entering e f g moved = absurd (omega (arith, e))
+  alone_units (m ∷ (n ∷ ms)) stay entering e f g moved = absurd (omega (arith, e))
+  alone_units (m ∷ []) [] entering e f g moved = absurd (omega (arith, g))
+  alone_units (m ∷ []) (s ∷ (t ∷ ss)) entering e f g moved = absurd (omega (arith, g))
+  alone_units (m ∷ []) (s ∷ []) (x ∷ xs) e f g moved = absurd (omega (arith, f))
+
+-- so it is where the code counts them
+pub alone_stays : (r : Point) (ms turned stay : List Member) (low high k : ℕ) (coming : List Start) → high ≤ length ms → high - low ≡ 1 → k ≡ 0 → length stay ≡ 1
+    → IsPermutation (filter (unit_after r) (units_of (slice_range ms low high) ++ map (λ (s : Start). s.unit) (take k coming))) (units_of turned) → units_of stay ≡ units_of turned
+    → segs_of stay ≡ segs_of (slice_range ms low high)
+alone_stays r ms turned stay low high k coming few single none one moved labelled =
+    alone_units r (slice_range ms low high) stay (take k coming) (length-take-le (high - low) (drop low ms) (omega (arith, few, length-drop low ms)) ∙ single) (ap (λ j. length (take j coming)) none) one
+    (subst (λ (us : List Unit). IsPermutation (filter (unit_after r) (units_of (slice_range ms low high) ++ map (λ (s : Start). s.unit) (take k coming))) us) (sym labelled) moved)

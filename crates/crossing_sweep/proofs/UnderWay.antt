@@ -29,7 +29,7 @@ use Rattle.exact_point.proofs.PlaceOrder.{one_positive, same_through, on_same, l
 use Rattle.exact_point.proofs.SameNodes.{same_back}
 use Rattle.arrange.specs.Units.{IsUnit}
 use Rattle.arrange.specs.declared.unit.Unit.{Unit}
-use Rattle.crossing_sweep.specs.StripInput.{StripInput, IsStripInput, AreStripSome, IsStripTile, is_in_strip, segments_in}
+use Rattle.crossing_sweep.specs.StripInput.{StripInput, IsStripInput, AreStripSome, IsStripTile, segments_in}
 use Rattle.crossing_sweep.specs.Leaning.{IsSteep, IsSmall}
 use Rattle.crossing_sweep.specs.Queue.{IsQueued}
 use Rattle.crossing_sweep.specs.Passing.{HasCome, IsEntry, IsStepTo, IsTaken}
@@ -237,12 +237,9 @@ module _ (input : StripInput) (valid : IsStripInput input) (status after : List 
   few : length new.tests.items ≤ 2 * length (names ++ name ∷ [])
   few =
       let long : length new.tests.items ≡ length old.tests.items + length stepped.tested.more = ap length stepped.tested.tests ∙ length-append old.tests.items stepped.tested.more in
-      let some : length (seams_at within (length u) (length (u ++ s))) ≤ 2 = at_most_two within (length u) (length (u ++ s)) in
+      let some : length (seams_at stepped.tests (length u) (length (u ++ s))) ≤ 2 = at_most_two stepped.tests (length u) (length (u ++ s)) in
       omega (arith, long, length-append names (name ∷ []), stepped.tested.few, some, way.few)
     where
-      within : Bool
-      within = is_in_strip input.strip (place at)
-
       at_most_two : (b : Bool) (i j : ℕ) → length (seams_at b i j) ≤ 2
       at_most_two true i j = omega arith
       at_most_two false i j = omega arith

@@ -49,8 +49,8 @@ is_first_before (e ∷ es) at = is_lt (hpoint_cmp e.0 at)
 abbrev pub cut_names : Segment → Span → List PointName
 cut_names s strip = map (λ (k : ℕ). Border s k) (range_with_len strip.first (strip.last + 2 - strip.first))
 
-abbrev pub own_names : Segment → Span → List PointName
-own_names s strip = Vertex s.left ∷ Vertex s.right ∷ cut_names s strip
+abbrev pub known_names : Segment → Span → List PointName
+known_names s strip = Vertex s.left ∷ Vertex s.right ∷ cut_names s strip
 
 -- a place has been added: it is there, and so is what was there; and nothing else has come
 pub record HasAdded (old : List (HPoint × PointName)) (at : HPoint) (name : PointName) (new : List (HPoint × PointName)) : Type 0 where

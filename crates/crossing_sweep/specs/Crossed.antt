@@ -10,7 +10,7 @@ use Rattle.exact_point.specs.Crossing.{IsCrossingOf}
 use Rattle.exact_point.specs.PlaceOf.{place_of}
 use Rattle.exact_point.specs.PointName.{HasPlace}
 use Rattle.exact_point.specs.declared.point_name.PointName.{PointName}
-use Rattle.arrange.specs.Arrangement.{segments_in}
+use Rattle.arrange.specs.Arrangement.{input_segments}
 use Rattle.arrange.specs.Units.{IsUnit}
 use Rattle.crossing_sweep.specs.Queue.{IsQueued}
 use Rattle.crossing_sweep.specs.Rows.{count_settled}
@@ -22,17 +22,17 @@ use Rattle.crossing_sweep.specs.declared.pass.Crossed.{Crossed}
 -- a node of the closed column
 pub record IsNodeIn (input : Input) (p : Point) : Type 0 where
   pub positive : pos 0 <ℤ p.w
-  pub node : IsTrue (is_node (segments_in input) p)
+  pub node : IsTrue (is_node (input_segments input) p)
   pub from : (border input.column *ℤ p.w) ≤ℤ p.x
   pub up_to : p.x ≤ℤ (border (input.column + 1) *ℤ p.w)
 
 -- a node strictly between the borders of the column that is no end of a segment
 pub record IsInner (input : Input) (p : Point) : Type 0 where
   pub positive : pos 0 <ℤ p.w
-  pub node : IsTrue (is_node (segments_in input) p)
+  pub node : IsTrue (is_node (input_segments input) p)
   pub after_border : (border input.column *ℤ p.w) <ℤ p.x
   pub before_border : p.x <ℤ (border (input.column + 1) *ℤ p.w)
-  pub no_end : is_end (segments_in input) p ≡ false
+  pub no_end : is_end (input_segments input) p ≡ false
 
 -- one of some pairs of segments crosses at a place
 abbrev pub IsCrossingAmong : List (Segment × Segment) → Point → Type 0

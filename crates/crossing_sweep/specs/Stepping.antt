@@ -1,5 +1,5 @@
 -- One step of a pass, from the members and the units to come before the next node to those after it.
-use Rattle.std.specs.Prelude.{◌≡◌, ℕ, ℤ, ◌++◌, ◌∷◌, List, map, length, All, AllPairs, Contains}
+use Rattle.std.specs.Prelude.{◌≡◌, ℕ, ℤ, ◌++◌, ◌∷◌, ◌⊎◌, Bool, false, List, map, length, All, AllPairs, Contains}
 use Rattle.std.specs.declared.cmp.Ordering.TheVariants.{Less}
 use Rattle.overlay_terms.specs.Plane.{Point, Segment, point_cmp}
 use Rattle.exact_point.specs.Place.{place}
@@ -36,7 +36,8 @@ pub record StandsBefore (n : ℤ) (input : StripInput) (units : List Unit) (q : 
   pub ordered : AllPairs (λ s t. ¬ (point_cmp (place t.at) (place s.at) ≡ Less)) coming
 
 -- a step to a place: the pieces of the members that hold it are closed, and these give way to those that stay, whose pieces begin there; some
--- units to come enter, and within the strip the neighbours at the two new seams are tested. So it is one step of the pass
+-- units to come enter, and the neighbours at the two new seams are tested, but for a place that is not in the strip, and where all neighbours are
+-- those that there were. So it is one step of the pass
 pub record IsStepped (input : StripInput) (at : HPoint) (begin : ℕ) (status after : List Member) (coming rest : List Start) (old new : Search) (rows more_rows : List Row) : Type 0 where
   pub under : List Member
   pub bundle : List Member
@@ -49,6 +50,8 @@ pub record IsStepped (input : StripInput) (at : HPoint) (begin : ℕ) (status af
   pub among : (units : List Unit) → All (λ m. Contains units m.unit) bundle → All (λ s. Contains units s.unit) entering → All (λ m. Contains units m.unit) stay
   pub begun : AreBegun input.steps (mask_over 0 under) begin (is_in_strip input.strip (place at)) stay
   pub closed : more_rows ≡ rows ++ rows_of begin bundle
-  pub tested : AreSeamsTested input.strip (place at) (segs_of after) (seams_at (is_in_strip input.strip (place at)) (length under) (length (under ++ stay))) old new
+  pub tests : Bool
+  pub known : tests ≡ false → (is_in_strip input.strip (place at) ≡ false) ⊎ (segs_of stay ≡ segs_of bundle)
+  pub tested : AreSeamsTested input.strip (place at) (segs_of after) (seams_at tests (length under) (length (under ++ stay))) old new
   pub step : (n : ℤ) (units : List Unit) (q : Point) → StandsBefore n input units q at status coming old.ahead
       → IsStepTo (segments_in input) input.strip (place at) (segs_of under) (segs_of bundle) (segs_of over) (segs_to_come entering) (segs_of stay) (segs_to_come rest) (points_of old.ahead) (points_of new.ahead)

@@ -24,7 +24,7 @@ is_in_strip strip p = int_le (border strip.first *ℤ p.w) p.x && int_lt p.x (bo
 abbrev pub is_in_closed_strip : Span → Point → Bool
 is_in_closed_strip strip p = int_le (border strip.first *ℤ p.w) p.x && int_le p.x (border (strip.last + 1) *ℤ p.w)
 
--- what a pass is made of: the segments that have a point in its strip, and the definitions in reach
+-- what a pass is made of: a strip, marked segments, whichever they are, and the definitions in reach
 pub record StripInput : Type 0 where
   pub strip : Span
   pub marked : List Marked

@@ -36,7 +36,7 @@ pub record IsFoundIn (strip : Span) (r : Point) (status : List Segment) (listed 
   pub found : IsFound strip r lower upper e
   pub told : listed ≡ true → Contains tests (lower, upper)
 
--- the seams at which a step tests, of which the members under the node and those that stay there make two: on the right border of the strip none
+-- the seams at which a step tests, of which the members under the node and those that stay there make two: none where it tests nothing
 abbrev pub seams_at : Bool → ℕ → ℕ → List ℕ
 seams_at true low high = low ∷ high ∷ []
 seams_at false low high = []

@@ -5,7 +5,7 @@ ghost use Rattle.exact_point.specs.declared.point_name.PointName.{PointName};
 ghost use Rattle.overlay_terms.specs.Plane.{whole};
 ghost use Rattle.arrange.specs.NamedPlaces.{named_cmp};
 ghost use Rattle.crossing_sweep.specs.StripInput.{is_in_closed_strip};
-ghost use Rattle.crossing_sweep.specs.Ahead.{AreKnownPlaces, AreOffered, cut_names, own_names, known_entry};
+ghost use Rattle.crossing_sweep.specs.Ahead.{AreKnownPlaces, AreOffered, cut_names, known_names, known_entry};
 ghost use Rattle.crossing_sweep.specs.RankedPlace.{named_of, ranked_entry};
 
 use crate::ahead::Ahead;
@@ -75,7 +75,7 @@ fn named(alloc: Global, places: &[&RankedPlace]) -> Result<Vec<NamedPlace>, Allo
 
 /// Offers the ends of a segment and where the strip's borders cut it.
 fn offer_own(places: &mut Vec<RankedPlace>, seg: &Seg, strip: Strip) -> Result<(), AllocError>
-    ensures { OnOk result ((names : List PointName) → AreOffered strip names (map ranked_entry places.old.items) → AreOffered strip (names ++ own_names seg.now strip) (map ranked_entry places.new.items)) }
+    ensures { OnOk result ((names : List PointName) → AreOffered strip names (map ranked_entry places.old.items) → AreOffered strip (names ++ known_names seg.now strip) (map ranked_entry places.new.items)) }
 {
     offer_end(places, seg.left(), strip)?;
     offer_end(places, seg.right(), strip)?;

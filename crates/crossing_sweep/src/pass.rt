@@ -73,8 +73,8 @@ pub fn cross(
     Ok(found)
 }
 
-/// The boundary of a strip's input, found by one pass that stops after more than so many pieces in all. The pieces that
-/// begin in one of its columns stand together, and are that column's tile.
+/// The boundary of a strip's input, found by one pass that stops after more than so many pieces in all. Where there are no
+/// more, the pieces that begin in one of its columns stand together, and are that column's tile.
 pub fn cross_strip(
     alloc: Global,
     input: &PassInput,

@@ -10,8 +10,8 @@ use arrange::{MarkedSeg, TileInput};
 use layer_expr::StepList;
 use std::marker::Model;
 
-/// The segments that have a point in a strip of neighbouring columns, each with the number of its layer,
-/// and the definitions in reach, lent for a pass.
+/// A strip of neighbouring columns, segments, each with the number of its layer, and the definitions in reach, lent
+/// for a pass. What is found there is found of these segments, whichever they are.
 #[derive(Drop)]
 pub struct PassInput<'a> {
     strip: Strip,
@@ -47,7 +47,8 @@ impl<'a> PassInput<'a> {
         }
     }
 
-    /// The input of a strip: segments in reach, all that have a point in it among them, and the definitions in reach.
+    /// The input of a strip. It has what the tiles of its columns are made of where the segments are all in reach that
+    /// have a point there, perhaps with others.
     pub fn of_strip(strip: Strip, marked: &'a [MarkedSeg], steps: &'a StepList) -> PassInput<'a>
         requires valid { IsStripInput (record { strip = strip; marked = map marked_of marked.now; steps = steps.now }) }
         requires few { length (map marked_of marked.now) ≤ segments_max }

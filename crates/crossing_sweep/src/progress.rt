@@ -36,8 +36,8 @@ pub(crate) struct Progress {
 
 impl Progress {
     /// Passes a node: the pieces of the members that hold it are closed. In the strip these give way to
-    /// those that go on or enter there, which a list is lent for, and the new neighbours are tested; on its
-    /// right border, where no piece of it begins, nothing else is done. The list has the members that begin.
+    /// those that go on or enter there, which a list is lent for, and new neighbours are tested; on its right
+    /// border, where no piece of it begins, nothing else is done. The list has the members that begin.
     pub(crate) fn step(
         &mut self,
         alloc: Global,
@@ -75,14 +75,26 @@ impl Progress {
         turned(stay, &self.status[low..high], &coming[..entered], at, begin)?;
         let under = mask_over(&self.status[..low]);
         label(input, values, stay, under, begin);
-        let top = low + stay.len();
+        let staying = stay.len();
+        let top = low + staying;
         replace(alloc, &mut self.status, low, high, stay)?;
+        let alone = is_alone(high - low, entered, staying);
         self.search
-            .test_new(input.strip(), at, &self.status, low, top)?;
+            .test_new(!alone, input.strip(), at, &self.status, low, top)?;
         self.entered += entered;
         self.hint = top;
         Ok(())
     }
+}
+
+/// Whether one member alone holds a node, none enters there, and that one goes on, as at most borders between the columns
+/// of a strip: all neighbours stay, and where they cross is known.
+fn is_alone(bundle: usize, entered: usize, staying: usize) -> bool
+    ensures bundle { result ≡ true → bundle ≡ 1 }
+    ensures entered { result ≡ true → entered ≡ 0 }
+    ensures staying { result ≡ true → staying ≡ 1 }
+{
+    bundle == 1 && entered == 0 && staying == 1
 }
 
 /// Puts members in the place of those of a range. Mostly as many come as go, or one comes, or one goes:

@@ -10,7 +10,7 @@ use crate::pass_input::PassInput;
 use crate::rank::rank;
 use crate::start::Start;
 use crate::strip::Strip;
-use arrange::units;
+use arrange::units_of;
 use exact_point::{HPoint, PointName};
 use plane_base::Seg;
 use std::alloc::{AllocError, Global};
@@ -19,7 +19,7 @@ use std::alloc::{AllocError, Global};
 pub(crate) fn starts(alloc: Global, input: &PassInput) -> Result<Vec<Start>, AllocError>
     ensures { IfOk result (λ list. AreStarts input.now list.items) }
 {
-    let units = units(alloc, input.marked())?;
+    let units = units_of(alloc, input.marked())?;
     let mut list = Vec::with_capacity(alloc, units.len())?;
     for unit in &units {
         if is_met(&unit.seg, input.strip()) {

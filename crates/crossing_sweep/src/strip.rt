@@ -1,10 +1,11 @@
 //! Strips of neighbouring columns.
-ghost use Rattle.std.specs.Prelude.{◌≡◌, ◌+◌, ◌≤◌, ◌*ℤ◌, int_le};
+ghost use Rattle.std.specs.Prelude.{◌≡◌, ◌+◌, ◌≤◌};
 ghost use Rattle.overlay_terms.specs.Column.{border};
 ghost use Rattle.overlay_terms.specs.Plane.{InRange};
 ghost use Rattle.exact_point.specs.Place.{place};
 ghost use Rattle.crossing_sweep.specs.StripInput.{is_in_strip, is_in_closed_strip};
 
+use arrange::is_up_to;
 use exact_point::{HPoint, border_side, end_side};
 use plane_base::Column;
 use std::marker::Model;
@@ -88,11 +89,4 @@ impl Strip {
         // Eager, so that one equation says all: both sides are known by then.
         from_left.is_ge() & to_right
     }
-}
-
-/// Whether a point lies left of a column's right border or on it.
-fn is_up_to(column: Column, p: &HPoint) -> bool
-    ensures { result ≡ int_le p.now.x (border (column + 1) *ℤ p.now.w) }
-{
-    end_side(column, p).is_le()
 }

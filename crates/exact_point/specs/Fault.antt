@@ -1,4 +1,5 @@
-use Rattle.std.specs.Prelude.{ℕ, List, codes}
+use Rattle.std.specs.Prelude.{ℕ, List}
+use Rattle.fault_texts.specs.FaultTable.{text}
 use Rattle.exact_point.specs.declared.fault.PointFault.{PointFault}
 use Rattle.exact_point.specs.declared.fault.PointFault.TheVariants.{PointRange}
 
@@ -8,4 +9,4 @@ code_of PointRange = 20
 
 -- the text that is printed after the number
 abbrev pub text_of : PointFault → List ℕ
-text_of PointRange = codes "point out of range"
+text_of fault = text (code_of fault)

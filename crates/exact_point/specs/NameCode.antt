@@ -9,11 +9,13 @@ use Rattle.exact_point.specs.NamedPiece.{NamedPiece}
 use Rattle.exact_point.specs.declared.point_name.PointName.{PointName}
 use Rattle.exact_point.specs.declared.point_name.PointName.TheVariants.{Vertex, Cross, Border}
 
+-- a name of a place is one of three: a point; two segments; a segment, and the column whose border cuts it
 abbrev pub name_parts : PointName → WholePoint ⊎ (Segment × Segment ⊎ Segment × ℕ)
 name_parts (Vertex v) = inl v
 name_parts (Cross a b) = inr (inl (a, b))
 name_parts (Border s k) = inr (inr (s, k))
 
+-- the name of a place that has these parts
 abbrev pub name_from : WholePoint ⊎ (Segment × Segment ⊎ Segment × ℕ) → PointName
 name_from (inl v) = Vertex v
 name_from (inr (inl crossed)) = Cross crossed.0 crossed.1

@@ -20,6 +20,7 @@ crossing_place a b =
 abbrev pub cut_place : Segment → ℕ → Point
 cut_place s column = part_way s (border column -ℤ s.left.x) (s.right.x -ℤ s.left.x)
 
+-- where a named place lies: at the point, where the two segments cross, or where the border cuts the segment
 abbrev pub place_of : PointName → Point
 place_of (Vertex v) = whole v
 place_of (Cross a b) = crossing_place a b

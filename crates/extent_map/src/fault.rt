@@ -38,7 +38,7 @@ impl ExtentFault {
     {
         match self {
             ExtentFault::Full => CommonFault::Full.text(),
-            ExtentFault::Overlap => FaultText::Plain("damaged 9"),
+            ExtentFault::Overlap => FaultText::At("damaged ", 9),
             ExtentFault::OutOfMemory => CommonFault::OutOfMemory.text(),
         }
     }

@@ -1,5 +1,6 @@
--- The faults that several crates report: their numbers and texts.
-use Rattle.std.specs.Prelude.{ℕ, List, codes}
+-- The faults that several crates report.
+use Rattle.std.specs.Prelude.{ℕ, List}
+use Rattle.fault_texts.specs.FaultTable.{text}
 use Rattle.fault_texts.specs.declared.common_fault.CommonFault.{CommonFault}
 use Rattle.fault_texts.specs.declared.common_fault.CommonFault.TheVariants.{Device, Full, StoreFailed, SequenceLimit, OutOfMemory, Closing, Gone, NoStore, Read, Write, Words}
 
@@ -19,14 +20,4 @@ code_of Words = 50
 
 -- the text that is printed after the number
 abbrev pub text_of : CommonFault → List ℕ
-text_of Device = codes "device"
-text_of Full = codes "full"
-text_of StoreFailed = codes "store failed"
-text_of SequenceLimit = codes "sequence limit"
-text_of OutOfMemory = codes "out of memory"
-text_of Closing = codes "closing"
-text_of Gone = codes "gone"
-text_of NoStore = codes "no store"
-text_of Read = codes "read"
-text_of Write = codes "write"
-text_of Words = codes "words"
+text_of fault = text (code_of fault)

@@ -1,2 +1,3 @@
 pub mod CommonFault
+pub mod FaultTable
 pub mod FaultText

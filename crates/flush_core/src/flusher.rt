@@ -6,7 +6,7 @@ ghost use Rattle.root_store.specs.Beginning.{IsReason};
 ghost use Rattle.commit_plan.specs.Kept.{Kept};
 ghost use Rattle.commit_plan.specs.Live.{live_content};
 ghost use Rattle.commit_plan.specs.RecordPlaces.{AreKnown};
-ghost use Rattle.root_store.specs.Running.{StoreStandsFor, Runs, KeepsTo, Stepped, FailsByDevice, Counts, Turns, KeepsRoots, TurnsRecords, KeepsRecords, calls_left, is_busy, fault_in};
+ghost use Rattle.root_store.specs.Running.{StoreStandsFor, RunsFrom, KeepsTo, Stepped, FailsByDevice, Counts, Turns, KeepsRoots, TurnsRecords, KeepsRecords, calls_left, is_busy, fault_in};
 ghost use Rattle.flush_core.specs.Stored.{stored_after, IsCommitOf, HasRoomFor, HasNoRoomFor, calls_of};
 
 use crate::imaging::image_of;
@@ -49,7 +49,7 @@ impl<D: Disk> Flusher<D> {
     pub fn begin(&mut self, alloc: Global, version: &Version) -> Result<(), StoreFault>
         requires { is_busy self.old.commit.phase ≡ false }
         // From the content that the store stands for to just the version's number, layers and finished tiles.
-        ensures begun { (x : Kept) → StoreStandsFor D.Disk self.old.commit x → OnOk result ((y : Kept) × IsCommitOf version.now y × Runs D.Disk self.new.commit x y) }
+        ensures begun { (x : Kept) → StoreStandsFor D.Disk self.old.commit x → OnOk result ((y : Kept) × IsCommitOf version.now y × RunsFrom D.Disk self.new.commit x y) }
         ensures stored { self.new.commit.root.version ≡ self.old.commit.root.version }
         // The root that it leads to has the version's number.
         ensures number { OnOk result (self.new.commit.next_root.version ≡ version.now.number) }
@@ -86,7 +86,7 @@ impl<D: Disk> Flusher<D> {
         ensures records { self.new.commit.live ≡ self.old.commit.live }
         ensures next_tiles { OnOk result ((live_content self.new.commit.next_live).tiles ≡ version.now.tiles) }
         // From the content that the store stands for to just the version's number, layers and finished tiles.
-        ensures begun { (x : Kept) → StoreStandsFor D.Disk self.old.commit x → OnOk result ((y : Kept) × IsCommitOf version.now y × Runs D.Disk self.new.commit x y) }
+        ensures begun { (x : Kept) → StoreStandsFor D.Disk self.old.commit x → OnOk result ((y : Kept) × IsCommitOf version.now y × RunsFrom D.Disk self.new.commit x y) }
         ensures stored { self.new.commit.root.version ≡ self.old.commit.root.version }
         // The root that it leads to has the version's number.
         ensures number { OnOk result (self.new.commit.next_root.version ≡ version.now.number) }
@@ -124,7 +124,7 @@ impl<D: Disk> Flusher<D> {
     /// Makes one device call; none where no commit is under way.
     pub fn step(&mut self) -> Result<Progress, StoreFault>
         // Where a commit from x to y is under way, a crash at any moment of the call leaves x or y.
-        ensures moves { (x y : Kept) → Runs D.Disk self.old.commit x y → Stepped D.Disk self.old.commit self.new.commit result x y }
+        ensures moves { (x y : Kept) → RunsFrom D.Disk self.old.commit x y → Stepped D.Disk self.old.commit self.new.commit result x y }
         // Done n: n is the number of the root that the commit leads to, and that root is live. Any other answer leaves
         // the live root and the next one.
         ensures roots { IfOk result (λ p. Turns p self.old.commit self.new.commit) }

@@ -1,8 +1,7 @@
 -- The faults of the layers: their numbers and texts, and those that stand for the refusals of commands.
-use Rattle.std.specs.Prelude.{◌≡◌, ◌⊎◌, ℕ, List, codes, Option, Some, None}
+use Rattle.std.specs.Prelude.{◌≡◌, ◌⊎◌, ℕ, List, Option, Some, None}
+use Rattle.fault_texts.specs.FaultTable.{text}
 use Rattle.overlay_terms.specs.Commands.{Refusal, unknown_layer, not_base, not_derived, later_layer, in_use, too_many_layers, version_limit}
-use Rattle.fault_texts.specs.CommonFault as common
-use Rattle.fault_texts.specs.declared.common_fault.CommonFault.TheVariants as faults
 use Rattle.layer_book.specs.declared.fault.LayerFault.{LayerFault}
 use Rattle.layer_book.specs.declared.fault.LayerFault.TheVariants.{UnknownLayer, NotBase, NotDerived, LaterLayer, InUse, TooManyLayers, VersionLimit, BatchSize, BadColumn, OutOfMemory}
 
@@ -17,20 +16,11 @@ code_of TooManyLayers = 15
 code_of VersionLimit = 16
 code_of BatchSize = 17
 code_of BadColumn = 23
-code_of OutOfMemory = common.code_of faults.OutOfMemory
+code_of OutOfMemory = 40
 
 -- the text that is printed after the number
 abbrev pub text_of : LayerFault → List ℕ
-text_of UnknownLayer = codes "unknown layer"
-text_of NotBase = codes "not a base layer"
-text_of NotDerived = codes "not a derived layer"
-text_of LaterLayer = codes "later layer"
-text_of InUse = codes "in use"
-text_of TooManyLayers = codes "too many layers"
-text_of VersionLimit = codes "version limit"
-text_of BatchSize = codes "batch size"
-text_of BadColumn = codes "bad column"
-text_of OutOfMemory = common.text_of faults.OutOfMemory
+text_of fault = text (code_of fault)
 
 -- the fault that a refusal is reported by
 abbrev pub fault_of : Refusal → LayerFault

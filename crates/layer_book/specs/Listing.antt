@@ -9,8 +9,10 @@ abbrev pub content_text : Content → List ℕ
 content_text (base rings) = wkt_text rings
 content_text (derived expression) = codes "= " ++ expression_text expression
 
+-- a layer's line has its name, and after it what the layer holds
 abbrev pub layer_line : Layer → List ℕ
 layer_line layer = layer.name ++ (codes " " ++ (content_text layer.content ++ 10 ∷ []))
 
+-- LAYERS is answered by the number of layers, and by their lines in order
 abbrev pub layers_text : List Layer → List ℕ
 layers_text layers = codes "layers " ++ (decimal (length layers) ++ (10 ∷ flat_map layer_line layers))

@@ -11,12 +11,12 @@ use Rattle.layer_expr.specs.declared.fault.ExprFault.{ExprFault}
 use Rattle.layer_expr.specs.declared.fault.ExprFault.TheVariants.{ExprSyntax, ExprTooLong, BadName, OutOfMemory}
 use Rattle.layer_expr.specs.Name.{name_max, is_name, is_name_byte, first_is_letter}
 use Rattle.overlay_terms.specs.Blank.{is_blank}
-use Rattle.layer_expr.specs.Token.{Kind, name, operator, open_bracket, close_bracket, stray, Token, name_front, sign_kind, tokens_after, tokens_of}
+use Rattle.layer_expr.specs.Token.{Kind, name, operator, open_bracket, close_bracket, stray, Token, sign_kind, tokens_after, tokens_of}
 use Rattle.layer_expr.specs.Grammar.{kinds_of, IsSum, IsBegun, is_name_short, IsGoodSoFar, IsFaultAt, IsRefusedBy, ReadsAs}
 use Rattle.layer_expr.specs.ReaderState.{ReaderState, at_start, moved, behind_all, finished}
 use Rattle.layer_expr.specs.Reader.{is_good, IsStepFault, IsEndFault}
 use Rattle.layer_expr.proofs.ReaderStateLemmas.{T, both, all_true, Begun, false_is_true, behind_all-append, tree_begun, tree_not_begun, tree_finished, tree_not_finished}
-use Rattle.layer_expr.proofs.TokenLemmas.{name_more, name_stop, letter_goes_on}
+use Rattle.layer_expr.proofs.TokenLemmas.{name_front, name_more, name_stop, letter_goes_on}
 
 -- each name among the tokens is a run of letters, digits and `_` after a letter: it is a name of a layer if it is short
 abbrev pub IsShaped : List Token → Type 0

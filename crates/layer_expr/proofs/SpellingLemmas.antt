@@ -10,12 +10,12 @@ use Rattle.std.proofs.Math.Bool.{and-true}
 use Rattle.overlay_terms.specs.Trees.{Operation, intersection, union, difference, sym_difference, Tree, leaf, combine, leaves}
 use Rattle.layer_expr.specs.Name.{is_name, is_name_byte}
 use Rattle.overlay_terms.specs.Blank.{is_blank}
-use Rattle.layer_expr.specs.Token.{Kind, name, operator, open_bracket, close_bracket, Token, name_front, sign_kind, tokens_after, tokens_of}
+use Rattle.layer_expr.specs.Token.{Kind, name, operator, open_bracket, close_bracket, Token, sign_kind, tokens_after, tokens_of}
 use Rattle.layer_expr.specs.Grammar.{Written, a_name, in_brackets, joined, level_of, is_atom, is_sum, is_grouped, written_kinds, written_tree, kinds_of, Spells, IsBegun, is_name_short, ReadsAs, tokens_max}
 use Rattle.layer_expr.specs.Spelling.{bracketed_if, left_needs_brackets, right_needs_brackets, canonical, operation_text, written_text, expression_text, IsExpression}
 use Rattle.layer_expr.specs.Reader.{is_good}
 use Rattle.layer_expr.proofs.ReaderStateLemmas.{both, all_true, false_is_true}
-use Rattle.layer_expr.proofs.TokenLemmas.{name_more, name_stop, letter_not_blank}
+use Rattle.layer_expr.proofs.TokenLemmas.{name_front, name_more, name_stop, letter_not_blank}
 use Rattle.layer_expr.proofs.ReadingLemmas.{IsShaped, tokens_shaped, all_short}
 
 -- ==== The brackets keep the tree

@@ -1,17 +1,23 @@
 -- How the tokens of bytes begin.
 use Rattle.std.proofs.Common.{◌≡◌, ℕ, suc, ◌+◌, ◌-◌, ◌<◌, ◌≤◌, Bool, true, false, List, [], ◌∷◌, length, get_or, take, drop, refl, ap, sym, subst, ◌∙◌, add-one, arith, drop-cons, drop-drop, length-drop}
-use Rattle.std.specs.Prelude.{slice_range}
+use Rattle.std.specs.Prelude.{slice_range, take_while}
 use Rattle.std.specs.Char.{is_ascii_alphabetic}
+use Rattle.std.proofs.lemmas.Bool.{cond-true, cond-false}
 use Rattle.std.proofs.lemmas.Bool.Decides.{nat_tests}
+use Rattle.std.proofs.lemmas.List.Sums.{take_while-cons}
 use Rattle.layer_expr.specs.Name.{is_name_byte}
 use Rattle.overlay_terms.specs.Blank.{is_blank}
-use Rattle.layer_expr.specs.Token.{name, name_front, tokens_after}
+use Rattle.layer_expr.specs.Token.{name, tokens_after}
+
+-- the name that begins the bytes
+abbrev pub name_front : List ℕ → List ℕ
+name_front bytes = take_while is_name_byte bytes
 
 pub name_more : (b : ℕ) (bs : List ℕ) → is_name_byte b ≡ true → name_front (b ∷ bs) ≡ b ∷ name_front bs
-name_more b bs h = rw h
+name_more b bs h = take_while-cons is_name_byte b bs ∙ cond-true (is_name_byte b) _ _ h
 
 pub name_stop : (b : ℕ) (bs : List ℕ) → is_name_byte b ≡ false → name_front (b ∷ bs) ≡ []
-name_stop b bs h = rw h
+name_stop b bs h = take_while-cons is_name_byte b bs ∙ cond-false (is_name_byte b) _ _ h
 
 -- a letter may go on a name, and is no white space
 pub letter_goes_on : (b : ℕ) → is_ascii_alphabetic b ≡ true → is_name_byte b ≡ true

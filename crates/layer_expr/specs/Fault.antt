@@ -1,7 +1,6 @@
 -- The faults of names and expressions: their numbers and texts.
-use Rattle.std.specs.Prelude.{ℕ, List, ◌++◌, codes, decimal}
-use Rattle.fault_texts.specs.CommonFault as common
-use Rattle.fault_texts.specs.declared.common_fault.CommonFault.TheVariants as faults
+use Rattle.std.specs.Prelude.{ℕ, List}
+use Rattle.fault_texts.specs.FaultTable.{text, filled}
 use Rattle.layer_expr.specs.declared.fault.ExprFault.{ExprFault}
 use Rattle.layer_expr.specs.declared.fault.ExprFault.TheVariants.{ExprSyntax, ExprTooLong, BadName, OutOfMemory}
 
@@ -10,11 +9,9 @@ abbrev pub code_of : ExprFault → ℕ
 code_of (ExprSyntax _) = 7
 code_of ExprTooLong = 8
 code_of BadName = 9
-code_of OutOfMemory = common.code_of faults.OutOfMemory
+code_of OutOfMemory = 40
 
 -- the text that is printed after the number
 abbrev pub text_of : ExprFault → List ℕ
-text_of (ExprSyntax at) = codes "expression syntax at " ++ decimal at
-text_of ExprTooLong = codes "expression too long"
-text_of BadName = codes "bad name"
-text_of OutOfMemory = common.text_of faults.OutOfMemory
+text_of (ExprSyntax at) = filled at (text 7)
+text_of fault = text (code_of fault)

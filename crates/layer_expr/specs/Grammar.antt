@@ -17,6 +17,7 @@ pub data Written : Type 0 where
   in_brackets : Written → Written
   joined : Operation → Written → Written → Written
 
+-- whether an operator is `&`, which binds tighter than the others
 abbrev pub is_intersection : Operation → Bool
 is_intersection intersection = true
 is_intersection other = false
@@ -28,6 +29,7 @@ pub data Level : Type 0 where
   product : Level
   sum : Level
 
+-- what is joined by `&` is a product, what is joined by another operator a sum; a name, or what is in brackets, is an atom
 abbrev pub level_of : Written → Level
 level_of (a_name n) = atom
 level_of (in_brackets w) = atom
@@ -36,10 +38,12 @@ level_of (joined o l r) = by_operation o where
   by_operation intersection = product
   by_operation other = sum
 
+-- whether it is a name, or is in brackets
 abbrev pub is_atom : Level → Bool
 is_atom atom = true
 is_atom other = false
 
+-- whether its outermost operator is `|`, `-` or `^`
 abbrev pub is_sum : Level → Bool
 is_sum sum = true
 is_sum other = false
@@ -66,6 +70,7 @@ written_tree (a_name n) = leaf n
 written_tree (in_brackets w) = written_tree w
 written_tree (joined o l r) = combine o (written_tree l) (written_tree r)
 
+-- tokens without their offsets
 abbrev pub kinds_of : List Token → List Kind
 kinds_of tokens = map (λ (t : Token). t.kind) tokens
 
@@ -74,6 +79,7 @@ pub record Spells (tokens : List Token) (written : Written) : Type 0 where
   pub grouped : IsTrue (is_grouped written)
   pub spelled : kinds_of tokens ≡ written_kinds written
 
+-- the tokens are those of a whole expression
 abbrev pub IsSum : List Token → Type 0
 IsSum tokens = (written : Written) × Spells tokens written
 

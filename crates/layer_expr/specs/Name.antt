@@ -6,6 +6,7 @@ use Rattle.std.specs.Char.{is_ascii_alphabetic, is_ascii_alphanumeric}
 abbrev pub is_name_byte : ℕ → Bool
 is_name_byte b = is_ascii_alphanumeric b || b == 95
 
+-- whether bytes begin with a letter
 abbrev pub first_is_letter : List ℕ → Bool
 first_is_letter [] = false
 first_is_letter (first ∷ rest) = is_ascii_alphabetic first

@@ -6,6 +6,7 @@ use Rattle.overlay_terms.specs.Trees.{Operation, intersection, union, difference
 use Rattle.layer_expr.specs.Name.{is_name}
 use Rattle.layer_expr.specs.Grammar.{Written, a_name, in_brackets, joined, Level, is_intersection, level_of, is_atom, is_sum, written_kinds, tokens_max}
 
+-- what is written, in brackets where they are needed
 abbrev pub bracketed_if : Bool → Written → Written
 bracketed_if needed w = if needed then in_brackets w else w
 
@@ -23,17 +24,20 @@ canonical (leaf n) = a_name n
 canonical (combine o l r) =
     joined o (bracketed_if (left_needs_brackets o (level_of (canonical l))) (canonical l)) (bracketed_if (right_needs_brackets o (level_of (canonical r))) (canonical r))
 
+-- an operator is written with a space on each side
 abbrev pub operation_text : Operation → List ℕ
 operation_text intersection = codes " & "
 operation_text union = codes " | "
 operation_text difference = codes " - "
 operation_text sym_difference = codes " ^ "
 
+-- what is written, as bytes
 abbrev pub written_text : Written → List ℕ
 written_text (a_name n) = n
 written_text (in_brackets w) = codes "(" ++ (written_text w ++ codes ")")
 written_text (joined o l r) = written_text l ++ (operation_text o ++ written_text r)
 
+-- the bytes of an expression, with the brackets that it needs and no others
 abbrev pub expression_text : Tree (List ℕ) → List ℕ
 expression_text tree = written_text (canonical tree)
 

@@ -1,5 +1,5 @@
 -- The tokens of an expression: names, operators and brackets, with white space between.
-use Rattle.std.specs.Prelude.{ℕ, ◌+◌, ◌==◌, Bool, false, true, ◌&&◌, List, [], ◌∷◌, if◌then◌else◌}
+use Rattle.std.specs.Prelude.{ℕ, ◌+◌, ◌==◌, Bool, false, true, ◌&&◌, List, [], ◌∷◌, take_while, if◌then◌else◌}
 use Rattle.std.specs.Char.{is_ascii_alphabetic}
 use Rattle.overlay_terms.specs.Blank.{is_blank}
 use Rattle.overlay_terms.specs.Trees.{Operation, intersection, union, difference, sym_difference}
@@ -18,11 +18,6 @@ pub record Token : Type 0 where
   pub at : ℕ
   pub kind : Kind
 
--- the name that begins the bytes: as long as letters, digits and `_` go on
-abbrev pub name_front : List ℕ → List ℕ
-name_front [] = []
-name_front (b ∷ bs) = if is_name_byte b then b ∷ name_front bs else []
-
 -- `&`, `|`, `-`, `^`, the brackets, and any other byte
 abbrev pub sign_kind : ℕ → Kind
 sign_kind b =
@@ -40,8 +35,9 @@ tokens_after in_name at [] = []
 tokens_after in_name at (b ∷ bs) =
     if in_name && is_name_byte b then tokens_after in_name (at + 1) bs
     else (if is_blank b then tokens_after false (at + 1) bs
-    else (if is_ascii_alphabetic b then record { at = at; kind = name (name_front (b ∷ bs)) } ∷ tokens_after true (at + 1) bs
+    else (if is_ascii_alphabetic b then record { at = at; kind = name (take_while is_name_byte (b ∷ bs)) } ∷ tokens_after true (at + 1) bs
     else record { at = at; kind = sign_kind b } ∷ tokens_after false (at + 1) bs))
 
+-- the tokens of a whole expression, each with its offset from the expression's beginning
 abbrev pub tokens_of : List ℕ → List Token
 tokens_of bytes = tokens_after false 0 bytes

@@ -1,7 +1,7 @@
 //! The tokens of an expression, found one after another.
-ghost use Rattle.std.specs.Prelude.{◌≡◌, ℕ, ◌+◌, ◌<◌, ◌≤◌, [], ◌∷◌, length, drop, false, IfNone, IfSome, slice_index};
+ghost use Rattle.std.specs.Prelude.{◌≡◌, ℕ, ◌+◌, ◌<◌, ◌≤◌, [], ◌∷◌, length, drop, false, IfNone, IfSome, slice_index, take_while};
 ghost use Rattle.overlay_terms.specs.Blank.{is_blank};
-ghost use Rattle.layer_expr.specs.Token.{name_front, sign_kind, tokens_after};
+ghost use Rattle.layer_expr.specs.Token.{sign_kind, tokens_after};
 ghost use Rattle.layer_expr.specs.Name.{is_name_byte};
 ghost use Rattle.layer_expr.specs.Lexeme.{kind_of_sign, token_in};
 
@@ -81,7 +81,7 @@ fn skip_blanks(bytes: &[u8], from: usize) -> usize
 /// The offset after the letters, digits and underscores that begin at an offset.
 fn name_end(bytes: &[u8], from: usize) -> usize
     requires { from ≤ length bytes.now }
-    ensures { result ≡ from + length (name_front (drop from bytes.now)) }
+    ensures { result ≡ from + length (take_while is_name_byte (drop from bytes.now)) }
 {
     let mut end = from;
     while end < bytes.len() {

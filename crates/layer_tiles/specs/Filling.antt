@@ -7,12 +7,12 @@ use Rattle.overlay_terms.specs.Commands.{stands_as_derived}
 use Rattle.overlay_terms.specs.StoredTiles.{is_tile_before}
 
 -- a finished tile of a layer and column
-abbrev pub named : Name → ℕ → Tile → Finished
-named name column tile = record { name = name; column = column; tile = tile }
+abbrev pub finished_as : Name → ℕ → Tile → Finished
+finished_as name column tile = record { name = name; column = column; tile = tile }
 
 -- each of some tiles is before that of a layer and column, whatever it is
 abbrev pub AreBefore : List Layer → List Finished → Name → ℕ → Type 0
-AreBefore layers tiles name column = All (λ f. IsTrue (is_tile_before layers f (named name column oversize))) tiles
+AreBefore layers tiles name column = All (λ f. IsTrue (is_tile_before layers f (finished_as name column oversize))) tiles
 
 -- a tile that may come after some: of a derived layer and of a column that there is, of its form, and each of them before it
 pub record IsNextTile (layers : List Layer) (tiles : List Finished) (f : Finished) : Type 0 where

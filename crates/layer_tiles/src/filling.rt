@@ -6,7 +6,7 @@ ghost use Rattle.overlay_terms.specs.Histories.{is_formed};
 ghost use Rattle.overlay_terms.specs.StoredTiles.{AreStored};
 ghost use Rattle.tile_build.specs.Tile.{finished_of, tile_of};
 ghost use Rattle.layer_tiles.specs.Table.{laid, places_in, row_tiles, tiles_in, IsLaid};
-ghost use Rattle.layer_tiles.specs.Filling.{named, AreBefore, IsLonger, IsNextTile};
+ghost use Rattle.layer_tiles.specs.Filling.{finished_as, AreBefore, IsLonger, IsNextTile};
 
 use crate::table::Table;
 use crate::tiles::TileRow;
@@ -65,7 +65,7 @@ impl Table {
         requires formed { IsTrue (is_formed (tile_of tile) column) }
         requires behind { AreBefore self.now.layers (tiles_in self.now) name.now column }
         ensures layers { IfOk result (λ next. next.layers ≡ self.now.layers) }
-        ensures tiles { IfOk result (λ next. tiles_in next ≡ tiles_in self.now ++ named name.now column (tile_of tile) ∷ []) }
+        ensures tiles { IfOk result (λ next. tiles_in next ≡ tiles_in self.now ++ finished_as name.now column (tile_of tile) ∷ []) }
         ensures valid { IfOk result (λ next. IsLaid (laid next)) }
     {
         // A table's tiles are in order by its type: the clause rests on that.

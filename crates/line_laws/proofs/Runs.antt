@@ -1,10 +1,10 @@
 -- Two runs of the same turns go alike, turn by turn.
-use Rattle.std.proofs.Common.{◌≡◌, ℕ, ◌+◌, ◌≤◌, ◌⊎◌, inl, inr, Bool, true, false, List, [], ◌∷◌, ◌++◌, length, map, Option, Some, None, refl, sym, ap, ◌∙◌, subst, arith}
+use Rattle.std.proofs.Common.{◌≡◌, ℕ, ◌+◌, ◌≤◌, ◌⊎◌, inl, inr, Bool, true, false, List, [], ◌∷◌, ◌++◌, length, map, codes, Option, Some, None, refl, sym, ap, ◌∙◌, subst, arith}
 use Rattle.std.proofs.lemmas.Bool.{true≢false}
 use Rattle.std.proofs.lemmas.List.{length-append}
 use Rattle.overlay_terms.specs.Batches.{Batch, BatchRefusal, batch_refusal_at}
 use Rattle.overlay_terms.specs.Histories.{Version, Entry, History, accepted, AllFollow, IsHistory, FollowsBatch, GoesOnBy, last_version, newest, accepted_in}
-use Rattle.script_form.specs.Replies.{ok_line}
+use Rattle.script_form.specs.Replies.{numbered_line}
 use Rattle.script_form.specs.Transcript.{BookStore, IsAcceptedBy, IsTurn, IsTranscript}
 use Rattle.script_form.specs.Turns.{Turn}
 use Rattle.line_laws.specs.Deciding.{Answered, history_after, turns_in, made_by, AreAnswered, AreTurnsOf, TranscriptsHaveTurns, is_from_outside, Decided, decided, decided_by, outside_of, GoAlike, LinesDecide}
@@ -106,7 +106,7 @@ module _ (before after : History) (part : Turn) (made : List Batch) (reply : Lis
         ∙ sym (ap (λ (o : Option BatchRefusal). made_if o commands) (ap (λ (d : Decided). batch_refusal_at d.number d.layers commands) (sym then_there) ∙ there.accepted_there))
 
     -- a number is reported, and no fault
-    ok_inside : (n : ℕ) → is_from_outside (ok_line n) ≡ false
+    ok_inside : (n : ℕ) → is_from_outside (numbered_line (codes "ok ") n) ≡ false
     ok_inside n = refl
 
     made_step : TurnAsks part (Some commands) → IsStep before after part made reply

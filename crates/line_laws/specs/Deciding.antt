@@ -21,6 +21,7 @@ abbrev pub history_after : History → List Answered → History
 history_after seen [] = seen
 history_after seen (one ∷ more) = history_after one.after more
 
+-- the turns alone, without what they led to
 abbrev pub turns_in : List Answered → List Turn
 turns_in all = map (λ (one : Answered). one.turn) all
 
@@ -77,6 +78,7 @@ pub record Decided : Type 0 where
   pub number : ℕ
   pub layers : List Layer
 
+-- a version without its tiles, and without what is durable
 abbrev pub decided : Version → Decided
 decided version = record { number = version.number; layers = version.layers }
 

@@ -1,23 +1,19 @@
 -- Numbers and points clamped into a range and a box.
-use Rattle.std.proofs.Common.{◌≡◌, ℤ, pos, ◌-ℤ◌, ◌<ℤ◌, ◌≤ℤ◌, refl, arith, true}
+use Rattle.std.proofs.Common.{◌≡◌, ℤ, ◌-ℤ◌, ◌<ℤ◌, ◌≤ℤ◌, refl, arith, true}
 use Rattle.std.proofs.lemmas.Bool.{and_parts}
 use Rattle.std.proofs.lemmas.Int.{ints, by_lt_z}
-use Rattle.std.specs.Prelude.{int_le, neg_ℤ}
-use Rattle.overlay_terms.specs.Plane.{WholePoint, InRange, coordinate_max}
-use Rattle.overlay_terms.proofs.InputNumbers.{le_true, true_lt}
+use Rattle.overlay_terms.specs.Plane.{WholePoint, InRange, is_coordinate}
+use Rattle.overlay_terms.proofs.Coordinates.{passes_in_range as in_range}
+use Rattle.overlay_terms.proofs.InputNumbers.{true_lt}
 use Rattle.exact_point.proofs.Tests.{lt_no}
 use Rattle.map_window.specs.Window.{Box}
-use Rattle.map_window.specs.Drawn.{clamped, into, is_coordinate, are_coordinates, lies_in_plane}
+use Rattle.map_window.specs.Drawn.{clamped, into, are_coordinates, lies_in_plane}
 
 -- what is so of each number that clamping may give
 pub by_clamped : (P : ℤ → Type 0) (low high x : ℤ) → (x <ℤ low → P low) → (low ≤ℤ x → high <ℤ x → P high) → (low ≤ℤ x → x ≤ℤ high → P x) → P (clamped low high x)
 by_clamped P low high x f g h =
     by_lt_z x low (λ l. rw (true_lt x low l) (f l))
     (λ l. by_lt_z high x (λ m. rw (lt_no x low l, true_lt high x m) (g l m)) (λ m. rw (lt_no x low l, lt_no high x m) (h l m)))
-
--- what the test of a coordinate says
-pub in_range : (z : ℤ) → is_coordinate z ≡ true → InRange z
-in_range z h = let parts = and_parts (int_le (neg_ℤ (pos coordinate_max)) z) (int_le z (pos coordinate_max)) h in (le_true _ _ parts.0, le_true _ _ parts.1)
 
 -- a number clamped between two coordinates is a coordinate
 pub clamped_in_range : (low high from x : ℤ) → are_coordinates low high from ≡ true → InRange (clamped low high x -ℤ from)

@@ -1,6 +1,6 @@
 -- What is drawn of a map: tests of its points, rings clamped into a frame, and rings without the points that nothing of is seen.
-use Rattle.std.specs.Prelude.{ℤ, pos, neg_ℤ, ◌-ℤ◌, int_lt, int_le, Bool, true, ◌&&◌, ◌||◌, List, [], ◌∷◌, ◌++◌, fold, filter_map, Option, Some, None, if◌then◌else◌}
-use Rattle.overlay_terms.specs.Plane.{WholePoint, coordinate_max}
+use Rattle.std.specs.Prelude.{ℤ, ◌-ℤ◌, int_lt, int_le, Bool, true, ◌&&◌, ◌||◌, List, [], ◌∷◌, ◌++◌, fold, filter_map, Option, Some, None, if◌then◌else◌}
+use Rattle.overlay_terms.specs.Plane.{WholePoint, is_coordinate}
 use Rattle.map_window.specs.Window.{Box, whole_moved}
 
 -- numbers in this order: the middle two strictly between the others
@@ -11,10 +11,6 @@ are_nested a b c d = int_lt a b && int_le b c && int_lt c d
 abbrev pub is_framed : Box → Box → Bool
 is_framed core frame = are_nested frame.low_x core.low_x core.high_x frame.high_x && are_nested frame.low_y core.low_y core.high_y frame.high_y
 
--- whether a number is a coordinate
-abbrev pub is_coordinate : ℤ → Bool
-is_coordinate z = int_le (neg_ℤ (pos coordinate_max)) z && int_le z (pos coordinate_max)
-
 -- whether two numbers are coordinates, seen from a third
 abbrev pub are_coordinates : ℤ → ℤ → ℤ → Bool
 are_coordinates low high from = is_coordinate (low -ℤ from) && is_coordinate (high -ℤ from)
@@ -24,10 +20,11 @@ abbrev pub lies_in_plane : Box → WholePoint → Bool
 lies_in_plane box o =
     are_coordinates box.low_x box.high_x o.x && are_coordinates box.low_y box.high_y o.y
 
--- whether three numbers are less than a fourth, and whether they are more
+-- whether three numbers are less than a fourth
 abbrev pub are_less : ℤ → ℤ → ℤ → ℤ → Bool
 are_less a b c limit = int_lt a limit && int_lt b limit && int_lt c limit
 
+-- whether three numbers are more than a first one
 abbrev pub are_more : ℤ → ℤ → ℤ → ℤ → Bool
 are_more limit a b c = int_lt limit a && int_lt limit b && int_lt limit c
 
@@ -50,6 +47,7 @@ abbrev pub are_short_from : Box → Box → WholePoint → List WholePoint → B
 are_short_from core frame a [] = true
 are_short_from core frame a (b ∷ rest) = is_short core frame a b && are_short_from core frame b rest
 
+-- whether each step of a ring may be drawn in
 abbrev pub are_short : Box → Box → List WholePoint → Bool
 are_short core frame [] = true
 are_short core frame (a ∷ rest) = are_short_from core frame a rest

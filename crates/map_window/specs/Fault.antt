@@ -1,13 +1,12 @@
 -- Why a window is refused: the first reason that applies, and the numbers and texts.
-use Rattle.std.specs.Prelude.{ℕ, ◌+◌, List, [], ◌∷◌, ◌++◌, codes, decimal, Option, Some, None, if◌then◌else◌}
+use Rattle.std.specs.Prelude.{ℕ, ◌+◌, List, [], ◌∷◌, Option, Some, None, if◌then◌else◌}
 use Rattle.std.specs.Option.{option_or, option_map}
+use Rattle.fault_texts.specs.FaultTable.{text, filled}
 use Rattle.overlay_terms.specs.Plane.{WholePoint}
 use Rattle.plane_base.specs.BaseLayer.{first_ring_fault}
 use Rattle.plane_base.specs.Fault as plane
 use Rattle.plane_base.specs.declared.fault.PlaneFault.{PlaneFault}
 use Rattle.plane_base.specs.declared.fault.PlaneFault.TheVariants as plane_faults
-use Rattle.fault_texts.specs.CommonFault as common
-use Rattle.fault_texts.specs.declared.common_fault.CommonFault.TheVariants as faults
 use Rattle.map_window.specs.Window.{Box}
 use Rattle.map_window.specs.Drawn.{is_framed, lies_in_plane, are_short}
 use Rattle.map_window.specs.declared.fault.WindowFault.{WindowFault}
@@ -40,12 +39,10 @@ code_of CoreOffFrame = 24
 code_of FrameOffPlane = 25
 code_of (StepTooLong _) = 26
 code_of (Plane fault) = plane.code_of fault
-code_of OutOfMemory = common.code_of faults.OutOfMemory
+code_of OutOfMemory = 40
 
 -- the text that is printed after the number
 abbrev pub text_of : WindowFault → List ℕ
-text_of CoreOffFrame = codes "core off frame"
-text_of FrameOffPlane = codes "frame off plane"
-text_of (StepTooLong ring) = codes "ring " ++ (decimal ring ++ codes " step too long")
+text_of (StepTooLong ring) = filled ring (text 26)
 text_of (Plane fault) = plane.text_of fault
-text_of OutOfMemory = common.text_of faults.OutOfMemory
+text_of fault = text (code_of fault)

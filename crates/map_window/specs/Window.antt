@@ -38,10 +38,11 @@ StaysWithin box right_of a = a.x ≤ℤ box.high_x
 StaysWithin box under a = box.low_y ≤ℤ a.y
 StaysWithin box over a = a.y ≤ℤ box.high_y
 
--- a whole point and a point, seen from another origin
+-- a whole point, seen from another origin
 abbrev pub whole_moved : WholePoint → WholePoint → WholePoint
 whole_moved o a = record { x = a.x -ℤ o.x; y = a.y -ℤ o.y }
 
+-- a point, seen from another origin
 abbrev pub moved : WholePoint → Point → Point
 moved o q = record { x = q.x -ℤ o.x *ℤ q.w; y = q.y -ℤ o.y *ℤ q.w; w = q.w }
 

@@ -11,7 +11,7 @@ use Rattle.root_store.specs.declared.phase.Phase.TheVariants.{Idle}
 use Rattle.root_store.specs.declared.phase.Progress.{Progress}
 use Rattle.root_store.specs.declared.phase.Progress.TheVariants as progress
 use Rattle.commit_plan.specs.Kept as kept
-use Rattle.root_store.specs.Running.{Before, Runs, Stepped, StoreStandsFor, is_busy}
+use Rattle.root_store.specs.Running.{Before, RunsFrom, Stepped, StoreStandsFor, is_busy}
 use Rattle.commit_plan.proofs.Reading.{calm_stands}
 use Rattle.flush_core.specs.declared.flusher.Flusher.{Flusher}
 use Rattle.flush_core.specs.Stored.{IsCommitOf}
@@ -33,21 +33,21 @@ either_file x y version of c (inr is) = inr (record { held = y.held; image = of.
 module _ {D : Type 0} (g : Ghosts D) where
   -- a crash at any moment of a call leaves what was kept, or the version
   pub carried : (f new : Flusher D g) (x : kept.Kept) (version : Version) (result : Result Progress StoreFault)
-      → ((x y : kept.Kept) → Runs g f.commit x y → Stepped g f.commit new.commit result x y) → Commits g f x version
+      → ((x y : kept.Kept) → RunsFrom g f.commit x y → Stepped g f.commit new.commit result x y) → Commits g f x version
       → LeavesOnly g f.commit.disk new.commit.disk (IsFileOfEither x.held version)
   carried f new x version result steps commits =
       let stepped = steps x commits.y commits.runs in
       widened g f.commit.disk new.commit.disk (kept.Either x commits.y) (IsFileOfEither x.held version) (either_file x commits.y version commits.of) stepped.moments
 
   pub commits_on : (f new : Flusher D g) (x : kept.Kept) (version : Version) (result : Result Progress StoreFault) → result ≡ Ok progress.Going
-      → ((x y : kept.Kept) → Runs g f.commit x y → Stepped g f.commit new.commit result x y) → Commits g f x version → CarriesOn g x version f Going new
+      → ((x y : kept.Kept) → RunsFrom g f.commit x y → Stepped g f.commit new.commit result x y) → Commits g f x version → CarriesOn g x version f Going new
   commits_on f new x version result is steps commits =
       let stepped : Stepped g f.commit new.commit (Ok progress.Going) x commits.y =
       subst (λ (r : Result Progress StoreFault). Stepped g f.commit new.commit r x commits.y) is (steps x commits.y commits.runs) in
       (carried f new x version result steps commits, record { y = commits.y; of = commits.of; runs = stepped.ok })
 
   pub committed : (f new : Flusher D g) (x : kept.Kept) (version : Version) (result : Result Progress StoreFault) (number : ℕ) → result ≡ Ok (progress.Done number)
-      → ((x y : kept.Kept) → Runs g f.commit x y → Stepped g f.commit new.commit result x y) → Commits g f x version → CarriesOn g x version f (Done number) new
+      → ((x y : kept.Kept) → RunsFrom g f.commit x y → Stepped g f.commit new.commit result x y) → Commits g f x version → CarriesOn g x version f (Done number) new
   committed f new x version result number is steps commits =
       let stepped : Stepped g f.commit new.commit (Ok (progress.Done number)) x commits.y =
       subst (λ (r : Result Progress StoreFault). Stepped g f.commit new.commit r x commits.y) is (steps x commits.y commits.runs) in
@@ -62,7 +62,7 @@ module _ {D : Type 0} (g : Ghosts D) where
 
   -- where the store rests, the commit that begins is of the newest version
   begun_commits : (e : Engine D g) (mid : Flusher D g) (x : kept.Kept) (version : Version) → e.flusher.commit.phase ≡ Idle
-      → ((x : kept.Kept) → StoreStandsFor g e.flusher.commit x → (y : kept.Kept) × IsCommitOf e.version y × Runs g mid.commit x y)
+      → ((x : kept.Kept) → StoreStandsFor g e.flusher.commit x → (y : kept.Kept) × IsCommitOf e.version y × RunsFrom g mid.commit x y)
       → IsToCommit g e x version → Commits g mid x version
   begun_commits e mid x version idle begun (inl commits) =
       absurd (subst (λ (q : Phase). Before g q e.flusher.commit x commits.y) idle commits.runs.before)
@@ -72,7 +72,7 @@ module _ {D : Type 0} (g : Ghosts D) where
 
   -- what its first call does, the step does
   pub begun_carries : (e : Engine D g) (mid new : Flusher D g) (reply : Reply) → e.flusher.commit.phase ≡ Idle → mid.commit.disk ≡ e.flusher.commit.disk
-      → ((x : kept.Kept) → StoreStandsFor g e.flusher.commit x → (y : kept.Kept) × IsCommitOf e.version y × Runs g mid.commit x y)
+      → ((x : kept.Kept) → StoreStandsFor g e.flusher.commit x → (y : kept.Kept) × IsCommitOf e.version y × RunsFrom g mid.commit x y)
       → ((x : kept.Kept) (version : Version) → Commits g mid x version → CarriesOn g x version mid reply new)
       → (x : kept.Kept) (version : Version) → IsToCommit g e x version → CarriesOn g x version e.flusher reply new
   begun_carries e mid new reply idle disk begun call x version is =

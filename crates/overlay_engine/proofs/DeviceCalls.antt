@@ -12,7 +12,7 @@ use Rattle.root_store.specs.declared.phase.Phase.TheVariants.{Idle, Close, Settl
 use Rattle.root_store.specs.declared.phase.Progress.{Progress}
 use Rattle.root_store.specs.declared.phase.Progress.TheVariants as progress
 use Rattle.commit_plan.specs.Kept.{Kept, Either}
-use Rattle.root_store.specs.Running.{Before, Runs, Stepped, is_busy}
+use Rattle.root_store.specs.Running.{Before, RunsFrom, Stepped, is_busy}
 use Rattle.commit_plan.proofs.Reading.{calm_stands}
 use Rattle.flush_core.specs.declared.flusher.Flusher.{Flusher}
 use Rattle.flush_core.specs.Stored.{stored_after}
@@ -98,7 +98,7 @@ module _ {D : Type 0} (g : Ghosts D) (start : Start) where
 
   -- a call keeps the store covering, and a crash at any moment of it leaves what is no older than what was durable
   pub called : (f new : Flusher D g) (version : Version) (batches : List Batch) (result : Result Progress StoreFault) → is_busy f.commit.phase ≡ true → new.commit.root.version ≡ stored_after result f.commit.root.version
-      → (g.is_honest f.commit.disk → g.is_honest new.commit.disk) → ((x y : Kept) → Runs g f.commit x y → Stepped g f.commit new.commit result x y)
+      → (g.is_honest f.commit.disk → g.is_honest new.commit.disk) → ((x y : Kept) → RunsFrom g f.commit x y → Stepped g f.commit new.commit result x y)
       → Covers g start f version batches → Moves g start f new version batches
   called f new version batches result busy stored honest steps covers =
       let way = way_of f.commit.phase f batches busy covers.store in
@@ -106,7 +106,7 @@ module _ {D : Type 0} (g : Ghosts D) (start : Start) where
 
   -- after the last call a crash leaves what the commit began with
   pub ended : (f new : Flusher D g) (version : Version) (batches : List Batch) (result : Result Progress StoreFault) (number : ℕ) → is_busy f.commit.phase ≡ true → result ≡ Ok (progress.Done number)
-      → ((x y : Kept) → Runs g f.commit x y → Stepped g f.commit new.commit result x y) → Covers g start f version batches
+      → ((x y : Kept) → RunsFrom g f.commit x y → Stepped g f.commit new.commit result x y) → Covers g start f version batches
       → Leaves g new.commit.disk (CoveredExactly start number batches)
   ended f new version batches result number busy is steps covers c left =
       let way = way_of f.commit.phase f batches busy covers.store in

@@ -19,7 +19,7 @@ use Rattle.commit_plan.specs.Kept.{Kept}
 use Rattle.root_store.specs.declared.phase.Phase.{Phase}
 use Rattle.root_store.specs.Creating.{nothing_kept}
 use Rattle.root_store.specs.Running.{StoreStandsFor}
-use Rattle.root_store.specs.Opening.{Opened, InPhases, Stops, Writes, Tells}
+use Rattle.root_store.specs.Opening.{Opened, InPhases, Stops, OpeningWrites, Tells}
 use Rattle.flush_core.specs.declared.flusher.Flusher.{Flusher}
 use Rattle.flush_core.specs.Stored.{IsImageOf}
 use Rattle.overlay_engine.specs.declared.engine.Engine.{Engine}
@@ -111,8 +111,8 @@ new_covers g version f s flusher empty stands =
     (subst (λ (v : Version). Covers g from_nothing (record { commit = s }) v []) (sym empty) covers)
 
 -- the disk of a store that was opened, as an engine or a refusal hands it on
-pub writes_of : {D : Type 0} (g : Ghosts D) (old : List ℕ) (f : Flusher D g) (s : Commit D g) → f ≡ record { commit = s } → Writes old (g.seen s.disk) → Writes old (g.seen f.commit.disk)
-writes_of g old f s is writes = subst (λ (h : Flusher _ _). Writes old (g.seen h.commit.disk)) (sym is) writes
+pub writes_of : {D : Type 0} (g : Ghosts D) (old : List ℕ) (f : Flusher D g) (s : Commit D g) → f ≡ record { commit = s } → OpeningWrites old (g.seen s.disk) → OpeningWrites old (g.seen f.commit.disk)
+writes_of g old f s is writes = subst (λ (h : Flusher _ _). OpeningWrites old (g.seen h.commit.disk)) (sym is) writes
 
 pub recovered_answers : {D : Type 0} (g : Ghosts D) → RecoveredAnswers g
 recovered_answers g start disk e least batches recovered name query told tells =

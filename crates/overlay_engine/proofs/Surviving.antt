@@ -17,7 +17,7 @@ use Rattle.overlay_engine.specs.declared.step.Reply.{Reply}
 use Rattle.overlay_engine.specs.declared.step.Reply.TheVariants.{Accepted, Refused, RefusedAt, Taken, NoJob, Kept, Stale, Going, Done, Durable}
 use Rattle.overlay_engine.specs.Start.{Start}
 use Rattle.overlay_engine.specs.Covers.{Covered, Covers, Moves, added, ReportsStored}
-use Rattle.overlay_engine.specs.Steps.{Submits, SubmitsAll, Takes, Finishes, Reports}
+use Rattle.overlay_engine.specs.Steps.{Submits, SubmitsBatch, Takes, Finishes, Reports}
 use Rattle.overlay_engine.specs.Devices.{Calls, Devices}
 use Rattle.overlay_engine.specs.Acts.{Survives, accepted_by}
 use Rattle.overlay_engine.proofs.Covering.{events_cover}
@@ -91,7 +91,7 @@ module _ {D : Type 0} (g : Ghosts D) (start : Start) (batches : List Batch) (old
     submitted change (Done number) new submits = absurd submits
     submitted change (Durable number) new submits = absurd submits
 
-    pub submitted_all : (batch : Batch) (reply : Reply) (new : Engine D g) → SubmitsAll batch old reply new → Survives g start batches (SubmitAll batch) old reply new
+    pub submitted_all : (batch : Batch) (reply : Reply) (new : Engine D g) → SubmitsBatch batch old reply new → Survives g start batches (SubmitAll batch) old reply new
     submitted_all batch (Accepted number) new submits =
         by_event (SubmitAll batch) (Accepted number) new (accepted 0 batch) refl submits.0 tt (ap (λ (e : Engine D g). e.flusher) submits.2)
     submitted_all batch (Refused code) new submits = unchanged (SubmitAll batch) (Refused code) new refl submits.1

@@ -11,13 +11,13 @@ use Rattle.overlay_engine.specs.declared.step.Reply.{Reply}
 use Rattle.overlay_engine.specs.declared.step.Reply.TheVariants.{Accepted}
 use Rattle.overlay_engine.specs.Start.{Start}
 use Rattle.overlay_engine.specs.Covers.{Covered, Covers}
-use Rattle.overlay_engine.specs.Steps.{Submits, SubmitsAll, Takes, Finishes, Reports}
+use Rattle.overlay_engine.specs.Steps.{Submits, SubmitsBatch, Takes, Finishes, Reports}
 use Rattle.overlay_engine.specs.Devices.{Devices}
 
 -- a step is made and answered: what becomes of the engine
 abbrev pub Acts : {D : Type 0} (g : Ghosts D) → Step → Engine D g → Reply → Engine D g → Type 0
 Acts g (Submit change) old reply new = Submits (command change) old reply new
-Acts g (SubmitAll batch) old reply new = SubmitsAll batch old reply new
+Acts g (SubmitAll batch) old reply new = SubmitsBatch batch old reply new
 Acts g (Take name column) old reply new = Takes name column old reply new
 Acts g (Finish number) old reply new = Finishes number old reply new
 Acts g Device old reply new = Devices g old reply new

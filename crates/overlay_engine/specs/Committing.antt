@@ -6,7 +6,7 @@ use Rattle.overlay_terms.specs.Histories.{Version}
 use Rattle.store_terms.specs.Image.{Held}
 use Rattle.store_terms.specs.StandsFor.{StandsFor}
 use Rattle.commit_plan.specs.Kept.{Kept}
-use Rattle.root_store.specs.Running.{StoreStandsFor, Runs}
+use Rattle.root_store.specs.Running.{StoreStandsFor, RunsFrom}
 use Rattle.flush_core.specs.declared.flusher.Flusher.{Flusher}
 use Rattle.flush_core.specs.Stored.{IsImageOf, IsCommitOf}
 use Rattle.overlay_engine.specs.declared.engine.Engine.{Engine}
@@ -28,7 +28,7 @@ module _ {D : Type 0} (g : Ghosts D) where
   pub record Commits (f : Flusher D g) (x : Kept) (version : Version) : Type 0 where
     pub y : Kept
     pub of : IsCommitOf version y
-    pub runs : Runs g f.commit x y
+    pub runs : RunsFrom g f.commit x y
 
   -- the store rests with a version: no commit is under way, no call has failed, and it stands for just the version
   pub record RestsWith (f : Flusher D g) (version : Version) : Type 0 where

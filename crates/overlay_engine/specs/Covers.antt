@@ -10,7 +10,7 @@ use Rattle.store_terms.specs.StandsFor.{StandsFor}
 use Rattle.root_store.specs.declared.phase.Phase.{Phase}
 use Rattle.root_store.specs.declared.phase.Phase.TheVariants.{Idle, Close, Settle, Put, Open, Finish, Failed}
 use Rattle.commit_plan.specs.Kept.{Kept}
-use Rattle.root_store.specs.Running.{StoreStandsFor, Runs}
+use Rattle.root_store.specs.Running.{StoreStandsFor, RunsFrom}
 use Rattle.flush_core.specs.declared.flusher.Flusher.{Flusher}
 use Rattle.overlay_engine.specs.Start.{Start, layers_from, up_to}
 
@@ -56,7 +56,7 @@ module _ {D : Type 0} (g : Ghosts D) (start : Start) where
     pub next_number : y.held.number ≡ y.root.version
     pub storing : IsStored start batches y.held
     pub later : f.commit.root.version ≤ y.held.number
-    pub runs : Runs g f.commit x y
+    pub runs : RunsFrom g f.commit x y
 
   -- what is known of a store, by how far its commit is
   abbrev pub In : Phase → Flusher D g → List Batch → Type 0

@@ -10,7 +10,7 @@ use Rattle.store_terms.specs.StandsFor.{reading}
 use Rattle.store_terms.specs.declared.damage.Damage.{Damage}
 use Rattle.commit_plan.specs.declared.fault.StoreFault.TheVariants.{Device, Damaged, OutOfMemory}
 use Rattle.root_store.specs.Creating.{IsNewFile, MadeInPhases, CallsBehind}
-use Rattle.root_store.specs.Opening.{Tells, FailedBy, Untouched, Writes, HasRoot, IsCompleted, Completes}
+use Rattle.root_store.specs.Opening.{Tells, FailedBy, Untouched, OpeningWrites, HasRoot, IsCompleted, Completes}
 use Rattle.root_store.specs.declared.open_fault.OpenFault.{OpenFault}
 use Rattle.root_store.specs.HonestStore.{TellsReason, KeepsRefused}
 use Rattle.overlay_engine.specs.declared.engine.Engine.{Engine}
@@ -69,8 +69,8 @@ module _ {D : Type 0} (g : Ghosts D) where
     pub cause : MatchResult result (λ e. g.faults e.flusher.commit.disk ≡ g.faults disk)
         (λ refused. FailedBy refused.fault (g.faults disk) (g.faults refused.disk))
     -- nothing is written but the body, while its gate is shut
-    pub writes : MatchResult result (λ e. Writes (g.seen disk) (g.seen e.flusher.commit.disk))
-        (λ refused. Writes (g.seen disk) (g.seen refused.disk))
+    pub writes : MatchResult result (λ e. OpeningWrites (g.seen disk) (g.seen e.flusher.commit.disk))
+        (λ refused. OpeningWrites (g.seen disk) (g.seen refused.disk))
     -- where that gate was shut and a number is left, the body is the root's own under the next number, and synced
     pub completed : IfOk result (λ e. Leaves g e.flusher.commit.disk (IsCompleted (g.seen disk)))
     -- that is done by the last two device calls, a write and a sync, and no other after the reads

@@ -7,7 +7,7 @@ use Rattle.overlay_terms.specs.Histories.{Version, Event, Follows}
 use Rattle.store_terms.specs.StandsFor.{reading}
 use Rattle.root_store.specs.declared.phase.Phase.TheVariants.{Idle, Close}
 use Rattle.commit_plan.specs.Kept.{Kept}
-use Rattle.root_store.specs.Running.{StoreStandsFor, Runs}
+use Rattle.root_store.specs.Running.{StoreStandsFor, RunsFrom}
 use Rattle.flush_core.specs.declared.flusher.Flusher.{Flusher}
 use Rattle.flush_core.specs.Stored.{IsCommitOf}
 use Rattle.overlay_engine.specs.Start.{Start, up_to}
@@ -60,7 +60,7 @@ module _ {D : Type 0} (g : Ghosts D) where
   pub record IsBegun (old new : Flusher D g) (version : Version) : Type 0 where
     pub began : new.commit.phase ≡ Close
     pub honest : g.is_honest old.commit.disk → g.is_honest new.commit.disk
-    pub runs : (x : Kept) → StoreStandsFor g old.commit x → (y : Kept) × IsCommitOf version y × Runs g new.commit x y
+    pub runs : (x : Kept) → StoreStandsFor g old.commit x → (y : Kept) × IsCommitOf version y × RunsFrom g new.commit x y
     pub stored : new.commit.root.version ≡ old.commit.root.version
 
   abbrev pub BegunCovers : Type 0

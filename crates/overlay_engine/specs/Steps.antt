@@ -64,14 +64,14 @@ module _ {D : Type 0} {g : Ghosts D} where
 
   -- an engine makes a batch: it is accepted as one version; or it is refused for the first reason, with the place of the
   -- command where it is one's; or memory runs out
-  abbrev pub SubmitsAll : Batch → Engine D g → Reply → Engine D g → Type 0
-  SubmitsAll batch old (Accepted number) new =
+  abbrev pub SubmitsBatch : Batch → Engine D g → Reply → Engine D g → Type 0
+  SubmitsBatch batch old (Accepted number) new =
       FollowsBatch old.version batch new.version × (number ≡ new.version.number) × (new ≡ record old { version = new.version })
-  SubmitsAll batch old (RefusedAt place code) new =
+  SubmitsBatch batch old (RefusedAt place code) new =
       RefusedAllBy (batch_refusal_at old.version.number old.version.layers batch) (At place code) × (new ≡ old)
-  SubmitsAll batch old (Refused code) new =
+  SubmitsBatch batch old (Refused code) new =
       RefusedAllBy (batch_refusal_at old.version.number old.version.layers batch) (Whole code) × (new ≡ old)
-  SubmitsAll batch old reply new = ⊥
+  SubmitsBatch batch old reply new = ⊥
 
   -- a job more is held, under the next number: of the present input of a tile
   pub record HoldsJob (name : Name) (column : ℕ) (old : Engine D g) (number : ℕ) (new : Engine D g) : Type 0 where

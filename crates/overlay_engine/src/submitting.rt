@@ -1,6 +1,6 @@
 //! Commands, and batches of them.
 ghost use Rattle.layer_book.specs.Command.{command};
-ghost use Rattle.overlay_engine.specs.Steps.{Submits, SubmitsAll};
+ghost use Rattle.overlay_engine.specs.Steps.{Submits, SubmitsBatch};
 
 use crate::engine::Engine;
 use crate::step::Reply;
@@ -26,7 +26,7 @@ impl<D: Disk> Engine<D> {
 
     /// Makes the commands of a batch, or gives the first reason why they are refused.
     pub(crate) fn submit_all(&mut self, alloc: Global, batch: &Batch) -> Reply
-        ensures { SubmitsAll batch.now self.old result self.new }
+        ensures { SubmitsBatch batch.now self.old result self.new }
     {
         match self.version.submit_all(alloc, batch) {
             Ok(version) => {

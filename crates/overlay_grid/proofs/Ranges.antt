@@ -1,5 +1,5 @@
 -- Coordinates at equal steps: all are in range where the first and the last are.
-use Rattle.std.specs.Prelude.{◌≡◌, ℕ, ℤ, pos, neg_ℤ, negsuc, ◌+◌, ◌-◌, ◌*◌, ◌<◌, ◌≤◌, ◌+ℤ◌, ◌*ℤ◌, ◌≤ℤ◌, int_le, Bool, true, false}
+use Rattle.std.specs.Prelude.{◌≡◌, ℕ, ℤ, pos, negsuc, ◌+◌, ◌-◌, ◌*◌, ◌<◌, ◌≤◌, ◌+ℤ◌, ◌*ℤ◌, ◌≤ℤ◌, int_le, Bool, true, false}
 use Rattle.std.specs.List.{list_all, range_with_len}
 use Rattle.std.specs.Cmp.{both_ways}
 use Rattle.std.proofs.Common.{zero, suc, refl, ap, sym, ◌∙◌, arith}
@@ -8,18 +8,11 @@ use Rattle.std.proofs.lemmas.Int.{ints}
 use Rattle.std.proofs.lemmas.List.Folds.{list_all_at}
 use Rattle.std.proofs.lemmas.List.FromFn.{length-range_with_len, get_or-range_with_len}
 use Rattle.std.proofs.Math.Nat.{mul-le-mul_left}
-use Rattle.overlay_terms.specs.Plane.{InRange}
+use Rattle.overlay_terms.specs.Plane.{InRange, is_coordinate}
+use Rattle.overlay_terms.proofs.Coordinates.{passes_in_range, in_range_passes}
 use Rattle.overlay_terms.proofs.InputNumbers.{le_true, true_le}
 use Rattle.overlay_grid.proofs.RisingLemmas.{first_is}
-use Rattle.overlay_grid.specs.Grid.{Grid, all_in_range, in_range, is_within_range}
-
-in_says : (n : ℤ) → in_range n ≡ true → InRange n
-in_says n e =
-    let parts = and_parts (int_le (neg_ℤ (pos 1048576)) n) (int_le n (pos 1048576)) e in
-    (le_true (neg_ℤ (pos 1048576)) n parts.0, le_true n (pos 1048576) parts.1)
-
-in_test : (n : ℤ) → InRange n → in_range n ≡ true
-in_test n h = and_from (int_le (neg_ℤ (pos 1048576)) n) (int_le n (pos 1048576)) (true_le (neg_ℤ (pos 1048576)) n h.0) (true_le n (pos 1048576) h.1)
+use Rattle.overlay_grid.specs.Grid.{Grid, all_in_range, is_within_range}
 
 -- ---- a test at each place
 all_true : (p : ℕ → Bool) (a n : ℕ) → ((i : ℕ) → i < a + n → p i ≡ true) → list_all p (range_with_len a n) ≡ true
@@ -36,7 +29,7 @@ one_true p n i h e = true_from_ne_false (p i) (λ f. false≢true (sym (one_fals
 
 -- a coordinate of those in range
 pub one_in_range : (from step : ℤ) (count i : ℕ) → i < count → all_in_range from step count ≡ true → InRange (from +ℤ (step *ℤ pos i))
-one_in_range from step count i h e = in_says (from +ℤ (step *ℤ pos i)) (one_true (λ i. in_range (from +ℤ (step *ℤ pos i))) count i h e)
+one_in_range from step count i h e = passes_in_range (from +ℤ (step *ℤ pos i)) (one_true (λ i. is_coordinate (from +ℤ (step *ℤ pos i))) count i h e)
 
 pub first_in_range : (from step : ℤ) (count : ℕ) → 1 ≤ count → all_in_range from step count ≡ true → InRange from
 first_in_range from step count some e =
@@ -56,8 +49,8 @@ between from (negsuc s) i last low h in_from most = absurd (omega (arith, ints))
 pub last_tells : (from step : ℤ) (count : ℕ) → pos 1 ≤ℤ step → 1 ≤ count → InRange from → int_le (from +ℤ (step *ℤ pos (count - 1))) (pos 1048576) ≡ all_in_range from step count
 last_tells from step count low some in_from =
     both_ways (int_le (from +ℤ (step *ℤ pos (count - 1))) (pos 1048576)) (all_in_range from step count)
-    (λ t. all_true (λ i. in_range (from +ℤ (step *ℤ pos i))) 0 count
-    (λ i l. in_test (from +ℤ (step *ℤ pos i)) (between from step i (count - 1) low (omega arith) in_from (le_true (from +ℤ (step *ℤ pos (count - 1))) (pos 1048576) t))))
+    (λ t. all_true (λ i. is_coordinate (from +ℤ (step *ℤ pos i))) 0 count
+    (λ i l. in_range_passes (from +ℤ (step *ℤ pos i)) (between from step i (count - 1) low (omega arith) in_from (le_true (from +ℤ (step *ℤ pos (count - 1))) (pos 1048576) t))))
     (λ t. true_le (from +ℤ (step *ℤ pos (count - 1))) (pos 1048576) (one_in_range from step count (count - 1) (omega arith) t).1)
 
 -- the points of a grid within range

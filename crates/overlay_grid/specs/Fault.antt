@@ -1,5 +1,6 @@
 -- The faults of pictures: their numbers and texts.
-use Rattle.std.specs.Prelude.{ℕ, List, codes}
+use Rattle.std.specs.Prelude.{ℕ, List}
+use Rattle.fault_texts.specs.FaultTable.{text}
 use Rattle.exact_point.specs.Fault as point
 use Rattle.layer_book.specs.Fault as book
 use Rattle.overlay_grid.specs.declared.fault.GridFault.{GridFault}
@@ -13,6 +14,6 @@ code_of (Point fault) = point.code_of fault
 
 -- the text that is printed after the number
 abbrev pub text_of : GridFault → List ℕ
-text_of GridSize = codes "grid size"
 text_of (Layer fault) = book.text_of fault
 text_of (Point fault) = point.text_of fault
+text_of fault = text (code_of fault)

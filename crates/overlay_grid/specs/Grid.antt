@@ -1,7 +1,7 @@
 -- Grids of points, and the picture of a layer on one.
-use Rattle.std.specs.Prelude.{ℕ, ℤ, pos, neg_ℤ, ◌+ℤ◌, ◌*ℤ◌, ◌≤ℤ◌, int_le, Bool, not, ◌&&◌, List, [], ◌∷◌, ◌++◌, map, flat_map, codes, decimal, unsigned_abs, Option, Some, None, if◌then◌else◌}
+use Rattle.std.specs.Prelude.{ℕ, ℤ, pos, ◌+ℤ◌, ◌*ℤ◌, ◌≤ℤ◌, Bool, not, ◌&&◌, List, [], ◌∷◌, ◌++◌, map, flat_map, codes, decimal, unsigned_abs, Option, Some, None, if◌then◌else◌}
 use Rattle.std.specs.List.{list_all, range_with_len}
-use Rattle.overlay_terms.specs.Plane.{Point as PlanePoint, coordinate_max}
+use Rattle.overlay_terms.specs.Plane.{Point as PlanePoint, is_coordinate}
 use Rattle.overlay_terms.specs.Layers.{Name, Layer as BookLayer, Location, inside, outside, edge, answer_at}
 use Rattle.overlay_terms.specs.Commands.{stands}
 use Rattle.exact_point.specs.declared.fault.PointFault.TheVariants.{PointRange}
@@ -42,13 +42,9 @@ grid_with x y step nx ny = record { x = x; y = y; step = step; nx = unsigned_abs
 abbrev pub grid_point : Grid → ℕ → ℕ → PlanePoint
 grid_point g i j = record { x = g.x +ℤ (g.step *ℤ pos i); y = g.y +ℤ (g.step *ℤ pos j); w = pos 1 }
 
--- whether a coordinate is in range
-abbrev pub in_range : ℤ → Bool
-in_range n = int_le (neg_ℤ (pos coordinate_max)) n && int_le n (pos coordinate_max)
-
--- whether so many coordinates at equal steps are in range
+-- whether so many numbers at equal steps are coordinates
 abbrev pub all_in_range : ℤ → ℤ → ℕ → Bool
-all_in_range from step count = list_all (λ i. in_range (from +ℤ (step *ℤ pos i))) (range_with_len 0 count)
+all_in_range from step count = list_all (λ i. is_coordinate (from +ℤ (step *ℤ pos i))) (range_with_len 0 count)
 
 -- whether each point of a grid is: the x of each column, and the y of each row
 abbrev pub is_within_range : Grid → Bool

@@ -12,5 +12,5 @@ pub mod Sent
 pub mod ServedParts
 pub mod StoppedParts
 pub mod Stopping
-pub mod Stores
+pub mod StoreParts
 pub mod Strangers

@@ -24,7 +24,7 @@ use Rattle.overlay_server.specs.Given.{given_at, given_to}
 use Rattle.overlay_server.specs.Serving.{AreServed, IsLeftFrom, first_log, store_from}
 use Rattle.overlay_server.specs.declared.outcome.Left.{Left}
 use Rattle.overlay_server.proofs.Parts.{AreSeated, are_served, begins_first}
-use Rattle.overlay_server.proofs.Stores.{HasClosed, left_by}
+use Rattle.overlay_server.proofs.StoreParts.{HasClosed, left_by}
 use Rattle.overlay_server.proofs.Strangers.{no_other}
 
 -- a server began so: its store's log, and the scripts with their sessions

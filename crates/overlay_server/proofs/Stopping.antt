@@ -39,7 +39,7 @@ use Rattle.overlay_server.proofs.Parts.{as_many, begins_first}
 use Rattle.overlay_server.proofs.Refusals.{IsAnswered, IsHistoryLeft, refused_from}
 use Rattle.overlay_server.proofs.ServedParts.{Began, IsClosed, Ran}
 use Rattle.overlay_server.proofs.StoppedParts.{are_stopped, none_stopped}
-use Rattle.overlay_server.proofs.Stores.{back_from, left_by}
+use Rattle.overlay_server.proofs.StoreParts.{back_from, left_by}
 use Rattle.overlay_server.proofs.Strangers.{no_other}
 
 -- ---- where no session was begun, nothing was made

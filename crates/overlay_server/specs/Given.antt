@@ -11,10 +11,11 @@ pub record Given : Type 0 where
   pub script : Option (List ℕ)
   pub held : Option (List ℕ)
 
--- by a port
+-- what a session is given by a port
 abbrev pub given_at : {R W : Type 0} (remaining : R → Option (List ℕ)) (contents : W → Option (List ℕ)) → Port R W → Given
 given_at remaining contents port = record { most = port.most; script = remaining port.reader; held = contents port.writer }
 
+-- what sessions are given by their ports, in order
 abbrev pub given_to : {R W : Type 0} (remaining : R → Option (List ℕ)) (contents : W → Option (List ℕ)) → List (Port R W) → List Given
 given_to remaining contents ports = map (given_at remaining contents) ports
 
@@ -22,6 +23,7 @@ given_to remaining contents ports = map (given_at remaining contents) ports
 abbrev pub given_from : {R : Type 0} (remaining : R → Option (List ℕ)) → R → Given
 given_from remaining reader = record { most = script_max; script = remaining reader; held = Some [] }
 
+-- what sessions are given by their readers, in order
 abbrev pub given_by : {R : Type 0} (remaining : R → Option (List ℕ)) → List R → List Given
 given_by remaining readers = map (given_from remaining) readers
 

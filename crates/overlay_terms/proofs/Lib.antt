@@ -40,3 +40,5 @@ pub mod BatchLemmas
 pub mod KeptHistories
 pub mod FormLemmas
 pub mod HistoryFolds
+pub mod Coordinates
+pub mod DigitLemmas

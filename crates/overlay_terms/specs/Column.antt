@@ -1,4 +1,4 @@
--- The columns of the plane: vertical strips, each without its right border. Their number and width are given here alone.
+-- The columns of the plane: vertical bands, each without its right border. Their number and width are given here alone.
 use Rattle.std.specs.Prelude.{ℕ, ℤ, pos, ◌+◌, ◌*◌, ◌-ℤ◌, ◌*ℤ◌, ◌<ℤ◌, ◌≤ℤ◌, neg_ℤ, int_le, int_lt, Bool, ◌&&◌, List, nat_lt, Option, Some, None, if◌then◌else◌}
 use Rattle.std.specs.List.{range_with_len}
 use Rattle.overlay_terms.specs.Plane.{Point, Segment, coordinate_max}
@@ -31,7 +31,7 @@ IsInPlane x w = (neg_ℤ (pos coordinate_max *ℤ w) ≤ℤ x) × (x ≤ℤ (pos
 abbrev pub IsInColumn : ℕ → ℤ → ℤ → Type 0
 IsInColumn k x w = ((border k *ℤ w) ≤ℤ x) × (x <ℤ (border (k + 1) *ℤ w))
 
--- the same, as a test of a point
+-- whether a point lies in a column: not left of its left border, and left of its right border
 abbrev pub is_in_column : ℕ → Point → Bool
 is_in_column k p = int_le (border k *ℤ p.w) p.x && int_lt p.x (border (k + 1) *ℤ p.w)
 

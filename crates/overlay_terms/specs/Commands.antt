@@ -62,7 +62,7 @@ abbrev pub refusal_of_put : List Layer → Name → Option Refusal
 refusal_of_put layers name =
     option_or (when (stands_as_derived layers name) not_base) (when (is_crowded layers name) too_many_layers)
 
--- why a definition may not name a name: no layer has it; its layer is the defined one, or comes after it
+-- why a definition may not use a name: no layer has it; the layer that has it is the defined one, or comes after it
 abbrev pub refusal_of_use : List Layer → Name → Name → Option Refusal
 refusal_of_use layers defined used =
     option_or (when (not (stands layers used)) unknown_layer) (when (nat_le (index_of layers defined) (index_of layers used)) later_layer)

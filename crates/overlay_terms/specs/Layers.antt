@@ -22,7 +22,7 @@ pub record Layer : Type 0 where
   pub name : Name
   pub content : Content
 
--- what stands beside a name
+-- the value of the first entry that has a name; `absent` where none has it
 abbrev pub named : {A : Type 0} → A → List (Name × A) → Name → A
 named absent [] name = absent
 named absent (entry ∷ entries) name = if bytes_eq entry.0 name then entry.1 else named absent entries name

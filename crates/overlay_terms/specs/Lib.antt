@@ -1,5 +1,6 @@
 pub mod Within
 pub mod Blank
+pub mod Bytes
 pub mod Plane
 pub mod Trees
 pub mod TreeCode

@@ -24,7 +24,7 @@ pub record Segment : Type 0 where
 abbrev pub whole : WholePoint → Point
 whole a = record { x = a.x; y = a.y; w = pos 1 }
 
--- by x, then by y
+-- the order of two whole points: by x, then by y
 abbrev pub whole_cmp : WholePoint → WholePoint → Ordering
 whole_cmp a b = ordering_then (int_cmp a.x b.x) (int_cmp a.y b.y)
 
@@ -32,7 +32,7 @@ whole_cmp a b = ordering_then (int_cmp a.x b.x) (int_cmp a.y b.y)
 abbrev pub same_whole : WholePoint → WholePoint → Bool
 same_whole a b = int_eq a.x b.x && int_eq a.y b.y
 
--- by x, then by y, with the denominators multiplied out
+-- the order of two points: by x, then by y, as fractions are compared, by multiplying their denominators out
 abbrev pub point_cmp : Point → Point → Ordering
 point_cmp p q = ordering_then (int_cmp (p.x *ℤ q.w) (q.x *ℤ p.w)) (int_cmp (p.y *ℤ q.w) (q.y *ℤ p.w))
 
@@ -47,6 +47,10 @@ coordinate_max = 1048576
 -- a coordinate lies between these two
 abbrev pub InRange : ℤ → Type 0
 InRange n = (neg_ℤ (pos coordinate_max) ≤ℤ n) × (n ≤ℤ pos coordinate_max)
+
+-- whether a number is a coordinate
+abbrev pub is_coordinate : ℤ → Bool
+is_coordinate z = int_le (neg_ℤ (pos coordinate_max)) z && int_le z (pos coordinate_max)
 
 -- how far a point lies above the line of a segment: positive above, 0 on the line. Left of a vertical line counts as above
 abbrev pub height_over : Segment → Point → ℤ
@@ -63,8 +67,7 @@ side_of s p = int_cmp (height_over s p) (pos 0)
 
 -- the segment is below the point: left.x <= p.x < right.x, and the point lies strictly above its line
 abbrev pub is_below : Segment → Point → Bool
-is_below s p =
-    int_le (s.left.x *ℤ p.w) p.x && int_lt p.x (s.right.x *ℤ p.w) && int_lt (pos 0) (height_over s p)
+is_below s p = int_le (s.left.x *ℤ p.w) p.x && int_lt p.x (s.right.x *ℤ p.w) && int_lt (pos 0) (height_over s p)
 
 -- the point lies on the closed segment: on its line, from its left end to its right end
 abbrev pub is_on : Segment → Point → Bool

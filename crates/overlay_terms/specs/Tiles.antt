@@ -60,11 +60,11 @@ below_bits marked p k = count_by (λ m. (m.layer == k) && is_below m.segment p) 
 abbrev pub over_bits : List Marked → Point → ℕ → Bool
 over_bits marked p k = count_by (λ m. (m.layer == k) && (is_below m.segment p || is_on m.segment p)) marked % 2 == 1
 
--- the side under a piece, at its middle. Of a vertical piece it is just right
+-- what the layer is just under a piece, or right of a vertical one, at its middle
 abbrev pub under_of : List Marked → Steps → Point → Point → Bool
 under_of marked steps p r = steps_value steps (below_bits marked (midpoint p r))
 
--- the side over a piece, at its middle: each base layer's parity changed by its segments there. Of a vertical piece it is just left
+-- what the layer is just over a piece, or left of a vertical one: each base layer's parity changed by its segments at the middle
 abbrev pub over_of : List Marked → Steps → Point → Point → Bool
 over_of marked steps p r = steps_value steps (over_bits marked (midpoint p r))
 

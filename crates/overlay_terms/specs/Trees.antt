@@ -55,7 +55,7 @@ source_value bits known (definition k) = unwrap_or (slice_get known k) false
 abbrev pub definition_values : (ℕ → Bool) → List (Tree Source) → List Bool
 definition_values bits definitions = fold (λ known t. known ++ truth (source_value bits known) t ∷ []) [] definitions
 
--- the last of a list, or what stands for an empty one
+-- the last value of a list; the given one where the list is empty
 abbrev pub last_or : Bool → List Bool → Bool
 last_or b [] = b
 last_or b (x ∷ xs) = last_or x xs

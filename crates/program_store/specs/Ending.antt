@@ -9,6 +9,7 @@ use Rattle.commit_plan.specs.declared.fault.StoreFault.{StoreFault}
 use Rattle.commit_plan.specs.declared.fault.StoreFault.TheVariants as store
 use Rattle.script_form.specs.declared.session_end.SessionEnd.{SessionEnd}
 use Rattle.script_form.specs.declared.session_end.SessionEnd.TheVariants.{End, Failed}
+use Rattle.session_threads.specs.Running.{was_begun}
 use Rattle.session_threads.specs.declared.port.Finished.{Finished}
 use Rattle.store_flushing.specs.declared.closed.Closed.{Closed}
 use Rattle.program_store.specs.Fault.{status_of}
@@ -21,11 +22,6 @@ abbrev pub is_end : SessionEnd → Bool
 is_end End = true
 is_end (Failed code) = false
 
--- a session had memory for its lines
-abbrev pub was_run : SessionEnd → Bool
-was_run End = true
-was_run (Failed code) = not (nat_eq code 40)
-
 -- a session's replies could be written
 abbrev pub was_written : SessionEnd → Bool
 was_written End = true
@@ -35,7 +31,7 @@ was_written (Failed code) = not (nat_eq code 49)
 abbrev pub ends_of : {W : Type 0} → List (Finished W) → Ends
 ends_of all = record {
   at_end = list_all (λ one. is_end one.end) all;
-  run = list_all (λ one. was_run one.end) all;
+  run = list_all (λ one. was_begun one.end) all;
   written = list_all (λ one. was_written one.end) all;
 }
 

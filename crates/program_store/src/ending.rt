@@ -1,7 +1,8 @@
 //! How a run ends.
 ghost use Rattle.std.specs.Prelude.{◌≡◌, true, is_some, IfOk, Ok};
 ghost use Rattle.std.specs.List.{list_all};
-ghost use Rattle.program_store.specs.Ending.{conclusion, ends_of, exit_status, is_end, is_kept, is_read_only, is_stored, kept_by, told_of, unsaid, was_run, was_written};
+ghost use Rattle.session_threads.specs.Running.{was_begun};
+ghost use Rattle.program_store.specs.Ending.{conclusion, ends_of, exit_status, is_end, is_kept, is_read_only, is_stored, kept_by, told_of, unsaid, was_written};
 
 use crate::fault::ProgramFault;
 use commit_plan::fault::StoreFault;
@@ -43,9 +44,9 @@ fn have_ended<W>(sessions: &[Finished<W>]) -> bool
 
 /// Whether each session had memory for its lines.
 fn were_run<W>(sessions: &[Finished<W>]) -> bool
-    ensures { result ≡ list_all (λ session. was_run session.end) sessions.now }
+    ensures { result ≡ list_all (λ session. was_begun session.end) sessions.now }
 {
-    sessions.iter().all(|session| was_run(&session.end))
+    sessions.iter().all(|session| was_begun(&session.end))
 }
 
 /// Whether the replies of each session could be written.
@@ -151,8 +152,8 @@ fn is_end(end: &SessionEnd) -> bool
 }
 
 /// Whether a session had memory for its lines.
-fn was_run(end: &SessionEnd) -> bool
-    ensures { result ≡ was_run end.now }
+fn was_begun(end: &SessionEnd) -> bool
+    ensures { result ≡ was_begun end.now }
 {
     match end {
         SessionEnd::End => true,

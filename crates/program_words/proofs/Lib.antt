@@ -3,7 +3,6 @@ mod Asking
 mod Line
 mod Live
 mod LiveLemmas
-mod NumberLemmas
 mod Overlayd
 mod RequestLemmas
 mod Rows

@@ -43,11 +43,12 @@ abbrev pub value_for : Word → LinePart → Option Word
 value_for name (option other value) = if bytes_eq other name then Some value else None
 value_for name part = None
 
--- the flag that a part is, and the path
+-- the name of the flag that a part is, if it is one
 abbrev pub flag_of : LinePart → Option Word
 flag_of (flag name) = Some name
 flag_of part = None
 
+-- the path that a part is, if it is one
 abbrev pub path_of : LinePart → Option Word
 path_of (path text) = Some text
 path_of part = None

@@ -2,13 +2,13 @@
 use Rattle.std.specs.Prelude.{◌≡◌, ℕ, true, false, Bool, List, [], ◌∷◌, ◌++◌, map, flat_map, Some, None, All, if◌then◌else◌}
 use Rattle.std.proofs.Common.{refl, sym, subst}
 use Rattle.std.proofs.lemmas.List.Elements.{All-nil, All-cons, All-head, All-tail, All-append, All-map, All-weaker}
-use Rattle.overlay_terms.specs.Plane.{WholePoint}
+use Rattle.overlay_terms.specs.Plane.{WholePoint, is_coordinate}
 use Rattle.overlay_terms.specs.InputLaws.{IsRing}
 use Rattle.plane_base.specs.BaseLayer.{IsInRange, PointsInRange}
 use Rattle.plane_base.proofs.RingLemmas.{are_rings}
 use Rattle.wkt_form.specs.declared.fault.WktFault.TheVariants.{CoordRange, NotWhole}
 use Rattle.wkt_form.specs.Grammar.{WrittenPoint, WrittenPolygon, empty, rings, WrittenText, polygon, no_polygons, polygons, parted, bracketed, point_kinds, ring_kinds, polygon_kinds, text_kinds, point_of, polygon_rings, text_rings, in_upper_case, kinds_of, number_fault, ReadsAs}
-use Rattle.wkt_form.specs.Number.{is_whole, is_coordinate, number_value}
+use Rattle.wkt_form.specs.Number.{is_whole, number_value}
 use Rattle.wkt_form.specs.Spelling.{wkt_text}
 use Rattle.wkt_form.specs.Token.{Kind, word, run, open_bracket, close_bracket, comma, stray, Token}
 use Rattle.wkt_form.proofs.RoundTrip.{reads_back}

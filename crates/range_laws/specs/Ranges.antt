@@ -1,29 +1,18 @@
--- The range of coordinates in the words of each crate that asks for it, and what texts of rings spell.
-use Rattle.std.specs.Prelude.{◌≡◌, ◌↔◌, ℕ, ℤ, pos, Bool, IsTrue, List, None, All}
-use Rattle.overlay_terms.specs.Plane.{WholePoint, InRange}
+-- The range of coordinates, and what texts of rings spell.
+use Rattle.std.specs.Prelude.{◌≡◌, ◌↔◌, ℕ, ℤ, pos, IsTrue, List, None, All}
+use Rattle.overlay_terms.specs.Plane.{WholePoint, InRange, is_coordinate}
 use Rattle.overlay_terms.specs.InputLaws.{IsRing}
 use Rattle.plane_base.specs.BaseLayer.{rings_fault}
 use Rattle.exact_point.specs.Query.{IsQuery}
-use Rattle.overlay_grid.specs.Grid as grid
-use Rattle.store_terms.specs.BaseRecord as record_form
 use Rattle.wkt_form.specs.Grammar.{ReadsAs}
-use Rattle.wkt_form.specs.Number as text
-use Rattle.map_window.specs.Drawn as window
-
--- a test of numbers is true of just those in range
-abbrev pub TellsRange : (ℤ → Bool) → Type 0
-TellsRange test = (z : ℤ) → IsTrue (test z) ↔ InRange z
 
 -- a whole point may be asked about exactly where both its coordinates are in range
 abbrev pub AsksInRange : Type 0
 AsksInRange = (x y : ℤ) → IsQuery x y (pos 1) ↔ (InRange x × InRange y)
 
--- there is one range
+-- there is one range: the test of a coordinate is true of just the numbers in range, and so many may be asked about
 pub record OneRange : Type 0 where
-  pub texts : TellsRange text.is_coordinate
-  pub records : TellsRange record_form.is_coordinate
-  pub grids : TellsRange grid.in_range
-  pub windows : TellsRange window.is_coordinate
+  pub coordinates : (z : ℤ) → IsTrue (is_coordinate z) ↔ InRange z
   pub queries : AsksInRange
 
 -- rings that are closed and in range, and have no fault of a base layer's rings

@@ -2,7 +2,7 @@
 
 ghost use Rattle.range_laws.specs.Ranges.{OneRange, TextsSpellRings};
 
-/// Texts, records, grids, windows and whole points that are asked about take the same coordinates: those in range.
+/// The test of a coordinate, which texts, records, grids and windows share, takes just the numbers in range, and so many may be asked about.
 pub fn one_range()
     ensures { OneRange }
 {}

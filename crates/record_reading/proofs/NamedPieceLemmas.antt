@@ -19,7 +19,7 @@ use Rattle.exact_point.specs.declared.point_name.PointName.{PointName}
 use Rattle.exact_point.specs.declared.point_name.PointName.TheVariants.{Vertex, Cross, Border}
 use Rattle.tile_build.specs.Piece.{IsBetween}
 use Rattle.tile_build.proofs.EndLemmas.{at_left, at_right, whole_ends}
-use Rattle.store_terms.specs.Fields.{◌>>=◌, Field, both}
+use Rattle.store_terms.specs.Fields.{◌>>?◌, Field, both}
 use Rattle.store_terms.specs.BaseRecord.{whole_point}
 use Rattle.store_terms.specs.TileRecord.{segment, point_name, has_place, is_piece, piece}
 use Rattle.store_terms.proofs.NameTests.{back}
@@ -90,13 +90,13 @@ abbrev with_names : Segment → (PointName × PointName) × List ℕ → Option 
 with_names s b = Some ((s, b.0), b.1)
 
 abbrev behind_segment : Segment × List ℕ → Option ((Segment × (PointName × PointName)) × List ℕ)
-behind_segment a = both_names.read a.1 >>= with_names a.0
+behind_segment a = both_names.read a.1 >>? with_names a.0
 
 abbrev with_second : PointName → PointName × List ℕ → Option ((PointName × PointName) × List ℕ)
 with_second f b = Some ((f, b.0), b.1)
 
 abbrev behind_first : PointName × List ℕ → Option ((PointName × PointName) × List ℕ)
-behind_first a = point_name.read a.1 >>= with_second a.0
+behind_first a = point_name.read a.1 >>? with_second a.0
 
 abbrev making : (Segment × (PointName × PointName)) × List ℕ → Option (NamedPiece × List ℕ)
 making a = Some (record { support = a.0.0; from = a.0.1.0; to = a.0.1.1 }, a.1)
@@ -112,7 +112,7 @@ abbrev with_right : WholePoint → WholePoint × List ℕ → Option ((WholePoin
 with_right l b = Some ((l, b.0), b.1)
 
 abbrev behind_left : WholePoint × List ℕ → Option ((WholePoint × WholePoint) × List ℕ)
-behind_left a = whole_point.read a.1 >>= with_right a.0
+behind_left a = whole_point.read a.1 >>? with_right a.0
 
 abbrev joining : (WholePoint × WholePoint) × List ℕ → Option (Segment × List ℕ)
 joining a = Some (record { left = a.0.0; right = a.0.1 }, a.1)
@@ -124,8 +124,8 @@ read_ends : (bytes behind rest : List ℕ) (l r : WholePoint) → whole_point.re
     → whole_point.read behind ≡ Some (r, rest)
     → segment.read bytes ≡ cond (is_lt (whole_cmp l r)) (Some (front (record { left = l; right = r }) rest)) None
 read_ends bytes behind rest l r left right =
-    ap (λ (o : Option (WholePoint × List ℕ)). ((o >>= behind_left) >>= joining) >>= ordering) left
-    ∙ ap (λ (o : Option (WholePoint × List ℕ)). ((o >>= with_right l) >>= joining) >>= ordering) right
+    ap (λ (o : Option (WholePoint × List ℕ)). ((o >>? behind_left) >>? joining) >>? ordering) left
+    ∙ ap (λ (o : Option (WholePoint × List ℕ)). ((o >>? with_right l) >>? joining) >>? ordering) right
 
 -- a piece from its segment and the names of its ends
 read_parts : (bytes behind after rest : List ℕ) (s : Segment) (f t : PointName)
@@ -133,9 +133,9 @@ read_parts : (bytes behind after rest : List ℕ) (s : Segment) (f t : PointName
     → point_name.read after ≡ Some (t, rest)
     → piece.read bytes ≡ cond (is_piece (the_piece s f t)) (Some (front (the_piece s f t) rest)) None
 read_parts bytes behind after rest s f t support from to =
-    ap (λ (o : Option (Segment × List ℕ)). ((o >>= behind_segment) >>= making) >>= sieving) support
-    ∙ ap (λ (o : Option (PointName × List ℕ)). (((o >>= behind_first) >>= with_names s) >>= making) >>= sieving) from
-    ∙ ap (λ (o : Option (PointName × List ℕ)). (((o >>= with_second f) >>= with_names s) >>= making) >>= sieving) to
+    ap (λ (o : Option (Segment × List ℕ)). ((o >>? behind_segment) >>? making) >>? sieving) support
+    ∙ ap (λ (o : Option (PointName × List ℕ)). (((o >>? behind_first) >>? with_names s) >>? making) >>? sieving) from
+    ∙ ap (λ (o : Option (PointName × List ℕ)). (((o >>? with_second f) >>? with_names s) >>? making) >>? sieving) to
 
 module _ (bytes behind after rest : List ℕ) (s : Segment) (f t : PointName) (support : segment.read bytes ≡ Some (s, behind))
     (from : point_name.read behind ≡ Some (f, after)) (to : point_name.read after ≡ Some (t, rest)) where
@@ -166,13 +166,13 @@ ends_read bytes behind rest l r left right =
     ∙ before_rest (is_lt (whole_cmp l r)) (record { left = l; right = r }) rest
 
 no_left : (bytes : List ℕ) → whole_point.read bytes ≡ None → segment.read bytes ≡ None
-no_left bytes none = ap (λ (o : Option (WholePoint × List ℕ)). ((o >>= behind_left) >>= joining) >>= ordering) none
+no_left bytes none = ap (λ (o : Option (WholePoint × List ℕ)). ((o >>? behind_left) >>? joining) >>? ordering) none
 
 no_right : (bytes behind : List ℕ) (l : WholePoint) → whole_point.read bytes ≡ Some (l, behind)
     → whole_point.read behind ≡ None → segment.read bytes ≡ None
 no_right bytes behind l left none =
-    ap (λ (o : Option (WholePoint × List ℕ)). ((o >>= behind_left) >>= joining) >>= ordering) left
-    ∙ ap (λ (o : Option (WholePoint × List ℕ)). ((o >>= with_right l) >>= joining) >>= ordering) none
+    ap (λ (o : Option (WholePoint × List ℕ)). ((o >>? behind_left) >>? joining) >>? ordering) left
+    ∙ ap (λ (o : Option (WholePoint × List ℕ)). ((o >>? with_right l) >>? joining) >>? ordering) none
 
 pub segment_short : (bytes : List ℕ) → length bytes < 16 → segment.read bytes ≡ None
 segment_short bytes lt =
@@ -209,7 +209,7 @@ abbrev with_other : Segment → Segment × List ℕ → Option ((Segment × Segm
 with_other s b = Some ((s, b.0), b.1)
 
 abbrev behind_one : Segment × List ℕ → Option ((Segment × Segment) × List ℕ)
-behind_one a = segment.read a.1 >>= with_other a.0
+behind_one a = segment.read a.1 >>? with_other a.0
 
 abbrev crossed : (Segment × Segment) × List ℕ → Option ((WholePoint ⊎ (Segment × Segment ⊎ Segment × ℕ)) × List ℕ)
 crossed b = Some (inr (inl b.0), b.1)
@@ -225,8 +225,8 @@ pub crossing_read : (bytes : List ℕ) (a b : Segment) → 33 ≤ length bytes �
 crossing_read [] a b long one first second = absurd (omega (arith, long))
 crossing_read (kind ∷ rest) a b long one first second =
     ap (λ (n : ℕ). point_name.read (n ∷ rest)) one
-    ∙ ap (λ (o : Option (Segment × List ℕ)). ((o >>= behind_one) >>= crossed) >>= naming) (segment_in_part 1 (kind ∷ rest) a first)
-    ∙ ap (λ (o : Option (Segment × List ℕ)). ((o >>= with_other a) >>= crossed) >>= naming)
+    ∙ ap (λ (o : Option (Segment × List ℕ)). ((o >>? behind_one) >>? crossed) >>? naming) (segment_in_part 1 (kind ∷ rest) a first)
+    ∙ ap (λ (o : Option (Segment × List ℕ)). ((o >>? with_other a) >>? crossed) >>? naming)
     (segment_in_part 17 (kind ∷ rest) b second)
 
 -- the ends of a segment are those of a piece of it

@@ -2,7 +2,7 @@
 ghost use Rattle.std.specs.Prelude.{◌≡◌, map, true, IfOk};
 ghost use Rattle.record_reading.specs.Answers.{Gives, Reads};
 ghost use Rattle.store_terms.specs.Listing.{entry_of, entries_of, records_of, spelled_records};
-ghost use Rattle.store_terms.specs.Fields.{number, read_many, counted, whole};
+ghost use Rattle.store_terms.specs.Fields.{number, read_many, counted, all_read};
 ghost use Rattle.store_terms.specs.Choices.{optional};
 ghost use Rattle.store_terms.specs.Catalog as terms;
 ghost use Rattle.store_terms.specs.Catalog.{extent, listed, catalog, catalog_of_record};
@@ -78,7 +78,7 @@ fn pending_records(alloc: Global, records: &Records) -> Result<Records, AllocErr
 
 /// The layers that all of the bytes list.
 fn catalog_in(alloc: Global, columns: u8, bytes: &[u8]) -> Result<Vec<Listed>, ReadFault>
-    ensures { Gives (λ v. entries_of v.items) result (whole (catalog columns) bytes.now) }
+    ensures { Gives (λ v. entries_of v.items) result (all_read (catalog columns) bytes.now) }
 {
     let (count, rest) = two_bytes_at(bytes)?;
     let (listing, rest) = listing_at(alloc, columns, count, rest)?;

@@ -6,7 +6,7 @@ use Rattle.std.proofs.lemmas.Bool.{and_from, lt-ltb, eq-eqb}
 use Rattle.std.proofs.lemmas.List.{take_all, take_more, append-nil}
 use Rattle.std.proofs.lemmas.List.Folds.{list_all-append}
 use Rattle.byteorder.specs.Endian.{big_bytes}
-use Rattle.store_terms.specs.Fields.{Field, AreBytes, IsField, number, both, repeated, counted, whole}
+use Rattle.store_terms.specs.Fields.{Field, AreBytes, IsField, number, both, repeated, counted, all_read}
 use Rattle.store_terms.specs.Choices.{either, optional, one_of_three}
 use Rattle.store_terms.proofs.FieldLemmas.{whole_again}
 use Rattle.record_writing.specs.Putting.{IsPut, ArePut}
@@ -134,6 +134,6 @@ pub put_is_text : {A : Type 0} (f : Field A) (x : A) (old new : List ℕ) → ol
 put_is_text f x old new none put = put.spelled ∙ ap (λ (l : List ℕ). l ++ f.text x) none
 
 pub put_reads_back : {A : Type 0} (f : Field A) → IsField f → (x : A) (old new : List ℕ) → old ≡ [] → IsPut f x old new
-    → whole f new ≡ Some x
+    → all_read f new ≡ Some x
 put_reads_back f is_f x old new none put =
-    ap (whole f) (put_is_text f x old new none put) ∙ whole_again f is_f x put.fits
+    ap (all_read f) (put_is_text f x old new none put) ∙ whole_again f is_f x put.fits

@@ -1,6 +1,7 @@
 -- What a root holds has its form: layers that are added one after another, each with its tiles.
 use Rattle.std.proofs.Common.{◌≡◌, ◌⊎◌, inl, inr, ℕ, zero, suc, ◌+◌, ◌<◌, ◌≤◌, Bool, true, false, not, cond, ◌&&◌, ◌||◌, nat_lt, eqb, List, [], ◌∷◌, ◌++◌, length, Option, Some, None, Result, Ok, Err, refl, sym, ap, subst, ◌∙◌, append_assoc, arith, bytes_eq}
 use Rattle.std.specs.Prelude.{IsTrue, All}
+use Rattle.std.specs.Option.{is_none}
 use Rattle.std.specs.List.{AllByRecursion, AllPairs}
 use Rattle.std.proofs.lemmas.Bool.{and_parts, and_from, or_parts, not-true, lt-ltb, ltb-true, eqb-true}
 use Rattle.std.proofs.lemmas.Option.{cond_some}
@@ -17,14 +18,14 @@ use Rattle.store_terms.specs.declared.damage.Damage.{Damage}
 use Rattle.store_terms.specs.declared.damage.Damage.TheVariants.{RecordPlace, LayerForm, LayerRefused, TileForm, Overlap}
 use Rattle.store_terms.specs.declared.root.RecordExtent.{RecordExtent}
 use Rattle.store_terms.specs.declared.root.Root.{Root}
-use Rattle.store_terms.specs.Fields.{whole}
+use Rattle.store_terms.specs.Fields.{all_read}
 use Rattle.store_terms.specs.BaseRecord.{base_of_record}
 use Rattle.store_terms.specs.DefinitionRecord.{definition_of_record}
 use Rattle.store_terms.specs.TileRecord.{NamedTile, column_of_tile, tile_by_places, named_tile, tile_of_record}
 use Rattle.store_terms.specs.Catalog.{Records, Listed}
 use Rattle.store_terms.specs.Places.{all_apart, extents_listed}
 use Rattle.store_terms.specs.Image as image
-use Rattle.store_terms.specs.Image.{or_fault, placed_bytes, refusal_of_keeping, is_accepted, may_stand, with_layer, tiles_of, layer_of, layers_of, Held, listing_of, held_by, held_of}
+use Rattle.store_terms.specs.Image.{or_fault, placed_bytes, refusal_of_keeping, may_stand, with_layer, tiles_from_column, layer_of, layers_of, Held, listing_of, held_by, held_of}
 use Rattle.store_terms.proofs.FieldLemmas.{bound}
 use Rattle.record_writing.specs.Stored.{HeldIsImage, HeldIsStored}
 use Rattle.record_writing.specs.Tiles.{unsieved}
@@ -100,7 +101,7 @@ tested_ok false fault x y e = absurd cc
 abbrev passes : NamedTile → Bool
 passes t = nat_lt (column_of_tile t) column_count && is_formed (tile_by_places t) (column_of_tile t)
 
-read_passes : (bytes : List ℕ) (t : NamedTile) → whole named_tile bytes ≡ Some t → passes t ≡ true
+read_passes : (bytes : List ℕ) (t : NamedTile) → all_read named_tile bytes ≡ Some t → passes t ≡ true
 read_passes bytes t e =
     let x = bound (named_tile.read bytes) (λ x. cond (eqb (length x.1) 0) (Some x.0) None) t e in
     let ended = cond_some (eqb (length x.0.1) 0) x.0.0 t x.2 in
@@ -113,7 +114,7 @@ read_passes bytes t e =
 pub tile_has_form : (k : ℕ) (bytes : List ℕ) (tile : Tile) → tile_of_record k bytes ≡ Some tile
     → (k < column_count) × IsTrue (is_formed tile k)
 tile_has_form k bytes tile e =
-    let t = bound (whole named_tile bytes) (λ t. cond (eqb (column_of_tile t) k) (Some (tile_by_places t)) None) tile e in
+    let t = bound (all_read named_tile bytes) (λ t. cond (eqb (column_of_tile t) k) (Some (tile_by_places t)) None) tile e in
     let found = cond_some (eqb (column_of_tile t.0) k) (tile_by_places t.0) tile t.2 in
     let column : column_of_tile t.0 ≡ k = eqb-true (column_of_tile t.0) k found.0 in
     let both = and_parts (nat_lt (column_of_tile t.0) column_count) (is_formed (tile_by_places t.0) (column_of_tile t.0))
@@ -137,7 +138,7 @@ record AreOf (name : Name) (k : ℕ) (tiles : List Finished) : Type 0 where
   rising : Pairs IsLeftOf tiles
 
 tiles_are_of : (file : List ℕ) (name : Name) (k : ℕ) (es : List (Option RecordExtent)) (tiles : List Finished)
-    → tiles_of file name k es ≡ Ok tiles → AreOf name k tiles
+    → tiles_from_column file name k es ≡ Ok tiles → AreOf name k tiles
 tiles_are_of file name k [] tiles e = subst (AreOf name k) (same_ok [] tiles e) (record { own = tt; rising = tt })
 tiles_are_of file name k (None ∷ es) tiles e =
     let more = tiles_are_of file name (k + 1) es tiles e in
@@ -149,7 +150,7 @@ tiles_are_of file name k (None ∷ es) tiles e =
 tiles_are_of file name k (Some x ∷ es) tiles e =
     let a = ok_bound (placed_bytes RecordPlace file x) _ tiles e in
     let b = ok_bound (or_fault TileForm (tile_of_record k a.0)) _ tiles a.2 in
-    let c = ok_bound (tiles_of file name (k + 1) es) _ tiles b.2 in
+    let c = ok_bound (tiles_from_column file name (k + 1) es) _ tiles b.2 in
     let more = tiles_are_of file name (k + 1) es c.0 c.1 in
     let f : Finished = record { name = name; column = k; tile = b.0 } in
     let passed = tile_has_form k a.0 b.0 (no_fault TileForm (tile_of_record k a.0) b.0 b.1) in
@@ -197,7 +198,7 @@ layer_new : (known : List Layer) (name : Name) (content : Content) (layers : Lis
 layer_new known name content layers e =
     let t = tested_ok (may_stand known name content) LayerRefused (known ++ layer_with name content ∷ []) layers e in
     let first = and_parts (is_name name && not (stands known name))
-    (is_accepted (refusal_of_keeping known name content)) t.0 in
+    (is_none (refusal_of_keeping known name content)) t.0 in
     let second = and_parts (is_name name) (not (stands known name)) first.0 in
     (not-true (stands known name) second.1, t.1)
 
@@ -227,7 +228,7 @@ layer_is_added file known name (inr (e, es)) x h =
     let a = ok_bound (placed_bytes RecordPlace file e) _ x h in
     let b = ok_bound (or_fault LayerForm (definition_of_record a.0)) _ x a.2 in
     let c = ok_bound (with_layer known name (derived b.0)) _ x b.2 in
-    let d = ok_bound (tiles_of file name 0 es) _ x c.2 in
+    let d = ok_bound (tiles_from_column file name 0 es) _ x c.2 in
     let n = layer_new known name (derived b.0) c.0 c.1 in
     record {
       content = derived b.0;

@@ -3,7 +3,7 @@ use Rattle.std.proofs.Common.{◌≡◌, ◌⊎◌, inl, inr, ℕ, suc, ◌+◌,
 use Rattle.std.specs.Prelude.{IfOk, IfErr}
 use Rattle.std.proofs.lemmas.Bool.{cond-true}
 use Rattle.disk_model.specs.Disk.{part}
-use Rattle.store_terms.specs.Places.{block_size, is_placed, bytes_of}
+use Rattle.store_terms.specs.Places.{block_size, is_placed, bytes_at}
 use Rattle.store_terms.specs.declared.damage.Damage.{Damage}
 use Rattle.store_terms.specs.declared.root.RecordExtent.{RecordExtent}
 use Rattle.store_terms.specs.Image.{◌>>=◌, or_fault, placed_bytes}
@@ -57,7 +57,7 @@ pub front_is : (most count : ℕ) (damage : Damage) (file : List ℕ) (e : Recor
 unfolding part
 front_is most count damage file e placed small few either_way =
     ap (λ (r : Result (List ℕ) Damage). r >>= λ bytes. Ok (take (suc most) bytes))
-    (cond-true (is_placed file e) (Ok (bytes_of file e)) (Err damage) placed)
+    (cond-true (is_placed file e) (Ok (bytes_at file e)) (Err damage) placed)
     ∙ ap Ok (shorter_take most e.size count (drop (block_size * e.block) file) small few either_way)
 
 -- what is read of the part that shows a record is its front

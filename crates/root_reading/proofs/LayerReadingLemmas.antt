@@ -10,7 +10,7 @@ use Rattle.store_terms.specs.BaseRecord.{base_of_record}
 use Rattle.store_terms.specs.DefinitionRecord.{definition_of_record}
 use Rattle.store_terms.specs.declared.root.RecordExtent.{RecordExtent}
 use Rattle.store_terms.specs.Catalog.{Listed}
-use Rattle.store_terms.specs.Image.{◌>>=◌, or_fault, placed_bytes, with_layer, tiles_of, layer_of, layers_of}
+use Rattle.store_terms.specs.Image.{◌>>=◌, or_fault, placed_bytes, with_layer, tiles_from_column, layer_of, layers_of}
 use Rattle.root_reading.specs.declared.load_fault.LoadFault.{LoadFault}
 use Rattle.root_reading.specs.declared.load_fault.LoadFault.TheVariants.{Device, Damaged, OutOfMemory}
 use Rattle.root_reading.specs.Looking.{Refuses}
@@ -58,18 +58,18 @@ module _ (file : List ℕ) (known layers next : List Layer) (front : List Finish
 
   -- a derived layer, whose tiles are read or are not
   module _ (entries : List (Option RecordExtent)) (there : layers_with_derived file known name e ≡ Ok layers) where
-    its_tiles : layer_of file known name (inr (e, entries)) ≡ (tiles_of file name 0 entries >>= λ own. Ok (layers, own))
+    its_tiles : layer_of file known name (inr (e, entries)) ≡ (tiles_from_column file name 0 entries >>= λ own. Ok (layers, own))
     its_tiles =
         goes_on_twice (placed_bytes RecordPlace file e) (λ bytes. or_fault LayerForm (definition_of_record bytes))
         (λ expression. with_layer known name (derived expression))
-        (λ ls. tiles_of file name 0 entries >>= λ own. Ok (ls, own)) layers there
+        (λ ls. tiles_from_column file name 0 entries >>= λ own. Ok (ls, own)) layers there
 
-    pub derived_added : (after : List Finished) → then_tiles front (tiles_of file name 0 entries) ≡ Ok after → (rest : List Listed)
+    pub derived_added : (after : List Finished) → then_tiles front (tiles_from_column file name 0 entries) ≡ Ok after → (rest : List Listed)
         → then_layers front (layers_of file known (record { name = name; records = inr (e, entries) } ∷ rest))
         ≡ then_layers after (layers_of file next rest)
     derived_added after read rest =
         ap (λ (r : Result (List Layer × List Finished) Damage). then_layers front (behind file rest r)) its_tiles
-        ∙ by_tiles (tiles_of file name 0 entries) read
+        ∙ by_tiles (tiles_from_column file name 0 entries) read
         ∙ ap (λ (ls : List Layer). then_layers after (layers_of file ls rest)) (sym same)
       where
         by_tiles : (own : Result (List Finished) Damage) → then_tiles front own ≡ Ok after
@@ -77,12 +77,12 @@ module _ (file : List ℕ) (known layers next : List Layer) (front : List Finish
         by_tiles (Ok tiles) is = joined front tiles after (layers_of file layers rest) (cc is)
         by_tiles (Err damage) is = absurd (cc is)
 
-    pub derived_refused : (fault : LoadFault) → Refuses fault (then_tiles front (tiles_of file name 0 entries)) → (rest : List Listed)
+    pub derived_refused : (fault : LoadFault) → Refuses fault (then_tiles front (tiles_from_column file name 0 entries)) → (rest : List Listed)
         → Refuses fault (then_layers front (layers_of file known (record { name = name; records = inr (e, entries) } ∷ rest)))
     derived_refused fault refuses rest =
         subst (Refuses fault)
         (sym (ap (λ (r : Result (List Layer × List Finished) Damage). then_layers front (behind file rest r)) its_tiles))
-        (by_tiles (tiles_of file name 0 entries) fault refuses)
+        (by_tiles (tiles_from_column file name 0 entries) fault refuses)
       where
         by_tiles : (own : Result (List Finished) Damage) (told : LoadFault) → Refuses told (then_tiles front own)
             → Refuses told (then_layers front (behind file rest (own >>= λ tiles. Ok (layers, tiles))))
@@ -97,31 +97,31 @@ pub tiles_go_on : (file mid : List ℕ) (name : Name) (k : ℕ) (entry : Option 
     (front next : List Finished) (total : Result (List Finished) Damage)
     → mid ≡ file → k < length entries → entry ≡ get_or entries k entry
     → ((rest : List (Option RecordExtent))
-    → then_tiles front (tiles_of mid name k (entry ∷ rest)) ≡ then_tiles next (tiles_of mid name (k + 1) rest))
-    → then_tiles front (tiles_of file name k (drop k entries)) ≡ total
-    → then_tiles next (tiles_of file name (k + 1) (drop (k + 1) entries)) ≡ total
+    → then_tiles front (tiles_from_column mid name k (entry ∷ rest)) ≡ then_tiles next (tiles_from_column mid name (k + 1) rest))
+    → then_tiles front (tiles_from_column file name k (drop k entries)) ≡ total
+    → then_tiles next (tiles_from_column file name (k + 1) (drop (k + 1) entries)) ≡ total
 tiles_go_on file mid name k entry entries front next total same lt is adds so_far =
     let rest = drop (k + 1) entries in
     let here : drop k entries ≡ entry ∷ rest =
     at_drop_more (λ (es : List (Option RecordExtent)). es) entries k entry lt
     ∙ ap (λ (e : Option RecordExtent). e ∷ rest) (sym is) in
-    sym (subst (λ (f : List ℕ). then_tiles front (tiles_of f name k (entry ∷ rest))
-    ≡ then_tiles next (tiles_of f name (k + 1) rest)) same (adds rest))
-    ∙ ap (λ (es : List (Option RecordExtent)). then_tiles front (tiles_of file name k es)) (sym here) ∙ so_far
+    sym (subst (λ (f : List ℕ). then_tiles front (tiles_from_column f name k (entry ∷ rest))
+    ≡ then_tiles next (tiles_from_column f name (k + 1) rest)) same (adds rest))
+    ∙ ap (λ (es : List (Option RecordExtent)). then_tiles front (tiles_from_column file name k es)) (sym here) ∙ so_far
 
 pub tiles_end : (file mid : List ℕ) (name : Name) (k : ℕ) (entry : Option RecordExtent) (entries : List (Option RecordExtent))
     (front : List Finished) (total : Result (List Finished) Damage) (fault : LoadFault)
     → mid ≡ file → k < length entries → entry ≡ get_or entries k entry
-    → ((rest : List (Option RecordExtent)) → Refuses fault (then_tiles front (tiles_of mid name k (entry ∷ rest))))
-    → then_tiles front (tiles_of file name k (drop k entries)) ≡ total → Refuses fault total
+    → ((rest : List (Option RecordExtent)) → Refuses fault (then_tiles front (tiles_from_column mid name k (entry ∷ rest))))
+    → then_tiles front (tiles_from_column file name k (drop k entries)) ≡ total → Refuses fault total
 tiles_end file mid name k entry entries front total fault same lt is refuses so_far =
     let rest = drop (k + 1) entries in
     let here : drop k entries ≡ entry ∷ rest =
     at_drop_more (λ (es : List (Option RecordExtent)). es) entries k entry lt
     ∙ ap (λ (e : Option RecordExtent). e ∷ rest) (sym is) in
     subst (Refuses fault)
-    (ap (λ (es : List (Option RecordExtent)). then_tiles front (tiles_of file name k es)) (sym here) ∙ so_far)
-    (subst (λ (f : List ℕ). Refuses fault (then_tiles front (tiles_of f name k (entry ∷ rest)))) same (refuses rest))
+    (ap (λ (es : List (Option RecordExtent)). then_tiles front (tiles_from_column file name k es)) (sym here) ∙ so_far)
+    (subst (λ (f : List ℕ). Refuses fault (then_tiles front (tiles_from_column f name k (entry ∷ rest)))) same (refuses rest))
 
 -- ---- the loop over the catalog
 

@@ -10,8 +10,8 @@ use Rattle.store_terms.specs.declared.root.Root.{Root}
 use Rattle.store_terms.specs.DefinitionRecord.{definition_of_record}
 use Rattle.store_terms.specs.TileRecord.{tile_of_record}
 use Rattle.store_terms.specs.Catalog.{Records, Listed}
-use Rattle.store_terms.specs.Places.{blocks, bytes_of, is_placed, some_extents, extents_of_records, extents_listed}
-use Rattle.store_terms.specs.Image.{or_fault, placed_bytes, with_layer, tiles_of, layer_of, layers_of, listing_of}
+use Rattle.store_terms.specs.Places.{blocks, bytes_at, is_placed, some_extents, extents_of_records, extents_listed}
+use Rattle.store_terms.specs.Image.{or_fault, placed_bytes, with_layer, tiles_from_column, layer_of, layers_of, listing_of}
 use Rattle.store_terms.proofs.HeldLemmas.{ok_bound as bound}
 use Rattle.root_reading.specs.RootRuns.{IsNear, AllNear}
 
@@ -27,18 +27,18 @@ module _ (file : List ℕ) (short : length file < 2 ^ 64) where
       let within : e.block + blocks e.size ≤ length file / 4096 = leb-true _ _ p.1 in
       omega (arith, within, short)
     where
-      placed : (b : Bool) → cond b (Ok (bytes_of file e)) (Err fault) ≡ Ok bytes → b ≡ true
+      placed : (b : Bool) → cond b (Ok (bytes_at file e)) (Err fault) ≡ Ok bytes → b ≡ true
       placed true is = refl
       placed false is = absurd (cc is)
 
   near_tiles : (name : Name) (k : ℕ) (es : List (Option RecordExtent)) (tiles : List Finished)
-      → tiles_of file name k es ≡ Ok tiles → AllNear (some_extents es)
+      → tiles_from_column file name k es ≡ Ok tiles → AllNear (some_extents es)
   near_tiles name k [] tiles is = tt
   near_tiles name k (None ∷ es) tiles is = near_tiles name (k + 1) es tiles is
   near_tiles name k (Some x ∷ es) tiles is =
       let a = bound (placed_bytes RecordPlace file x) _ tiles is in
       let b = bound (or_fault TileForm (tile_of_record k a.0)) _ tiles a.2 in
-      let c = bound (tiles_of file name (k + 1) es) _ tiles b.2 in
+      let c = bound (tiles_from_column file name (k + 1) es) _ tiles b.2 in
       (near_bytes RecordPlace x a.0 a.1, near_tiles name (k + 1) es c.0 c.1)
 
   near_layer : (known : List Layer) (name : Name) (records : Records) (x : List Layer × List Finished)
@@ -49,7 +49,7 @@ module _ (file : List ℕ) (short : length file < 2 ^ 64) where
       let a = bound (placed_bytes RecordPlace file e) _ x is in
       let b = bound (or_fault LayerForm (definition_of_record a.0)) _ x a.2 in
       let c = bound (with_layer known name (derived b.0)) _ x b.2 in
-      let d = bound (tiles_of file name 0 es) _ x c.2 in
+      let d = bound (tiles_from_column file name 0 es) _ x c.2 in
       (near_bytes RecordPlace e a.0 a.1, near_tiles name 0 es d.0 d.1)
 
   pub near_layers : (known : List Layer) (ls : List Listed) (x : List Layer × List Finished)

@@ -2,7 +2,7 @@
 use Rattle.std.proofs.Common.{◌≡◌, ◌⊎◌, inl, inr, ℕ, zero, suc, ℤ, ◌+◌, ◌*◌, ◌-◌, ◌^◌, ◌<◌, ◌≤◌, nat_le, Bool, true, false, cond, ltb, eqb, ◌&&◌, List, [], ◌∷◌, ◌++◌, length, map, take, drop, Option, Some, None, refl, sym, ap, subst, ◌∙◌, arith}
 use Rattle.std.specs.Prelude.{slice_index}
 use Rattle.std.specs.List.{list_all}
-use Rattle.std.specs.Option.{option_map}
+use Rattle.std.specs.Option.{option_map, is_none}
 use Rattle.std.specs.Int.{w32, cast_signed}
 use Rattle.std.proofs.lemmas.Bool.{cases_lt, and_parts, leb-true, ltb-false, eqb-true}
 use Rattle.std.proofs.lemmas.Option.{cond_some, same_Some}
@@ -13,7 +13,7 @@ use Rattle.std.proofs.lemmas.List.Folds.{list_all-append}
 use Rattle.byteorder.specs.Endian.{big_number}
 use Rattle.byteorder.specs.Numbers.{big_from-take, big_from-lt}
 use Rattle.std.specs.Ordering.{is_lt}
-use Rattle.overlay_terms.specs.Plane.{WholePoint, Segment, whole_cmp, ring_step_count, steps_max}
+use Rattle.overlay_terms.specs.Plane.{WholePoint, Segment, whole_cmp, is_coordinate, ring_step_count, steps_max}
 use Rattle.overlay_terms.specs.Column.{column_count, is_in_column}
 use Rattle.overlay_terms.specs.Trees.{Operation, intersection, union, difference, sym_difference, Tree, leaf, combine, leaves}
 use Rattle.overlay_terms.specs.Layers.{Name}
@@ -29,9 +29,9 @@ use Rattle.layer_expr.specs.Spelling.{bracketed_if, left_needs_brackets, right_n
 use Rattle.exact_point.specs.NamedPiece.{NamedPiece, ends_of}
 use Rattle.exact_point.specs.NameCode.{name_parts, name_from}
 use Rattle.exact_point.specs.declared.point_name.PointName.{PointName}
-use Rattle.store_terms.specs.Fields.{◌>>=◌, Field, AreBytes, number, signed, both, made, sieved, read_many, repeated, counted, whole}
+use Rattle.store_terms.specs.Fields.{◌>>?◌, Field, AreBytes, number, signed, both, made, sieved, read_many, repeated, counted, all_read}
 use Rattle.store_terms.specs.Choices.{either, optional, one_of_three}
-use Rattle.store_terms.specs.BaseRecord.{is_coordinate, coordinate, whole_point, ring, is_good, rings, base_of_record}
+use Rattle.store_terms.specs.BaseRecord.{coordinate, whole_point, ring, rings, base_of_record}
 use Rattle.store_terms.specs.DefinitionRecord.{definition_of_record}
 use Rattle.store_terms.specs.TileRecord.{segment, point_name, is_piece, piece, NamedTile, column_of_tile, tile_by_places, named_tile, tile_of_record}
 use Rattle.store_terms.specs.Catalog.{Listed, extent, listed, catalog, old_column_count, without_tiles, catalog_of_record}
@@ -59,7 +59,7 @@ signed_takes test bytes x e =
 both_takes : {A B : Type 0} (f : Field A) (g : Field B) (s : A → ℕ) (t : B → ℕ) → Takes f s → Takes g t
     → Takes (both f g) (λ x. s x.0 + t x.1)
 both_takes {A} {B} f g s t first second bytes x e =
-    let a = bound (f.read bytes) (λ a. g.read a.1 >>= λ b. Some ((a.0, b.0), b.1)) x e in
+    let a = bound (f.read bytes) (λ a. g.read a.1 >>? λ b. Some ((a.0, b.0), b.1)) x e in
     let b = bound (g.read a.0.1) (λ b. Some ((a.0.0, b.0), b.1)) x a.2 in
     subst (λ (y : (A × B) × List ℕ). length bytes ≤ (s y.0.0 + t y.0.1) + length y.1)
     (same_Some ((a.0.0, b.0.0), b.0.1) x b.2)
@@ -87,7 +87,7 @@ many_take : {A : Type 0} (f : Field A) (s : A → ℕ) (total : List A → ℕ) 
 many_take {A} f s total adds is zero bytes x e =
     subst (λ (y : List A × List ℕ). length bytes ≤ total y.0 + length y.1) (same_Some ([], bytes) x e) (omega arith)
 many_take {A} f s total adds is (suc n) bytes x e =
-    let a = bound (f.read bytes) (λ a. read_many f.read n a.1 >>= λ b. Some (a.0 ∷ b.0, b.1)) x e in
+    let a = bound (f.read bytes) (λ a. read_many f.read n a.1 >>? λ b. Some (a.0 ∷ b.0, b.1)) x e in
     let b = bound (read_many f.read n a.0.1) (λ b. Some (a.0.0 ∷ b.0, b.1)) x a.2 in
     subst (λ (y : List A × List ℕ). length bytes ≤ total y.0 + length y.1) (same_Some (a.0.0 ∷ b.0.0, b.0.1) x b.2)
     (omega (arith, is bytes a.0 a.1, many_take f s total adds is n a.0.1 b.0 b.1, adds a.0.0 b.0.0))
@@ -99,7 +99,7 @@ counted_takes w f s total adds is bytes x e =
     omega (arith, number_takes w bytes n.0 n.1, many_take f s total adds is n.0.0 n.0.1 x n.2)
 
 -- all of the bytes are as many as the value takes
-whole_takes : {A : Type 0} (f : Field A) (s : A → ℕ) → Takes f s → (bytes : List ℕ) (x : A) → whole f bytes ≡ Some x
+whole_takes : {A : Type 0} (f : Field A) (s : A → ℕ) → Takes f s → (bytes : List ℕ) (x : A) → all_read f bytes ≡ Some x
     → length bytes ≤ s x
 whole_takes {A} f s is bytes x e =
     let a = bound (f.read bytes) (λ y. cond (eqb (length y.1) 0) (Some y.0) None) x e in
@@ -108,7 +108,7 @@ whole_takes {A} f s is bytes x e =
     subst (λ (y : A). length bytes ≤ s y) passed.1 (omega (arith, is bytes a.0 a.1, none))
 
 -- the values of a field that is sieved pass the test
-whole_passes : {A : Type 0} (test : A → Bool) (f : Field A) (bytes : List ℕ) (x : A) → whole (sieved test f) bytes ≡ Some x
+whole_passes : {A : Type 0} (test : A → Bool) (f : Field A) (bytes : List ℕ) (x : A) → all_read (sieved test f) bytes ≡ Some x
     → test x ≡ true
 whole_passes {A} test f bytes x e =
     let a = bound ((sieved test f).read bytes) (λ y. cond (eqb (length y.1) 0) (Some y.0) None) x e in
@@ -146,7 +146,7 @@ few_steps rs good =
     (both_absent (first_ring_fault 0 rs)
     (cond (nat_le (ring_step_count rs) steps_max) None (Some TooManySegments)) good).second)
 
-good_is_none : (fault : Option PlaneFault) → is_good fault ≡ true → fault ≡ None
+good_is_none : (fault : Option PlaneFault) → is_none fault ≡ true → fault ≡ None
 good_is_none None e = refl
 good_is_none (Some fault) e = absurd cc
 
@@ -154,9 +154,9 @@ pub base_length : (bytes : List ℕ) (rs : List (List WholePoint)) → base_of_r
 base_length bytes rs e =
     let inner = counted 2 ring in
     let taken = whole_takes rings (λ rs. 2 + rings_size rs)
-    (sieved_takes (λ rs. is_good (rings_fault rs)) inner (λ rs. 2 + rings_size rs)
+    (sieved_takes (λ rs. is_none (rings_fault rs)) inner (λ rs. 2 + rings_size rs)
     (counted_takes 2 ring (λ r. 2 + 8 * length r) rings_size rings_total ring_takes)) bytes rs e in
-    let good = good_is_none (rings_fault rs) (whole_passes (λ rs. is_good (rings_fault rs)) inner bytes rs e) in
+    let good = good_is_none (rings_fault rs) (whole_passes (λ rs. is_none (rings_fault rs)) inner bytes rs e) in
     omega (arith, taken, few_steps rs good, few_rings rs good)
 
 -- ---- definitions: few tokens, and no name is long
@@ -296,7 +296,7 @@ formed_size (inr k) formed = omega arith
 
 pub tile_length : (k : ℕ) (bytes : List ℕ) (tile : Tile) → tile_of_record k bytes ≡ Some tile → length bytes ≤ 5373958
 tile_length k bytes tile e =
-    let a = bound (whole named_tile bytes) (λ t. cond (eqb (column_of_tile t) k) (Some (tile_by_places t)) None) tile e in
+    let a = bound (all_read named_tile bytes) (λ t. cond (eqb (column_of_tile t) k) (Some (tile_by_places t)) None) tile e in
     let inner = either (both (number 1) (counted 4 piece)) (number 1) in
     let test = λ (t : NamedTile). ltb (column_of_tile t) column_count && is_formed (tile_by_places t) (column_of_tile t) in
     let taken = whole_takes named_tile tile_size (sieved_takes test inner tile_size either_takes) bytes a.0 a.1 in
@@ -362,7 +362,7 @@ after_both i j bytes le first = omega (arith, le, first, length-drop i bytes)
 
 both_within : {A B : Type 0} (f : Field A) (g : Field B) (n m : ℕ) → IsWithin f n → IsWithin g m → IsWithin (both f g) (n + m)
 both_within {A} {B} f g n m first second bytes x are e =
-    let a = bound (f.read bytes) (λ a. g.read a.1 >>= λ b. Some ((a.0, b.0), b.1)) x e in
+    let a = bound (f.read bytes) (λ a. g.read a.1 >>? λ b. Some ((a.0, b.0), b.1)) x e in
     let b = bound (g.read a.0.1) (λ b. Some ((a.0.0, b.0), b.1)) x a.2 in
     let p = first bytes a.0 (fewer_bytes (n + m) n bytes (omega arith) are) a.1 in
     let are_after : AreBytesTo m a.0.1 =
@@ -395,7 +395,7 @@ many_within {A} f n is zero bytes x are e =
 many_within {A} f n is (suc k) bytes x are e =
     let size : suc k * n ≡ k * n + n = suc-mul k n in
     let all : AreBytesTo (k * n + n) bytes = subst (λ (m : ℕ). AreBytesTo m bytes) size are in
-    let a = bound (f.read bytes) (λ a. read_many f.read k a.1 >>= λ b. Some (a.0 ∷ b.0, b.1)) x e in
+    let a = bound (f.read bytes) (λ a. read_many f.read k a.1 >>? λ b. Some (a.0 ∷ b.0, b.1)) x e in
     let b = bound (read_many f.read k a.0.1) (λ b. Some (a.0.0 ∷ b.0, b.1)) x a.2 in
     let p = is bytes a.0 (fewer_bytes (k * n + n) n bytes (omega arith) all) a.1 in
     let are_after : AreBytesTo (k * n) a.0.1 =
@@ -488,7 +488,7 @@ catalog_within n le =
 
 -- all of the bytes are as many as a field is read from
 whole_within : {A : Type 0} (f : Field A) (n : ℕ) → IsWithin f n → (bytes : List ℕ) (x : A) → AreBytesTo n bytes
-    → whole f bytes ≡ Some x → length bytes ≤ n
+    → all_read f bytes ≡ Some x → length bytes ≤ n
 whole_within {A} f n is bytes x are e =
     let a = bound (f.read bytes) (λ y. cond (eqb (length y.1) 0) (Some y.0) None) x e in
     let passed = cond_some (eqb (length a.0.1) 0) a.0.0 x a.2 in
@@ -503,7 +503,7 @@ mapped f None y e = absurd cc
 pub catalog_length : (is_old : Bool) (bytes : List ℕ) (ls : List Listed) → AreBytesTo 45743432 bytes
     → catalog_of_record is_old bytes ≡ Some ls → length bytes ≤ 45743432
 catalog_length true bytes ls are e =
-    let x = mapped (map without_tiles) (whole (catalog old_column_count) bytes) ls e in
+    let x = mapped (map without_tiles) (all_read (catalog old_column_count) bytes) ls e in
     whole_within (catalog old_column_count) 45743432 (catalog_within old_column_count (omega arith)) bytes x.0 are x.1
 catalog_length false bytes ls are e =
     whole_within (catalog column_count) 45743432 (catalog_within column_count (omega arith)) bytes ls are e

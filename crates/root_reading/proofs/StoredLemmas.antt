@@ -1,6 +1,7 @@
 -- What a layer or a tile more leaves of the place after the tiles of a table.
 use Rattle.std.proofs.Common.{◌≡◌, inl, inr, ⊎_elim, ℕ, ◌+◌, ◌<◌, ◌&&◌, not, nat_lt, Bool, true, false, cond, List, [], ◌∷◌, ◌++◌, length, get_or, Ok, Err, refl, sym, ◌∙◌, ap, subst, arith}
 use Rattle.std.specs.Prelude.{bytes_eq, IsTrue}
+use Rattle.std.specs.Option.{is_none}
 use Rattle.std.proofs.lemmas.Bool.{cases_Bool, and_parts, and_from, or_cases, or_parts, or_left, or_right, cond-true, cond-false}
 use Rattle.std.proofs.lemmas.Bool.Decides.{nat_tests}
 use Rattle.std.proofs.lemmas.List.Elements.{All-push}
@@ -14,10 +15,10 @@ use Rattle.overlay_terms.proofs.NameLemmas.{name_itself}
 use Rattle.layer_book.proofs.Closing.{near_index}
 use Rattle.layer_expr.specs.Name.{is_name}
 use Rattle.layer_tiles.proofs.Stored.{laid_is_stored}
-use Rattle.layer_tiles.specs.Filling.{named, AreBefore, IsLonger}
+use Rattle.layer_tiles.specs.Filling.{finished_as, AreBefore, IsLonger}
 use Rattle.layer_tiles.specs.Table.{laid, tiles_in, IsLaid, Tabled}
 use Rattle.store_terms.specs.declared.damage.Damage.TheVariants.{LayerRefused}
-use Rattle.store_terms.specs.Image.{may_stand, is_accepted, refusal_of_keeping, with_layer}
+use Rattle.store_terms.specs.Image.{may_stand, refusal_of_keeping, with_layer}
 use Rattle.root_reading.specs.Stored.{IsNextTo}
 
 -- ---- a layer more
@@ -60,7 +61,7 @@ grown : (known : List Layer) (name : Name) (content : Content) (layers : List La
 grown known name content layers is =
     let t = passes (may_stand known name content) is in
     let p = and_parts (is_name name && not (stands known name))
-    (is_accepted (refusal_of_keeping known name content)) t.0 in
+    (is_none (refusal_of_keeping known name content)) t.0 in
     let q = and_parts (is_name name) (not (stands known name)) p.0 in
     (turned (stands known name) q.1, t.1)
   where
@@ -98,7 +99,7 @@ next_grows name tree layers table longer valid is same kept =
   where
     first : (known : List Layer) (name : Name) (l : Layer) (f : Finished)
         → index_of (known ++ l ∷ []) name ≡ length known → stands_as_derived known f.name ≡ true
-        → is_tile_before (known ++ l ∷ []) f (named name 0 oversize) ≡ true
+        → is_tile_before (known ++ l ∷ []) f (finished_as name 0 oversize) ≡ true
     first known name l f last as_derived =
         let standing = derived_stands known f.name as_derived in
         let near : index_of known f.name < length known = near_index known f.name standing in
@@ -117,8 +118,8 @@ next_column table name k to = record {
   before = λ i d lt. later table.layers (get_or (tiles_in table) i d) (to.before i d lt);
 }
   where
-    later : (layers : List Layer) (f : Finished) → is_tile_before layers f (named name k oversize) ≡ true
-        → is_tile_before layers f (named name (k + 1) oversize) ≡ true
+    later : (layers : List Layer) (f : Finished) → is_tile_before layers f (finished_as name k oversize) ≡ true
+        → is_tile_before layers f (finished_as name (k + 1) oversize) ≡ true
     later layers f is = ⊎_elim
         (λ one. or_left (nat_lt (index_of layers f.name) (index_of layers name))
         (bytes_eq f.name name && nat_lt f.column (k + 1)) one)
@@ -133,7 +134,7 @@ next_column table name k to = record {
 
 -- the tile of the column itself is there
 pub next_tile : (table more : Tabled) (name : Name) (k : ℕ) (tile : Tile) → more.layers ≡ table.layers
-    → tiles_in more ≡ tiles_in table ++ named name k tile ∷ [] → IsNextTo table name k → IsNextTo more name (k + 1)
+    → tiles_in more ≡ tiles_in table ++ finished_as name k tile ∷ [] → IsNextTo table name k → IsNextTo more name (k + 1)
 next_tile table more name k tile same is to =
     let later = next_column table name k to in
     let less : nat_lt k (k + 1) ≡ true = grind (arith, nat_tests) in
@@ -141,8 +142,8 @@ next_tile table more name k tile same is to =
       derived_layer = subst (λ (ls : List Layer). IsTrue (stands_as_derived ls name)) (sym same) to.derived_layer;
       before = subst (λ (ls : List Layer). AreBefore ls (tiles_in more) name (k + 1)) (sym same)
           (subst (λ (fs : List Finished). AreBefore table.layers fs name (k + 1)) (sym is)
-          (All-push (λ (g : Finished). IsTrue (is_tile_before table.layers g (named name (k + 1) oversize)))
-          (tiles_in table) (named name k tile) later.before
+          (All-push (λ (g : Finished). IsTrue (is_tile_before table.layers g (finished_as name (k + 1) oversize)))
+          (tiles_in table) (finished_as name k tile) later.before
           (or_right (nat_lt (index_of table.layers name) (index_of table.layers name)) (bytes_eq name name && nat_lt k (k + 1))
           (and_from (bytes_eq name name) (nat_lt k (k + 1)) (name_itself name) less))));
     }

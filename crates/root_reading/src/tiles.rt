@@ -4,7 +4,7 @@ ghost use Rattle.overlay_terms.specs.Column.{column_count};
 ghost use Rattle.overlay_terms.specs.Histories.{is_formed};
 ghost use Rattle.layer_tiles.specs.Table.{tiles_in};
 ghost use Rattle.tile_build.specs.Tile.{tile_of};
-ghost use Rattle.store_terms.specs.Image.{tiles_of};
+ghost use Rattle.store_terms.specs.Image.{tiles_from_column};
 ghost use Rattle.store_terms.specs.declared.root.RecordExtent as terms;
 ghost use Rattle.root_reading.specs.Looking.{Gives, Refuses, OnlyLooks};
 ghost use Rattle.root_reading.specs.LayerReading.{tile_at, then_tiles};
@@ -64,13 +64,13 @@ fn add_tile<D: Disk>(
     ensures adds { D.is_honest disk.old
         → OnOk result
         ((rest : List (Option terms.RecordExtent))
-        → then_tiles (tiles_in table.old) (tiles_of (D.seen disk.old) name.now column (entry ∷ rest))
-        ≡ then_tiles (tiles_in table.new) (tiles_of (D.seen disk.old) name.now (column + 1) rest)) }
+        → then_tiles (tiles_in table.old) (tiles_from_column (D.seen disk.old) name.now column (entry ∷ rest))
+        ≡ then_tiles (tiles_in table.new) (tiles_from_column (D.seen disk.old) name.now (column + 1) rest)) }
     ensures refuses { D.is_honest disk.old
         → IfErr result
         (λ e. (rest : List (Option terms.RecordExtent))
         → Refuses e (then_tiles (tiles_in table.old)
-        (tiles_of (D.seen disk.old) name.now column (entry ∷ rest)))) }
+        (tiles_from_column (D.seen disk.old) name.now column (entry ∷ rest)))) }
     ensures layers { OnOk result (table.new.layers ≡ table.old.layers) }
     ensures next { OnOk result (IsNextTo table.new name.now (column + 1)) }
 {
@@ -97,12 +97,12 @@ pub(crate) fn add_tiles<D: Disk>(
     ensures looks { OnlyLooks D.Disk result disk.old disk.new }
     ensures adds { D.is_honest disk.old
         → OnOk result
-        (then_tiles (tiles_in table.old) (tiles_of (D.seen disk.old) name.now 0 entries.now)
+        (then_tiles (tiles_in table.old) (tiles_from_column (D.seen disk.old) name.now 0 entries.now)
         ≡ Ok (tiles_in table.new)) }
     ensures refuses { D.is_honest disk.old
         → IfErr result
         (λ e. Refuses e
-        (then_tiles (tiles_in table.old) (tiles_of (D.seen disk.old) name.now 0 entries.now))) }
+        (then_tiles (tiles_in table.old) (tiles_from_column (D.seen disk.old) name.now 0 entries.now))) }
     ensures layers { OnOk result (table.new.layers ≡ table.old.layers) }
 {
     for (column, entry) in entries.iter().enumerate() {

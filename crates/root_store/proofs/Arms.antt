@@ -14,11 +14,11 @@ use Rattle.root_store.specs.declared.commit.Commit.{Commit}
 use Rattle.root_store.specs.declared.phase.Phase.{Phase}
 use Rattle.root_store.specs.declared.phase.Phase.TheVariants.{Close, Settle, Put, Open, Finish}
 use Rattle.root_store.specs.Content.{IsBefore, IsUnderWay}
-use Rattle.root_store.specs.Running.{Before, Runs}
+use Rattle.root_store.specs.Running.{Before, RunsFrom}
 use Rattle.root_store.specs.Writing.{writes_left}
 use Rattle.root_store.proofs.Steps.{OnlyNow, Passes, one_call, leaves_torn, leaves_fewer, leaves_synced, rest_either, shut_either, both_either, closing, opening, settles, next_leads, next_spares, led}
 
-module _ {D : Type 0} (g : Ghosts D) (s : Commit D g) (new : D) (x y : Kept) (runs : Runs g s x y) where
+module _ {D : Type 0} (g : Ghosts D) (s : Commit D g) (new : D) (x y : Kept) (runs : RunsFrom g s x y) where
   -- what is known before the call of this phase
   known : (this : Phase) → s.phase ≡ this → Before g this s x y
   known this is = subst (λ (p : Phase). Before g p s x y) is runs.before

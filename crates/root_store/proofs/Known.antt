@@ -25,7 +25,7 @@ use Rattle.root_store.specs.declared.phase.Phase.{Phase}
 use Rattle.root_store.specs.declared.phase.Phase.TheVariants.{Idle, Close, Settle, Put, Open, Finish, Failed}
 use Rattle.root_store.specs.declared.commit.Commit.{Commit}
 use Rattle.root_store.specs.Content.{content_of, IsAtRest, IsBefore, GoesOn, Keeps}
-use Rattle.root_store.specs.Running.{Runs, LeadsTo, is_busy, StoresStand, CommitsRun}
+use Rattle.root_store.specs.Running.{RunsFrom, LeadsTo, is_busy, StoresStand, CommitsRun}
 use Rattle.root_store.proofs.Stable.{IsStable, less, same, either, decide_less, decide_le, each_of, is_ok, body_code, listed_code, held_code, extent_code}
 
 pub map_stable : (es : List RecordExtent) (taken : List runs.Extent) → IsStable (IsMapOf es taken)
@@ -240,11 +240,11 @@ content_is root live y is holds number =
 
 -- a commit to what holds this
 pub leads_to : {D : Type 0} (g : Ghosts D) (old new : Commit D g) (held : Held)
-    → (y : Kept) × (y.held ≡ held) × Runs g new (content_of old.root old.live) y
+    → (y : Kept) × (y.held ≡ held) × RunsFrom g new (content_of old.root old.live) y
     → held.number ≡ new.next_root.version → LeadsTo g old new held
 leads_to g old new held run number =
     let is = content_is new.next_root new.next_live run.0 run.2.next_root run.2.next_holds (ap (λ (h : Held). h.number) run.1 ∙ number) in
-    (ap (λ (y : Kept). y.held) is ∙ run.1, subst (λ (y : Kept). Runs g new (content_of old.root old.live) y) (sym is) run.2)
+    (ap (λ (y : Kept). y.held) is ∙ run.1, subst (λ (y : Kept). RunsFrom g new (content_of old.root old.live) y) (sym is) run.2)
 
 -- a store that is put back as it was: two proofs of what its type keeps are one
 pub put_back : {D T E : Type 0} (g : Ghosts D) (result : Result T E) (s : Commit D g)

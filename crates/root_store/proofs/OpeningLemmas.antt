@@ -18,7 +18,7 @@ use Rattle.commit_plan.specs.Kept.{Kept, other, Live, Rest, Shut, Calm}
 use Rattle.commit_plan.specs.Loaded.{held_in, kept_in}
 use Rattle.root_reading.specs.Looking.{Looks, Refuses, Causes}
 use Rattle.commit_plan.specs.Fault.{fault_told}
-use Rattle.root_store.specs.Opening.{IsRead, Opened, Loads, IsSettled, InPhases, Stops, StandsStill, Writes, IsCompleted, Completes, Tells, FailedBy}
+use Rattle.root_store.specs.Opening.{IsRead, Opened, Loads, IsSettled, InPhases, Stops, StandsStill, OpeningWrites, IsCompleted, Completes, Tells, FailedBy}
 use Rattle.root_store.specs.Healing.{HoldsTwin, Heals}
 use Rattle.commit_plan.specs.declared.fault.StoreFault.{StoreFault}
 use Rattle.commit_plan.specs.declared.fault.StoreFault.TheVariants as stores
@@ -122,7 +122,7 @@ module _ {D : Type 0} (g : Ghosts D) (old mid : D) (x : Loaded) (is_shut : Bool)
 
 -- a file of which one gate is shut, once the body behind it is written
 pub body_writes : (file now new : List ℕ) (r : Root) → root_of file ≡ Ok r → has_shut_gate file ≡ true → now ≡ file
-    → r.sequence < sequence_max → Torn (body_at (other r)) body_size now new → Writes file new
+    → r.sequence < sequence_max → Torn (body_at (other r)) body_size now new → OpeningWrites file new
 body_writes file now new r is alone same below torn =
     inr
     (record {

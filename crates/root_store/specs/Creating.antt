@@ -15,10 +15,11 @@ use Rattle.commit_plan.specs.Kept.{Kept, Rest}
 abbrev pub new_blocks : ℕ
 new_blocks = 3
 
--- the root of a store that holds nothing, and the body beside it
+-- the root of a new store, which holds nothing
 abbrev pub first_root : Root
 first_root = record { is_old = false; sequence = 0; version = 0; catalog = record { block = 2; size = 2 } }
 
+-- the root in the other slot, whose gate is shut: it names the same catalog, one sequence later
 abbrev pub second_root : Root
 second_root = record { is_old = false; sequence = 1; version = 0; catalog = record { block = 2; size = 2 } }
 

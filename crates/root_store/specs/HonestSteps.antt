@@ -16,7 +16,7 @@ use Rattle.commit_plan.specs.declared.loaded.Loaded.{Loaded}
 use Rattle.commit_plan.specs.Kept.{Kept, other, Rest, Shut}
 use Rattle.commit_plan.specs.Loaded.{held_in}
 use Rattle.root_store.specs.Healing.{Heals}
-use Rattle.root_store.specs.Opening.{IsRead, Loads, Untouched, Writes, HasRoot, IsSettled, InPhases, Stops, IsCompleted, Completes}
+use Rattle.root_store.specs.Opening.{IsRead, Loads, Untouched, OpeningWrites, HasRoot, IsSettled, InPhases, Stops, IsCompleted, Completes}
 use Rattle.root_store.specs.Creating.{nothing_kept, IsNewFile, MadeInPhases, refusal_of_new, IsToldBy, CallsBehind}
 
 module _ {D : Type 0} (g : Ghosts D) where
@@ -44,7 +44,7 @@ module _ {D : Type 0} (g : Ghosts D) where
     pub loads : Loads g old new result
     pub phases : OnOk result (InPhases g old new)
     pub stops : IfErr result (λ fault. Stops g old (fault ≡ load_faults.Device) new)
-    pub writes : Writes (g.seen old) (g.seen new)
+    pub writes : OpeningWrites (g.seen old) (g.seen new)
     pub completed : OnOk result (Leaves g new (IsCompleted (g.seen old)))
     pub completes : OnOk result (Completes g old new)
     pub untouched : IfErr result (λ fault. fault ≢ load_faults.Device → Untouched g old new)

@@ -11,7 +11,7 @@ use Rattle.commit_plan.specs.Kept.{Kept}
 use Rattle.root_store.specs.declared.commit.Commit.{Commit}
 use Rattle.root_store.specs.declared.open_fault.OpenFault.{OpenFault}
 use Rattle.root_store.specs.Running.{StoreStandsFor}
-use Rattle.root_store.specs.Opening.{Opened, Untouched, Writes, HasRoot, Tells, FailedBy, InPhases, Stops, IsCompleted, Completes}
+use Rattle.root_store.specs.Opening.{Opened, Untouched, OpeningWrites, HasRoot, Tells, FailedBy, InPhases, Stops, IsCompleted, Completes}
 use Rattle.root_store.specs.Creating.{nothing_kept, IsNewFile, MadeInPhases, refusal_of_new, IsToldBy, CallsBehind}
 
 module _ {D : Type 0} (g : Ghosts D) where
@@ -34,8 +34,8 @@ module _ {D : Type 0} (g : Ghosts D) where
     pub phases : IfOk result (λ x. InPhases g disk x.0.disk)
     pub stops : IfErr result (λ refused. Stops g disk (refused.fault ≡ stores.Device) refused.disk)
     -- nothing is written but the body behind a shut gate
-    pub writes : MatchResult result (λ x. Writes (g.seen disk) (g.seen x.0.disk))
-        (λ refused. Writes (g.seen disk) (g.seen refused.disk))
+    pub writes : MatchResult result (λ x. OpeningWrites (g.seen disk) (g.seen x.0.disk))
+        (λ refused. OpeningWrites (g.seen disk) (g.seen refused.disk))
     -- where that gate was shut and a number is left, the body is the root's own under the next number, and synced
     pub completed : IfOk result (λ x. Leaves g x.0.disk (IsCompleted (g.seen disk)))
     -- that is done by the last two calls, a write and a sync, and no other after the reads

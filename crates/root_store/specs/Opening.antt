@@ -57,12 +57,12 @@ pub record WritesBody (old new : List ℕ) : Type 0 where
   pub torn : Torn (body_at (other root)) body_size old new
 
 -- what opening writes of a file: nothing but that body, if anything
-abbrev pub Writes : List ℕ → List ℕ → Type 0
-Writes old new = (new ≡ old) ⊎ WritesBody old new
+abbrev pub OpeningWrites : List ℕ → List ℕ → Type 0
+OpeningWrites old new = (new ≡ old) ⊎ WritesBody old new
 
 -- the file stands for what it stood for, and nothing but that body is written
 abbrev pub StandsStill : List ℕ → List ℕ → Type 0
-StandsStill old new = (reading new ≡ reading old) × Writes old new
+StandsStill old new = (reading new ≡ reading old) × OpeningWrites old new
 
 -- a file is only read after its first sync, which is the first call: until it has succeeded, a crash leaves what it
 -- might have left before; from then on, what was seen, and that alone. How many calls these reads are is free, and a

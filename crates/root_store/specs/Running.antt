@@ -25,19 +25,19 @@ module _ {D : Type 0} (g : Ghosts D) where
   Before phase s x y = IsBefore g phase s.disk (drop s.next s.plan.items) x y
 
   -- a commit from x to y is under way
-  abbrev pub Runs : Commit D g → Kept → Kept → Type 0
-  Runs s x y = IsUnderWay g s.disk s.phase s.root s.next_root s.next_live (drop s.next s.plan.items) x y
+  abbrev pub RunsFrom : Commit D g → Kept → Kept → Type 0
+  RunsFrom s x y = IsUnderWay g s.disk s.phase s.root s.next_root s.next_live (drop s.next s.plan.items) x y
 
   -- the commit that is under way goes from the content of the live root that was, to one that holds this
   abbrev pub LeadsTo : Commit D g → Commit D g → Held → Type 0
   LeadsTo old new held =
       ((content_of new.next_root new.next_live).held ≡ held)
-      × Runs new (content_of old.root old.live) (content_of new.next_root new.next_live)
+      × RunsFrom new (content_of old.root old.live) (content_of new.next_root new.next_live)
 
   -- what a step answers, and where it leaves the store
   abbrev pub Outcome : Commit D g → Progress → Kept → Kept → Type 0
   Outcome new progress.Idle x y = ⊥
-  Outcome new progress.Going x y = Runs new x y
+  Outcome new progress.Going x y = RunsFrom new x y
   Outcome new (progress.Done number) x y = StoreStandsFor new y × (number ≡ y.root.version)
 
   -- a step of a commit from x to y: a stop at any moment of it leaves x or y
@@ -104,6 +104,7 @@ calls_in Open n i = 2
 calls_in Finish n i = 1
 calls_in Failed n i = 0
 
+-- how many device calls a store has left until its commit is done
 abbrev pub calls_left : {D : Type 0} {g : Ghosts D} → Commit D g → ℕ
 calls_left s = calls_in s.phase (length s.plan.items) s.next
 
@@ -122,4 +123,4 @@ StoresStand {D = D} g =
 abbrev pub CommitsRun : {D : Type 0} → Ghosts D → Type 0
 CommitsRun {D = D} g =
     (s : Commit D g) → g.is_honest s.disk → is_busy s.phase ≡ true
-    → Runs g s (content_of s.root s.live) (content_of s.next_root s.next_live)
+    → RunsFrom g s (content_of s.root s.live) (content_of s.next_root s.next_live)

@@ -5,7 +5,7 @@ ghost use Rattle.store_terms.specs.Image.{Held};
 ghost use Rattle.store_terms.specs.Roots.{sequence_max};
 ghost use Rattle.commit_plan.specs.ImageHeld.{image_held};
 ghost use Rattle.commit_plan.specs.Kept.{Kept};
-ghost use Rattle.root_store.specs.Running.{StoreStandsFor, Runs, LeadsTo, KeepsTo, calls_left, is_busy};
+ghost use Rattle.root_store.specs.Running.{StoreStandsFor, RunsFrom, LeadsTo, KeepsTo, calls_left, is_busy};
 ghost use Rattle.commit_plan.specs.Next.{NextHolds};
 ghost use Rattle.commit_plan.specs.Fitting.{HasRoom, HasNoRoom};
 ghost use Rattle.commit_plan.specs.Live.{live_content};
@@ -32,7 +32,7 @@ impl<D: Disk> Commit<D> {
         requires follows { (x : Kept) → StoreStandsFor D.Disk self.old x
             → (held : Held) × NextHolds x held next × (held.number ≡ next.root.version) }
         ensures begun { (x : Kept) (held : Held) → StoreStandsFor D.Disk self.old x → x.root.sequence < sequence_max
-            → NextHolds x held next → (y : Kept) × (y.held ≡ held) × Runs D.Disk self.new x y }
+            → NextHolds x held next → (y : Kept) × (y.held ≡ held) × RunsFrom D.Disk self.new x y }
         ensures disk { self.new.disk ≡ self.old.disk }
         ensures root { self.new.next_root ≡ next.root }
         ensures plan { self.new.plan.items ≡ next.plan.items }
@@ -78,7 +78,7 @@ impl<D: Disk> Commit<D> {
         requires { is_busy self.old.phase ≡ false }
         // From the content that the store stands for to that of the image.
         ensures begun { (x : Kept) → StoreStandsFor D.Disk self.old x
-            → OnOk result ((y : Kept) × (y.held ≡ image_held image) × Runs D.Disk self.new x y) }
+            → OnOk result ((y : Kept) × (y.held ≡ image_held image) × RunsFrom D.Disk self.new x y) }
         // On an honest disk, with no premise: from the content of the live root to just the image.
         ensures leads { D.is_honest self.old.disk → OnOk result
             (LeadsTo D.Disk self.old self.new (image_held image)) }
@@ -129,7 +129,7 @@ impl<D: Disk> Commit<D> {
         ensures next_tiles { OnOk result ((live_content self.new.next_live).tiles ≡ (image_held image).tiles) }
         // From the content that the store stands for to that of the image.
         ensures begun { (x : Kept) → StoreStandsFor D.Disk self.old x
-            → OnOk result ((y : Kept) × (y.held ≡ image_held image) × Runs D.Disk self.new x y) }
+            → OnOk result ((y : Kept) × (y.held ≡ image_held image) × RunsFrom D.Disk self.new x y) }
         // On an honest disk, with no premise: from the content of the live root to just the image.
         ensures leads { D.is_honest self.old.disk → OnOk result
             (LeadsTo D.Disk self.old self.new (image_held image)) }

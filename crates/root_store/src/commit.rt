@@ -49,7 +49,7 @@ fn let_go(plan: &mut Vec<Write>, made: usize)
 }
 
 impl<D: Disk> Commit<D> {
-    ghost use Rattle.root_store.specs.Running.{Runs, KeepsTo, Stepped, FailsByDevice, Counts, Turns, KeepsRoots, TurnsRecords, KeepsRecords, calls_left, is_busy, fault_in};
+    ghost use Rattle.root_store.specs.Running.{RunsFrom, KeepsTo, Stepped, FailsByDevice, Counts, Turns, KeepsRoots, TurnsRecords, KeepsRecords, calls_left, is_busy, fault_in};
     ghost use Rattle.root_store.specs.Writing.{WritesOnly, writes_left, write_in, left_after};
 
     /// Whether a commit is under way: from the `begin` that was taken to the step that answers `Done` or fails.
@@ -76,7 +76,7 @@ impl<D: Disk> Commit<D> {
     /// Makes one device call; none where no commit is under way.
     pub fn step(&mut self) -> Result<Progress, StoreFault>
         // Where a commit from x to y is under way, a crash at any moment of the call leaves x or y.
-        ensures moves { (x y : Kept) → Runs D.Disk self.old x y → Stepped D.Disk self.old self.new result x y }
+        ensures moves { (x y : Kept) → RunsFrom D.Disk self.old x y → Stepped D.Disk self.old self.new result x y }
         ensures honest { D.is_honest self.new.disk ↔ D.is_honest self.old.disk }
         // It writes what its phase is named for, and no other byte: the other slot's gate byte, or the first of the
         // writes that are left. These stay as they are, but for that one.

@@ -1,11 +1,11 @@
 -- How an argument of each kind is read: exactly where it is, with what comes after it.
-use Rattle.std.proofs.Common.{◌≡◌, ℕ, ℤ, pos, ◌==◌, Bool, true, false, not, ◌&&◌, List, [], ◌∷◌, ◌++◌, refl, sym, ap, ◌∙◌, inl, inr, arith, Option, Some, None}
+use Rattle.std.proofs.Common.{◌≡◌, ℕ, ℤ, pos, ◌==◌, Bool, true, false, not, ◌&&◌, List, [], ◌∷◌, ◌++◌, refl, sym, ap, ◌∙◌, inl, inr, arith, Option, Some, None, option_map, option_and_then}
 use Rattle.std.specs.List.{list_all, take_while}
 use Rattle.std.proofs.lemmas.Bool.{and_parts, not-true, cond-true, cond-false, eqb-true}
 use Rattle.overlay_terms.specs.Blank.{is_blank}
 use Rattle.script_form.specs.Lines.{is_gap}
-use Rattle.script_form.specs.Words.{is_word_byte, is_name_side, is_empty, skip_while, number_of, some_front, front_at, word_at, with_behind, number_in, number_at, behind_sign}
-use Rattle.script_form.specs.Requests.{Kind, a_word, a_number, a_number_or_one, a_left_side, a_right_side, a_text, Value, argument_at}
+use Rattle.script_form.specs.Words.{is_word_byte, is_name_side, is_empty, skip_while, number_of, some_front, front_at, word_at, number_in, number_at, behind_sign}
+use Rattle.script_form.specs.Requests.{ArgumentKind, a_word, a_number, a_number_or_one, a_left_side, a_right_side, a_text, Value, argument_at}
 use Rattle.script_form.specs.Shapes.{AreSome, IsNext, IsNextNumber, IsArgument}
 use Rattle.script_form.proofs.Fronts.{either, parts, front_passes, rest_fails, some_is, skip_front, take_front, begins_some, some_bytes, not_empty}
 
@@ -36,11 +36,11 @@ front_tells test bytes =
 number_tells : (bytes : List ℕ) → Tells (λ n behind. IsNextNumber n behind bytes) (number_at bytes)
 number_tells bytes = by (word_at bytes) (front_tells is_word_byte bytes) where
   worth : (digits behind : List ℕ) → IsNext is_word_byte digits behind bytes → (o : Option ℤ) → number_of digits ≡ o
-      → Tells (λ n behind. IsNextNumber n behind bytes) (with_behind o behind)
+      → Tells (λ n behind. IsNextNumber n behind bytes) (option_map (λ n. (n, behind)) o)
   worth digits behind next None is = tt
   worth digits behind next (Some n) is = record { digits = digits; next = next; number_is = is }
 
-  by : (o : Option (List ℕ × List ℕ)) → Tells (λ front behind. IsNext is_word_byte front behind bytes) o → Tells (λ n behind. IsNextNumber n behind bytes) (number_in o)
+  by : (o : Option (List ℕ × List ℕ)) → Tells (λ front behind. IsNext is_word_byte front behind bytes) o → Tells (λ n behind. IsNextNumber n behind bytes) (option_and_then number_in o)
   by None tells = tt
   by (Some (digits, behind)) next = worth digits behind next (number_of digits) refl
 
@@ -64,7 +64,7 @@ sign_tells bytes (b ∷ bs) is =
     ))
     (λ _. tt)
 
-pub argument_tells : (kind : Kind) (bytes : List ℕ) → Tells (λ value behind. IsArgument kind value behind bytes) (argument_at kind bytes)
+pub argument_tells : (kind : ArgumentKind) (bytes : List ℕ) → Tells (λ value behind. IsArgument kind value behind bytes) (argument_at kind bytes)
 argument_tells a_word bytes = front_tells is_word_byte bytes
 argument_tells a_number bytes = number_tells bytes
 argument_tells a_number_or_one bytes =
@@ -121,9 +121,9 @@ pub not_gaps : (front behind bytes : List ℕ) → IsNext is_word_byte front beh
 not_gaps front behind bytes is = ap (list_all is_gap) is.bytes_are ∙ not_gaps_at is.gaps front behind is.passes
 
 number_found : (n : ℤ) (behind bytes : List ℕ) → IsNextNumber n behind bytes → number_at bytes ≡ Some (n, behind)
-number_found n behind bytes is = ap number_in (word_found is.digits behind bytes is.next) ∙ ap (λ o. with_behind o behind) is.number_is
+number_found n behind bytes is = ap (option_and_then number_in) (word_found is.digits behind bytes is.next) ∙ ap (option_map (λ n. (n, behind))) is.number_is
 
-pub argument_found : (kind : Kind) (value : Value kind) (behind bytes : List ℕ) → IsArgument kind value behind bytes → argument_at kind bytes ≡ Some (value, behind)
+pub argument_found : (kind : ArgumentKind) (value : Value kind) (behind bytes : List ℕ) → IsArgument kind value behind bytes → argument_at kind bytes ≡ Some (value, behind)
 argument_found a_word value behind bytes is = word_found value behind bytes is
 argument_found a_number value behind bytes is = number_found value behind bytes is
 argument_found a_number_or_one value behind bytes (inl (gaps, one, none)) =

@@ -4,7 +4,8 @@ use Rattle.std.specs.List.{list_all, prefix_len, take_while}
 use Rattle.std.proofs.Math.Seq.{drop-append_seam, take-append_seam}
 use Rattle.std.proofs.lemmas.Bool.{cases_Bool, and_from, and_parts, cond-true, cond-false, true≢false, ne_eqb}
 use Rattle.std.proofs.lemmas.List.{take-append-drop}
-use Rattle.script_form.specs.Words.{begins, is_empty, skip_while}
+use Rattle.overlay_terms.specs.Bytes.{begins}
+use Rattle.script_form.specs.Words.{is_empty, skip_while}
 use Rattle.script_form.specs.Shapes.{AreSome}
 
 -- by a test, one of two

@@ -1,4 +1,3 @@
-pub mod NumberLemmas
 pub mod Pieces
 pub mod LongLines
 pub mod ReadLemmas

@@ -1,5 +1,5 @@
 -- A line asks for a request exactly where it has its shape.
-use Rattle.std.proofs.Common.{◌≡◌, ℕ, ◌<◌, ◌⊎◌, Bool, true, false, not, List, [], ◌∷◌, ◌++◌, length, refl, sym, ap, subst, ◌∙◌, inl, inr, arith, Option, Some, None, ⊎_elim}
+use Rattle.std.proofs.Common.{◌≡◌, ℕ, ◌<◌, ◌⊎◌, Bool, true, false, not, List, [], ◌∷◌, ◌++◌, length, refl, sym, ap, subst, ◌∙◌, inl, inr, arith, Option, Some, None, option_and_then, unwrap_or, ⊎_elim}
 use Rattle.std.specs.Prelude.{bytes_eq, nat_le}
 use Rattle.std.specs.List.{list_all}
 use Rattle.std.proofs.lemmas.Bool.{cases_Bool, and_parts, or_from, or_left, or_right, or_cases, not-true, not-false, true≢false, cond-true, cond-false, le-leb, lt-leb, leb-false, leb-true, eqb-true}
@@ -7,7 +7,7 @@ use Rattle.std.proofs.lemmas.Bool.Decides.{nat_tests}
 use Rattle.overlay_terms.proofs.NameLemmas.{same_name}
 use Rattle.script_form.specs.Lines.{line_max, is_gap, is_too_long, is_skipped, begins_comment}
 use Rattle.script_form.specs.Words.{is_word_byte, word_at}
-use Rattle.script_form.specs.Requests.{Request, nothing, too_long, malformed, Value, Arguments, ends, takes, Form, forms, and_then, argument_at, asked_in, arguments_of, asked_by, asked_of, or_malformed, request_of}
+use Rattle.script_form.specs.Requests.{Request, nothing, too_long, malformed, Value, Arguments, ends, takes, Form, forms, argument_at, asked_in, arguments_of, asked_by, asked_of, request_of}
 use Rattle.script_form.specs.Shapes.{IsShort, AreGaps, IsBlankOrComment, IsNext, IsArgument, AreArguments, IsCommandLine, IsShapeOf}
 use Rattle.script_form.specs.Shapes as laws
 use Rattle.script_form.proofs.Fronts.{either}
@@ -18,7 +18,7 @@ use Rattle.script_form.proofs.ArgumentLemmas.{Tells, front_tells, argument_tells
 asked_found : (arguments : Arguments) (request : Request) (bytes : List ℕ) → AreArguments arguments request bytes → asked_in arguments bytes ≡ Some request
 asked_found (ends asked) request bytes (gaps, is) = cond-true (list_all is_gap bytes) _ _ gaps ∙ ap Some (sym is)
 asked_found (takes kind more) request bytes (value, behind, is, rest) =
-    ap (λ o. and_then o (λ v b. asked_in (more v) b)) (argument_found kind value behind bytes is) ∙ asked_found (more value) request behind rest
+    ap (option_and_then (λ (v, b). asked_in (more v) b)) (argument_found kind value behind bytes is) ∙ asked_found (more value) request behind rest
 
 -- what is true of a request, if one was found
 abbrev Asks : (Request → Type 0) → Option Request → Type 0
@@ -36,7 +36,7 @@ asked_tells (takes kind more) bytes = by (λ value behind. asked_tells (more val
 
   by : ((value : Value kind) (behind : List ℕ) → Asks (λ request. AreArguments (more value) request behind) (asked_in (more value) behind))
       → (o : Option (Value kind × List ℕ)) → Tells (λ value behind. IsArgument kind value behind bytes) o
-      → Asks (λ request. AreArguments (takes kind more) request bytes) (and_then o (λ value behind. asked_in (more value) behind))
+      → Asks (λ request. AreArguments (takes kind more) request bytes) (option_and_then (λ (value, behind). asked_in (more value) behind) o)
   by rest None tells = tt
   by rest (Some (value, behind)) is = onward value behind is (asked_in (more value) behind) (rest value behind)
 
@@ -80,8 +80,8 @@ asks_command (takes kind more) request bytes asks (value, behind, is, rest) = as
 
 line_found : (request : Request) (line : List ℕ) → IsCommandLine request line → asked_of line ≡ Some request
 line_found request line is =
-    ap (λ o. and_then o (λ name behind. asked_by (arguments_of forms name) behind)) (word_found is.name is.behind line is.next)
-    ∙ ap (λ o. asked_by o is.behind) is.known ∙ asked_found is.arguments request is.behind is.asks
+    ap (option_and_then asked_by) (word_found is.name is.behind line is.next)
+    ∙ ap (option_and_then (λ arguments. asked_in arguments is.behind)) is.known ∙ asked_found is.arguments request is.behind is.asks
 
 line_tells : (line : List ℕ) → Asks (λ request. IsCommandLine request line) (asked_of line)
 line_tells line = by (word_at line) (front_tells is_word_byte line) where
@@ -92,12 +92,12 @@ line_tells line = by (word_at line) (front_tells is_word_byte line) where
       record { name = name; behind = behind; next = next; arguments = arguments; known = known; asks = is }
 
   known_by : (name behind : List ℕ) → IsNext is_word_byte name behind line → (o : Option Arguments) → arguments_of forms name ≡ o
-      → Asks (λ request. IsCommandLine request line) (asked_by o behind)
+      → Asks (λ request. IsCommandLine request line) (option_and_then (λ arguments. asked_in arguments behind) o)
   known_by name behind next None known = tt
   known_by name behind next (Some arguments) known = onward name behind next arguments known (asked_in arguments behind) (asked_tells arguments behind)
 
   by : (o : Option (List ℕ × List ℕ)) → Tells (λ name behind. IsNext is_word_byte name behind line) o
-      → Asks (λ request. IsCommandLine request line) (and_then o (λ name behind. asked_by (arguments_of forms name) behind))
+      → Asks (λ request. IsCommandLine request line) (option_and_then asked_by o)
   by None tells = tt
   by (Some (name, behind)) next = known_by name behind next (arguments_of forms name) refl
 
@@ -117,13 +117,13 @@ no_comment request line is =
 short_line : (line : List ℕ) → IsShort line → is_too_long line ≡ false
 short_line line short = ap not (le-leb (length line) line_max short)
 
-read_short : (line : List ℕ) → IsShort line → is_skipped line ≡ false → request_of line ≡ or_malformed (asked_of line)
+read_short : (line : List ℕ) → IsShort line → is_skipped line ≡ false → request_of line ≡ unwrap_or (asked_of line) malformed
 read_short line short plain = cond-false (is_too_long line) _ _ (short_line line short) ∙ cond-false (is_skipped line) _ _ plain
 
 command_read : (request : Request) (line : List ℕ) → IsShort line → IsCommandLine request line → request_of line ≡ request
 command_read request line short is =
     read_short line short (or_from (begins_comment line) (list_all is_gap line) (no_comment request line is) (not_gaps is.name is.behind line is.next))
-    ∙ ap or_malformed (line_found request line is)
+    ∙ ap (λ o. unwrap_or o malformed) (line_found request line is)
 
 -- ==== Each line
 
@@ -155,7 +155,7 @@ not_skipped line plain =
 shaped : (request : Request) (line : List ℕ) → IsShapeOf request line → request_of line ≡ request
 shaped too_long line long = cond-true (is_too_long line) _ _ (ap not (lt-leb (length line) line_max long))
 shaped nothing line (short, is) = cond-false (is_too_long line) _ _ (short_line line short) ∙ cond-true (is_skipped line) _ _ (skips line is)
-shaped malformed line (short, plain, none) = read_short line short (not_skipped line plain) ∙ ap or_malformed (none_asked line none)
+shaped malformed line (short, plain, none) = read_short line short (not_skipped line plain) ∙ ap (λ o. unwrap_or o malformed) (none_asked line none)
 shaped request line is = command_read request line is.0 is.1
 
 of_command : (request : Request) (line : List ℕ) → is_command request ≡ true → IsShort line → IsCommandLine request line → IsShapeOf request line
@@ -172,7 +172,7 @@ tells line =
     let short : IsShort line = leb-true (length line) line_max (not-false (nat_le (length line) line_max) fits) in
     either (λ r. IsShapeOf r line) (is_skipped line) nothing _ (λ skipped. (short, skipped_is line skipped))
     (λ plain. by short plain (asked_of line) refl (line_tells line))) where
-      by : IsShort line → is_skipped line ≡ false → (o : Option Request) → asked_of line ≡ o → Asks (λ request. IsCommandLine request line) o → IsShapeOf (or_malformed o) line
+      by : IsShort line → is_skipped line ≡ false → (o : Option Request) → asked_of line ≡ o → Asks (λ request. IsCommandLine request line) o → IsShapeOf (unwrap_or o malformed) line
       by short plain None none tells = (
         short,
         (λ skipped. true≢false (sym (skips line skipped) ∙ plain)),

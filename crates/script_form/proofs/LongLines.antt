@@ -1,9 +1,9 @@
 -- A line that is cut off far enough asks for what the whole line asks for.
-use Rattle.std.proofs.Common.{◌≡◌, ℕ, zero, suc, ◌+◌, ◌==◌, ◌<◌, ◌≤◌, ◌⊎◌, inl, inr, true, false, not, cond, List, [], ◌∷◌, ◌++◌, length, take, refl, sym, ap, ◌∙◌, arith}
+use Rattle.std.proofs.Common.{◌≡◌, ℕ, zero, suc, ◌+◌, ◌==◌, ◌<◌, ◌≤◌, ◌⊎◌, inl, inr, true, false, not, cond, List, [], ◌∷◌, ◌++◌, length, take, unwrap_or, refl, sym, ap, ◌∙◌, arith}
 use Rattle.std.proofs.lemmas.List.{length-take-le, take_all}
 use Rattle.std.proofs.lemmas.Bool.{lt-leb, cases_lt}
 use Rattle.script_form.specs.Lines.{line_max, line_room, is_skipped, without_cr}
-use Rattle.script_form.specs.Requests.{too_long, nothing, asked_of, or_malformed, request_of}
+use Rattle.script_form.specs.Requests.{too_long, nothing, malformed, asked_of, request_of}
 
 -- no more than one byte is dropped
 length-without_cr : (line : List ℕ) → length line ≤ length (without_cr line) + 1
@@ -14,7 +14,7 @@ length-without_cr (b ∷ c ∷ bs) = let rest = length-without_cr (c ∷ bs) in 
 -- what is asked for by a line of more than the most bytes
 pub request_of-long : (line : List ℕ) → line_max < length line → request_of line ≡ too_long
 request_of-long line long =
-    ap (λ t. cond (not t) too_long (cond (is_skipped line) nothing (or_malformed (asked_of line)))) (lt-leb (length line) line_max long)
+    ap (λ t. cond (not t) too_long (cond (is_skipped line) nothing (unwrap_or (asked_of line) malformed))) (lt-leb (length line) line_max long)
 
 same_or_long : (line : List ℕ) → (take line_room line ≡ line) ⊎ ((length (take line_room line) ≡ 65538) × (65538 ≤ length line))
 unfolding line_room

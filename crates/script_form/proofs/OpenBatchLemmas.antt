@@ -1,5 +1,5 @@
 -- Lines of a batch that are read one after another.
-use Rattle.std.proofs.Common.{◌≡◌, ℕ, ℤ, ◌+◌, ◌==◌, ◌⊎◌, inl, inr, true, false, List, [], ◌∷◌, ◌++◌, map, length, Option, Some, None, Result, Ok, Err, IfOk, IfErr, Vec, refl, sym, ap, ◌∙◌, subst, arith, append_assoc}
+use Rattle.std.proofs.Common.{◌≡◌, ℕ, ℤ, ◌+◌, ◌==◌, ◌⊎◌, inl, inr, true, false, List, [], ◌∷◌, ◌++◌, map, length, Option, Some, None, option_map, Result, Ok, Err, IfOk, IfErr, Vec, refl, sym, ap, ◌∙◌, subst, arith, append_assoc}
 use Rattle.std.proofs.lemmas.Bool.{cases_Bool, cond-true, cond-false, eqb-false, eq-eqb, ne_eqb}
 use Rattle.std.proofs.lemmas.List.{length-append, map_push}
 use Rattle.overlay_terms.specs.Commands.{Command}
@@ -14,9 +14,9 @@ use Rattle.script_form.specs.declared.line_turn.LineTurn.TheVariants.{Whole}
 use Rattle.script_form.specs.Fault.{code_of}
 use Rattle.script_form.specs.OpenBatch.{AreUnread, AreRead, AreReadSoFar, IsOpenBatch, IsOpen, IsLineGathered, unread}
 use Rattle.script_form.specs.Reading.{IsMemory, IsPutRefused}
-use Rattle.script_form.specs.Turns.{Waiting, asked_size, of_size, is_nothing, is_whole, with_line}
+use Rattle.script_form.specs.Turns.{Waiting, asked_size, begun_by, is_nothing, is_full, with_line}
 use Rattle.script_form.specs.BatchLines.{IsCommandOf, IsNoCommand, AreCommandsOf, IsFirstUnread}
-use Rattle.script_form.specs.Requests.{Request, put_text}
+use Rattle.script_form.specs.Requests.{Request, batch, put_text}
 
 -- each line has one command
 pub as_many : (requests : List Request) (commands : Batch) → AreCommandsOf requests commands → length requests ≡ length commands
@@ -94,9 +94,9 @@ none_read (Err fault) none err = subst (AreUnread []) (sym err) tt
 
 -- a batch begins
 pub begun : (asked : ℤ) (size : ℕ) (o : Option ℕ) (open_batch : OpenBatch) → o ≡ Some size → o ≡ asked_size asked → open_batch.size ≡ size → open_batch.came ≡ 0
-    → AreReadSoFar [] open_batch.read → IsOpen (of_size (asked_size asked)) (Some open_batch)
+    → AreReadSoFar [] open_batch.read → IsOpen (begun_by (batch asked)) (Some open_batch)
 begun asked size o open_batch is value sized none read =
-    subst (λ (found : Option ℕ). IsOpen (of_size found) (Some open_batch)) (sym is ∙ value) (record { same_size = sized; as_many = none; read = read })
+    subst (λ (found : Option ℕ). IsOpen (option_map (λ size. record { size = size; came = [] }) found) (Some open_batch)) (sym is ∙ value) (record { same_size = sized; as_many = none; read = read })
 
 -- the fault of a PUT
 pub put_unread : {A : Type 0} (name text : List ℕ) (result : Result A CommandFault) → IfErr result (λ fault. IsMemory name fault ⊎ IsPutRefused name text fault)
@@ -110,10 +110,10 @@ module _ (waiting : Waiting) (asked : Request) (open_batch : OpenBatch) (is : Is
   one_more : length (waiting.came ++ asked ∷ []) ≡ open_batch.came + 1
   one_more = omega (arith, length-append waiting.came (asked ∷ []), is.as_many)
 
-  pub all_came : open_batch.came + 1 ≡ open_batch.size → is_whole (with_line waiting asked) ≡ true
+  pub all_came : open_batch.came + 1 ≡ open_batch.size → is_full (with_line waiting asked) ≡ true
   all_came last = eq-eqb (length (waiting.came ++ asked ∷ [])) waiting.size (one_more ∙ last ∙ is.same_size)
 
-  pub more_to_come : (open_batch.came + 1 ≡ open_batch.size → ⊥) → is_whole (with_line waiting asked) ≡ false
+  pub more_to_come : (open_batch.came + 1 ≡ open_batch.size → ⊥) → is_full (with_line waiting asked) ≡ false
   more_to_come more = ne_eqb (length (waiting.came ++ asked ∷ [])) waiting.size (λ all. more (sym one_more ∙ all ∙ sym is.same_size))
 
   pub counts_on : open_batch.came + 1 ≡ length (waiting.came ++ asked ∷ [])
@@ -121,11 +121,11 @@ module _ (waiting : Waiting) (asked : Request) (open_batch : OpenBatch) (is : Is
 
 -- the last line of a batch
 pub taken_whole : (waiting : Option Waiting) (old : OpenBatch) (asked : Request) (read : Result Batch LinesFault) → is_nothing asked ≡ false → IsOpen waiting (Some old)
-    → ((w : Waiting) → IsOpenBatch w old → (is_whole (with_line w asked) ≡ true) × AreRead (w.came ++ asked ∷ []) read) → IsLineGathered waiting asked None (Whole read)
+    → ((w : Waiting) → IsOpenBatch w old → (is_full (with_line w asked) ≡ true) × AreRead (w.came ++ asked ∷ []) read) → IsLineGathered waiting asked None (Whole read)
 taken_whole None old asked read some there joined = absurd there
 taken_whole (Some waiting) old asked read some there joined =
     let all = joined waiting there in
     record {
-      open_then = subst (λ (o : Option Waiting). IsOpen o None) (sym (cond-false (is_nothing asked) _ _ some ∙ cond-true (is_whole (with_line waiting asked)) _ _ all.0)) tt;
-      ended = (waiting.came ++ asked ∷ [], cond-false (is_nothing asked) _ _ some ∙ cond-true (is_whole (with_line waiting asked)) _ _ all.0, all.1);
+      open_then = subst (λ (o : Option Waiting). IsOpen o None) (sym (cond-false (is_nothing asked) _ _ some ∙ cond-true (is_full (with_line waiting asked)) _ _ all.0)) tt;
+      ended = (waiting.came ++ asked ∷ [], cond-false (is_nothing asked) _ _ some ∙ cond-true (is_full (with_line waiting asked)) _ _ all.0, all.1);
     }

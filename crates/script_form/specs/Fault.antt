@@ -1,7 +1,6 @@
 -- The faults of lines and sessions: their numbers and texts.
-use Rattle.std.specs.Prelude.{ℕ, List, codes}
-use Rattle.fault_texts.specs.CommonFault as common
-use Rattle.fault_texts.specs.declared.common_fault.CommonFault.TheVariants as faults
+use Rattle.std.specs.Prelude.{ℕ, List}
+use Rattle.fault_texts.specs.FaultTable.{text}
 use Rattle.wkt_form.specs.Fault as wkt
 use Rattle.layer_expr.specs.Fault as expr
 use Rattle.exact_point.specs.Fault as point
@@ -19,20 +18,20 @@ code_of (Wkt fault) = wkt.code_of fault
 code_of (Expression fault) = expr.code_of fault
 code_of (Query fault) = point.code_of fault
 code_of (Version fault) = version.code_of fault
-code_of Device = common.code_of faults.Device
-code_of Full = common.code_of faults.Full
-code_of StoreFailed = common.code_of faults.StoreFailed
-code_of SequenceLimit = common.code_of faults.SequenceLimit
-code_of OutOfMemory = common.code_of faults.OutOfMemory
+code_of Device = 30
+code_of Full = 31
+code_of StoreFailed = 35
+code_of SequenceLimit = 36
+code_of OutOfMemory = 40
 code_of CommandSyntax = 41
 code_of LineTooLong = 42
-code_of Closing = common.code_of faults.Closing
-code_of Gone = common.code_of faults.Gone
+code_of Closing = 43
+code_of Gone = 44
 code_of GridSize = pictures.code_of picture.GridSize
-code_of NoStore = common.code_of faults.NoStore
+code_of NoStore = 46
 code_of ReadLimit = 47
-code_of Read = common.code_of faults.Read
-code_of Write = common.code_of faults.Write
+code_of Read = 48
+code_of Write = 49
 
 -- the text that is printed after the number
 abbrev pub text_of : CommandFault → List ℕ
@@ -40,20 +39,7 @@ text_of (Wkt fault) = wkt.text_of fault
 text_of (Expression fault) = expr.text_of fault
 text_of (Query fault) = point.text_of fault
 text_of (Version fault) = version.text_of fault
-text_of Device = common.text_of faults.Device
-text_of Full = common.text_of faults.Full
-text_of StoreFailed = common.text_of faults.StoreFailed
-text_of SequenceLimit = common.text_of faults.SequenceLimit
-text_of OutOfMemory = common.text_of faults.OutOfMemory
-text_of CommandSyntax = codes "command syntax"
-text_of LineTooLong = codes "line too long"
-text_of Closing = common.text_of faults.Closing
-text_of Gone = common.text_of faults.Gone
-text_of GridSize = pictures.text_of picture.GridSize
-text_of NoStore = common.text_of faults.NoStore
-text_of ReadLimit = codes "read limit"
-text_of Read = common.text_of faults.Read
-text_of Write = common.text_of faults.Write
+text_of fault = text (code_of fault)
 
 -- the fault of a picture, as a reply says it
 abbrev pub of_grid : GridFault → CommandFault

@@ -1,6 +1,7 @@
 -- A script as lines.
-use Rattle.std.specs.Prelude.{◌≡◌, ℕ, ◌+◌, ◌==◌, nat_le, Bool, false, IsTrue, not, ◌||◌, List, [], ◌∷◌, ◌++◌, map, length, if◌then◌else◌}
+use Rattle.std.specs.Prelude.{◌≡◌, ℕ, ◌+◌, ◌==◌, nat_le, Bool, IsTrue, not, ◌||◌, List, [], ◌∷◌, ◌++◌, map, length, if◌then◌else◌}
 use Rattle.std.specs.List.{list_all}
+use Rattle.overlay_terms.specs.Bytes.{begins}
 
 -- the most bytes of a line, without its ending
 abbrev pub line_max : ℕ
@@ -38,12 +39,13 @@ PiecesJoinToTheBytes = (bytes : List ℕ) → joined (pieces_of bytes) ≡ bytes
 abbrev pub NoPieceHasALineFeed : Type 0
 NoPieceHasALineFeed = (bytes : List ℕ) → IsTrue (list_all (list_all (λ b. not (b == 10))) (pieces_of bytes))
 
--- all but the last of a list, and the last
+-- all but the last of a list
 abbrev pub front_of : List (List ℕ) → List (List ℕ)
 front_of [] = []
 front_of (piece ∷ []) = []
 front_of (piece ∷ next ∷ pieces) = piece ∷ front_of (next ∷ pieces)
 
+-- the last of a list; no bytes where there is none
 abbrev pub last_of : List (List ℕ) → List ℕ
 last_of [] = []
 last_of (piece ∷ []) = piece
@@ -72,6 +74,7 @@ last_line (b ∷ bs) = (b ∷ bs) ∷ []
 abbrev pub whole_lines : List ℕ → List (List ℕ)
 whole_lines bytes = ended_lines bytes ++ last_line (unended bytes)
 
+-- whether a line has more bytes than it may have
 abbrev pub is_too_long : List ℕ → Bool
 is_too_long line = not (nat_le (length line) line_max)
 
@@ -79,10 +82,10 @@ is_too_long line = not (nat_le (length line) line_max)
 abbrev pub is_gap : ℕ → Bool
 is_gap b = b == 32 || b == 9
 
--- a line without a reply: of gaps alone, or one that begins with `#`
+-- whether a line is a comment
 abbrev pub begins_comment : List ℕ → Bool
-begins_comment [] = false
-begins_comment (b ∷ bs) = b == 35
+begins_comment line = begins (λ b. b == 35) line
 
+-- whether a line has no reply: it is a comment, or has gaps alone
 abbrev pub is_skipped : List ℕ → Bool
 is_skipped line = begins_comment line || list_all is_gap line

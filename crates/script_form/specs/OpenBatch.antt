@@ -6,7 +6,7 @@ use Rattle.layer_book.specs.declared.command.Command.{Command}
 use Rattle.script_form.specs.declared.fault.CommandFault.{CommandFault}
 use Rattle.script_form.specs.BatchLines.{AreCommandsOf, IsFirstUnread}
 use Rattle.script_form.specs.Requests.{Request, request}
-use Rattle.script_form.specs.Turns.{Turn, alone, together, Waiting, with_line, is_whole, waiting_after, ended_by}
+use Rattle.script_form.specs.Turns.{Turn, alone, together, Waiting, with_line, is_full, waiting_after, ended_by}
 use Rattle.script_form.specs.declared.open_batch.OpenBatch.{OpenBatch}
 use Rattle.script_form.specs.declared.joining.Joined.{Joined}
 use Rattle.script_form.specs.declared.joining.Joined.TheVariants as joined
@@ -59,8 +59,8 @@ TakesLine old asked new turn = (waiting : Option Waiting) → IsOpen waiting old
 
 -- what a line of a batch makes of it: the batch with this line waits for more, or all of its lines came
 abbrev pub IsJoined : Waiting → Joined → Type 0
-IsJoined waiting (joined.Waits open_batch) = (is_whole waiting ≡ false) × IsOpenBatch waiting open_batch
-IsJoined waiting (joined.Whole read) = (is_whole waiting ≡ true) × AreRead waiting.came read
+IsJoined waiting (joined.Waits open_batch) = (is_full waiting ≡ false) × IsOpenBatch waiting open_batch
+IsJoined waiting (joined.Whole read) = (is_full waiting ≡ true) × AreRead waiting.came read
 
 abbrev pub Joins : OpenBatch → Request → Joined → Type 0
 Joins old asked result = (waiting : Waiting) → IsOpenBatch waiting old → IsJoined (with_line waiting asked) result

@@ -22,24 +22,26 @@ IsMemory name fault = IsTrue (is_name name) × (error_line fault ≡ error_line 
 abbrev pub IsNoName : List ℕ → CommandFault → Type 0
 IsNoName name fault = (is_name name ≡ false) × (fault ≡ Expression BadName)
 
--- a name and the text of rings are a PUT; they are refused by the name, then by the text
+-- a name and the text of rings are a PUT
 pub record SpellsPut (name text : List ℕ) (command : Command) : Type 0 where
   pub named : IsTrue (is_name name)
   pub rings : List (List WholePoint)
   pub read : wkt.ReadsAs text rings
   pub command_is : command ≡ put name rings
 
+-- a PUT is refused because the name is none, or by the fault of the text
 abbrev pub IsPutRefused : List ℕ → List ℕ → CommandFault → Type 0
 IsPutRefused name text fault =
     IsNoName name fault ⊎ (IsTrue (is_name name) × (wrong : WktFault) × wkt.IsRefusedBy text wrong × (fault ≡ Wkt wrong))
 
--- a name and the text of an expression are a DEFINE; they are refused by the name, then by the text
+-- a name and the text of an expression are a DEFINE
 pub record IsDefine (name text : List ℕ) (command : Command) : Type 0 where
   pub named : IsTrue (is_name name)
   pub tree : Tree (List ℕ)
   pub read : expr.ReadsAs text tree
   pub command_is : command ≡ define name tree
 
+-- a DEFINE is refused because the name is none, or by the fault of the text
 abbrev pub IsDefineRefused : List ℕ → List ℕ → CommandFault → Type 0
 IsDefineRefused name text fault =
     IsNoName name fault ⊎ (IsTrue (is_name name) × (wrong : ExprFault) × expr.IsRefusedBy text wrong × (fault ≡ Expression wrong))

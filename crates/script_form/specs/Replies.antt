@@ -6,18 +6,12 @@ use Rattle.version_core.specs.declared.verifying.Verdict.TheVariants.{Same, Diff
 use Rattle.script_form.specs.declared.fault.CommandFault.{CommandFault}
 use Rattle.script_form.specs.Fault.{code_of, text_of}
 
--- an accepted command: the number of its version
-abbrev pub ok_line : ℕ → List ℕ
-ok_line number = codes "ok " ++ (decimal number ++ 10 ∷ [])
+-- a word and a number: `ok` and the number of an accepted command's version, `built` and the number of the version in which
+-- the tiles of a layer are built, `durable` and the durable number
+abbrev pub numbered_line : List ℕ → ℕ → List ℕ
+numbered_line word number = word ++ (decimal number ++ 10 ∷ [])
 
--- the tiles of a layer are built: the number of the version
-abbrev pub built_line : ℕ → List ℕ
-built_line number = codes "built " ++ (decimal number ++ 10 ∷ [])
-
--- what is durable: the durable number
-abbrev pub durable_line : ℕ → List ℕ
-durable_line number = codes "durable " ++ (decimal number ++ 10 ∷ [])
-
+-- a refusal has the number of its fault, and the fault's text
 abbrev pub error_line : CommandFault → List ℕ
 error_line fault = codes "error " ++ (decimal (code_of fault) ++ (codes " " ++ (text_of fault ++ 10 ∷ [])))
 
@@ -25,11 +19,13 @@ error_line fault = codes "error " ++ (decimal (code_of fault) ++ (codes " " ++ (
 abbrev pub refused_line : ℕ → CommandFault → List ℕ
 refused_line place fault = codes "refused " ++ (decimal place ++ (codes " " ++ error_line fault))
 
+-- LOCATE is answered by one of three words
 abbrev pub location_line : Location → List ℕ
 location_line inside = codes "in\n"
 location_line outside = codes "out\n"
 location_line edge = codes "edge\n"
 
+-- VERIFY is answered by whether the finished tile is the one that would be built now
 abbrev pub verdict_line : Verdict → List ℕ
 verdict_line Same = codes "same\n"
 verdict_line Different = codes "different\n"

@@ -1,5 +1,5 @@
 -- What a line asks for: a table of commands, each its word and its arguments, and one reading of lines by it.
-use Rattle.std.specs.Prelude.{ℕ, ℤ, List, [], ◌∷◌, codes, bytes_eq, Option, Some, None, if◌then◌else◌}
+use Rattle.std.specs.Prelude.{ℕ, ℤ, List, [], ◌∷◌, codes, bytes_eq, Option, Some, None, option_and_then, unwrap_or, if◌then◌else◌}
 use Rattle.std.specs.List.{list_all}
 use Rattle.script_form.specs.Lines.{is_gap, is_skipped, is_too_long}
 use Rattle.script_form.specs.Words.{word_at, left_side_at, number_at, number_or_one_at, right_side_at, text_at}
@@ -28,16 +28,16 @@ pub data Request : Type 0 where
 
 -- a kind of argument: a word; a number; a number that is 1 where it is left out; a name that may end at a `=`; the `=` and the
 -- text after it; a text. A text runs to the end of the line
-pub data Kind : Type 0 where
-  a_word : Kind
-  a_number : Kind
-  a_number_or_one : Kind
-  a_left_side : Kind
-  a_right_side : Kind
-  a_text : Kind
+pub data ArgumentKind : Type 0 where
+  a_word : ArgumentKind
+  a_number : ArgumentKind
+  a_number_or_one : ArgumentKind
+  a_left_side : ArgumentKind
+  a_right_side : ArgumentKind
+  a_text : ArgumentKind
 
 -- what an argument is: a number, or bytes
-abbrev pub Value : Kind → Type 0
+abbrev pub Value : ArgumentKind → Type 0
 Value a_word = List ℕ
 Value a_number = ℤ
 Value a_number_or_one = ℤ
@@ -48,13 +48,14 @@ Value a_text = List ℕ
 -- the arguments of a command, one after another, and what it asks for by them
 pub data Arguments : Type 0 where
   ends : Request → Arguments
-  takes : (kind : Kind) → (Value kind → Arguments) → Arguments
+  takes : (kind : ArgumentKind) → (Value kind → Arguments) → Arguments
 
 -- a command: its word, and its arguments
 pub record Form : Type 0 where
   pub name : List ℕ
   pub arguments : Arguments
 
+-- a command, made of its word and its arguments
 abbrev pub form : List ℕ → Arguments → Form
 form name arguments = record { name = name; arguments = arguments }
 
@@ -78,7 +79,7 @@ forms =
 -- ==== The reading
 
 -- an argument in front of bytes, if one is there, and what comes after it
-abbrev pub argument_at : (kind : Kind) → List ℕ → Option (Value kind × List ℕ)
+abbrev pub argument_at : (kind : ArgumentKind) → List ℕ → Option (Value kind × List ℕ)
 argument_at a_word bytes = word_at bytes
 argument_at a_number bytes = number_at bytes
 argument_at a_number_or_one bytes = number_or_one_at bytes
@@ -86,37 +87,29 @@ argument_at a_left_side bytes = left_side_at bytes
 argument_at a_right_side bytes = right_side_at bytes
 argument_at a_text bytes = text_at bytes
 
--- what is asked for after an argument, if it is there
-abbrev pub and_then : {A : Type 0} → Option (A × List ℕ) → (A → List ℕ → Option Request) → Option Request
-and_then None next = None
-and_then (Some (value, behind)) next = next value behind
-
 -- what arguments ask for, if the bytes are just these
 abbrev pub asked_in : Arguments → List ℕ → Option Request
 asked_in (ends request) bytes = if list_all is_gap bytes then Some request else None
-asked_in (takes kind more) bytes = and_then (argument_at kind bytes) (λ value behind. asked_in (more value) behind)
+asked_in (takes kind more) bytes = option_and_then (λ (value, behind). asked_in (more value) behind) (argument_at kind bytes)
 
 -- the arguments of the command with this word
 abbrev pub arguments_of : List Form → List ℕ → Option Arguments
 arguments_of [] name = None
 arguments_of (form ∷ forms) name = if bytes_eq name form.name then Some form.arguments else arguments_of forms name
 
-abbrev pub asked_by : Option Arguments → List ℕ → Option Request
-asked_by None bytes = None
-asked_by (Some arguments) bytes = asked_in arguments bytes
+-- what a command's word and what comes after it ask for
+abbrev pub asked_by : List ℕ × List ℕ → Option Request
+asked_by (name, behind) = option_and_then (λ arguments. asked_in arguments behind) (arguments_of forms name)
 
 -- what a line asks for by its first word and what comes after it
 abbrev pub asked_of : List ℕ → Option Request
-asked_of line = and_then (word_at line) (λ name behind. asked_by (arguments_of forms name) behind)
+asked_of line = option_and_then asked_by (word_at line)
 
-abbrev pub or_malformed : Option Request → Request
-or_malformed None = malformed
-or_malformed (Some request) = request
-
+-- what a line asks for: a line that is too long is not read, and a comment or an empty line asks for nothing
 abbrev pub request_of : List ℕ → Request
 request_of line =
     if is_too_long line then too_long
-    else (if is_skipped line then nothing else or_malformed (asked_of line))
+    else (if is_skipped line then nothing else unwrap_or (asked_of line) malformed)
 
 -- what a request of the code asks for
 abbrev pub request : code.Request → Request

@@ -2,9 +2,10 @@
 use Rattle.std.specs.Prelude.{◌≡◌, ℕ, ℤ, pos, ◌<◌, ◌≤◌, ◌↔◌, ◌⊎◌, Bool, false, IsTrue, List, [], ◌∷◌, ◌++◌, length, Some}
 use Rattle.std.specs.List.{list_all}
 use Rattle.overlay_terms.specs.Blank.{is_blank}
+use Rattle.overlay_terms.specs.Bytes.{begins}
 use Rattle.script_form.specs.Lines.{line_max, is_gap}
-use Rattle.script_form.specs.Words.{is_word_byte, is_name_side, begins, number_of}
-use Rattle.script_form.specs.Requests.{Request, nothing, too_long, malformed, Kind, a_word, a_number, a_number_or_one, a_left_side, a_right_side, a_text, Value, Arguments, ends, takes, forms, arguments_of, request_of}
+use Rattle.script_form.specs.Words.{is_word_byte, is_name_side, number_of}
+use Rattle.script_form.specs.Requests.{Request, nothing, too_long, malformed, ArgumentKind, a_word, a_number, a_number_or_one, a_left_side, a_right_side, a_text, Value, Arguments, ends, takes, forms, arguments_of, request_of}
 
 -- not too long
 abbrev pub IsShort : List ℕ → Type 0
@@ -55,7 +56,7 @@ pub record IsText (text bytes : List ℕ) : Type 0 where
   pub begins_at_once : begins is_gap text ≡ false
 
 -- bytes are an argument of a kind, and what comes after it
-abbrev pub IsArgument : (kind : Kind) → Value kind → List ℕ → List ℕ → Type 0
+abbrev pub IsArgument : (kind : ArgumentKind) → Value kind → List ℕ → List ℕ → Type 0
 IsArgument a_word value behind bytes = IsNext is_word_byte value behind bytes
 IsArgument a_number value behind bytes = IsNextNumber value behind bytes
 IsArgument a_number_or_one value behind bytes = (AreGaps bytes × (value ≡ pos 1) × (behind ≡ [])) ⊎ IsNextNumber value behind bytes

@@ -1,7 +1,7 @@
 -- The replies of a script: for each line, and for each batch of lines, a history that goes on from the one before, and the
 -- reply at its newest version.
 -- `stored` is what is known of the book's store.
-use Rattle.std.specs.Prelude.{◌≡◌, ◌<◌, ◌≤◌, ℕ, ℤ, pos, negsuc, ◌⊎◌, Bool, true, false, IsTrue, List, [], ◌∷◌, ◌++◌, Option, Some, None}
+use Rattle.std.specs.Prelude.{◌≡◌, ◌<◌, ◌≤◌, ℕ, ℤ, pos, negsuc, ◌⊎◌, Bool, true, false, IsTrue, List, [], ◌∷◌, ◌++◌, Option, Some, None, codes}
 use Rattle.overlay_terms.specs.Plane.{WholePoint, Point}
 use Rattle.overlay_terms.specs.Trees.{Tree}
 use Rattle.overlay_terms.specs.Layers.{Layer as BookLayer, Location, answer_at}
@@ -36,13 +36,14 @@ use Rattle.script_form.specs.BatchLines.{AreCommandsOf, IsFirstUnread}
 use Rattle.script_form.specs.Fault.{of_grid}
 use Rattle.script_form.specs.Requests.{Request, nothing, too_long, malformed, put_text, define_text, remove_name, locate, grid, list_layers, edges, wait, verify, sync, batch}
 use Rattle.script_form.specs.Turns.{Turn, alone, together, cut_off}
-use Rattle.script_form.specs.Replies.{ok_line, error_line, refused_line, location_line, built_line, durable_line, verdict_line}
+use Rattle.script_form.specs.Replies.{numbered_line, error_line, refused_line, location_line, verdict_line}
 
 -- what is known of the store of a book: whether there is one, and of which history the durable number may be reported
 pub record BookStore : Type 1 where
   pub there : Bool
   pub told : History → Type 0
 
+-- a store, by what may be reported of it and whether it is there
 abbrev pub store_by : (History → Type 0) → Bool → BookStore
 store_by told there = record { there = there; told = told }
 
@@ -65,7 +66,7 @@ pub record IsAcceptedBy (session : ℕ) (before : History) (commands : Batch) (a
   pub version : versions.Version
   pub goes_on : GoesOnBy before (between ++ record { event = accepted session commands; version = version } ∷ []) after
   pub only : made ≡ commands ∷ []
-  pub told : reply ≡ ok_line version.number
+  pub told : reply ≡ numbered_line (codes "ok ") version.number
 
 -- a command: refused by the first reason that applies at the newest version, or accepted; or the book closes, or is not as far
 abbrev pub IsSubmitted : ℕ → History → Command → History → List Batch → List ℕ → Type 0
@@ -126,6 +127,7 @@ abbrev pub Drawn : Option GridFault → List ℕ → List Batch → List ℕ →
 Drawn (Some fault) text made reply = IsRefused (of_grid fault) made reply
 Drawn None text made reply = IsTold text made reply
 
+-- the picture of a layer on a grid, or why there is none
 abbrev pub IsPictured : List BookLayer → List ℕ → Grid → List Batch → List ℕ → Type 0
 IsPictured layers name g made reply = Drawn (grid_refusal layers name g) (grid_text layers name g) made reply
 
@@ -145,7 +147,7 @@ pub record IsVerdictTold (version : versions.Version) (name : List ℕ) (column 
 pub record IsBuiltTold (version : versions.Version) (name : List ℕ) (made : List Batch) (reply : List ℕ) : Type 0 where
   pub nothing_made : made ≡ []
   pub built : IsBuilt version name
-  pub told : reply ≡ built_line version.number
+  pub told : reply ≡ numbered_line (codes "built ") version.number
 
 -- a wait ends as the book closes, where a tile of a layer is pending
 pub record IsWaitClosed (version : versions.Version) (name : List ℕ) (made : List Batch) (reply : List ℕ) : Type 0 where
@@ -162,7 +164,7 @@ pub record IsDurableTold (stored : BookStore) (asked : ℕ) (after : History) (m
   pub nothing_made : made ≡ []
   pub reached : asked ≤ (newest after).durable
   pub may : stored.told after
-  pub told : reply ≡ durable_line (newest after).durable
+  pub told : reply ≡ numbered_line (codes "durable ") (newest after).durable
 
 -- the version that had been seen is not durable, for what the store says
 pub record IsNotDurable (asked : ℕ) (durable : ℕ) (made : List Batch) (reply : List ℕ) : Type 0 where

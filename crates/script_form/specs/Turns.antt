@@ -1,5 +1,5 @@
 -- Lines in turn: each has a reply of its own, but those of a batch, which have one together.
-use Rattle.std.specs.Prelude.{ℕ, ℤ, pos, negsuc, ◌==◌, nat_le, Bool, true, false, ◌&&◌, List, [], ◌∷◌, ◌++◌, map, fold, length, Option, Some, None, if◌then◌else◌}
+use Rattle.std.specs.Prelude.{ℕ, ℤ, pos, negsuc, ◌==◌, nat_le, Bool, true, false, ◌&&◌, List, [], ◌∷◌, ◌++◌, map, fold, length, Option, Some, None, option_map, if◌then◌else◌}
 use Rattle.overlay_terms.specs.Batches.{batch_max}
 use Rattle.script_form.specs.Requests.{Request, nothing, batch, request_of}
 
@@ -24,14 +24,9 @@ abbrev pub asked_size : ℤ → Option ℕ
 asked_size (pos n) = size_within n
 asked_size (negsuc n) = None
 
--- a batch of so many lines, of which none came yet
-abbrev pub of_size : Option ℕ → Option Waiting
-of_size None = None
-of_size (Some size) = Some (record { size = size; came = [] })
-
--- the batch that a line begins, if it begins one
+-- the batch that a line begins, if it begins one: none of its lines came yet
 abbrev pub begun_by : Request → Option Waiting
-begun_by (batch n) = of_size (asked_size n)
+begun_by (batch n) = option_map (λ size. record { size = size; came = [] }) (asked_size n)
 begun_by other = None
 
 -- whether a line is skipped, which is then none of a batch's lines
@@ -44,15 +39,15 @@ abbrev pub with_line : Waiting → Request → Waiting
 with_line waiting request = record { size = waiting.size; came = waiting.came ++ request ∷ [] }
 
 -- whether all lines of a batch came
-abbrev pub is_whole : Waiting → Bool
-is_whole waiting = length waiting.came == waiting.size
+abbrev pub is_full : Waiting → Bool
+is_full waiting = length waiting.came == waiting.size
 
 -- the batch that waits after a line
 abbrev pub waiting_after : Option Waiting → Request → Option Waiting
 waiting_after None request = begun_by request
 waiting_after (Some waiting) request =
     if is_nothing request then Some waiting
-    else (if is_whole (with_line waiting request) then None else Some (with_line waiting request))
+    else (if is_full (with_line waiting request) then None else Some (with_line waiting request))
 
 -- the turn of a line that is in no batch: none where it begins one
 abbrev pub unless_begun : Option Waiting → Request → List Turn
@@ -64,7 +59,7 @@ abbrev pub ended_by : Option Waiting → Request → List Turn
 ended_by None request = unless_begun (begun_by request) request
 ended_by (Some waiting) request =
     if is_nothing request then []
-    else (if is_whole (with_line waiting request) then together (with_line waiting request).came ∷ [] else [])
+    else (if is_full (with_line waiting request) then together (with_line waiting request).came ∷ [] else [])
 
 -- the turns that lines end, where a batch waits before them or none does
 abbrev pub turns_from : Option Waiting → List Request → List Turn

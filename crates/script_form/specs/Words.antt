@@ -1,14 +1,15 @@
 -- Words, numbers and texts of a line.
-use Rattle.std.specs.Prelude.{ℕ, ℤ, pos, neg_ℤ, ◌+◌, ◌*◌, ◌-◌, ◌==◌, nat_le, Bool, false, not, ◌&&◌, List, [], ◌∷◌, length, drop, fold, Option, Some, None, if◌then◌else◌, take_while}
+use Rattle.std.specs.Prelude.{ℕ, ℤ, pos, neg_ℤ, ◌==◌, Bool, not, ◌&&◌, List, [], ◌∷◌, length, drop, Option, Some, None, option_map, option_and_then, if◌then◌else◌, take_while}
 use Rattle.std.specs.List.{list_all, prefix_len}
-use Rattle.std.specs.Char.{is_ascii_digit}
 use Rattle.overlay_terms.specs.Blank.{is_blank}
+use Rattle.overlay_terms.specs.Bytes.{digits_number}
 use Rattle.script_form.specs.Lines.{is_gap}
 
 -- the bytes from the first on that fails the test
 abbrev pub skip_while : (ℕ → Bool) → List ℕ → List ℕ
 skip_while test bytes = drop (prefix_len test bytes) bytes
 
+-- a word goes on to the next gap
 abbrev pub is_word_byte : ℕ → Bool
 is_word_byte b = not (is_gap b)
 
@@ -16,35 +17,16 @@ is_word_byte b = not (is_gap b)
 abbrev pub is_name_side : ℕ → Bool
 is_name_side b = is_word_byte b && not (b == 61)
 
--- whether the bytes begin with one that passes the test
-abbrev pub begins : (ℕ → Bool) → List ℕ → Bool
-begins test [] = false
-begins test (b ∷ bs) = test b
-
+-- whether there is no byte
 abbrev pub is_empty : List ℕ → Bool
 is_empty bytes = length bytes == 0
 
--- what digits are worth
-abbrev pub digits_value : List ℕ → ℕ
-digits_value ds = fold (λ n d. 10 * n + (d - 48)) 0 ds
-
--- whether the bytes are 1 to 18 digits
-abbrev pub are_digits : List ℕ → Bool
-are_digits ds = not (is_empty ds) && nat_le (length ds) 18 && list_all is_ascii_digit ds
-
 -- a number: an optional sign and 1 to 18 digits
-abbrev pub digits_number : List ℕ → Option ℕ
-digits_number ds = if are_digits ds then Some (digits_value ds) else None
-
-abbrev pub signed_by : (ℕ → ℤ) → Option ℕ → Option ℤ
-signed_by sign None = None
-signed_by sign (Some n) = Some (sign n)
-
 abbrev pub number_of : List ℕ → Option ℤ
 number_of [] = None
 number_of (b ∷ bs) =
-    if b == 45 then signed_by (λ n. neg_ℤ (pos n)) (digits_number bs)
-    else (if b == 43 then signed_by (λ n. pos n) (digits_number bs) else signed_by (λ n. pos n) (digits_number (b ∷ bs)))
+    if b == 45 then option_map (λ n. neg_ℤ (pos n)) (digits_number 18 bs)
+    else option_map (λ n. pos n) (digits_number 18 (if b == 43 then bs else b ∷ bs))
 
 -- ==== In front of bytes
 
@@ -64,18 +46,13 @@ word_at bytes = front_at is_word_byte bytes
 abbrev pub left_side_at : List ℕ → Option (List ℕ × List ℕ)
 left_side_at bytes = front_at is_name_side bytes
 
-abbrev pub with_behind : Option ℤ → List ℕ → Option (ℤ × List ℕ)
-with_behind None behind = None
-with_behind (Some n) behind = Some (n, behind)
-
--- the number that digits spell, and what comes after them
-abbrev pub number_in : Option (List ℕ × List ℕ) → Option (ℤ × List ℕ)
-number_in None = None
-number_in (Some (digits, behind)) = with_behind (number_of digits) behind
+-- a word as a number, with what comes after it
+abbrev pub number_in : List ℕ × List ℕ → Option (ℤ × List ℕ)
+number_in (word, behind) = option_map (λ n. (n, behind)) (number_of word)
 
 -- the next word as a number, and what comes after it
 abbrev pub number_at : List ℕ → Option (ℤ × List ℕ)
-number_at bytes = number_in (word_at bytes)
+number_at bytes = option_and_then number_in (word_at bytes)
 
 -- where nothing but gaps is left, the number is 1
 abbrev pub number_or_one_at : List ℕ → Option (ℤ × List ℕ)

@@ -1,7 +1,7 @@
 //! What a line asks for.
 ghost use Rattle.std.specs.Prelude.{◌≡◌, option_map, bytes_eq};
 ghost use Rattle.script_form.specs.Lines.{is_skipped, begins_comment};
-ghost use Rattle.script_form.specs.Requests.{request, request_of, asked_of, asked_by, asked_in, arguments_of, ends, forms};
+ghost use Rattle.script_form.specs.Requests.{request, request_of, asked_of, asked_by, asked_in, ends};
 
 use crate::arguments::Rest;
 use crate::words::all_gaps;
@@ -76,7 +76,7 @@ fn asked_of(line: &[u8]) -> Option<Request<'_>>
 
 /// What the command with this word asks for by what comes after it: the table of commands.
 fn asked_by<'a>(word: &[u8], mut rest: Rest<'a>) -> Option<Request<'a>>
-    ensures { option_map request result ≡ asked_by (arguments_of forms word.now) rest.entry.0.now }
+    ensures { option_map request result ≡ asked_by (word.now, rest.entry.0.now) }
 {
     if is_word(word, b"PUT") {
         return ended(Request::Put(rest.word()?, rest.text()?), rest);

@@ -1,5 +1,5 @@
 -- What is answered to each request, from what its name and text are read as and what the book makes of it.
-use Rattle.std.proofs.Common.{◌≡◌, ℕ, ℤ, Bool, true, false, IsTrue, List, [], ◌∷◌, ◌++◌, Option, Some, None, Result, Ok, Err, refl, sym, ap, subst, ◌∙◌, ◌⊎◌, inl, inr, append-nil}
+use Rattle.std.proofs.Common.{◌≡◌, ℕ, ℤ, Bool, true, false, IsTrue, List, [], ◌∷◌, ◌++◌, codes, Option, Some, None, Result, Ok, Err, refl, sym, ap, subst, ◌∙◌, ◌⊎◌, inl, inr, append-nil}
 use Rattle.std.specs.Option.{option_map}
 use Rattle.std.proofs.lemmas.Bool.{false≢true}
 use Rattle.overlay_terms.specs.Plane.{Point}
@@ -34,7 +34,7 @@ use Rattle.script_form.specs.declared.fault.CommandFault.{CommandFault}
 use Rattle.script_form.specs.declared.fault.CommandFault.TheVariants.{Expression, Query, Version, OutOfMemory, Closing, Gone, GridSize}
 use Rattle.script_form.specs.Fault.{of_grid}
 use Rattle.script_form.specs.Reading.{IsMemory, IsNoName, SpellsPut, IsPutRefused, IsDefine, IsDefineRefused, IsRemove}
-use Rattle.script_form.specs.Replies.{ok_line, error_line, refused_line, location_line}
+use Rattle.script_form.specs.Replies.{numbered_line, error_line, refused_line, location_line}
 use Rattle.script_form.specs.Requests.{Request, request, put_text, define_text, remove_name, locate, grid, list_layers, request_of}
 use Rattle.script_form.specs.Transcript.{BookStore, IsRefused, IsRefusedBatch, IsSubmitted, IsSubmittedAll, IsAnswered, IsOutOfMemory, IsTold, Drawn, WithName}
 use Rattle.script_form.specs.Turns.{Turn, alone, together}
@@ -84,7 +84,7 @@ unnamed name fault T none = inl (no_name name fault none)
 -- ==== Commands
 
 pub submits_accepted : (was now : Known) (command : Command) (number : ℕ) → BeginsWith (seen now) (seen was) → (now.book ≡ was.book) × (now.session ≡ was.session)
-    → IsAccepted was.session (seen was) (command ∷ []) (seen now) number → now.made ≡ was.made ++ (command ∷ []) ∷ [] → Submits was command now (ok_line number)
+    → IsAccepted was.session (seen was) (command ∷ []) (seen now) number → now.made ≡ was.made ++ (command ∷ []) ∷ [] → Submits was command now (numbered_line (codes "ok ") number)
 submits_accepted was now command number on same accepted made = record {
   stays = record { book = same.0; session = same.1; goes_on = on };
   made = (command ∷ []) ∷ [];
@@ -94,7 +94,7 @@ submits_accepted was now command number on same accepted made = record {
         version = accepted.version;
         goes_on = accepted.goes_on;
         only = refl;
-        told = ap ok_line (sym accepted.told);
+        told = ap (numbered_line (codes "ok ")) (sym accepted.told);
       }))));
   only = made;
 }
@@ -134,7 +134,7 @@ submits_refused was now command fault on same unchanged refused told is =
 -- ==== Batches
 
 pub submits_all_accepted : (was now : Known) (commands : Batch) (number : ℕ) → BeginsWith (seen now) (seen was) → (now.book ≡ was.book) × (now.session ≡ was.session)
-    → IsAccepted was.session (seen was) commands (seen now) number → now.made ≡ was.made ++ commands ∷ [] → SubmitsAll was commands now (ok_line number)
+    → IsAccepted was.session (seen was) commands (seen now) number → now.made ≡ was.made ++ commands ∷ [] → SubmitsAll was commands now (numbered_line (codes "ok ") number)
 submits_all_accepted was now commands number on same accepted made = record {
   stays = record { book = same.0; session = same.1; goes_on = on };
   made = commands ∷ [];
@@ -144,7 +144,7 @@ submits_all_accepted was now commands number on same accepted made = record {
         version = accepted.version;
         goes_on = accepted.goes_on;
         only = refl;
-        told = ap ok_line (sym accepted.told);
+        told = ap (numbered_line (codes "ok ")) (sym accepted.told);
       }))));
   only = made;
 }

@@ -8,7 +8,7 @@ use Rattle.script_form.specs.declared.open_batch.OpenBatch.{OpenBatch}
 use Rattle.script_form.specs.OpenBatch.{IsOpen}
 use Rattle.script_form.specs.Requests.{Request, request_of}
 use Rattle.script_form.specs.Transcript.{BookStore, IsTurn, IsTranscript}
-use Rattle.script_form.specs.Turns.{Turn, Waiting, alone, together, begun_by, unless_begun, ended_by, is_nothing, is_whole, waiting_after, with_line}
+use Rattle.script_form.specs.Turns.{Turn, Waiting, alone, together, begun_by, unless_begun, ended_by, is_nothing, is_full, waiting_after, with_line}
 use Rattle.script_form.specs.Writing.{IsCutShort}
 use Rattle.script_form.proofs.TranscriptLemmas.{transcript-one, transcript-join}
 use Rattle.server_session.specs.Session.{IsSharedRun, IsCutOff, Stays}
@@ -57,9 +57,9 @@ ended_one None request =
       | Some waiting ↦ inl refl
     ]
 ended_one (Some waiting) request =
-    elim (is_nothing request) as (λ b. (cond b [] (of_batch (is_whole (with_line waiting request))) ≡ []) ⊎ ((turn : Turn) × (cond b [] (of_batch (is_whole (with_line waiting request))) ≡ turn ∷ []))) [
+    elim (is_nothing request) as (λ b. (cond b [] (of_batch (is_full (with_line waiting request))) ≡ []) ⊎ ((turn : Turn) × (cond b [] (of_batch (is_full (with_line waiting request))) ≡ turn ∷ []))) [
       | true ↦ inl refl
-      | false ↦ one (is_whole (with_line waiting request))
+      | false ↦ one (is_full (with_line waiting request))
     ] where
       of_batch : Bool → List Turn
       of_batch b = cond b (together (with_line waiting request).came ∷ []) []

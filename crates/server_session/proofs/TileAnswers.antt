@@ -1,6 +1,6 @@
 -- What is answered to questions about tiles and about the store.
 use Rattle.std.specs.Prelude.{IsErrAnd}
-use Rattle.std.proofs.Common.{◌≡◌, ◌≤◌, ℕ, ℤ, Bool, true, false, IsTrue, List, [], Option, Some, None, Result, Ok, Err, refl, sym, ap, subst, ◌∙◌, ◌⊎◌, inl, inr, ⊎_elim}
+use Rattle.std.proofs.Common.{◌≡◌, ◌≤◌, ℕ, ℤ, Bool, true, false, IsTrue, List, [], codes, Option, Some, None, Result, Ok, Err, refl, sym, ap, subst, ◌∙◌, ◌⊎◌, inl, inr, ⊎_elim}
 use Rattle.overlay_terms.specs.Batches.{Batch}
 use Rattle.overlay_terms.specs.Histories as versions
 use Rattle.overlay_terms.specs.Histories.{History, BeginsWith, newest}
@@ -21,7 +21,7 @@ use Rattle.version_book.specs.Waits.{IsBuiltAt, IsSyncRefused, IsWaitRefused}
 use Rattle.script_form.specs.declared.fault.CommandFault.{CommandFault}
 use Rattle.script_form.specs.declared.fault.CommandFault.TheVariants.{Version, Closing, Gone, NoStore}
 use Rattle.script_form.specs.Reading.{IsNoName}
-use Rattle.script_form.specs.Replies.{error_line, built_line, durable_line, verdict_line}
+use Rattle.script_form.specs.Replies.{error_line, numbered_line, verdict_line}
 use Rattle.script_form.specs.Requests.{edges, wait, verify, sync}
 use Rattle.script_form.specs.Transcript.{BookStore, store_by, Asked, asked_column, IsOutOfMemory, IsAnswered, IsOfStore}
 use Rattle.server_session.specs.Answering.{Answers}
@@ -139,11 +139,11 @@ wait_refused stored was now name known fault on same is named refused told same_
     (wait_refused_so stored was now name fault named (subst (λ n. IsWaitRefused true (newest (seen now)) n fault) is refused)))
 
 pub wait_told : (stored : BookStore) (was now : Known) (name known : List ℕ) (number : ℕ) → BeginsWith (seen now) (seen was) → Waited was now → known ≡ name → IsTrue (is_name name)
-    → IsBuiltAt (newest (seen now)) known number → Answers stored was (wait name) now (built_line number)
+    → IsBuiltAt (newest (seen now)) known number → Answers stored was (wait name) now (numbered_line (codes "built ") number)
 wait_told stored was now name known number on same is named built =
     let there = subst (λ n. IsBuiltAt (newest (seen now)) n number) is built in
-    answers_so was now (waited_stays was now on same) same.2 stored (wait name) (built_line number)
-    (inr (inr (named, inr (asked_none _ [] (built_line number) _ there.derived (inl (record { nothing_made = refl; built = there.built; told = ap built_line (sym there.numbered) }))))))
+    answers_so was now (waited_stays was now on same) same.2 stored (wait name) (numbered_line (codes "built ") number)
+    (inr (inr (named, inr (asked_none _ [] (numbered_line (codes "built ") number) _ there.derived (inl (record { nothing_made = refl; built = there.built; told = ap (numbered_line (codes "built ")) (sym there.numbered) }))))))
 
 -- ==== SYNC
 
@@ -188,15 +188,15 @@ has_one false result number is without =
 
 pub sync_told : (stored : BookStore) (was now : Known) (result : Result ℕ BookFault) (number : ℕ) → result ≡ Ok number → BeginsWith (seen now) (seen was) → Waited was now
     → (stored.there ≡ false → IsErrAnd result (λ f. (f ≡ book.NoStore) ⊎ (f ≡ book.Gone)))
-    → ((newest (seen now)).durable ≡ number) × ((newest (seen was)).number ≤ number) → stored.told (seen now) → Answers stored was sync now (durable_line number)
+    → ((newest (seen now)).durable ≡ number) × ((newest (seen was)).number ≤ number) → stored.told (seen now) → Answers stored was sync now (numbered_line (codes "durable ") number)
 sync_told stored was now result number is on same without reached may =
-    answers_so was now (waited_stays was now on same) same.2 stored sync (durable_line number)
+    answers_so was now (waited_stays was now on same) same.2 stored sync (numbered_line (codes "durable ") number)
     (inr (inr (inr (inl (
       has_one stored.there result number is without,
       record {
         nothing_made = refl;
         reached = subst (λ n. (newest (seen was)).number ≤ n) (sym reached.0) reached.1;
         may = may;
-        told = ap durable_line (sym reached.0);
+        told = ap (numbered_line (codes "durable ")) (sym reached.0);
       },
     )))))

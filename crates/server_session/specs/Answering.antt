@@ -25,6 +25,7 @@ pub record IsAnswerOf (stored : BookStore) (was : Known) (request : Request) (no
   pub answered : IsOutOfMemory request made reply ⊎ IsAnswered stored was.session (seen was) request (seen now) made reply
   pub only : now.made ≡ was.made ++ made
 
+-- the session goes on, and the request is answered at what it has seen then
 pub record Answers (stored : BookStore) (was : Known) (request : Request) (now : Known) (reply : List ℕ) : Type 0 where
   pub stays : Stays was now
   pub answered : IsAnswerOf stored was request now reply

@@ -85,6 +85,7 @@ pub record IsNotBegun (was now : Known) (taken written : List ℕ) : Type 0 wher
   pub nothing_written : written ≡ []
   pub nothing_seen : now ≡ was
 
+-- how a session ends: with its script; or by 47, 48 or 49; or by 40, before it began
 abbrev pub EndsSo : ℕ → BookStore → SessionEnd → Known → Known → List ℕ → Option (List ℕ) → List ℕ → Type 0
 EndsSo most stored End was now taken left written = IsEnded most stored was now taken left written
 EndsSo most stored (Failed code) was now taken left written =

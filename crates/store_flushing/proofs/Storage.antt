@@ -16,7 +16,7 @@ use Rattle.root_store.specs.declared.phase.Phase.TheVariants.{Idle, Close, Settl
 use Rattle.root_store.specs.declared.phase.Progress.{Progress}
 use Rattle.root_store.specs.declared.phase.Progress.TheVariants as progress
 use Rattle.root_store.specs.declared.commit.Commit.{Commit}
-use Rattle.root_store.specs.Running.{Before, Outcome, StoreStandsFor, Runs, Stepped, FailsByDevice, calls_in, is_busy}
+use Rattle.root_store.specs.Running.{Before, Outcome, StoreStandsFor, RunsFrom, Stepped, FailsByDevice, calls_in, is_busy}
 use Rattle.root_store.proofs.Steps.{rest_either, shut_either, both_either}
 use Rattle.flush_core.specs.declared.flusher.Flusher.{Flusher}
 use Rattle.flush_core.specs.Stored.{stored_after, IsCommitOf, IsImageOf}
@@ -186,7 +186,7 @@ module _ {D : Type 0} (g : Ghosts D) where
   -- ---- begin
 
   begin_in : (h : History) (p : Phase) (s new : Flusher D g) (v : Version) → p ≡ s.commit.phase → is_busy p ≡ false → (s.commit.phase ≡ Failed → ⊥) → IsHistory h → v ≡ newest h
-      → ((x : Kept) → StoreStandsFor g s.commit x → (y : Kept) × IsCommitOf v y × Runs g new.commit x y) → new.commit.root.version ≡ s.commit.root.version → new.commit.phase ≡ Close
+      → ((x : Kept) → StoreStandsFor g s.commit x → (y : Kept) × IsCommitOf v y × RunsFrom g new.commit x y) → new.commit.root.version ≡ s.commit.root.version → new.commit.phase ≡ Close
       → IsStoreAt g h p s → IsStoreAt g h new.commit.phase new
   begin_in h Idle s new v at idle well history latest begins stored busy rest =
       let next = begins rest.x rest.stands in
@@ -212,7 +212,7 @@ module _ {D : Type 0} (g : Ghosts D) where
 
   -- a commit of the newest version begins
   pub commit_begins : (h : History) (s new : Flusher D g) (v : Version) → is_busy s.commit.phase ≡ false → (s.commit.phase ≡ Failed → ⊥) → IsHistory h → v ≡ newest h
-      → ((x : Kept) → StoreStandsFor g s.commit x → (y : Kept) × IsCommitOf v y × Runs g new.commit x y) → new.commit.root.version ≡ s.commit.root.version → new.commit.phase ≡ Close → new.commit.disk ≡ s.commit.disk
+      → ((x : Kept) → StoreStandsFor g s.commit x → (y : Kept) × IsCommitOf v y × RunsFrom g new.commit x y) → new.commit.root.version ≡ s.commit.root.version → new.commit.phase ≡ Close → new.commit.disk ≡ s.commit.disk
       → OnlyNow s
       → IsStoreOf g h s → Flushes g h s h new
   commit_begins h s new v idle well history latest begins stored busy disk at is =
@@ -311,7 +311,7 @@ module _ {D : Type 0} (g : Ghosts D) where
       stepped (Err why) stored step = fails why stored step
 
   module _ (h : History) (s new : Flusher D g) (r : Result Progress StoreFault) (now : OnlyNow s)
-      (moves : (x y : Kept) → Runs g s.commit x y → Stepped g s.commit new.commit r x y) (stored : new.commit.root.version ≡ stored_after r s.commit.root.version) (honest : g.is_honest s.commit.disk → g.is_honest new.commit.disk)
+      (moves : (x y : Kept) → RunsFrom g s.commit x y → Stepped g s.commit new.commit r x y) (stored : new.commit.root.version ≡ stored_after r s.commit.root.version) (honest : g.is_honest s.commit.disk → g.is_honest new.commit.disk)
       (idle : s.commit.phase ≡ Idle → (r ≡ Ok progress.Idle) × (new ≡ s)) (stuck : s.commit.phase ≡ Failed → (r ≡ Err fault.Failed) × (new ≡ s)) (is : IsStoreOf g h s) where
     stays : new ≡ s → Moves h s new
     stays same =
@@ -457,7 +457,7 @@ never_both r x e is not = subst Succeeds (sym is ∙ not) tt
 -- a commit of the newest version begins, or it is refused and nothing changes
 pub begin_kept : {D A : Type 0} (g : Ghosts D) (h : History) (s new : Flusher D g) (v : Version) (r : Result A StoreFault) → OnlyNow g s
     → is_busy s.commit.phase ≡ false → IsHistory h → v ≡ newest h → (s.commit.phase ≡ Failed → r ≡ Err fault.Failed)
-    → ((x : Kept) → StoreStandsFor g s.commit x → OnOk r ((y : Kept) × IsCommitOf v y × Runs g new.commit x y)) → new.commit.root.version ≡ s.commit.root.version
+    → ((x : Kept) → StoreStandsFor g s.commit x → OnOk r ((y : Kept) × IsCommitOf v y × RunsFrom g new.commit x y)) → new.commit.root.version ≡ s.commit.root.version
     → OnOk r (new.commit.phase ≡ Close) → new.commit.disk ≡ s.commit.disk → OnErr r (new ≡ s) → IsStoreOf g h s → KeepsTold g h s h new
 begin_kept g h s new v (Ok u) at idle history latest failed begins stored busy disk same is =
     kept g h h s new

@@ -7,7 +7,7 @@ use Rattle.overlay_terms.specs.Histories.{Entry, History, BeginsWith, newest}
 use Rattle.root_store.specs.declared.phase.Phase.{Phase}
 use Rattle.root_store.specs.declared.phase.Phase.TheVariants.{Idle, Close, Settle, Put, Open, Finish, Failed}
 use Rattle.commit_plan.specs.Kept.{Kept}
-use Rattle.root_store.specs.Running.{StoreStandsFor, Runs, FailsByDevice}
+use Rattle.root_store.specs.Running.{StoreStandsFor, RunsFrom, FailsByDevice}
 use Rattle.flush_core.specs.declared.flusher.Flusher.{Flusher}
 use Rattle.book_history.specs.Logs.{history_of}
 use Rattle.book_lock.specs.Heard.{Heard}
@@ -30,7 +30,7 @@ module _ {D : Type 0} (g : Ghosts D) (history : History) where
     pub next : IsHeldIn history y.held
     pub next_number : y.held.number ≡ y.root.version
     pub later : f.commit.root.version ≤ y.held.number
-    pub runs : Runs g f.commit x y
+    pub runs : RunsFrom g f.commit x y
 
   -- what is known of a store, by how far its commit is
   abbrev pub IsStoreAt : Phase → Flusher D g → Type 0

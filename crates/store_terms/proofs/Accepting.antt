@@ -2,7 +2,7 @@
 use Rattle.std.proofs.Common.{◌≡◌, ⊎_elim, ◌+◌, ◌<◌, nat_le, Bool, true, false, not, cond, ◌&&◌, ◌||◌, List, [], ◌∷◌, length, map, None, refl, sym, ap, ◌∙◌, arith}
 use Rattle.std.specs.Prelude.{bytes_eq}
 use Rattle.std.specs.List.{list_any, list_all}
-use Rattle.std.specs.Option.{option_or}
+use Rattle.std.specs.Option.{option_or, is_none}
 use Rattle.std.proofs.lemmas.Bool.{cases_Bool, and_parts, and_from, and_left, and_right, or_parts, not_from_false, lt-leb}
 use Rattle.overlay_terms.specs.Trees.{Tree, leaves}
 use Rattle.overlay_terms.specs.Layers.{layers_max, Name, Content, base, derived, Layer}
@@ -10,7 +10,7 @@ use Rattle.overlay_terms.specs.Commands.{unknown_layer, not_base, not_derived, l
 use Rattle.overlay_terms.specs.Orderly.{used_names, is_among}
 use Rattle.overlay_terms.proofs.OrderlyLemmas.{MayFollow}
 use Rattle.layer_expr.specs.Name.{is_name}
-use Rattle.store_terms.specs.Image.{refusal_of_keeping, is_accepted, may_stand}
+use Rattle.store_terms.specs.Image.{refusal_of_keeping, may_stand}
 
 abbrev pub names_of : List Layer → List Name
 names_of layers = map (λ (layer : Layer). layer.name) layers
@@ -83,6 +83,6 @@ module _ (known : List Layer) (name : Name) (new : stands known name ≡ false) 
 pub may_follow_stands : (known : List Layer) (layer : Layer) → MayFollow (names_of known) layer → length known < layers_max → is_name layer.name ≡ true → may_stand known layer.name layer.content ≡ true
 may_follow_stands known layer follows room named =
     let new : stands known layer.name ≡ false = stands_among known layer.name ∙ follows.new_name in
-    and_from (is_name layer.name && not (stands known layer.name)) (is_accepted (refusal_of_keeping known layer.name layer.content))
+    and_from (is_name layer.name && not (stands known layer.name)) (is_none (refusal_of_keeping known layer.name layer.content))
     (and_from (is_name layer.name) (not (stands known layer.name)) named (not_from_false (stands known layer.name) new))
-    (ap is_accepted (content_accepted known layer.name new room layer.content follows.uses_known))
+    (ap is_none (content_accepted known layer.name new room layer.content follows.uses_known))

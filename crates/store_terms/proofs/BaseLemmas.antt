@@ -1,17 +1,18 @@
 -- The rings of a base layer fit its record.
-use Rattle.std.proofs.Common.{◌≡◌, ℕ, ℤ, unsigned_abs, ◌+◌, ◌-◌, ◌^◌, ◌<◌, ◌≤◌, nat_lt, nat_le, Bool, true, false, cond, ◌&&◌, List, [], ◌∷◌, length, Option, Some, None, All, refl, ap, arith}
+use Rattle.std.proofs.Common.{◌≡◌, ℕ, ◌+◌, ◌-◌, ◌^◌, ◌<◌, ◌≤◌, nat_lt, nat_le, Bool, true, false, cond, ◌&&◌, List, [], ◌∷◌, length, Option, Some, None, All, refl, ap, arith}
 use Rattle.std.specs.List.{list_all}
-use Rattle.std.proofs.lemmas.Bool.{and_from, ltb-false, lt-ltb, leb-true, le-leb}
+use Rattle.std.specs.Option.{is_none}
+use Rattle.std.proofs.lemmas.Bool.{and_from, ltb-false, lt-ltb, leb-true}
 use Rattle.std.proofs.lemmas.List.Sums.{sum_by-cons, get_or-le-sum_by, list_all-from_AllPass}
 use Rattle.std.proofs.lemmas.List.Elements.{All-head, All-tail}
-use Rattle.overlay_terms.specs.Plane.{WholePoint, InRange, is_closed, ring_step_count, steps_max}
+use Rattle.overlay_terms.specs.Plane.{WholePoint, is_closed, ring_step_count, steps_max}
 use Rattle.overlay_terms.specs.InputLaws.{IsRing}
 use Rattle.overlay_terms.proofs.Options.{both_absent}
-use Rattle.overlay_terms.proofs.Bounds.{abs_within}
+use Rattle.overlay_terms.proofs.Coordinates.{in_range_passes}
 use Rattle.plane_base.specs.BaseLayer.{ring_fault, first_ring_fault, rings_fault}
 use Rattle.plane_base.specs.declared.fault.PlaneFault.{PlaneFault}
 use Rattle.plane_base.specs.declared.fault.PlaneFault.TheVariants.{RingOpen, RingShort, TooManySegments}
-use Rattle.store_terms.specs.BaseRecord.{is_coordinate, whole_point, ring, is_good, rings}
+use Rattle.store_terms.specs.BaseRecord.{whole_point, ring, rings}
 use Rattle.store_terms.specs.RecordLaws.{BaseReadsBack}
 use Rattle.store_terms.proofs.FieldLemmas.{whole_again}
 use Rattle.store_terms.proofs.LayoutLemmas.{rings_is}
@@ -35,12 +36,9 @@ rings_few at (r ∷ rs) e =
     let count : ring_step_count (r ∷ rs) ≡ (length r - 1) + ring_step_count rs = sum_by-cons (λ (x : List WholePoint). length x - 1) r rs in
     omega (arith, long, more, count)
 
-pub coordinate_is_one : (z : ℤ) → InRange z → is_coordinate z ≡ true
-coordinate_is_one z h = le-leb (unsigned_abs z) 1048576 (abs_within 1048576 z (record { low = h.0; high = h.1 }))
-
 points_fit : (r : List WholePoint) → IsRing r → list_all whole_point.fits r ≡ true
 points_fit r is =
-    list_all-from_AllPass whole_point.fits r (λ k d lt. let p = is.in_range k d lt in and_from _ _ (coordinate_is_one _ p.0) (coordinate_is_one _ p.1))
+    list_all-from_AllPass whole_point.fits r (λ k d lt. let p = is.in_range k d lt in and_from _ _ (in_range_passes _ p.0) (in_range_passes _ p.1))
 
 rings_fit : (rs : List (List WholePoint)) → ring_step_count rs ≤ steps_max → All IsRing rs → list_all ring.fits rs ≡ true
 rings_fit [] few are = refl
@@ -55,9 +53,9 @@ base_fits rs good are =
     let whole_rings = (both_absent (first_ring_fault 0 rs) (cond (nat_le (ring_step_count rs) steps_max) None (Some TooManySegments)) good).first in
     let limit = so_then (nat_le (ring_step_count rs) steps_max) TooManySegments (both_absent (first_ring_fault 0 rs) (cond (nat_le (ring_step_count rs) steps_max) None (Some TooManySegments)) good).second in
     let few : ring_step_count rs ≤ steps_max = leb-true (ring_step_count rs) steps_max limit in
-    and_from (nat_lt (length rs) 65536 && list_all ring.fits rs) (is_good (rings_fault rs))
+    and_from (nat_lt (length rs) 65536 && list_all ring.fits rs) (is_none (rings_fault rs))
     (and_from (nat_lt (length rs) 65536) (list_all ring.fits rs) (lt-ltb (length rs) 65536 (omega (arith, few, rings_few 0 rs whole_rings))) (rings_fit rs few are))
-    (ap is_good good)
+    (ap is_none good)
 
 pub few_rings : (rs : List (List WholePoint)) → rings_fault rs ≡ None → length rs < 2 ^ 16
 few_rings rs good =

@@ -9,11 +9,11 @@ use Rattle.std.proofs.lemmas.List.{drop_at, take-append-drop, length-take, get_o
 use Rattle.std.proofs.lemmas.Nat.{be_bytes_2, be_bytes_4, be_bytes_8}
 use Rattle.byteorder.specs.Endian.{big_number, big_bytes}
 use Rattle.byteorder.specs.Numbers.{big_from-take, big_from-lt, big_number-reads_back, length-bytes_high_first}
-use Rattle.store_terms.specs.Fields.{◌>>=◌, Field, AreBytes, IsField, number, both, made, sieved, read_many, repeated, counted, signed, whole}
+use Rattle.store_terms.specs.Fields.{◌>>?◌, Field, AreBytes, IsField, number, both, made, sieved, read_many, repeated, counted, signed, all_read}
 use Rattle.store_terms.specs.Choices.{read_either, either_text, either_fits, either, read_optional, optional_text, optional_fits, optional, read_one_of_three, one_of_three_text, one_of_three_fits, one_of_three}
 
 -- the value of a step that gave one
-pub bound : {A B : Type 0} (o : Option A) (f : A → Option B) (y : B) → (o >>= f) ≡ Some y → (x : A) × (o ≡ Some x) × (f x ≡ Some y)
+pub bound : {A B : Type 0} (o : Option A) (f : A → Option B) (y : B) → (o >>? f) ≡ Some y → (x : A) × (o ≡ Some x) × (f x ≡ Some y)
 bound (Some x) f y e = (x, refl, e)
 bound None f y e = absurd cc
 
@@ -76,7 +76,7 @@ number_field n back = record {
 pub both_field : {A B : Type 0} (f : Field A) (g : Field B) → IsField f → IsField g → IsField (both f g)
 both_field {A} {B} f g is_f is_g = record {
   takes = λ bytes x are e.
-      let a = bound (f.read bytes) (λ a. g.read a.1 >>= λ b. Some ((a.0, b.0), b.1)) x e in
+      let a = bound (f.read bytes) (λ a. g.read a.1 >>? λ b. Some ((a.0, b.0), b.1)) x e in
       let b = bound (g.read a.0.1) (λ b. Some ((a.0.0, b.0), b.1)) x a.2 in
       let first = is_f.takes bytes a.0 are a.1 in
       let second = is_g.takes a.0.1 b.0 (bytes_behind bytes (f.text a.0.0) a.0.1 first.0 are) b.1 in
@@ -88,8 +88,8 @@ both_field {A} {B} f g is_f is_g = record {
       let p = and_parts (f.fits x.0) (g.fits x.1) fits in
       let grouped : (f.text x.0 ++ g.text x.1) ++ rest ≡ f.text x.0 ++ (g.text x.1 ++ rest) = append_assoc (f.text x.0) (g.text x.1) rest in
       let first : f.read ((f.text x.0 ++ g.text x.1) ++ rest) ≡ Some (x.0, g.text x.1 ++ rest) = ap f.read grouped ∙ is_f.again x.0 (g.text x.1 ++ rest) p.0 in
-      ap (λ (o : Option (A × List ℕ)). o >>= λ a. g.read a.1 >>= λ b. Some ((a.0, b.0), b.1)) first
-      ∙ ap (λ (o : Option (B × List ℕ)). o >>= λ b. Some ((x.0, b.0), b.1)) (is_g.again x.1 rest p.1);
+      ap (λ (o : Option (A × List ℕ)). o >>? λ a. g.read a.1 >>? λ b. Some ((a.0, b.0), b.1)) first
+      ∙ ap (λ (o : Option (B × List ℕ)). o >>? λ b. Some ((x.0, b.0), b.1)) (is_g.again x.1 rest p.1);
 }
 
 pub made_field : {A B : Type 0} (from : A → B) (back : B → A) (f : Field A) → ((a : A) → back (from a) ≡ a) → ((b : B) → from (back b) ≡ b) → IsField f → IsField (made from back f)
@@ -100,7 +100,7 @@ made_field {A} {B} from back f there here is_f = record {
       subst (λ (y : B × List ℕ). (bytes ≡ f.text (back y.0) ++ y.1) × (f.fits (back y.0) ≡ true)) (same_Some (from a.0.0, a.0.1) x a.2)
       (subst (λ (c : A). (bytes ≡ f.text c ++ a.0.1) × (f.fits c ≡ true)) (sym (there a.0.0)) first);
   again = λ x rest fits.
-      ap (λ (o : Option (A × List ℕ)). o >>= λ a. Some (from a.0, a.1)) (is_f.again (back x) rest fits) ∙ ap (λ (b : B). Some (b, rest)) (here x);
+      ap (λ (o : Option (A × List ℕ)). o >>? λ a. Some (from a.0, a.1)) (is_f.again (back x) rest fits) ∙ ap (λ (b : B). Some (b, rest)) (here x);
 }
 
 pub sieved_field : {A : Type 0} (test : A → Bool) (f : Field A) → IsField f → IsField (sieved test f)
@@ -112,14 +112,14 @@ sieved_field {A} test f is_f = record {
       subst (λ (y : A × List ℕ). (bytes ≡ f.text y.0 ++ y.1) × ((f.fits y.0 && test y.0) ≡ true)) passed.1 (first.0, and_from (f.fits a.0.0) (test a.0.0) first.1 passed.0);
   again = λ x rest fits.
       let p = and_parts (f.fits x) (test x) fits in
-      ap (λ (o : Option (A × List ℕ)). o >>= λ a. cond (test a.0) (Some a) None) (is_f.again x rest p.0) ∙ cond-true (test x) (Some (x, rest)) None p.1;
+      ap (λ (o : Option (A × List ℕ)). o >>? λ a. cond (test a.0) (Some a) None) (is_f.again x rest p.0) ∙ cond-true (test x) (Some (x, rest)) None p.1;
 }
 
 many_take : {A : Type 0} (f : Field A) → IsField f → (n : ℕ) (bytes : List ℕ) (x : List A × List ℕ) → AreBytes bytes → read_many f.read n bytes ≡ Some x → (bytes ≡ flat_map f.text x.0 ++ x.1) × (length x.0 ≡ n) × (list_all f.fits x.0 ≡ true)
 many_take {A} f is_f zero bytes x are e =
     subst (λ (y : List A × List ℕ). (bytes ≡ flat_map f.text y.0 ++ y.1) × (length y.0 ≡ 0) × (list_all f.fits y.0 ≡ true)) (same_Some ([], bytes) x e) (refl, refl, refl)
 many_take {A} f is_f (suc n) bytes x are e =
-    let a = bound (f.read bytes) (λ a. read_many f.read n a.1 >>= λ b. Some (a.0 ∷ b.0, b.1)) x e in
+    let a = bound (f.read bytes) (λ a. read_many f.read n a.1 >>? λ b. Some (a.0 ∷ b.0, b.1)) x e in
     let b = bound (read_many f.read n a.0.1) (λ b. Some (a.0.0 ∷ b.0, b.1)) x a.2 in
     let first = is_f.takes bytes a.0 are a.1 in
     let second = many_take f is_f n a.0.1 b.0 (bytes_behind bytes (f.text a.0.0) a.0.1 first.0 are) b.1 in
@@ -133,8 +133,8 @@ many_again f is_f [] rest fits = refl
 many_again {A} f is_f (x ∷ xs) rest fits =
     let p = and_parts (f.fits x) (list_all f.fits xs) fits in
     let grouped : (f.text x ++ flat_map f.text xs) ++ rest ≡ f.text x ++ (flat_map f.text xs ++ rest) = append_assoc (f.text x) (flat_map f.text xs) rest in
-    ap (λ (o : Option (A × List ℕ)). o >>= λ a. read_many f.read (length xs) a.1 >>= λ b. Some (a.0 ∷ b.0, b.1)) (ap f.read grouped ∙ is_f.again x (flat_map f.text xs ++ rest) p.0)
-    ∙ ap (λ (o : Option (List A × List ℕ)). o >>= λ b. Some (x ∷ b.0, b.1)) (many_again f is_f xs rest p.1)
+    ap (λ (o : Option (A × List ℕ)). o >>? λ a. read_many f.read (length xs) a.1 >>? λ b. Some (a.0 ∷ b.0, b.1)) (ap f.read grouped ∙ is_f.again x (flat_map f.text xs ++ rest) p.0)
+    ∙ ap (λ (o : Option (List A × List ℕ)). o >>? λ b. Some (x ∷ b.0, b.1)) (many_again f is_f xs rest p.1)
 
 pub repeated_field : {A : Type 0} (n : ℕ) (f : Field A) → IsField f → IsField (repeated n f)
 repeated_field n f is_f = record {
@@ -157,12 +157,12 @@ counted_field {A} w f is_number is_f = record {
   again = λ xs rest fits.
       let p = and_parts (ltb (length xs) (256 ^ w)) (list_all f.fits xs) fits in
       let grouped : (big_bytes w (length xs) ++ flat_map f.text xs) ++ rest ≡ big_bytes w (length xs) ++ (flat_map f.text xs ++ rest) = append_assoc (big_bytes w (length xs)) (flat_map f.text xs) rest in
-      ap (λ (o : Option (ℕ × List ℕ)). o >>= λ n. read_many f.read n.0 n.1) (ap (number w).read grouped ∙ is_number.again (length xs) (flat_map f.text xs ++ rest) p.0)
+      ap (λ (o : Option (ℕ × List ℕ)). o >>? λ n. read_many f.read n.0 n.1) (ap (number w).read grouped ∙ is_number.again (length xs) (flat_map f.text xs ++ rest) p.0)
       ∙ many_again f is_f xs rest p.1;
 }
 
 -- all of the bytes
-pub whole_takes : {A : Type 0} (f : Field A) → IsField f → (bytes : List ℕ) (x : A) → AreBytes bytes → whole f bytes ≡ Some x → (bytes ≡ f.text x) × (f.fits x ≡ true)
+pub whole_takes : {A : Type 0} (f : Field A) → IsField f → (bytes : List ℕ) (x : A) → AreBytes bytes → all_read f bytes ≡ Some x → (bytes ≡ f.text x) × (f.fits x ≡ true)
 whole_takes {A} f is_f bytes x are e =
     let a = bound (f.read bytes) (λ a. cond (eqb (length a.1) 0) (Some a.0) None) x e in
     let ended = cond_some (eqb (length a.0.1) 0) a.0.0 x a.2 in
@@ -170,9 +170,9 @@ whole_takes {A} f is_f bytes x are e =
     let first = is_f.takes bytes a.0 are a.1 in
     subst (λ (y : A). (bytes ≡ f.text y) × (f.fits y ≡ true)) ended.1 (first.0 ∙ ap (λ (t : List ℕ). f.text a.0.0 ++ t) nothing ∙ append-nil (f.text a.0.0), first.1)
 
-pub whole_again : {A : Type 0} (f : Field A) → IsField f → (x : A) → f.fits x ≡ true → whole f (f.text x) ≡ Some x
+pub whole_again : {A : Type 0} (f : Field A) → IsField f → (x : A) → f.fits x ≡ true → all_read f (f.text x) ≡ Some x
 whole_again {A} f is_f x fits =
-    ap (λ (o : Option (A × List ℕ)). o >>= λ a. cond (eqb (length a.1) 0) (Some a.0) None) (ap f.read (sym (append-nil (f.text x))) ∙ is_f.again x [] fits)
+    ap (λ (o : Option (A × List ℕ)). o >>? λ a. cond (eqb (length a.1) 0) (Some a.0) None) (ap f.read (sym (append-nil (f.text x))) ∙ is_f.again x [] fits)
 
 pub either_field : {A B : Type 0} (f : Field A) (g : Field B) → IsField f → IsField g → IsField (either f g)
 either_field {A} {B} f g is_f is_g = record { takes = λ bytes x are e. taken bytes x are e; again = λ x rest fits. read_back x rest fits } where
@@ -189,8 +189,8 @@ either_field {A} {B} f g is_f is_g = record { takes = λ bytes x are e. taken by
   taken (suc (suc n) ∷ bytes) x are e = absurd cc
 
   read_back : (x : A ⊎ B) (rest : List ℕ) → either_fits f g x ≡ true → read_either f g (either_text f g x ++ rest) ≡ Some (x, rest)
-  read_back (inl a) rest fits = ap (λ (o : Option (A × List ℕ)). o >>= λ a. Some (inl a.0, a.1)) (is_f.again a rest fits)
-  read_back (inr b) rest fits = ap (λ (o : Option (B × List ℕ)). o >>= λ b. Some (inr b.0, b.1)) (is_g.again b rest fits)
+  read_back (inl a) rest fits = ap (λ (o : Option (A × List ℕ)). o >>? λ a. Some (inl a.0, a.1)) (is_f.again a rest fits)
+  read_back (inr b) rest fits = ap (λ (o : Option (B × List ℕ)). o >>? λ b. Some (inr b.0, b.1)) (is_g.again b rest fits)
 
 pub optional_field : {A : Type 0} (f : Field A) → IsField f → IsField (optional f)
 optional_field {A} f is_f = record { takes = λ bytes x are e. taken bytes x are e; again = λ x rest fits. read_back x rest fits } where
@@ -206,7 +206,7 @@ optional_field {A} f is_f = record { takes = λ bytes x are e. taken bytes x are
 
   read_back : (x : Option A) (rest : List ℕ) → optional_fits f x ≡ true → read_optional f (optional_text f x ++ rest) ≡ Some (x, rest)
   read_back None rest fits = refl
-  read_back (Some a) rest fits = ap (λ (o : Option (A × List ℕ)). o >>= λ a. Some (Some a.0, a.1)) (is_f.again a rest fits)
+  read_back (Some a) rest fits = ap (λ (o : Option (A × List ℕ)). o >>? λ a. Some (Some a.0, a.1)) (is_f.again a rest fits)
 
 pub one_of_three_field : {A B C : Type 0} (f : Field A) (g : Field B) (h : Field C) → IsField f → IsField g → IsField h → IsField (one_of_three f g h)
 one_of_three_field {A} {B} {C} f g h is_f is_g is_h = record { takes = λ bytes x are e. taken bytes x are e; again = λ x rest fits. read_back x rest fits } where
@@ -227,9 +227,9 @@ one_of_three_field {A} {B} {C} f g h is_f is_g is_h = record { takes = λ bytes 
   taken (suc (suc (suc n)) ∷ bytes) x are e = absurd cc
 
   read_back : (x : A ⊎ (B ⊎ C)) (rest : List ℕ) → one_of_three_fits f g h x ≡ true → read_one_of_three f g h (one_of_three_text f g h x ++ rest) ≡ Some (x, rest)
-  read_back (inl a) rest fits = ap (λ (o : Option (A × List ℕ)). o >>= λ a. Some (inl a.0, a.1)) (is_f.again a rest fits)
-  read_back (inr (inl b)) rest fits = ap (λ (o : Option (B × List ℕ)). o >>= λ b. Some (inr (inl b.0), b.1)) (is_g.again b rest fits)
-  read_back (inr (inr c)) rest fits = ap (λ (o : Option (C × List ℕ)). o >>= λ c. Some (inr (inr c.0), c.1)) (is_h.again c rest fits)
+  read_back (inl a) rest fits = ap (λ (o : Option (A × List ℕ)). o >>? λ a. Some (inl a.0, a.1)) (is_f.again a rest fits)
+  read_back (inr (inl b)) rest fits = ap (λ (o : Option (B × List ℕ)). o >>? λ b. Some (inr (inl b.0), b.1)) (is_g.again b rest fits)
+  read_back (inr (inr c)) rest fits = ap (λ (o : Option (C × List ℕ)). o >>? λ c. Some (inr (inr c.0), c.1)) (is_h.again c rest fits)
 
 unsigned_low : (z : ℤ) → FitsSigned w32 z → cast_unsigned w32 z < 2 ^ 32
 unsigned_low (pos n) fits = omega (arith, fits)
@@ -248,6 +248,6 @@ signed_field test small = record {
   again = λ z rest fits.
       let is : cast_signed w32 (cast_unsigned w32 z) ≡ z = to_z-of_z w32 z (small z fits) in
       let low : ltb (cast_unsigned w32 z) (256 ^ 4) ≡ true = lt-ltb _ _ (unsigned_low z (small z fits)) in
-      ap (λ (o : Option (ℕ × List ℕ)). o >>= λ n. cond (test (cast_signed w32 n.0)) (Some (cast_signed w32 n.0, n.1)) None) ((number_field 4 back_4).again (cast_unsigned w32 z) rest low)
+      ap (λ (o : Option (ℕ × List ℕ)). o >>? λ n. cond (test (cast_signed w32 n.0)) (Some (cast_signed w32 n.0, n.1)) None) ((number_field 4 back_4).again (cast_unsigned w32 z) rest low)
       ∙ ap (λ (y : ℤ). cond (test y) (Some (y, rest)) None) is ∙ cond-true (test z) (Some (z, rest)) None fits;
 }

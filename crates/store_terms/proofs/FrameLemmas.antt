@@ -12,7 +12,7 @@ use Rattle.store_terms.specs.declared.root.RecordExtent.{RecordExtent}
 use Rattle.store_terms.specs.Catalog.{Records, Listed, catalog_of_record}
 use Rattle.store_terms.specs.Places.{some_extents, extents_of_records, extents_listed, all_apart}
 use Rattle.store_terms.specs.declared.root.Root.{Root}
-use Rattle.store_terms.specs.Image.{◌>>=◌, or_fault, placed_bytes, with_layer, tiles_of, layer_of, layers_of, listing_of, held_by}
+use Rattle.store_terms.specs.Image.{◌>>=◌, or_fault, placed_bytes, with_layer, tiles_from_column, layer_of, layers_of, listing_of, held_by}
 use Rattle.store_terms.specs.Frame.{IsSameAt, listed_extents, ElsewhereHasNoMeaning}
 
 same_bytes : (fault : Damage) (old new : List ℕ) (e : RecordExtent) → IsSameAt old new e → placed_bytes fault new e ≡ placed_bytes fault old e
@@ -27,7 +27,7 @@ all_back : (P : RecordExtent → Type 0) (xs ys : List RecordExtent) → AllByRe
 all_back P [] ys all = all
 all_back P (x ∷ xs) ys all = all_back P xs ys all.1
 
-same_tiles : (old new : List ℕ) (name : Name) (k : ℕ) (es : List (Option RecordExtent)) → AllByRecursion (IsSameAt old new) (some_extents es) → tiles_of new name k es ≡ tiles_of old name k es
+same_tiles : (old new : List ℕ) (name : Name) (k : ℕ) (es : List (Option RecordExtent)) → AllByRecursion (IsSameAt old new) (some_extents es) → tiles_from_column new name k es ≡ tiles_from_column old name k es
 same_tiles old new name k [] same = refl
 same_tiles old new name k (None ∷ es) same = same_tiles old new name (k + 1) es same
 same_tiles old new name k (Some e ∷ es) same =

@@ -10,8 +10,8 @@ use Rattle.store_terms.specs.BaseRecord.{base_of_record}
 use Rattle.store_terms.specs.DefinitionRecord.{definition_of_record}
 use Rattle.store_terms.specs.TileRecord.{tile_of_record}
 use Rattle.store_terms.specs.Catalog.{Records, Listed}
-use Rattle.store_terms.specs.Places.{bytes_of, is_placed, all_apart, extents_listed}
-use Rattle.store_terms.specs.Image.{◌>>=◌, or_fault, placed_bytes, may_stand, with_layer, tiles_of, layer_of, layers_of, Held, listing_of, held_by}
+use Rattle.store_terms.specs.Places.{bytes_at, is_placed, all_apart, extents_listed}
+use Rattle.store_terms.specs.Image.{◌>>=◌, or_fault, placed_bytes, may_stand, with_layer, tiles_from_column, layer_of, layers_of, Held, listing_of, held_by}
 use Rattle.store_terms.specs.Spelled.{Spells, TilesAre, LayerIs, LayersAre, HeldIsSpelled}
 
 pub ok_bound : {A B : Type 0} (o : Result A Damage) (f : A → Result B Damage) (y : B) → (o >>= f) ≡ Ok y
@@ -38,17 +38,17 @@ tested_ok false fault x y e = absurd cc
 placed_spells : {A : Type 0} (place : Damage) (file : List ℕ) (e : RecordExtent) (read : List ℕ → Option A) (value : A)
     (bytes : List ℕ) → placed_bytes place file e ≡ Ok bytes → read bytes ≡ Some value → Spells file e read value
 placed_spells place file e read value bytes there is =
-    let t = tested_ok (is_placed file e) place (bytes_of file e) bytes there in
+    let t = tested_ok (is_placed file e) place (bytes_at file e) bytes there in
     record { placed = t.0; is = ap read t.1 ∙ is }
 
 tiles_are : (file : List ℕ) (name : Name) (k : ℕ) (es : List (Option RecordExtent)) (tiles : List Finished)
-    → tiles_of file name k es ≡ Ok tiles → TilesAre file name k es tiles
+    → tiles_from_column file name k es ≡ Ok tiles → TilesAre file name k es tiles
 tiles_are file name k [] tiles e = sym (same_ok [] tiles e)
 tiles_are file name k (None ∷ es) tiles e = tiles_are file name (k + 1) es tiles e
 tiles_are file name k (Some x ∷ es) tiles e =
     let a = ok_bound (placed_bytes RecordPlace file x) _ tiles e in
     let b = ok_bound (or_fault TileForm (tile_of_record k a.0)) _ tiles a.2 in
-    let c = ok_bound (tiles_of file name (k + 1) es) _ tiles b.2 in
+    let c = ok_bound (tiles_from_column file name (k + 1) es) _ tiles b.2 in
     let f : Finished = record { name = name; column = k; tile = b.0 } in
     let spells : Spells file x (tile_of_record k) b.0 =
     placed_spells RecordPlace file x (tile_of_record k) b.0 a.0 a.1 (no_fault TileForm (tile_of_record k a.0) b.0 b.1) in
@@ -85,7 +85,7 @@ layer_is file known name (inr (e, es)) x h =
     let a = ok_bound (placed_bytes RecordPlace file e) _ x h in
     let b = ok_bound (or_fault LayerForm (definition_of_record a.0)) _ x a.2 in
     let c = ok_bound (with_layer known name (derived b.0)) _ x b.2 in
-    let d = ok_bound (tiles_of file name 0 es) _ x c.2 in
+    let d = ok_bound (tiles_from_column file name 0 es) _ x c.2 in
     let same = same_ok (c.0, d.0) x d.2 in
     let spells = placed_spells RecordPlace file e definition_of_record b.0 a.0 a.1
     (no_fault LayerForm (definition_of_record a.0) b.0 b.1) in

@@ -1,18 +1,22 @@
 -- The layouts are fields.
-use Rattle.std.proofs.Common.{FitsSigned, ◌≡◌, ◌⊎◌, inl, inr, ℕ, ℤ, unsigned_abs, ◌≤◌, true, refl, arith}
+use Rattle.std.proofs.Common.{FitsSigned, ◌≡◌, ◌⊎◌, inl, inr, ℕ, ℤ, true, refl, arith}
 use Rattle.std.proofs.lemmas.Int.{fits_signed_from_abs}
-use Rattle.std.proofs.lemmas.Bool.{leb-true}
 use Rattle.std.specs.Int.{w32}
-use Rattle.overlay_terms.specs.Plane.{WholePoint, Segment}
+use Rattle.overlay_terms.specs.Plane.{WholePoint, Segment, is_coordinate}
+use Rattle.overlay_terms.proofs.Bounds.{abs_within}
+use Rattle.overlay_terms.proofs.Coordinates.{passes_in_range}
 use Rattle.exact_point.specs.NameCode.{name_back, name_from, name_parts}
 use Rattle.store_terms.specs.Fields.{IsField, number}
-use Rattle.store_terms.specs.BaseRecord.{is_coordinate, coordinate, whole_point, ring, rings}
+use Rattle.store_terms.specs.BaseRecord.{coordinate, whole_point, ring, rings}
 use Rattle.store_terms.specs.TileRecord.{segment, point_name, piece, named_tile}
 use Rattle.store_terms.specs.Catalog.{extent, listed, catalog}
 use Rattle.store_terms.proofs.FieldLemmas.{back_1, back_2, back_4, back_8, number_field, signed_field, both_field, made_field, sieved_field, counted_field, repeated_field, either_field, optional_field, one_of_three_field}
 
 coordinate_fits : (z : ℤ) → is_coordinate z ≡ true → FitsSigned w32 z
-coordinate_fits z h = let small : unsigned_abs z ≤ 1048576 = leb-true (unsigned_abs z) 1048576 h in fits_signed_from_abs w32 z (omega arith)
+coordinate_fits z h =
+    let range = passes_in_range z h in
+    let small = abs_within 1048576 z (record { low = range.0; high = range.1 }) in
+    fits_signed_from_abs w32 z (omega arith)
 
 pub coordinate_is : IsField coordinate
 coordinate_is = signed_field is_coordinate coordinate_fits

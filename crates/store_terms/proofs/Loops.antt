@@ -1,13 +1,13 @@
 -- Reading values one after another, as a loop does.
 use Rattle.std.proofs.Common.{◌≡◌, ℕ, suc, ◌-◌, ◌+◌, ◌≤◌, ◌<◌, List, [], ◌∷◌, ◌++◌, Option, Some, None, refl, sym, ap, ◌∙◌, append_assoc, arith}
 use Rattle.std.proofs.lemmas.List.{append-nil}
-use Rattle.store_terms.specs.Fields.{◌>>=◌, read_many}
+use Rattle.store_terms.specs.Fields.{◌>>?◌, read_many}
 
 -- what was read before, and what is still read
 abbrev pub with_front : {A : Type 0} → List A → Option (List A × List ℕ) → Option (List A × List ℕ)
-with_front front read = read >>= λ x. Some (front ++ x.0, x.1)
+with_front front read = read >>? λ x. Some (front ++ x.0, x.1)
 
-regroup : {A : Type 0} (front : List A) (a : A) (read : Option (List A × List ℕ)) → with_front front (read >>= λ x. Some (a ∷ x.0, x.1)) ≡ with_front (front ++ a ∷ []) read
+regroup : {A : Type 0} (front : List A) (a : A) (read : Option (List A × List ℕ)) → with_front front (read >>? λ x. Some (a ∷ x.0, x.1)) ≡ with_front (front ++ a ∷ []) read
 regroup {A} front a (Some x) = ap (λ (l : List A). Some (l, x.1)) (sym (append_assoc front (a ∷ []) x.0))
 regroup front a None = refl
 
@@ -18,7 +18,7 @@ module _ {A : Type 0} (read : List ℕ → Option (A × List ℕ)) where
       let k : count - i ≡ suc (count - (i + 1)) = omega arith in
       let one : with_front front (read_many read (count - i) bytes) ≡ with_front (front ++ a ∷ []) (read_many read (count - (i + 1)) after) =
       ap (λ (n : ℕ). with_front front (read_many read n bytes)) k
-      ∙ ap (λ (o : Option (A × List ℕ)). with_front front (o >>= λ b. read_many read (count - (i + 1)) b.1 >>= λ x. Some (b.0 ∷ x.0, x.1))) h
+      ∙ ap (λ (o : Option (A × List ℕ)). with_front front (o >>? λ b. read_many read (count - (i + 1)) b.1 >>? λ x. Some (b.0 ∷ x.0, x.1))) h
       ∙ regroup front a (read_many read (count - (i + 1)) after) in
       sym one ∙ so_far
 
@@ -28,7 +28,7 @@ module _ {A : Type 0} (read : List ℕ → Option (A × List ℕ)) where
   ends front count i bytes total lt h so_far =
       let k : count - i ≡ suc (count - (i + 1)) = omega arith in
       sym so_far ∙ ap (λ (n : ℕ). with_front front (read_many read n bytes)) k
-      ∙ ap (λ (o : Option (A × List ℕ)). with_front front (o >>= λ b. read_many read (count - (i + 1)) b.1 >>= λ x. Some (b.0 ∷ x.0, x.1))) h
+      ∙ ap (λ (o : Option (A × List ℕ)). with_front front (o >>? λ b. read_many read (count - (i + 1)) b.1 >>? λ x. Some (b.0 ∷ x.0, x.1))) h
 
   pub is_done : (front : List A) (count i : ℕ) (bytes : List ℕ) (total : Option (List A × List ℕ)) → count ≤ i → with_front front (read_many read (count - i) bytes) ≡ total → total ≡ Some (front, bytes)
   is_done front count i bytes total le so_far =

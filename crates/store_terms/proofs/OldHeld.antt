@@ -6,16 +6,16 @@ use Rattle.overlay_terms.specs.Layers.{Name, base, derived, Layer}
 use Rattle.overlay_terms.specs.Histories.{Finished}
 use Rattle.store_terms.specs.declared.damage.Damage.TheVariants.{CatalogPlace, CatalogForm, RecordPlace, LayerForm, Overlap}
 use Rattle.store_terms.specs.declared.root.Root.{Root}
-use Rattle.store_terms.specs.Fields.{whole}
+use Rattle.store_terms.specs.Fields.{all_read}
 use Rattle.store_terms.specs.BaseRecord.{base_of_record}
 use Rattle.store_terms.specs.DefinitionRecord.{definition_of_record}
 use Rattle.store_terms.specs.Catalog.{Records, Listed, catalog, old_column_count, pending_records, without_tiles, catalog_of_record}
 use Rattle.store_terms.specs.Places.{all_apart, extents_listed}
-use Rattle.store_terms.specs.Image.{or_fault, placed_bytes, with_layer, tiles_of, layer_of, layers_of, Held, listing_of, held_by}
+use Rattle.store_terms.specs.Image.{or_fault, placed_bytes, with_layer, tiles_from_column, layer_of, layers_of, Held, listing_of, held_by}
 use Rattle.store_terms.specs.RecordLaws.{OldHasNoTiles}
 use Rattle.store_terms.proofs.HeldLemmas.{ok_bound, no_fault, found, same_ok, tested_ok}
 
-no_entry : (file : List ℕ) (name : Name) (k n : ℕ) (tiles : List Finished) → tiles_of file name k (replicate n None) ≡ Ok tiles → tiles ≡ []
+no_entry : (file : List ℕ) (name : Name) (k n : ℕ) (tiles : List Finished) → tiles_from_column file name k (replicate n None) ≡ Ok tiles → tiles ≡ []
 no_entry file name k zero tiles h = sym (same_ok [] tiles h)
 no_entry file name k (suc n) tiles h = no_entry file name (k + 1) n tiles h
 
@@ -33,7 +33,7 @@ layer_bare file known name (inr both) x h =
     let a = ok_bound (placed_bytes RecordPlace file both.0) _ x h in
     let b = ok_bound (or_fault LayerForm (definition_of_record a.0)) _ x a.2 in
     let c = ok_bound (with_layer known name (derived b.0)) _ x b.2 in
-    let d = ok_bound (tiles_of file name 0 (replicate column_count None)) (λ (finished : List Finished). found (c.0, finished)) x c.2 in
+    let d = ok_bound (tiles_from_column file name 0 (replicate column_count None)) (λ (finished : List Finished). found (c.0, finished)) x c.2 in
     ap tiles_in (sym (same_ok (c.0, d.0) x d.2)) ∙ no_entry file name 0 column_count d.0 d.1
 
 layers_bare : (file : List ℕ) (known : List Layer) (ls : List Listed) (x : List Layer × List Finished)
@@ -58,7 +58,7 @@ listing_bare file r listing old h =
     let a = ok_bound (placed_bytes CatalogPlace file r.catalog) (λ bytes. or_fault CatalogForm (catalog_of_record r.is_old bytes)) listing h in
     let some : catalog_of_record true a.0 ≡ Some listing =
     ap (λ (is_old : Bool). catalog_of_record is_old a.0) (sym old) ∙ no_fault CatalogForm (catalog_of_record r.is_old a.0) listing a.2 in
-    mapped (map without_tiles) (whole (catalog old_column_count) a.0) listing some
+    mapped (map without_tiles) (all_read (catalog old_column_count) a.0) listing some
 
 pub old_has_no_tiles : OldHasNoTiles
 old_has_no_tiles file r x old h =

@@ -1,5 +1,6 @@
 -- What a root holds are layers in order.
 use Rattle.std.proofs.Common.{◌≡◌, inl, inr, true, false, not, ◌&&◌, ℕ, List, [], ◌∷◌, ◌++◌, Option, Some, None, Ok, refl, ap, subst, ◌∙◌}
+use Rattle.std.specs.Option.{is_none}
 use Rattle.std.proofs.lemmas.Bool.{and_parts, not-true}
 use Rattle.overlay_terms.specs.Layers.{Name, Content, base, derived, Layer}
 use Rattle.overlay_terms.specs.Orderly.{IsOrderly}
@@ -12,11 +13,11 @@ use Rattle.store_terms.specs.BaseRecord.{base_of_record}
 use Rattle.store_terms.specs.DefinitionRecord.{definition_of_record}
 use Rattle.store_terms.specs.Catalog.{Records, Listed}
 use Rattle.store_terms.specs.Places.{all_apart, extents_listed}
-use Rattle.store_terms.specs.Image.{or_fault, placed_bytes, refusal_of_keeping, is_accepted, may_stand, with_layer, tiles_of, layer_of, layers_of, Held, listing_of, held_by}
+use Rattle.store_terms.specs.Image.{or_fault, placed_bytes, refusal_of_keeping, may_stand, with_layer, tiles_from_column, layer_of, layers_of, Held, listing_of, held_by}
 use Rattle.store_terms.specs.RecordLaws.{HeldIsOrderly}
 use Rattle.store_terms.proofs.HeldLemmas.{ok_bound, same_ok, tested_ok}
 
-accepted_none : (o : Option Refusal) → is_accepted o ≡ true → o ≡ None
+accepted_none : (o : Option Refusal) → is_none o ≡ true → o ≡ None
 accepted_none None e = refl
 accepted_none (Some reason) e = absurd cc
 
@@ -29,7 +30,7 @@ last_orderly : (known : List Layer) (name : Name) (content : Content) (layers : 
 last_orderly known name content layers orderly e =
     let last : List Layer = known ++ record { name = name; content = content } ∷ [] in
     let t = tested_ok (may_stand known name content) LayerRefused (known ++ record { name = name; content = content } ∷ []) layers e in
-    let p = and_parts (is_name name && not (stands known name)) (is_accepted (refusal_of_keeping known name content)) t.0 in
+    let p = and_parts (is_name name && not (stands known name)) (is_none (refusal_of_keeping known name content)) t.0 in
     let q = and_parts (is_name name) (not (stands known name)) p.0 in
     let new : stands known name ≡ false = not-true (stands known name) q.1 in
     let kept = kept_orderly known name content orderly (accepted_none (refusal_of_keeping known name content) p.1) in
@@ -46,7 +47,7 @@ layer_orderly file known name (inr (e, es)) x orderly h =
     let a = ok_bound (placed_bytes RecordPlace file e) _ x h in
     let b = ok_bound (or_fault LayerForm (definition_of_record a.0)) _ x a.2 in
     let c = ok_bound (with_layer known name (derived b.0)) _ x b.2 in
-    let d = ok_bound (tiles_of file name 0 es) _ x c.2 in
+    let d = ok_bound (tiles_from_column file name 0 es) _ x c.2 in
     subst IsOrderly (ap (λ (y : List Layer × List Finished). y.0) (same_ok (c.0, d.0) x d.2)) (last_orderly known name (derived b.0) c.0 orderly c.1)
 
 layers_orderly : (file : List ℕ) (known : List Layer) (ls : List Listed) (x : List Layer × List Finished) → IsOrderly known → layers_of file known ls ≡ Ok x → IsOrderly x.0

@@ -17,13 +17,13 @@ use Rattle.layer_expr.proofs.ReaderStateLemmas.{read_whole, plus-whole}
 use Rattle.layer_expr.proofs.SpellingLemmas.{reads_back}
 use Rattle.store_terms.specs.declared.damage.Damage.{Damage}
 use Rattle.store_terms.specs.declared.damage.Damage.TheVariants.{CatalogPlace, RecordPlace, LayerForm, TileForm}
-use Rattle.store_terms.specs.Fields.{◌>>=◌, whole}
+use Rattle.store_terms.specs.Fields.{◌>>?◌, all_read}
 use Rattle.store_terms.specs.DefinitionRecord.{is_expression, written_of, spelled_tree, definition_of_record}
 use Rattle.store_terms.specs.TileRecord.{NamedTile, column_of_tile, tile_by_places, named_tile, tile_of_record, IsTileRecord}
 use Rattle.store_terms.specs.declared.root.RecordExtent.{RecordExtent}
 use Rattle.store_terms.specs.Catalog.{Records, Listed}
-use Rattle.store_terms.specs.Places.{bytes_of, is_placed, some_extents, extents_of_records, extents_listed}
-use Rattle.store_terms.specs.Image.{or_fault, placed_bytes, with_layer, tiles_of, layer_of, layers_of, listing_of, held_by}
+use Rattle.store_terms.specs.Places.{bytes_at, is_placed, some_extents, extents_of_records, extents_listed}
+use Rattle.store_terms.specs.Image.{or_fault, placed_bytes, with_layer, tiles_from_column, layer_of, layers_of, listing_of, held_by}
 use Rattle.store_terms.specs.Image as image
 use Rattle.store_terms.specs.Frame.{listed_extents}
 use Rattle.store_terms.specs.RecordLaws.{DefinitionIsItsText, TileIsNamed, HeldIsPlaced}
@@ -37,12 +37,12 @@ definition_again tree is =
     let reads = reads_back tree is in
     let w = reads.0 in
     let found : written_of (written_kinds w) ≡ Some w =
-    ap (λ (s : Option (ReaderState Written)). s >>= λ t. finished written_making t) (read_whole w reads.1.grouped) ∙ ap Some (plus-whole w) in
+    ap (λ (s : Option (ReaderState Written)). s >>? λ t. finished written_making t) (read_whole w reads.1.grouped) ∙ ap Some (plus-whole w) in
     let small : nat_le (length (written_kinds (canonical tree))) tokens_max ≡ true = le-leb _ _ is.1 in
     let test : (is_expression tree && bytes_eq (expression_text tree) (expression_text tree)) ≡ true =
     and_from _ _ (and_from (list_all is_name (leaves tree)) (nat_le (length (written_kinds (canonical tree))) tokens_max) is.0 small) (name_itself (expression_text tree)) in
-    ap (λ ks. written_of ks >>= λ x. spelled_tree (expression_text tree) (written_tree x)) reads.1.spelled
-    ∙ ap (λ (o : Option Written). o >>= λ x. spelled_tree (expression_text tree) (written_tree x)) found
+    ap (λ ks. written_of ks >>? λ x. spelled_tree (expression_text tree) (written_tree x)) reads.1.spelled
+    ∙ ap (λ (o : Option Written). o >>? λ x. spelled_tree (expression_text tree) (written_tree x)) found
     ∙ ap (spelled_tree (expression_text tree)) (sym reads.3)
     ∙ cond-true _ (Some tree) None test
 
@@ -64,14 +64,14 @@ definition_is_its_text bytes tree =
 -- the record of a tile is read again
 pub tile_again : (k : ℕ) (bytes : List ℕ) (tile : Tile) → IsTileRecord k tile bytes → tile_of_record k bytes ≡ Some tile
 tile_again k bytes tile r =
-    let found : whole named_tile bytes ≡ Some r.named = ap (whole named_tile) r.spelled ∙ whole_again named_tile named_tile_is r.named r.fits in
-    ap (λ (o : Option NamedTile). o >>= λ t. cond (eqb (column_of_tile t) k) (Some (tile_by_places t)) None) found
+    let found : all_read named_tile bytes ≡ Some r.named = ap (all_read named_tile) r.spelled ∙ whole_again named_tile named_tile_is r.named r.fits in
+    ap (λ (o : Option NamedTile). o >>? λ t. cond (eqb (column_of_tile t) k) (Some (tile_by_places t)) None) found
     ∙ cond-true (eqb (column_of_tile r.named) k) (Some (tile_by_places r.named)) None (eq-eqb (column_of_tile r.named) k r.column) ∙ ap Some r.is
 
 pub tile_is_named : TileIsNamed
 tile_is_named k bytes tile are = (
   λ e.
-      let t = bound (whole named_tile bytes) (λ t. cond (eqb (column_of_tile t) k) (Some (tile_by_places t)) None) tile e in
+      let t = bound (all_read named_tile bytes) (λ t. cond (eqb (column_of_tile t) k) (Some (tile_by_places t)) None) tile e in
       let passed = cond_some (eqb (column_of_tile t.0) k) (tile_by_places t.0) tile t.2 in
       let taken = whole_takes named_tile named_tile_is bytes t.0 are t.1 in
       record { named = t.0; fits = taken.1; column = eqb-true (column_of_tile t.0) k passed.0; is = passed.1; spelled = taken.0 },
@@ -86,7 +86,7 @@ ok_bound (Err d) f y e = absurd cc
 
 is_there : (fault : Damage) (file : List ℕ) (e : RecordExtent) (bytes : List ℕ) → placed_bytes fault file e ≡ Ok bytes → is_placed file e ≡ true
 is_there fault file e bytes h = by_test (is_placed file e) h where
-  by_test : (b : Bool) → cond b (Ok (bytes_of file e)) (Err fault) ≡ Ok bytes → b ≡ true
+  by_test : (b : Bool) → cond b (Ok (bytes_at file e)) (Err fault) ≡ Ok bytes → b ≡ true
   by_test true g = refl
   by_test false g = absurd cc
 
@@ -97,13 +97,13 @@ both_placed : (file : List ℕ) (xs ys : List RecordExtent) → Placed file xs �
 both_placed file [] ys a b = b
 both_placed file (x ∷ xs) ys a b = (a.0, both_placed file xs ys a.1 b)
 
-tiles_placed : (file : List ℕ) (name : Name) (k : ℕ) (es : List (Option RecordExtent)) (tiles : List Finished) → tiles_of file name k es ≡ Ok tiles → Placed file (some_extents es)
+tiles_placed : (file : List ℕ) (name : Name) (k : ℕ) (es : List (Option RecordExtent)) (tiles : List Finished) → tiles_from_column file name k es ≡ Ok tiles → Placed file (some_extents es)
 tiles_placed file name k [] tiles e = tt
 tiles_placed file name k (None ∷ es) tiles e = tiles_placed file name (k + 1) es tiles e
 tiles_placed file name k (Some x ∷ es) tiles e =
     let a = ok_bound (placed_bytes RecordPlace file x) _ tiles e in
     let b = ok_bound (or_fault TileForm (tile_of_record k a.0)) _ tiles a.2 in
-    let c = ok_bound (tiles_of file name (k + 1) es) _ tiles b.2 in
+    let c = ok_bound (tiles_from_column file name (k + 1) es) _ tiles b.2 in
     (is_there RecordPlace file x a.0 a.1, tiles_placed file name (k + 1) es c.0 c.1)
 
 layer_placed : (file : List ℕ) (known : List Layer) (name : Name) (records : Records) (x : List Layer × List Finished) → layer_of file known name records ≡ Ok x → Placed file (extents_of_records records)
@@ -112,7 +112,7 @@ layer_placed file known name (inr (e, es)) x h =
     let a = ok_bound (placed_bytes RecordPlace file e) _ x h in
     let b = ok_bound (or_fault LayerForm (definition_of_record a.0)) _ x a.2 in
     let c = ok_bound (with_layer known name (derived b.0)) _ x b.2 in
-    let d = ok_bound (tiles_of file name 0 es) _ x c.2 in
+    let d = ok_bound (tiles_from_column file name 0 es) _ x c.2 in
     (is_there RecordPlace file e a.0 a.1, tiles_placed file name 0 es d.0 d.1)
 
 layers_placed : (file : List ℕ) (known : List Layer) (ls : List Listed) (x : List Layer × List Finished) → layers_of file known ls ≡ Ok x → Placed file (extents_listed ls)

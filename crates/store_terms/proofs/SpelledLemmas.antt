@@ -15,29 +15,29 @@ use Rattle.store_terms.specs.DefinitionRecord.{definition_of_record}
 use Rattle.store_terms.specs.TileRecord.{tile_of_record}
 use Rattle.store_terms.specs.declared.root.RecordExtent.{RecordExtent}
 use Rattle.store_terms.specs.Catalog.{Records, Listed, catalog_of_record}
-use Rattle.store_terms.specs.Places.{bytes_of, extents_listed, all_apart}
+use Rattle.store_terms.specs.Places.{bytes_at, extents_listed, all_apart}
 use Rattle.store_terms.specs.declared.root.Root.{Root}
-use Rattle.store_terms.specs.Image.{◌>>=◌, or_fault, placed_bytes, may_stand, with_layer, tiles_of, layer_of, layers_of, listing_of, held_by}
+use Rattle.store_terms.specs.Image.{◌>>=◌, or_fault, placed_bytes, may_stand, with_layer, tiles_from_column, layer_of, layers_of, listing_of, held_by}
 use Rattle.store_terms.specs.Spelled.{Spells, TilesAre, LayerIs, LayersAre, SpelledIsHeld}
 use Rattle.store_terms.proofs.Accepting.{names_of, may_follow_stands}
 
 -- a record that is placed, and what it spells
 spelled : {A : Type 0} (place form : Damage) (file : List ℕ) (e : RecordExtent) (read : List ℕ → Option A) (value : A) → Spells file e read value → (placed_bytes place file e >>= λ bytes. or_fault form (read bytes)) ≡ Ok value
 spelled place form file e read value spells =
-    ap (λ b. cond b (Ok (bytes_of file e)) (Err place) >>= λ bytes. or_fault form (read bytes)) spells.placed ∙ ap (or_fault form) spells.is
+    ap (λ b. cond b (Ok (bytes_at file e)) (Err place) >>= λ bytes. or_fault form (read bytes)) spells.placed ∙ ap (or_fault form) spells.is
 
 -- the same with what comes after
 spelled_then : {A B : Type 0} (place form : Damage) (file : List ℕ) (e : RecordExtent) (read : List ℕ → Option A) (value : A) (next : A → Result B Damage) → Spells file e read value
     → (placed_bytes place file e >>= λ bytes. or_fault form (read bytes) >>= next) ≡ next value
 spelled_then place form file e read value next spells =
-    ap (λ b. cond b (Ok (bytes_of file e)) (Err place) >>= λ bytes. or_fault form (read bytes) >>= next) spells.placed ∙ ap (λ o. or_fault form o >>= next) spells.is
+    ap (λ b. cond b (Ok (bytes_at file e)) (Err place) >>= λ bytes. or_fault form (read bytes) >>= next) spells.placed ∙ ap (λ o. or_fault form o >>= next) spells.is
 
-tiles_spelled : (file : List ℕ) (name : Name) (k : ℕ) (es : List (Option RecordExtent)) (tiles : List Finished) → TilesAre file name k es tiles → tiles_of file name k es ≡ Ok tiles
+tiles_spelled : (file : List ℕ) (name : Name) (k : ℕ) (es : List (Option RecordExtent)) (tiles : List Finished) → TilesAre file name k es tiles → tiles_from_column file name k es ≡ Ok tiles
 tiles_spelled file name k [] tiles are = ap Ok (sym are)
 tiles_spelled file name k (None ∷ es) tiles are = tiles_spelled file name (k + 1) es tiles are
 tiles_spelled file name k (Some e ∷ es) tiles are =
     let rest = tiles_spelled file name (k + 1) es are.1 are.4 in
-    spelled_then RecordPlace TileForm file e (tile_of_record k) are.0 (λ tile. tiles_of file name (k + 1) es >>= λ ts. Ok (record { name = name; column = k; tile = tile } ∷ ts)) are.3
+    spelled_then RecordPlace TileForm file e (tile_of_record k) are.0 (λ tile. tiles_from_column file name (k + 1) es >>= λ ts. Ok (record { name = name; column = k; tile = tile } ∷ ts)) are.3
     ∙ ap (λ (r : Result (List Finished) Damage). r >>= λ ts. Ok (record { name = name; column = k; tile = are.0 } ∷ ts)) rest ∙ ap Ok (sym are.2)
 
 layer_stands : (known : List Layer) (layer : Layer) → may_stand known layer.name layer.content ≡ true → with_layer known layer.name layer.content ≡ Ok (known ++ layer ∷ [])
@@ -52,8 +52,8 @@ layer_spelled file known name (inl e) layer tiles is may =
     ∙ (λ i. Ok (known ++ sym is.1 i ∷ [], sym is.2 i))
 layer_spelled file known name (inr (e, es)) layer tiles is may =
     let there : may_stand known name (derived is.0) ≡ true = subst (λ (l : Layer). may_stand known l.name l.content ≡ true) is.1 may in
-    spelled_then RecordPlace LayerForm file e definition_of_record is.0 (λ tree. with_layer known name (derived tree) >>= λ layers. tiles_of file name 0 es >>= λ finished. Ok (layers, finished)) is.2
-    ∙ ap (λ (r : Result (List Layer) Damage). r >>= λ layers. tiles_of file name 0 es >>= λ finished. Ok (layers, finished)) (layer_stands known (record { name = name; content = derived is.0 }) there)
+    spelled_then RecordPlace LayerForm file e definition_of_record is.0 (λ tree. with_layer known name (derived tree) >>= λ layers. tiles_from_column file name 0 es >>= λ finished. Ok (layers, finished)) is.2
+    ∙ ap (λ (r : Result (List Layer) Damage). r >>= λ layers. tiles_from_column file name 0 es >>= λ finished. Ok (layers, finished)) (layer_stands known (record { name = name; content = derived is.0 }) there)
     ∙ ap (λ (r : Result (List Finished) Damage). r >>= λ finished. Ok (known ++ record { name = name; content = derived is.0 } ∷ [], finished)) (tiles_spelled file name 0 es tiles is.3)
     ∙ ap (λ (l : Layer). Ok (known ++ l ∷ [], tiles)) (sym is.1)
 

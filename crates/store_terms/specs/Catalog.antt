@@ -5,7 +5,7 @@ use Rattle.std.proofs.Common.{inl, inr}
 use Rattle.overlay_terms.specs.Column.{column_count}
 use Rattle.overlay_terms.specs.Layers.{Name}
 use Rattle.store_terms.specs.declared.root.RecordExtent.{RecordExtent}
-use Rattle.store_terms.specs.Fields.{Field, number, both, made, repeated, counted, whole}
+use Rattle.store_terms.specs.Fields.{Field, number, both, made, repeated, counted, all_read}
 use Rattle.store_terms.specs.Choices.{either, optional}
 
 -- the first block of a record, then how many bytes it has
@@ -38,10 +38,11 @@ abbrev pub pending_records : Records → Records
 pending_records (inl e) = inl e
 pending_records (inr both) = inr (both.0, replicate column_count None)
 
+-- a layer that is listed, without where its finished tiles lie
 abbrev pub without_tiles : Listed → Listed
 without_tiles l = record { name = l.name; records = pending_records l.records }
 
 -- the layers that a catalog lists. Of the tiles in an old one the form of their entries is asked, and no more
 abbrev pub catalog_of_record : Bool → List ℕ → Option (List Listed)
 catalog_of_record is_old bytes =
-    if is_old then option_map (map without_tiles) (whole (catalog old_column_count) bytes) else whole (catalog column_count) bytes
+    if is_old then option_map (map without_tiles) (all_read (catalog old_column_count) bytes) else all_read (catalog column_count) bytes

@@ -8,7 +8,7 @@ use Rattle.layer_expr.specs.Token.{Kind, tokens_of}
 use Rattle.layer_expr.specs.Grammar.{Written, written_kinds, written_tree, kinds_of, tokens_max}
 use Rattle.layer_expr.specs.ReaderState.{written_making, behind_all, at_start, finished}
 use Rattle.layer_expr.specs.Spelling.{canonical, expression_text}
-use Rattle.store_terms.specs.Fields.{◌>>=◌}
+use Rattle.store_terms.specs.Fields.{◌>>?◌}
 
 -- whether a tree is an expression: its leaves are names, and its text has few enough tokens
 abbrev pub is_expression : Tree Name → Bool
@@ -16,7 +16,7 @@ is_expression tree = list_all is_name (leaves tree) && nat_le (length (written_k
 
 -- what some tokens spell
 abbrev pub written_of : List Kind → Option Written
-written_of kinds = behind_all written_making (Some at_start) kinds >>= λ s. finished written_making s
+written_of kinds = behind_all written_making (Some at_start) kinds >>? λ s. finished written_making s
 
 -- the tree, if it is an expression and the bytes are its text
 abbrev pub spelled_tree : List ℕ → Tree Name → Option (Tree Name)
@@ -24,4 +24,4 @@ spelled_tree bytes tree = if is_expression tree && bytes_eq (expression_text tre
 
 -- the expression whose text the bytes are: no other spelling of it will do
 abbrev pub definition_of_record : List ℕ → Option (Tree Name)
-definition_of_record bytes = written_of (kinds_of (tokens_of bytes)) >>= λ w. spelled_tree bytes (written_tree w)
+definition_of_record bytes = written_of (kinds_of (tokens_of bytes)) >>? λ w. spelled_tree bytes (written_tree w)

@@ -4,10 +4,11 @@ use Rattle.std.specs.List.{list_all}
 use Rattle.std.specs.Int.{w32, cast_signed, cast_unsigned}
 use Rattle.byteorder.specs.Endian.{big_number, big_bytes}
 
-infixl 10 ◌>>=◌
-abbrev pub ◌>>=◌ : {A B : Type 0} → Option A → (A → Option B) → Option B
-(Some x) >>= f = f x
-None >>= f = None
+infixl 10 ◌>>?◌
+-- what f makes of a value, where there is one
+abbrev pub ◌>>?◌ : {A B : Type 0} → Option A → (A → Option B) → Option B
+(Some x) >>? f = f x
+None >>? f = None
 
 -- how a field is read from the front of some bytes, with what follows it; how a value is spelled; which values it has
 pub record Field (A : Type 0) : Type 0 where
@@ -35,7 +36,7 @@ number n = record {
 -- a signed number of 4 bytes, in two's complement, which passes a test
 abbrev pub signed : (ℤ → Bool) → Field ℤ
 signed test = record {
-  read = λ bytes. (number 4).read bytes >>= λ n. if test (cast_signed w32 n.0) then Some (cast_signed w32 n.0, n.1) else None;
+  read = λ bytes. (number 4).read bytes >>? λ n. if test (cast_signed w32 n.0) then Some (cast_signed w32 n.0, n.1) else None;
   text = λ z. big_bytes 4 (cast_unsigned w32 z);
   fits = λ z. test z;
 }
@@ -43,7 +44,7 @@ signed test = record {
 -- one field, and then another
 abbrev pub both : {A B : Type 0} → Field A → Field B → Field (A × B)
 both f g = record {
-  read = λ bytes. f.read bytes >>= λ a. g.read a.1 >>= λ b. Some ((a.0, b.0), b.1);
+  read = λ bytes. f.read bytes >>? λ a. g.read a.1 >>? λ b. Some ((a.0, b.0), b.1);
   text = λ x. f.text x.0 ++ g.text x.1;
   fits = λ x. f.fits x.0 && g.fits x.1;
 }
@@ -51,7 +52,7 @@ both f g = record {
 -- the same bytes as another value
 abbrev pub made : {A B : Type 0} → (A → B) → (B → A) → Field A → Field B
 made from back f = record {
-  read = λ bytes. f.read bytes >>= λ a. Some (from a.0, a.1);
+  read = λ bytes. f.read bytes >>? λ a. Some (from a.0, a.1);
   text = λ b. f.text (back b);
   fits = λ b. f.fits (back b);
 }
@@ -59,7 +60,7 @@ made from back f = record {
 -- the values that pass a test
 abbrev pub sieved : {A : Type 0} → (A → Bool) → Field A → Field A
 sieved test f = record {
-  read = λ bytes. f.read bytes >>= λ a. if test a.0 then Some a else None;
+  read = λ bytes. f.read bytes >>? λ a. if test a.0 then Some a else None;
   text = λ x. f.text x;
   fits = λ x. f.fits x && test x;
 }
@@ -67,8 +68,9 @@ sieved test f = record {
 -- n values, one after another
 abbrev pub read_many : {A : Type 0} → (List ℕ → Option (A × List ℕ)) → ℕ → List ℕ → Option (List A × List ℕ)
 read_many read zero bytes = Some ([], bytes)
-read_many read (suc n) bytes = read bytes >>= λ a. read_many read n a.1 >>= λ b. Some (a.0 ∷ b.0, b.1)
+read_many read (suc n) bytes = read bytes >>? λ a. read_many read n a.1 >>? λ b. Some (a.0 ∷ b.0, b.1)
 
+-- n values, one after another, whose number is not written
 abbrev pub repeated : {A : Type 0} → ℕ → Field A → Field (List A)
 repeated n f = record {
   read = λ bytes. read_many f.read n bytes;
@@ -79,11 +81,11 @@ repeated n f = record {
 -- a count of w bytes, and so many values
 abbrev pub counted : {A : Type 0} → ℕ → Field A → Field (List A)
 counted w f = record {
-  read = λ bytes. (number w).read bytes >>= λ n. read_many f.read n.0 n.1;
+  read = λ bytes. (number w).read bytes >>? λ n. read_many f.read n.0 n.1;
   text = λ xs. big_bytes w (length xs) ++ flat_map f.text xs;
   fits = λ xs. nat_lt (length xs) (256 ^ w) && list_all f.fits xs;
 }
 
 -- all of the bytes
-abbrev pub whole : {A : Type 0} → Field A → List ℕ → Option A
-whole f bytes = f.read bytes >>= λ x. if length x.1 == 0 then Some x.0 else None
+abbrev pub all_read : {A : Type 0} → Field A → List ℕ → Option A
+all_read f bytes = f.read bytes >>? λ x. if length x.1 == 0 then Some x.0 else None

@@ -4,13 +4,13 @@ use Rattle.std.specs.List.{AllByRecursion}
 use Rattle.store_terms.specs.declared.damage.Damage.{Damage}
 use Rattle.store_terms.specs.declared.root.RecordExtent.{RecordExtent}
 use Rattle.store_terms.specs.Catalog.{Listed}
-use Rattle.store_terms.specs.Places.{bytes_of, is_placed, extents_listed}
+use Rattle.store_terms.specs.Places.{bytes_at, is_placed, extents_listed}
 use Rattle.store_terms.specs.declared.root.Root.{Root}
 use Rattle.store_terms.specs.Image.{listing_of, held_of}
 
 -- two files have the same bytes in an extent, which lies in both or in neither
 pub record IsSameAt (old new : List ℕ) (e : RecordExtent) : Type 0 where
-  pub bytes : bytes_of new e ≡ bytes_of old e
+  pub bytes : bytes_at new e ≡ bytes_at old e
   pub placed : is_placed new e ≡ is_placed old e
 
 -- the extents of a catalog

@@ -14,13 +14,16 @@ use Rattle.store_terms.specs.declared.catalog.Records.TheVariants.{Base, Derived
 abbrev pub spelled_records : ℕ → Field terms.Records
 spelled_records n = either extent (both extent (repeated n (optional extent)))
 
+-- the extents that the code keeps of a layer, as the catalog's definition has them
 abbrev pub records_of : Records → terms.Records
 records_of (Base extent) = inl extent
 records_of (Derived extent tiles) = inr (extent, tiles.items)
 
+-- a layer of the code's listing, as the catalog's definition has it
 abbrev pub entry_of : Listed → terms.Listed
 entry_of l = record { name = l.name.items; records = records_of l.records }
 
+-- a whole listing of the code, as what a catalog lists
 abbrev pub entries_of : List Listed → List terms.Listed
 entries_of ls = map entry_of ls
 

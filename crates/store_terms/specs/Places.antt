@@ -1,4 +1,4 @@
--- Where the records of a store lie in its file. The file is read through `bytes_of` and `is_placed` alone.
+-- Where the records of a store lie in its file. The file is read through `bytes_at` and `is_placed` alone.
 use Rattle.std.specs.Prelude.{ℕ, ◌+◌, ◌*◌, ◌/◌, nat_le, Bool, true, ◌&&◌, ◌||◌, List, [], ◌∷◌, length, flat_map, Option, Some, None}
 use Rattle.std.proofs.Common.{inl, inr}
 use Rattle.disk_model.specs.Disk.{part}
@@ -7,8 +7,8 @@ use Rattle.store_terms.specs.declared.root.RecordExtent.{RecordExtent}
 use Rattle.store_terms.specs.Catalog.{Records, Listed}
 
 -- the bytes of a record
-abbrev pub bytes_of : List ℕ → RecordExtent → List ℕ
-bytes_of file e = part file (block_size * e.block) e.size
+abbrev pub bytes_at : List ℕ → RecordExtent → List ℕ
+bytes_at file e = part file (block_size * e.block) e.size
 
 -- whether a record lies after the slots, in whole blocks of the file
 abbrev pub is_placed : List ℕ → RecordExtent → Bool
@@ -20,6 +20,7 @@ some_extents [] = []
 some_extents (None ∷ rest) = some_extents rest
 some_extents (Some e ∷ rest) = e ∷ some_extents rest
 
+-- where a layer's own record lies, and then those of its finished tiles
 abbrev pub extents_of_records : Records → List RecordExtent
 extents_of_records (inl e) = e ∷ []
 extents_of_records (inr (e, tiles)) = e ∷ some_extents tiles
@@ -32,6 +33,7 @@ extents_listed ls = flat_map (λ l. extents_of_records l.records) ls
 abbrev pub are_apart : RecordExtent → RecordExtent → Bool
 are_apart a b = nat_le (a.block + blocks a.size) b.block || nat_le (b.block + blocks b.size) a.block
 
+-- whether an extent has no block in common with any of some others
 abbrev pub is_apart_from : RecordExtent → List RecordExtent → Bool
 is_apart_from e [] = true
 is_apart_from e (f ∷ fs) = are_apart e f && is_apart_from e fs

@@ -20,10 +20,11 @@ old_format = 1
 abbrev pub format_of : Root → ℕ
 format_of r = if r.is_old then old_format else format_number
 
--- how many bytes a body has, and how many of them are read
+-- how many bytes a body has
 abbrev pub body_size : ℕ
 body_size = 48
 
+-- how many bytes of a body are read; those after them are zeros
 abbrev pub body_read : ℕ
 body_read = 40
 

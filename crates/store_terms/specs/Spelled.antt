@@ -13,14 +13,14 @@ use Rattle.store_terms.specs.DefinitionRecord.{definition_of_record}
 use Rattle.store_terms.specs.TileRecord.{tile_of_record}
 use Rattle.store_terms.specs.declared.root.RecordExtent.{RecordExtent}
 use Rattle.store_terms.specs.Catalog.{Records, Listed, catalog_of_record}
-use Rattle.store_terms.specs.Places.{bytes_of, is_placed, all_apart, extents_listed}
+use Rattle.store_terms.specs.Places.{bytes_at, is_placed, all_apart, extents_listed}
 use Rattle.store_terms.specs.declared.root.Root.{Root}
 use Rattle.store_terms.specs.Image.{Held, listing_of, held_of}
 
 -- a record that is placed spells a value
 pub record Spells {A : Type 0} (file : List ℕ) (e : RecordExtent) (read : List ℕ → Option A) (value : A) : Type 0 where
   pub placed : is_placed file e ≡ true
-  pub is : read (bytes_of file e) ≡ Some value
+  pub is : read (bytes_at file e) ≡ Some value
 
 -- the tiles of a layer, from a column on
 abbrev pub TilesAre : List ℕ → Name → ℕ → List (Option RecordExtent) → List Finished → Type 0

@@ -14,10 +14,11 @@ use Rattle.store_terms.specs.Image.{◌>>=◌, Held, held_of}
 abbrev pub slots_end : ℕ
 slots_end = block_size * 2
 
--- where the gate of a slot is, and its body after it
+-- where the gate of a slot is: at the beginning of its block
 abbrev pub gate_at : ℕ → ℕ
 gate_at k = block_size * k
 
+-- where the body of a slot is: 16 bytes after its gate
 abbrev pub body_at : ℕ → ℕ
 body_at k = block_size * k + 16
 
@@ -25,6 +26,7 @@ body_at k = block_size * k + 16
 abbrev pub open_gate : ℕ
 open_gate = 167
 
+-- the byte by which a slot counts or not
 abbrev pub gate : List ℕ → ℕ → ℕ
 gate file k = slice_index file (gate_at k)
 

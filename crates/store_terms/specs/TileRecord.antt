@@ -11,7 +11,7 @@ use Rattle.exact_point.specs.NamedPiece.{NamedPiece, ends_of}
 use Rattle.exact_point.specs.NameCode.{name_parts, name_from}
 use Rattle.exact_point.specs.declared.point_name.PointName.{PointName}
 use Rattle.exact_point.specs.declared.point_name.PointName.TheVariants.{Vertex, Cross, Border}
-use Rattle.store_terms.specs.Fields.{◌>>=◌, Field, number, both, made, sieved, counted, whole}
+use Rattle.store_terms.specs.Fields.{◌>>?◌, Field, number, both, made, sieved, counted, all_read}
 use Rattle.store_terms.specs.Choices.{either, one_of_three}
 use Rattle.store_terms.specs.BaseRecord.{whole_point}
 
@@ -43,6 +43,7 @@ piece = sieved is_piece (made (λ t. record { support = t.0; from = t.1.0; to = 
 abbrev pub NamedTile : Type 0
 NamedTile = ℕ × List NamedPiece ⊎ ℕ
 
+-- the column of which a tile's record says that it is
 abbrev pub column_of_tile : NamedTile → ℕ
 column_of_tile (inl t) = t.0
 column_of_tile (inr k) = k
@@ -58,7 +59,7 @@ named_tile = sieved (λ t. nat_lt (column_of_tile t) column_count && is_formed (
 
 -- the tile that a tile record of this column spells
 abbrev pub tile_of_record : ℕ → List ℕ → Option Tile
-tile_of_record k bytes = whole named_tile bytes >>= λ t. if column_of_tile t == k then Some (tile_by_places t) else None
+tile_of_record k bytes = all_read named_tile bytes >>? λ t. if column_of_tile t == k then Some (tile_by_places t) else None
 
 -- the bytes are a record of a tile and its column, whatever the names of its ends
 pub record IsTileRecord (k : ℕ) (tile : Tile) (bytes : List ℕ) : Type 0 where

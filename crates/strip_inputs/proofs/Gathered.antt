@@ -18,7 +18,7 @@ use Rattle.arrange.specs.declared.marked_seg.MarkedSeg.{MarkedSeg}
 use Rattle.arrange.proofs.KeptLemmas.{mark}
 use Rattle.arrange.proofs.BaseLemmas.{rings_of}
 use Rattle.crossing_sweep.specs.StripInput.{Span, IsStripInput}
-use Rattle.strip_inputs.specs.Strips.{meets, kept_in}
+use Rattle.strip_inputs.specs.Strips.{meets, kept_in_strip}
 use Rattle.strip_inputs.proofs.Few.{passing_few}
 use Rattle.strip_inputs.proofs.Valid.{closed_valid}
 
@@ -68,22 +68,22 @@ segments_push n bases rings e =
 
 -- what the base layers so far have made: the marked segments that the strip keeps, no more than so many layers can have
 pub record IsMadeOf (strip : Span) (bases : List (List (List WholePoint))) (marked : List Marked) : Type 0 where
-  pub kept : marked ≡ kept_in strip (marked_segments bases)
+  pub kept : marked ≡ kept_in_strip strip (marked_segments bases)
   pub proper : AllProper (marked_segments bases)
   pub closed : All (All IsClosed) bases
   pub few : length marked ≤ length bases * steps_max
 
 made_push : (strip : Span) (n : ℕ) (bases : List (List (List WholePoint))) (rings : List (List WholePoint)) (now new : List Marked) → length bases ≡ n → IsMadeOf strip bases now →
-    new ≡ now ++ kept_in strip (marked_by n rings) → All IsProper (segments_of rings) → rings_fault rings ≡ None → IsMadeOf strip (bases ++ rings ∷ []) new
+    new ≡ now ++ kept_in_strip strip (marked_by n rings) → All IsProper (segments_of rings) → rings_fault rings ≡ None → IsMadeOf strip (bases ++ rings ∷ []) new
 made_push strip n bases rings now new count made added proper valid = record {
-  kept = added ∙ ap (λ ms. ms ++ kept_in strip (marked_by n rings)) made.kept
+  kept = added ∙ ap (λ ms. ms ++ kept_in_strip strip (marked_by n rings)) made.kept
       ∙ sym (filter-append (λ (m : Marked). meets strip m.segment) (marked_segments bases) (marked_by n rings))
-      ∙ ap (kept_in strip) (sym (segments_push n bases rings count));
+      ∙ ap (kept_in_strip strip) (sym (segments_push n bases rings count));
   proper = subst AllProper (sym (segments_push n bases rings count))
       (All-append (λ (m : Marked). IsProper m.segment) (marked_segments bases) (marked_by n rings) made.proper (All-map (λ (m : Marked). IsProper m.segment) (mark n) (segments_of rings) proper));
   closed = All-push (All IsClosed) bases rings made.closed (are_closed rings valid);
-  few = more (length bases) (length (kept_in strip (marked_by n rings))) (length now) (length new) (length (bases ++ rings ∷ [])) made.few (passing_few (λ (m : Marked). meets strip m.segment) n rings valid)
-      (ap length added ∙ length-append now (kept_in strip (marked_by n rings))) (length-append bases (rings ∷ []));
+  few = more (length bases) (length (kept_in_strip strip (marked_by n rings))) (length now) (length new) (length (bases ++ rings ∷ [])) made.few (passing_few (λ (m : Marked). meets strip m.segment) n rings valid)
+      (ap length added ∙ length-append now (kept_in_strip strip (marked_by n rings))) (length-append bases (rings ∷ []));
 }
   where
     more : (b k m l c : ℕ) → m ≤ b * 2048 → k ≤ 2048 → l ≡ m + k → c ≡ b + 1 → l ≤ c * 2048
@@ -94,7 +94,7 @@ rings_taken : (bases : List (Bor (List (List WholePoint)))) (i : ℕ) → i ≤ 
 rings_taken bases i h = length-map (take i bases) (λ (b : Bor (List (List WholePoint))). b.now) ∙ length-take-le i bases h
 
 pub made_more : (strip : Span) (i j : ℕ) (bases : List (Bor (List (List WholePoint)))) (b : Bor (List (List WholePoint))) (now new : List Marked) → i < length bases → j ≡ i → b ≡ get_or bases j b →
-    IsMadeOf strip (rings_of (take i bases)) now → new ≡ now ++ kept_in strip (marked_by i b.now) → All IsProper (segments_of b.now) → rings_fault b.now ≡ None →
+    IsMadeOf strip (rings_of (take i bases)) now → new ≡ now ++ kept_in_strip strip (marked_by i b.now) → All IsProper (segments_of b.now) → rings_fault b.now ≡ None →
     IsMadeOf strip (rings_of (take (i + 1) bases)) new
 made_more strip i j bases b now new h same e made added proper valid =
     let is : b ≡ get_or bases i b = e ∙ ap (λ k. get_or bases k b) same in

@@ -9,7 +9,7 @@ use Rattle.overlay_terms.specs.Layers.{Marked}
 use Rattle.overlay_terms.specs.Trees.{Steps}
 use Rattle.overlay_terms.proofs.InputNumbers.{le_true, lt_true, true_le, true_lt}
 use Rattle.crossing_sweep.specs.StripInput.{Span, StripInput, part}
-use Rattle.strip_inputs.specs.Strips.{meets, kept_in}
+use Rattle.strip_inputs.specs.Strips.{meets, kept_in_strip}
 
 -- borders rise with their numbers
 pub borders_rise : (j k : ℕ) → j ≤ k → border j ≤ℤ border k
@@ -42,11 +42,11 @@ module _ {X : Type 0} (p q : X → Bool) (less : (x : X) → p x ≡ true → q 
   filtered_twice (x ∷ xs) = one_more x xs (p x) (q x) refl refl (filtered_twice xs)
 
 -- so a column's segments are those of a strip with it that touch the column
-pub column_of_strip : (strip : Span) (k : ℕ) (marked : List Marked) → strip.first ≤ k → k ≤ strip.last → filter (λ m. touches k m.segment) (kept_in strip marked) ≡ filter (λ m. touches k m.segment) marked
+pub column_of_strip : (strip : Span) (k : ℕ) (marked : List Marked) → strip.first ≤ k → k ≤ strip.last → filter (λ m. touches k m.segment) (kept_in_strip strip marked) ≡ filter (λ m. touches k m.segment) marked
 column_of_strip strip k marked from to =
     filtered_twice (λ (m : Marked). touches k m.segment) (λ (m : Marked). meets strip m.segment) (λ m h. touching_meets strip k m.segment from to h) marked
 
-pub part_of_strip : (strip : Span) (marked : List Marked) (steps : Steps) (input : StripInput) → input ≡ record { strip = strip; marked = kept_in strip marked; steps = steps }
+pub part_of_strip : (strip : Span) (marked : List Marked) (steps : Steps) (input : StripInput) → input ≡ record { strip = strip; marked = kept_in_strip strip marked; steps = steps }
     → (k : ℕ) → strip.first ≤ k → k ≤ strip.last → part input k ≡ record { column = k; marked = filter (λ m. touches k m.segment) marked; steps = steps }
 part_of_strip strip marked steps input is k from to = λ i. record { column = k; marked = marks i; steps = (is i).steps }
   where

@@ -16,7 +16,7 @@ use Rattle.overlay_terms.proofs.InputLists.{count_kept_all}
 use Rattle.arrange.specs.Marked.{marked_of}
 use Rattle.arrange.specs.declared.marked_seg.MarkedSeg.{MarkedSeg}
 use Rattle.crossing_sweep.specs.StripInput.{Span, is_in_strip, StripInput, part, strip_of, IsStripInput}
-use Rattle.strip_inputs.specs.Strips.{meets, kept_in}
+use Rattle.strip_inputs.specs.Strips.{meets, kept_in_strip}
 use Rattle.strip_inputs.proofs.Parts.{borders_rise}
 
 -- a whole point of a strip, by its x
@@ -77,15 +77,15 @@ module _ (strip : Span) (v : WholePoint) (over : IsOver strip v) (s : Segment) (
       and_from (int_le (border strip.first) s.right.x) (int_lt s.left.x (border (strip.last + 1))) (true_le (border strip.first) s.right.x right) (true_lt s.left.x (border (strip.last + 1)) left)
 
 -- the ends at a whole point of the strip are those of the segments that have a point there
-ends_kept : (strip : Span) (marked : List Marked) (j : ℕ) (v : WholePoint) → IsOver strip v → All (λ m. IsProper m.segment) marked → ends_at (kept_in strip marked) j v ≡ ends_at marked j v
+ends_kept : (strip : Span) (marked : List Marked) (j : ℕ) (v : WholePoint) → IsOver strip v → All (λ m. IsProper m.segment) marked → ends_at (kept_in_strip strip marked) j v ≡ ends_at marked j v
 ends_kept strip marked j v over proper = λ i. lefts i + rights i
   where
-    lefts : count_by (λ (m : Marked). (m.layer == j) && same_whole m.segment.left v) (kept_in strip marked) ≡ count_by (λ (m : Marked). (m.layer == j) && same_whole m.segment.left v) marked
+    lefts : count_by (λ (m : Marked). (m.layer == j) && same_whole m.segment.left v) (kept_in_strip strip marked) ≡ count_by (λ (m : Marked). (m.layer == j) && same_whole m.segment.left v) marked
     lefts =
         count_kept_all (λ (m : Marked). (m.layer == j) && same_whole m.segment.left v) (λ (m : Marked). meets strip m.segment) (λ (m : Marked). IsProper m.segment) marked
         (λ m is_proper h. left_meets strip v over m.segment is_proper (and_parts (m.layer == j) (same_whole m.segment.left v) h).1) proper
 
-    rights : count_by (λ (m : Marked). (m.layer == j) && same_whole m.segment.right v) (kept_in strip marked) ≡ count_by (λ (m : Marked). (m.layer == j) && same_whole m.segment.right v) marked
+    rights : count_by (λ (m : Marked). (m.layer == j) && same_whole m.segment.right v) (kept_in_strip strip marked) ≡ count_by (λ (m : Marked). (m.layer == j) && same_whole m.segment.right v) marked
     rights =
         count_kept_all (λ (m : Marked). (m.layer == j) && same_whole m.segment.right v) (λ (m : Marked). meets strip m.segment) (λ (m : Marked). IsProper m.segment) marked
         (λ m is_proper h. right_meets strip v over m.segment is_proper (and_parts (m.layer == j) (same_whole m.segment.right v) h).1) proper
@@ -99,7 +99,7 @@ record AreAround (strip : Span) (marked : List Marked) (steps : Steps) : Type 0 
   pub proper : All (λ m. IsProper m.segment) marked
   pub even : (k : ℕ) (v : WholePoint) → IsOver strip v → ends_at marked k v % 2 ≡ 0
 
-around_valid : (strip : Span) (marked : List Marked) (steps : Steps) → AreAround strip marked steps → IsStripInput (record { strip = strip; marked = kept_in strip marked; steps = steps })
+around_valid : (strip : Span) (marked : List Marked) (steps : Steps) → AreAround strip marked steps → IsStripInput (record { strip = strip; marked = kept_in_strip strip marked; steps = steps })
 around_valid strip marked steps are = record {
   in_order = are.in_order;
   known = are.known;
@@ -113,7 +113,7 @@ around_valid strip marked steps are = record {
 
 -- of closed segments
 pub closed_valid : (strip : Span) (marked : List Marked) (steps : Steps) → strip.first ≤ strip.last → strip.last < column_count → steps.bases ≤ layers_max → All (λ m. m.layer < steps.bases) marked → AreClosed marked
-    → IsStripInput (record { strip = strip; marked = kept_in strip marked; steps = steps })
+    → IsStripInput (record { strip = strip; marked = kept_in_strip strip marked; steps = steps })
 closed_valid strip marked steps in_order known few layers closed =
     around_valid strip marked steps (record { in_order = in_order; known = known; few = few; known_layers = layers; proper = closed.proper; even = λ k v over. closed.even k v })
 

@@ -10,8 +10,8 @@ abbrev pub meets : Span → Segment → Bool
 meets strip s = int_le (border strip.first) s.right.x && int_lt s.left.x (border (strip.last + 1))
 
 -- the segments that have a point in a strip
-abbrev pub kept_in : Span → List Marked → List Marked
-kept_in strip marked = filter (λ m. meets strip m.segment) marked
+abbrev pub kept_in_strip : Span → List Marked → List Marked
+kept_in_strip strip marked = filter (λ m. meets strip m.segment) marked
 
 -- a column of the strip of an input
 abbrev pub IsColumnOf : StripInput → ℕ → Type 0

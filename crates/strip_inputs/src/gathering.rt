@@ -4,7 +4,7 @@ ghost use Rattle.overlay_terms.specs.Plane.{segments_of};
 ghost use Rattle.overlay_terms.specs.TileLaws.{IsProper};
 ghost use Rattle.plane_base.specs.BaseLayer.{rings_fault};
 ghost use Rattle.arrange.specs.Marked.{marked_of, marked_by};
-ghost use Rattle.strip_inputs.specs.Strips.{kept_in};
+ghost use Rattle.strip_inputs.specs.Strips.{kept_in_strip};
 
 use crate::meeting::meets;
 use arrange::MarkedSeg;
@@ -20,7 +20,7 @@ pub(crate) fn add_segments(
     base: &BaseLayer,
 ) -> Result<(), AllocError>
     ensures marked { OnOk result
-        (map marked_of marked.new.items ≡ map marked_of marked.old.items ++ kept_in strip (marked_by layer base.now)) }
+        (map marked_of marked.new.items ≡ map marked_of marked.old.items ++ kept_in_strip strip (marked_by layer base.now)) }
     ensures proper { OnOk result (All IsProper (segments_of base.now)) }
     ensures valid { rings_fault base.now ≡ None }
 {

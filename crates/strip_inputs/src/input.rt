@@ -1,9 +1,9 @@
 //! The input of a strip.
 ghost use Rattle.std.specs.Prelude.{◌≡◌, ◌≤◌, ℕ, map, length, IfOk};
 ghost use Rattle.overlay_terms.specs.Layers.{marked_segments};
-ghost use Rattle.arrange.specs.Marked.{kept_in as kept_in_column};
+ghost use Rattle.arrange.specs.Marked.{kept_in};
 ghost use Rattle.crossing_sweep.specs.StripInput.{part, IsStripInput};
-ghost use Rattle.strip_inputs.specs.Strips.{kept_in, IsColumnOf};
+ghost use Rattle.strip_inputs.specs.Strips.{kept_in_strip, IsColumnOf};
 
 use crate::gathering::add_segments;
 use arrange::{MarkedSeg, TileInput};
@@ -46,11 +46,11 @@ impl StripInput {
         steps: StepList,
     ) -> Result<StripInput, AllocError>
         requires { length bases.now ≡ steps.bases }
-        ensures ok { IfOk result (λ input. input ≡ record { strip = strip; marked = kept_in strip (marked_segments (map (λ b. b.now) bases.now)); steps = steps }) }
+        ensures ok { IfOk result (λ input. input ≡ record { strip = strip; marked = kept_in_strip strip (marked_segments (map (λ b. b.now) bases.now)); steps = steps }) }
         ensures strip { IfOk result (λ input. input.strip ≡ strip) }
         // The part of each column is what `TileInput::of` gathers there.
         ensures part { IfOk result (λ input. (k : ℕ) → strip.first ≤ k → k ≤ strip.last
-            → part input k ≡ record { column = k; marked = kept_in_column k (marked_segments (map (λ b. b.now) bases.now)); steps = steps }) }
+            → part input k ≡ record { column = k; marked = kept_in k (marked_segments (map (λ b. b.now) bases.now)); steps = steps }) }
     {
         // The strip's columns are in order, and there are so many: the type rests on that.
         let _ = strip.last().number();

@@ -13,7 +13,7 @@ use Rattle.exact_point.specs.Crossing.{turn_of}
 use Rattle.exact_point.specs.PlaceOf.{place_of}
 use Rattle.exact_point.proofs.Lexical.{Forward, forward}
 use Rattle.exact_point.proofs.OnSegment.{leads}
-use Rattle.arrange.specs.Arrangement.{segments_in, IsElementary}
+use Rattle.arrange.specs.Arrangement.{input_segments, IsElementary}
 use Rattle.arrange.specs.declared.piece.Elementary.{Elementary}
 use Rattle.tile_laws.proofs.JustRight.{is_over_x, is_under, bits_where}
 use Rattle.tile_laws.proofs.SideMidpoint.{as_form}
@@ -140,7 +140,7 @@ module _ (input : Input) (valid : IsInput input) (e : Elementary) (is : IsElemen
 
     -- its support is upright too
     support_upright : (width is.piece.support ≡ pos 0) × (pos 0 <ℤ rise is.piece.support)
-    support_upright = by (leads is.piece.support (All-contains IsProper (segments_in input) is.piece.support (All-map IsProper (λ m. m.segment) input.marked valid.proper) is.piece.among).first) where
+    support_upright = by (leads is.piece.support (All-contains IsProper (input_segments input) is.piece.support (All-map IsProper (λ m. m.segment) input.marked valid.proper) is.piece.among).first) where
       by : Forward (width is.piece.support) (rise is.piece.support) → (width is.piece.support ≡ pos 0) × (pos 0 <ℤ rise is.piece.support)
       by (inl wide) = absurd (not_slanted is.piece.support q r is.piece.from_on is.piece.to_on upright_ends.0 upright_ends.1 wide)
       by (inr h) = h

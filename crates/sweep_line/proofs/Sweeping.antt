@@ -19,7 +19,7 @@ use Rattle.overlay_terms.proofs.PlaceLemmas.{places_alike}
 use Rattle.exact_point.specs.Crossing.{turn_of}
 use Rattle.exact_point.specs.Place.{place}
 use Rattle.exact_point.specs.PlaceOf.{place_of}
-use Rattle.arrange.specs.Arrangement.{segments_in, IsElementary, ArePieces, ComesBefore}
+use Rattle.arrange.specs.Arrangement.{input_segments, IsElementary, ArePieces, ComesBefore}
 use Rattle.arrange.specs.declared.piece.Elementary.{Elementary}
 use Rattle.tile_laws.proofs.JustRight.{is_over_x, is_under, is_level, is_stretch_over, up_to_bits}
 use Rattle.tile_laws.proofs.Statements.{PieceOver}
@@ -163,7 +163,7 @@ module _ (input : Input) (pieces : List Elementary) (i : ℕ) (e : Elementary) (
       pub level : is_level t piece.support q ≡ true
       pub passes : passes_under q e.support piece.support ≡ true
 
-    module _ (t : Segment) (among : Contains (segments_in input) t) (over_t : is_over_x t q ≡ true) (pass : test t ≡ true) where
+    module _ (t : Segment) (among : Contains (input_segments input) t) (over_t : is_over_x t q ≡ true) (pass : test t ≡ true) where
       there : PieceOver input t q
       there = each_has_a_piece input t q is_turn.valid hq is_e.begins among over_t
 

@@ -1,5 +1,6 @@
 -- The faults of versions: their numbers and texts, and those that stand for the refusals of commands.
-use Rattle.std.specs.Prelude.{ℕ, List, codes}
+use Rattle.std.specs.Prelude.{ℕ, List}
+use Rattle.fault_texts.specs.FaultTable.{text}
 use Rattle.overlay_terms.specs.Commands.{Refusal}
 use Rattle.layer_book.specs.Fault as book
 use Rattle.versions.specs.declared.fault.VersionFault.{VersionFault}
@@ -14,8 +15,7 @@ code_of Oversize = 22
 -- the text that is printed after the number
 abbrev pub text_of : VersionFault → List ℕ
 text_of (Layer fault) = book.text_of fault
-text_of Pending = codes "pending"
-text_of Oversize = codes "oversize"
+text_of fault = text (code_of fault)
 
 -- the fault that a refusal is reported by
 abbrev pub version_fault_of : Refusal → VersionFault

@@ -1,18 +1,14 @@
 -- The tiles of a version that are not finished.
-use Rattle.std.specs.Prelude.{ℕ, Bool, true, false, List, [], map, filter, flat_map, Option, Some, None, if◌then◌else◌}
+use Rattle.std.specs.Prelude.{ℕ, List, [], map, filter, flat_map, if◌then◌else◌}
+use Rattle.std.specs.Option.{is_none}
 use Rattle.overlay_terms.specs.Column.{columns}
 use Rattle.overlay_terms.specs.Layers.{Name, Layer}
 use Rattle.overlay_terms.specs.Commands.{is_derived}
-use Rattle.overlay_terms.specs.Histories.{Tile, Version, tile_at}
-
--- whether a tile is not there
-abbrev pub is_missing : Option Tile → Bool
-is_missing (Some tile) = false
-is_missing None = true
+use Rattle.overlay_terms.specs.Histories.{Version, tile_at}
 
 -- the tiles of a layer that are not finished, in some columns
 abbrev pub pending_in : Version → Name → List ℕ → List (Name × ℕ)
-pending_in version name among = map (λ k. (name, k)) (filter (λ k. is_missing (tile_at version.tiles name k)) among)
+pending_in version name among = map (λ k. (name, k)) (filter (λ k. is_none (tile_at version.tiles name k)) among)
 
 -- the tiles of a layer that are not finished, by column
 abbrev pub pending_of : Version → Name → List (Name × ℕ)

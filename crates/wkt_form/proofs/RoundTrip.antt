@@ -6,16 +6,18 @@ use Rattle.std.specs.Fmt.{signed_decimal}
 use Rattle.std.proofs.lemmas.Bool.{and_from, and_parts, cond-true, cond-false}
 use Rattle.std.proofs.lemmas.List.{take_at, drop_at, length-append}
 use Rattle.std.proofs.lemmas.List.Elements.{All-nil, All-cons, All-head, All-tail}
-use Rattle.overlay_terms.specs.Plane.{WholePoint, InRange}
+use Rattle.overlay_terms.specs.Plane.{WholePoint, InRange, is_coordinate}
+use Rattle.overlay_terms.proofs.Coordinates.{in_range_passes}
 use Rattle.plane_base.specs.BaseLayer.{ring_fault, first_ring_fault}
 use Rattle.overlay_terms.proofs.Options.{both_absent}
-use Rattle.wkt_form.specs.Number.{is_whole, number_value, is_coordinate}
-use Rattle.wkt_form.specs.Token.{Kind, word, run, open_bracket, close_bracket, comma, Token, is_run_byte, begins, tokens_from}
+use Rattle.overlay_terms.specs.Bytes.{begins}
+use Rattle.wkt_form.specs.Number.{is_whole, number_value}
+use Rattle.wkt_form.specs.Token.{Kind, word, run, open_bracket, close_bracket, comma, Token, is_run_byte, tokens_from}
 use Rattle.wkt_form.specs.Spelling.{comma_listed, wkt_point, ring_text, wkt_text}
 use Rattle.wkt_form.specs.Grammar.{WrittenPoint, WrittenPolygon, rings, WrittenText, no_polygons, polygons, parted, bracketed, point_kinds, polygon_kinds, text_kinds, is_point_right, is_polygon_right, is_text_right, point_of, polygon_rings, text_rings, in_upper_case, kinds_of, number_fault}
 use Rattle.wkt_form.specs.Laws.{AreInRange, WrittenReadsBack}
 use Rattle.wkt_form.proofs.TokenLemmas.{Grows, first_is, words_grow, runs_grow}
-use Rattle.wkt_form.proofs.WrittenNumbers.{IsWritten, written, coordinate_in_range}
+use Rattle.wkt_form.proofs.WrittenNumbers.{IsWritten, written}
 
 -- ==== Bytes and the kinds of their tokens
 
@@ -81,7 +83,7 @@ lexed_word bs rest kinds all some upper stop behind =
 
 run_fault : (z : ℤ) (bs : List ℕ) → InRange z → IsWritten z bs → (at : ℕ) → number_fault (record { at = at; kind = run bs }) ≡ None
 run_fault z bs h w at =
-    cond-true (is_whole bs) _ _ w.whole ∙ cond-true (is_coordinate (number_value bs)) _ _ (ap is_coordinate w.value ∙ coordinate_in_range z h)
+    cond-true (is_whole bs) _ _ w.whole ∙ cond-true (is_coordinate (number_value bs)) _ _ (ap is_coordinate w.value ∙ in_range_passes z h)
 
 lexed_number : (z : ℤ) (rest : List ℕ) (kinds : List Kind) → InRange z → begins is_run_byte rest ≡ false → Lexed rest kinds → Lexed (signed_decimal z ++ rest) (run (signed_decimal z) ∷ kinds)
 lexed_number z rest kinds h stop behind =

@@ -7,7 +7,7 @@ use Rattle.std.proofs.lemmas.Bool.{cond_both}
 use Rattle.std.proofs.lemmas.List.{map-append, append-nil}
 use Rattle.std.proofs.lemmas.List.Concat.{flat_map-append}
 use Rattle.std.proofs.lemmas.List.Elements.{All-nil, All-cons}
-use Rattle.overlay_terms.specs.Plane.{WholePoint}
+use Rattle.overlay_terms.specs.Plane.{WholePoint, is_coordinate}
 use Rattle.wkt_form.specs.declared.fault.WktFault.{WktFault}
 use Rattle.wkt_form.specs.declared.fault.WktFault.TheVariants as faults
 use Rattle.wkt_form.specs.declared.number.Number.TheVariants.{Whole, Fraction, OutOfRange}
@@ -15,7 +15,7 @@ use Rattle.wkt_form.specs.declared.state.State.{State}
 use Rattle.wkt_form.specs.declared.state.State.TheVariants as states
 use Rattle.wkt_form.specs.declared.token.Symbol.{Symbol}
 use Rattle.wkt_form.specs.declared.token.Symbol.TheVariants as symbols
-use Rattle.wkt_form.specs.Number.{is_number, is_whole, number_value, is_coordinate}
+use Rattle.wkt_form.specs.Number.{is_number, is_whole, number_value}
 use Rattle.wkt_form.specs.Token.{Kind, word, run, open_bracket, close_bracket, comma, stray, Token}
 use Rattle.wkt_form.specs.Symbol.{number_worth, word_symbol, symbol_of}
 use Rattle.wkt_form.specs.Seen.{seen_token}

@@ -10,7 +10,8 @@ use Rattle.std.proofs.lemmas.Bool.Decides.{nat_tests, same_from_decides}
 use Rattle.std.proofs.lemmas.Slice.Eq.{bytes_eq-Decides}
 use Rattle.std.proofs.lemmas.Str.Ascii.{lowercase-uppercase}
 use Rattle.overlay_terms.specs.Blank.{is_blank}
-use Rattle.wkt_form.specs.Token.{Kind, word, run, Token, is_run_byte, begins, longer, first_longer, tokens_from}
+use Rattle.overlay_terms.specs.Bytes.{begins}
+use Rattle.wkt_form.specs.Token.{Kind, word, run, Token, is_run_byte, longer, first_longer, tokens_from}
 use Rattle.wkt_form.specs.Symbol.{word_symbol, run_symbol}
 use Rattle.wkt_form.specs.Seen.{seen_token, seen_from}
 

@@ -11,7 +11,8 @@ use Rattle.std.proofs.lemmas.Str.Parse.{IsNumeralModel, numerals_by_fold}
 use Rattle.std.proofs.lemmas.List.{take_all, drop_all}
 use Rattle.std.proofs.lemmas.List.Sums.{sum_by-cons}
 use Rattle.overlay_terms.specs.Plane.{InRange}
-use Rattle.wkt_form.specs.Number.{is_sign, is_point, unsigned, is_unsigned, is_number, before_point, behind_point, is_whole, digits_value, is_negative, number_value, is_coordinate}
+use Rattle.overlay_terms.specs.Bytes.{digits_value}
+use Rattle.wkt_form.specs.Number.{is_sign, is_point, unsigned, is_unsigned, is_number, before_point, behind_point, is_whole, is_negative, number_value}
 use Rattle.wkt_form.specs.Token.{is_run_byte}
 
 -- a list of digits, as a test
@@ -140,6 +141,3 @@ negative_small n h = omega (arith, ints)
 pub written : (z : ℤ) → InRange z → IsWritten z (signed_decimal z)
 written (pos n) h = written_natural n (natural_small n h)
 written (negsuc n) h = written_negative n (negative_small n h)
-
-pub coordinate_in_range : (z : ℤ) → InRange z → is_coordinate z ≡ true
-coordinate_in_range z h = grind (arith, ints, nat_tests)

@@ -1,5 +1,6 @@
 -- The faults of texts: their numbers and texts, and those that the rings of a base layer have.
-use Rattle.std.specs.Prelude.{ℕ, List, ◌++◌, codes, decimal}
+use Rattle.std.specs.Prelude.{ℕ, List, ◌++◌, codes}
+use Rattle.fault_texts.specs.FaultTable.{text, filled}
 use Rattle.plane_base.specs.Fault as rings
 use Rattle.plane_base.specs.declared.fault.PlaneFault.{PlaneFault}
 use Rattle.plane_base.specs.declared.fault.PlaneFault.TheVariants as plane
@@ -18,13 +19,12 @@ code_of OutOfMemory = rings.code_of plane.OutOfMemory
 
 -- the text that is printed after the number
 abbrev pub text_of : WktFault → List ℕ
-text_of (Syntax at) = codes "wkt syntax at " ++ decimal at
-text_of (NotWhole at) = codes "not whole at " ++ decimal at
-text_of (CoordRange at) = codes "coordinate out of range at " ++ decimal at
+text_of (Syntax at) = filled at (text 1)
+text_of (NotWhole at) = filled at (text 2)
+text_of (CoordRange at) = filled at (text 3 ++ codes " at #")
 text_of (RingOpen ring) = rings.text_of (plane.RingOpen ring)
 text_of (RingShort ring) = rings.text_of (plane.RingShort ring)
-text_of TooManySegments = rings.text_of plane.TooManySegments
-text_of OutOfMemory = rings.text_of plane.OutOfMemory
+text_of fault = text (code_of fault)
 
 -- a fault of the rings as a fault of their text; rings have points in range, so that a coordinate is none of them
 abbrev pub of_rings : PlaneFault → WktFault

@@ -1,13 +1,14 @@
 -- Numbers as Well-Known Text writes them: an optional sign, digits, and perhaps a point among them or beside them.
-use Rattle.std.specs.Prelude.{ℕ, ℤ, pos, neg_ℤ, ◌+◌, ◌*◌, ◌-◌, ◌==◌, nat_le, int_le, Bool, false, ◌&&◌, ◌||◌, List, [], ◌∷◌, count_by, fold, if◌then◌else◌}
+use Rattle.std.specs.Prelude.{ℕ, ℤ, pos, neg_ℤ, ◌==◌, nat_le, Bool, ◌&&◌, ◌||◌, List, [], ◌∷◌, count_by, if◌then◌else◌}
 use Rattle.std.specs.List.{list_all, list_any, before_first, after_first}
 use Rattle.std.specs.Char.{is_ascii_digit}
-use Rattle.overlay_terms.specs.Plane.{coordinate_max}
+use Rattle.overlay_terms.specs.Bytes.{begins, digits_value}
 
 -- `-` and `+`, and the point
 abbrev pub is_sign : ℕ → Bool
 is_sign b = b == 43 || b == 45
 
+-- the byte `.`, after which the digits of a fraction come
 abbrev pub is_point : ℕ → Bool
 is_point b = b == 46
 
@@ -29,6 +30,7 @@ is_number bs = is_unsigned (unsigned bs)
 abbrev pub before_point : List ℕ → List ℕ
 before_point bs = before_first is_point bs
 
+-- the bytes after the point; none where there is no point
 abbrev pub behind_point : List ℕ → List ℕ
 behind_point bs = after_first is_point bs
 
@@ -36,21 +38,12 @@ behind_point bs = after_first is_point bs
 abbrev pub is_whole : List ℕ → Bool
 is_whole bs = list_all (λ b. b == 48) (behind_point (unsigned bs))
 
--- what digits are worth
-abbrev pub digits_value : List ℕ → ℕ
-digits_value ds = fold (λ n d. 10 * n + (d - 48)) 0 ds
-
 -- whether a number begins with a minus sign
 abbrev pub is_negative : List ℕ → Bool
-is_negative [] = false
-is_negative (b ∷ bs) = b == 45
+is_negative bs = begins (λ b. b == 45) bs
 
 -- the whole number that a number is, without what follows its point
 abbrev pub number_value : List ℕ → ℤ
 number_value bs =
     let size = digits_value (before_point (unsigned bs)) in
     if is_negative bs then neg_ℤ (pos size) else pos size
-
--- whether a whole number is a coordinate
-abbrev pub is_coordinate : ℤ → Bool
-is_coordinate z = int_le (neg_ℤ (pos coordinate_max)) z && int_le z (pos coordinate_max)

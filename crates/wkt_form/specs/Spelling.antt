@@ -13,6 +13,7 @@ comma_listed (member ∷ next ∷ members) = member ++ (codes ", " ++ comma_list
 abbrev pub listed_front : ℕ → List ℕ
 listed_front number = if number == 0 then [] else codes ", "
 
+-- a point is written as x, a space, and y
 abbrev pub wkt_point : WholePoint → List ℕ
 wkt_point p = signed_decimal p.x ++ (codes " " ++ signed_decimal p.y)
 
@@ -20,6 +21,7 @@ wkt_point p = signed_decimal p.x ++ (codes " " ++ signed_decimal p.y)
 abbrev pub ring_text : List WholePoint → List ℕ
 ring_text points = codes "((" ++ (comma_listed (map wkt_point points) ++ codes "))")
 
+-- the rings of a layer are written as a MULTIPOLYGON, with each ring as a polygon of its own
 abbrev pub wkt_text : List (List WholePoint) → List ℕ
 wkt_text [] = codes "MULTIPOLYGON EMPTY"
 wkt_text (ring ∷ rings) = codes "MULTIPOLYGON (" ++ (comma_listed (map ring_text (ring ∷ rings)) ++ codes ")")

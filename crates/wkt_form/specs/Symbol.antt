@@ -5,7 +5,8 @@ use Rattle.wkt_form.specs.declared.number.Number.{Number}
 use Rattle.wkt_form.specs.declared.number.Number.TheVariants.{Whole, Fraction, OutOfRange}
 use Rattle.wkt_form.specs.declared.token.Symbol.{Symbol}
 use Rattle.wkt_form.specs.declared.token.Symbol.TheVariants as symbols
-use Rattle.wkt_form.specs.Number.{is_number, is_whole, number_value, is_coordinate}
+use Rattle.overlay_terms.specs.Plane.{is_coordinate}
+use Rattle.wkt_form.specs.Number.{is_number, is_whole, number_value}
 use Rattle.wkt_form.specs.Token.{Kind, word, run, open_bracket, close_bracket, comma, stray}
 
 -- what a number is worth as a coordinate

@@ -1,7 +1,8 @@
 -- The tokens of a Well-Known Text: words, runs of number bytes, brackets and commas, with white space between.
-use Rattle.std.specs.Prelude.{ℕ, ◌+◌, ◌==◌, Bool, false, ◌||◌, List, [], ◌∷◌, if◌then◌else◌}
+use Rattle.std.specs.Prelude.{ℕ, ◌+◌, ◌==◌, Bool, ◌||◌, List, [], ◌∷◌, if◌then◌else◌}
 use Rattle.std.specs.Char.{is_ascii_alphabetic, is_ascii_digit}
 use Rattle.overlay_terms.specs.Blank.{is_blank}
+use Rattle.overlay_terms.specs.Bytes.{begins}
 use Rattle.wkt_form.specs.Number.{is_sign, is_point}
 
 -- a word, a run of digits, signs and points, a bracket, a comma, or a byte that begins no token
@@ -22,17 +23,13 @@ pub record Token : Type 0 where
 abbrev pub is_run_byte : ℕ → Bool
 is_run_byte b = is_ascii_digit b || is_sign b || is_point b
 
--- whether the bytes begin with one that passes the test
-abbrev pub begins : (ℕ → Bool) → List ℕ → Bool
-begins test [] = false
-begins test (b ∷ bs) = test b
-
 -- a byte before a word or a run makes it longer
 abbrev pub longer : ℕ → Kind → Kind
 longer b (word bs) = word (b ∷ bs)
 longer b (run bs) = run (b ∷ bs)
 longer b kind = kind
 
+-- a byte before the first token makes that token longer, which then begins at the byte's offset
 abbrev pub first_longer : ℕ → ℕ → List Token → List Token
 first_longer at b [] = []
 first_longer at b (t ∷ ts) = record { at = at; kind = longer b t.kind } ∷ ts
@@ -50,5 +47,6 @@ tokens_from at (b ∷ bs) =
     else (if b == 44 then record { at = at; kind = comma } ∷ rest
     else record { at = at; kind = stray } ∷ rest)))))
 
+-- the tokens of a whole text, each with its offset from the text's beginning
 abbrev pub tokens_of : List ℕ → List Token
 tokens_of bytes = tokens_from 0 bytes

@@ -72,7 +72,7 @@ fn units_end_at_the_ends_of_collinear_segments(rt: HostRuntime) {
     for (row, &(first, second, column, want)) in UNITS.iter().enumerate() {
         let input = input_of(&rt, rt.alloc(), first, second, "A & B", column);
         let mut counts = [0; 4];
-        for unit in &units(rt.alloc(), input.marked()).expect(&rt, "memory") {
+        for unit in &units(rt.alloc(), &input).expect(&rt, "memory") {
             count(&mut counts, unit.mask as usize);
         }
         check(&rt, row, &counts, &want);
@@ -83,7 +83,7 @@ fn units_end_at_the_ends_of_collinear_segments(rt: HostRuntime) {
 fn the_nodes_of_two_crossing_squares_are_counted_by_unit(rt: HostRuntime) {
     let input = input_of(&rt, rt.alloc(), SQUARE, SHIFTED, "A & B", 16);
     let mut counts = [0; 4];
-    for unit in &units(rt.alloc(), input.marked()).expect(&rt, "memory") {
+    for unit in &units(rt.alloc(), &input).expect(&rt, "memory") {
         let nodes = nodes_on(rt.alloc(), &unit.seg, &input).expect(&rt, "memory");
         count(&mut counts, nodes.len());
     }

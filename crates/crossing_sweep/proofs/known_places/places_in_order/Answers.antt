@@ -12,7 +12,7 @@ use Rattle.arrange.specs.Marked.{marked_of}
 use Rattle.arrange.specs.declared.marked_seg.MarkedSeg.{MarkedSeg}
 use Rattle.crossing_sweep.specs.StripInput.{Span}
 use Rattle.crossing_sweep.specs.declared.ranked_place.RankedPlace.{RankedPlace}
-use Rattle.crossing_sweep.specs.Ahead.{own_names, AreOffered, AreKnownPlaces}
+use Rattle.crossing_sweep.specs.Ahead.{known_names, AreOffered, AreKnownPlaces}
 use Rattle.crossing_sweep.specs.RankedPlace.{ranked_entry, named_of, same_ranked}
 use Rattle.crossing_sweep.proofs.KnownLemmas.{own_more, known_places}
 use Rattle.crossing_sweep.proofs.PlacesInOrder.{in_order, offered_once, same_entries, named_in_order}
@@ -23,9 +23,9 @@ loop-m-preserved c =
     let k : Span = c.args.input.now.strip in
     let items : List MarkedSeg = c.marked-m-items.result.now in
     let i : ℕ = c.loop-m.m-index in
-    let names : List PointName = flat_map (λ s. own_names s k) (map (λ (m : MarkedSeg). m.seg) (take i items)) in
+    let names : List PointName = flat_map (λ s. known_names s k) (map (λ (m : MarkedSeg). m.seg) (take i items)) in
     let new : List RankedPlace = c.offer_own.new.places.items in
-    let Step : Span → Type 0 = λ j. (names : List PointName) → AreOffered j names (map ranked_entry c.loop-m.places.items) → AreOffered j (names ++ own_names c.m-item.result.seg j) (map ranked_entry new) in
+    let Step : Span → Type 0 = λ j. (names : List PointName) → AreOffered j names (map ranked_entry c.loop-m.places.items) → AreOffered j (names ++ known_names c.m-item.result.seg j) (map ranked_entry new) in
     let step : Step k = subst Step c.strip.ensures.value c.in_ok-offer_own.ensures in
     subst (λ (names : List PointName). AreOffered k names (map ranked_entry new)) (own_more k items i c.m-item.result c.loop-m-test.true c.m-item.is) (step names c.loop-m.invariant)
 
@@ -37,9 +37,9 @@ returns-clause-known c =
     ap (map (λ (m : MarkedSeg). m.seg)) (take_all c.loop-m.m-index items c.loop-m-test.false)
     ∙ sym (map-map (λ (m : terms.Marked). m.segment) marked_of items)
     ∙ ap (map (λ (m : terms.Marked). m.segment)) c.marked-m-items.ensures.value in
-    let names : List PointName = flat_map (λ s. own_names s k) (map (λ (m : terms.Marked). m.segment) c.args.input.now.marked) in
+    let names : List PointName = flat_map (λ s. known_names s k) (map (λ (m : terms.Marked). m.segment) c.args.input.now.marked) in
     let found : List RankedPlace = c.loop-m.places.items in
-    let offered : AreOffered k names (map ranked_entry found) = subst (λ (segs : List Segment). AreOffered k (flat_map (λ s. own_names s k) segs) (map ranked_entry found)) whole_list c.loop-m.invariant in
+    let offered : AreOffered k names (map ranked_entry found) = subst (λ (segs : List Segment). AreOffered k (flat_map (λ s. known_names s k) segs) (map ranked_entry found)) whole_list c.loop-m.invariant in
     let order : List (Bor RankedPlace) = c.in_ok-order.order.items in
     let now : Bor RankedPlace → RankedPlace = λ z. z.now in
     let standing : map ranked_entry found ≡ map (λ z. ranked_entry (now z)) order =

@@ -1,5 +1,5 @@
 use Rattle.std.proofs.Common.{length, ◌-◌, ◌+◌, ◌≡◌, ◌≤◌, drop}
-use Rattle.layer_expr.specs.Token.{name_front}
+use Rattle.layer_expr.proofs.TokenLemmas.{name_front}
 use Rattle.layer_expr.proofs.lexeme.name_end.Given as goal
 
 -- what was passed over and what goes on are the name

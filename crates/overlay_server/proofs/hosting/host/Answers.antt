@@ -3,7 +3,7 @@ use Rattle.book_history.specs.BookLogs.{BookLog}
 use Rattle.overlay_server.specs.Answering.{answer_in}
 use Rattle.overlay_server.specs.Serving.{flusher_of, start_of}
 use Rattle.overlay_server.proofs.Refusals.{may_answer, refused_at_once}
-use Rattle.overlay_server.proofs.Stores.{stopped_at_once}
+use Rattle.overlay_server.proofs.StoreParts.{stopped_at_once}
 use Rattle.overlay_server.proofs.hosting.host.Goals as goal
 
 pub returns-in-Err-clause-refused : goal.returns-in-Err-clause-refused

@@ -5,7 +5,7 @@ use Rattle.overlay_server.specs.Hosting.{IsHosted}
 use Rattle.overlay_server.specs.Refusing.{IsRefusedFrom}
 use Rattle.overlay_server.specs.Serving.{IsLeftFrom, flusher_of, start_of}
 use Rattle.overlay_server.proofs.Refusals.{passed_on}
-use Rattle.overlay_server.proofs.Stores.{CountsAs}
+use Rattle.overlay_server.proofs.StoreParts.{CountsAs}
 use Rattle.overlay_server.proofs.hosting.listen_in.Goals as goal
 
 pub returns-in_err-hosted-clause-refused : goal.returns-in_err-hosted-clause-refused

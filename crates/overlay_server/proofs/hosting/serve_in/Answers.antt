@@ -6,7 +6,7 @@ use Rattle.overlay_server.specs.Hosting.{IsHosted}
 use Rattle.overlay_server.specs.Refusing.{IsRefusedFrom}
 use Rattle.overlay_server.specs.Serving.{IsHeldOf, IsLeftFrom, flusher_of, start_of}
 use Rattle.overlay_server.proofs.Refusals.{passed_on}
-use Rattle.overlay_server.proofs.Stores.{CountsAs}
+use Rattle.overlay_server.proofs.StoreParts.{CountsAs}
 use Rattle.overlay_server.proofs.hosting.serve_in.Goals as goal
 
 pub run-requires-clause-hosted : goal.run-requires-clause-hosted

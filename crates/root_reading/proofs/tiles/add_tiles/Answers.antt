@@ -1,7 +1,7 @@
 use Rattle.std.proofs.Common.{◌<◌, length, refl, ◌∙◌}
 use Rattle.std.proofs.lemmas.List.{get_or_default}
 use Rattle.layer_tiles.specs.Table.{tiles_in}
-use Rattle.store_terms.specs.Image.{tiles_of}
+use Rattle.store_terms.specs.Image.{tiles_from_column}
 use Rattle.root_reading.specs.declared.load_fault.LoadFault.{LoadFault}
 use Rattle.root_reading.specs.Looking.{Refuses}
 use Rattle.root_reading.specs.LayerReading.{then_tiles}
@@ -36,7 +36,7 @@ loop-column-preserved g c =
           tiles_go_on (k.seen c.args.disk.now)
           (k.seen c.loop-column.disk) c.args.name.now c.loop-column.column _ c.args.entries.now
           (tiles_in c.loop-column.table) (tiles_in c.add_tile.new.table)
-          (then_tiles (tiles_in c.args.table.now) (tiles_of (k.seen c.args.disk.now) c.args.name.now 0 c.args.entries.now))
+          (then_tiles (tiles_in c.args.table.now) (tiles_from_column (k.seen c.args.disk.now) c.args.name.now 0 c.args.entries.now))
           (was.looks honest).seen lt (get_or_default c.args.entries.now c.loop-column.column _ _ lt)
           (c.in_ok-add_tile.ensures.adds (was.honest.1 honest)) (was.rest honest);
     }
@@ -46,7 +46,7 @@ returns-in_err-add_tile-clause-refuses g c honest =
     let k = g.D.Disk in
     let was = c.loop-column.invariant in
     let lt : c.loop-column.column < length c.args.entries.now = c.loop-column-test.true in
-    let total = then_tiles (tiles_in c.args.table.now) (tiles_of (k.seen c.args.disk.now) c.args.name.now 0 c.args.entries.now) in
+    let total = then_tiles (tiles_in c.args.table.now) (tiles_from_column (k.seen c.args.disk.now) c.args.name.now 0 c.args.entries.now) in
     if_err c.from_residual.result c.in_err-add_tile.field-0.0
     (λ (e : LoadFault). Refuses e total) c.from_residual.ensures.1
     (tiles_end (k.seen c.args.disk.now)

@@ -1,5 +1,5 @@
 use Rattle.std.proofs.Common.{◌≡◌, min, take}
-use Rattle.wkt_form.specs.Number.{digits_value}
+use Rattle.overlay_terms.specs.Bytes.{digits_value}
 use Rattle.wkt_form.proofs.number.size_up_to_limit.Given as goal
 
 -- what the digits so far are worth, or the limit

@@ -20,7 +20,7 @@ use Rattle.overlay_server.proofs.Refusals.{MayAnswer, refused_at_once}
 use Rattle.overlay_server.proofs.Reporting.{may_report_all}
 use Rattle.overlay_server.proofs.Parts.{AreSeated, all_of_book, as_many, begin_there, of_ended}
 use Rattle.overlay_server.proofs.Stopping.{any_of, come_to, stopped_from}
-use Rattle.overlay_server.proofs.Stores.{holds_first, holds_on, kept_twice, stopped_at_once}
+use Rattle.overlay_server.proofs.StoreParts.{holds_first, holds_on, kept_twice, stopped_at_once}
 use Rattle.overlay_server.proofs.ServedParts.{served_from}
 use Rattle.overlay_server.proofs.hosted.Hosted.run.Goals as goal
 

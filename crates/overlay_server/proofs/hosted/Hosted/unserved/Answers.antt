@@ -2,7 +2,7 @@ use Rattle.std.proofs.Common.{◌≡◌, ◌∙◌, None, Some, MatchOption, ap,
 use Rattle.book_history.specs.BookLogs.{BookLog}
 use Rattle.store_flushing.specs.Stores.{flusher_in}
 use Rattle.overlay_server.proofs.Refusals.{MayAnswer, refused_at_once}
-use Rattle.overlay_server.proofs.Stores.{stopped_at_once}
+use Rattle.overlay_server.proofs.StoreParts.{stopped_at_once}
 use Rattle.overlay_server.proofs.hosted.Hosted.unserved.Goals as goal
 
 pub returns : goal.returns

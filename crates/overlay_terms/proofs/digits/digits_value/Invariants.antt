@@ -1,6 +1,6 @@
 use Rattle.std.proofs.Common.{◌≡◌, ◌<◌, ◌^◌, take}
-use Rattle.program_words.specs.Number.{digits_value}
-use Rattle.program_words.proofs.number.digits_value.Given as goal
+use Rattle.overlay_terms.specs.Bytes.{digits_value}
+use Rattle.overlay_terms.proofs.digits.digits_value.Given as goal
 
 -- what the digits so far are worth
 abbrev pub invariant-loop-digit : goal.invariant-loop-digit

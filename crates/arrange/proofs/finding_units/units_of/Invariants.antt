@@ -1,6 +1,6 @@
 use Rattle.std.proofs.Common.{length, ◌-◌}
 use Rattle.arrange.proofs.LineLemmas.{HaveLines}
-use Rattle.arrange.proofs.finding_units.units.Given as goal
+use Rattle.arrange.proofs.finding_units.units_of.Given as goal
 
 -- the units of the first lines are listed
 abbrev pub invariant-loop-start : goal.invariant-loop-start

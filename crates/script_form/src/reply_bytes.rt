@@ -1,8 +1,8 @@
 //! Replies as bytes of a writer.
-ghost use Rattle.std.specs.Prelude.{◌≡◌, ◌+◌, ◌≤◌, ◌++◌, IfErr};
+ghost use Rattle.std.specs.Prelude.{◌≡◌, ◌+◌, ◌≤◌, ◌++◌, IfErr, length};
 ghost use Rattle.arrayvec.specs.ArrayString.{array_string_len};
 ghost use Rattle.layer_book.specs.Place.{location};
-ghost use Rattle.script_form.specs.Replies.{ok_line, error_line, refused_line, location_line, built_line, durable_line, verdict_line};
+ghost use Rattle.script_form.specs.Replies.{numbered_line, error_line, refused_line, location_line, verdict_line};
 ghost use Rattle.script_form.specs.LineReply.{reply_text};
 ghost use Rattle.fault_texts.specs.FaultText.{shown, IsBrief};
 ghost use Rattle.script_form.specs.Writing.{Writes};
@@ -40,10 +40,19 @@ pub fn write_reply<W: Write>(writer: &mut W, reply: &LineReply) -> Result<(), Co
 {
     match reply {
         LineReply::Nothing => Ok(()),
-        LineReply::Accepted(number) => write_text(writer, ok_text(*number).as_str().as_bytes()),
+        LineReply::Accepted(number) => {
+            write_text(writer, numbered_text("ok ", *number).as_str().as_bytes())
+        }
         LineReply::Located(place) => write_text(writer, location_text(*place)),
-        LineReply::Built(number) => write_text(writer, built_text(*number).as_str().as_bytes()),
-        LineReply::Durable(number) => write_text(writer, durable_text(*number).as_str().as_bytes()),
+        LineReply::Built(number) => {
+            write_text(writer, numbered_text("built ", *number).as_str().as_bytes())
+        }
+        LineReply::Durable(number) => {
+            write_text(
+                writer,
+                numbered_text("durable ", *number).as_str().as_bytes(),
+            )
+        }
         LineReply::Compared(verdict) => write_text(writer, verdict_text(*verdict)),
         LineReply::Fault(fault) => write_text(writer, error_text(*fault).as_str().as_bytes()),
         LineReply::RefusedAt(place, fault) => {
@@ -53,34 +62,14 @@ pub fn write_reply<W: Write>(writer: &mut W, reply: &LineReply) -> Result<(), Co
     }
 }
 
-fn ok_text(number: u64) -> ArrayString<32>
-    ensures { result.bytes ≡ ok_line number }
+/// A word and a number.
+fn numbered_text(word: &str, number: u64) -> ArrayString<32>
+    requires { length word.now ≤ 8 }
+    ensures { result.bytes ≡ numbered_line word.now number }
 {
     let mut digits = Buffer::new();
     let mut text = ArrayString::new();
-    text.push_str("ok ");
-    text.push_str(digits.format(number));
-    text.push_str("\n");
-    text
-}
-
-fn built_text(number: u64) -> ArrayString<32>
-    ensures { result.bytes ≡ built_line number }
-{
-    let mut digits = Buffer::new();
-    let mut text = ArrayString::new();
-    text.push_str("built ");
-    text.push_str(digits.format(number));
-    text.push_str("\n");
-    text
-}
-
-fn durable_text(number: u64) -> ArrayString<32>
-    ensures { result.bytes ≡ durable_line number }
-{
-    let mut digits = Buffer::new();
-    let mut text = ArrayString::new();
-    text.push_str("durable ");
+    text.push_str(word);
     text.push_str(digits.format(number));
     text.push_str("\n");
     text

@@ -11,7 +11,7 @@ use Rattle.arrange.specs.declared.unit.Unit.{Unit}
 use Rattle.arrange.proofs.LineLemmas.{HaveLines, IsRun, have_next_line, have_all_lines}
 use Rattle.arrange.proofs.RunLemmas.{run_on_one_line}
 use Rattle.arrange.proofs.UnitParts.{units_permuted}
-use Rattle.arrange.proofs.finding_units.units.Goals as goal
+use Rattle.arrange.proofs.finding_units.units_of.Goals as goal
 
 pub add_units-requires : goal.add_units-requires
 add_units-requires c =

@@ -1,1 +1,0 @@
-../tools/overlay_client.py
