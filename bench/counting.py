@@ -3,12 +3,11 @@
 from __future__ import annotations
 
 import argparse
-import contextlib
 import pathlib
 import shutil
 import sys
 import tempfile
-from collections.abc import Callable, Iterable, Iterator
+from collections.abc import Callable, Iterable
 from typing import Any
 
 
@@ -69,14 +68,15 @@ class Kept:
         self.folder.mkdir(parents=True, exist_ok=True)
         (self.folder / "store.db").unlink(missing_ok=True)
 
-    @contextlib.contextmanager
-    def telling(self, *faults: type[Exception]) -> Iterator[pathlib.Path]:
-        """The folder for what may end by one of some faults, which is reported and is one thing wrong."""
+    def run(self, work: Callable[[pathlib.Path], int], *faults: type[Exception]) -> int:
+        """Does work in the folder that gives how much was wrong, or ends by one of some faults, which is reported and is one
+        thing wrong; the exit status."""
         try:
-            yield self.folder
+            self.wrong = work(self.folder)
         except faults as fault:
             print(f"wrong: {fault}")
             self.wrong = 1
+        return self.end()
 
     def end(self) -> int:
         """Takes the folder away or says where it is, and gives the exit status."""

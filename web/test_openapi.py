@@ -36,7 +36,7 @@ def judge() -> Any:
 
 
 def judges() -> str:
-    """Who has judged the descriptions, in words."""
+    """Who judges the descriptions, in words."""
     other = judge()
     return "OpenAPI by the rules of test_openapi.py" + (f" and openapi_spec_validator {other.__version__}" if other else " alone")
 

@@ -433,10 +433,7 @@ def main() -> int:
     parser.add_argument("--forget", type=int, metavar="N", help="leaves the Nth sync out")
     parser.add_argument("--keep", metavar="FOLDER", help="keeps the traces, the store and the wrong files here")
     words = parser.words()
-    kept = Kept(words.keep, "stops")
-    with kept.telling(judging.Wrong, subprocess.TimeoutExpired) as folder:
-        kept.wrong = replay(words, folder)
-    return kept.end()
+    return Kept(words.keep, "stops").run(lambda folder: replay(words, folder), judging.Wrong, subprocess.TimeoutExpired)
 
 
 if __name__ == "__main__":

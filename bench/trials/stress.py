@@ -344,10 +344,7 @@ def main() -> int:
     parser.add_argument("--without", metavar="WORD", help="draws no lines with this word")
     parser.add_argument("--keep", metavar="FOLDER", help="keeps the scripts, replies and store here")
     words = parser.words()
-    kept = Kept(words.keep, "stress")
-    with kept.telling(judging.Wrong, subprocess.TimeoutExpired) as folder:
-        kept.wrong = stress(words, folder)
-    return kept.end()
+    return Kept(words.keep, "stress").run(lambda folder: stress(words, folder), judging.Wrong, subprocess.TimeoutExpired)
 
 
 if __name__ == "__main__":

@@ -8,13 +8,11 @@ M failed'.
 """
 
 import argparse
-import collections
 import importlib
 import pathlib
-import sys
 import unittest
 
-from ..testing.common import Programs
+from ..testing.common import Programs, status_of
 
 MODULES = (
     "helps", "endings", "scales", "scripts", "layouts", "replies", "rings", "pictures", "overlays", "stores",
@@ -35,9 +33,4 @@ def main(arguments: list[str]) -> int:
     Programs.live = words.live and str(words.live.resolve())
     load = unittest.defaultTestLoader.loadTestsFromModule
     suite = unittest.TestSuite(load(importlib.import_module(f"tools.testing.{name}")) for name in MODULES)
-    result = unittest.TextTestRunner(stream=sys.stdout, verbosity=1).run(suite)
-    failed = len({test.id() for test, _ in result.failures + result.errors})
-    for reason, count in collections.Counter(reason for _, reason in result.skipped).items():
-        print(f"left out: {count} tests: {reason}")
-    print(f"{result.testsRun - failed - len(result.skipped)} passed, {failed} failed")
-    return 1 if failed else 0
+    return status_of(suite)

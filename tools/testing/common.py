@@ -1,9 +1,11 @@
 """What the tests of the tools have in common: files, a tool's outcome, and the programs that are asked."""
 
+import collections
 import io
 import os
 import pathlib
 import subprocess
+import sys
 import tempfile
 import unittest
 from types import ModuleType
@@ -44,6 +46,16 @@ def on_file(tool: ModuleType, text: str | bytes, *words: object) -> tuple[int, s
         name.write_bytes(text if isinstance(text, bytes) else text.encode())
         status, output, errors = outcome(tool, name, *words)
         return status, output, errors.replace(str(name), "FILE")
+
+
+def status_of(suite: unittest.TestSuite) -> int:
+    """Runs tests, prints how many were left out and why, and how many passed and failed; the exit status."""
+    result = unittest.TextTestRunner(stream=sys.stdout, verbosity=1).run(suite)
+    failed = len({test.id() for test, _ in result.failures + result.errors})
+    for reason, count in collections.Counter(reason for _, reason in result.skipped).items():
+        print(f"left out: {count} tests: {reason}")
+    print(f"{result.testsRun - failed - len(result.skipped)} passed, {failed} failed")
+    return 1 if failed else 0
 
 
 class InFolder(unittest.TestCase):

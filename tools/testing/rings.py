@@ -8,7 +8,6 @@ from fractions import Fraction
 
 from .. import sessions
 from ..commands import to_rings, to_svg
-from ..scale import decimals
 from .common import InFolder, content, outcome, path
 from .plain import OPERATIONS, Place, area_twice, overlay
 
@@ -114,13 +113,6 @@ class ToRings(unittest.TestCase):
                       [((7, 0, 1), (7, 20, 1))]):
             with self.assertRaises(sessions.Unusable):
                 to_rings.polygons_of(pieces + added)
-
-    def test_decimals(self) -> None:
-        for number, digits, text in ((Fraction(-1, 3), 2, "-0.33"), (Fraction(5), 2, "5"), (Fraction(1, 1000), 2, "0"),
-                                     (Fraction(-1, 1000), 2, "0"), (Fraction(199, 100), 1, "2"),
-                                     (Fraction(-25, 10), 0, "-2"), (Fraction(1, 8), 6, "0.125"),
-                                     (Fraction(1005, 10), 1, "100.5")):
-            self.assertEqual(decimals(number, digits), text)
 
 
 class RealShapes(unittest.TestCase):

@@ -9,9 +9,9 @@ from __future__ import annotations
 
 import argparse
 import pathlib
-import sys
 import unittest
 
+from tools.testing.common import status_of
 from .. import (
     test_client, test_features, test_front, test_openapi, test_process, test_refusals, test_rescue, test_serving,
     test_shapes, test_stress, test_systems, testing,
@@ -41,10 +41,5 @@ def main(arguments: list[str]) -> int:
     if not words.program.is_file():
         parser.error(f"{words.program} is no program")
     testing.PROGRAM = str(words.program.resolve())
-    result = unittest.TextTestRunner(stream=sys.stdout, verbosity=1).run(chosen(words.names))
-    for test, reason in result.skipped:
-        print(f"skipped {test.id()}: {reason}")
     print(test_openapi.judges())
-    failed = len({test.id() for test, _ in result.failures + result.errors})
-    print(f"{result.testsRun - failed - len(result.skipped)} passed, {failed} failed")
-    return 1 if failed else 0
+    return status_of(chosen(words.names))

@@ -1,5 +1,5 @@
 //! One pass over a strip of columns from node to node.
-ghost use Rattle.std.specs.Prelude.{◌≡◌, ◌<◌, ◌≤◌, ◌+◌, ℕ, ◌⊎◌, ◌++◌, [], ◌∷◌, true, false, length, All, IfOk, OnOk};
+ghost use Rattle.std.specs.Prelude.{◌≡◌, ◌<◌, ◌≤◌, ◌+◌, ℕ, ◌⊎◌, ◌++◌, [], ◌∷◌, true, false, length, All, IfOk, IfSome, OnOk};
 ghost use Rattle.crossing_sweep.specs.Amid.{IsPassing};
 ghost use Rattle.crossing_sweep.specs.Crossed.{IsCrossed};
 ghost use Rattle.crossing_sweep.specs.StripCrossed.{IsStripCrossed};
@@ -16,6 +16,7 @@ use crate::row::{Row, sort};
 use crate::search::Search;
 use crate::starts::starts;
 use crate::values::first_values;
+use crate::wish::{Wish, is_portion};
 use arrange::TileInput;
 use exact_point::PointName;
 use plane_base::Seg;
@@ -73,6 +74,21 @@ pub fn cross(
     Ok(found)
 }
 
+/// The same as long as it is wanted: None says that the pass was left.
+pub fn cross_while<W: Wish>(
+    alloc: Global,
+    input: &TileInput,
+    cap: usize,
+    listed: bool,
+    wish: &W,
+) -> Result<Option<Crossed>, AllocError>
+    ensures { IfOk result (λ o. IfSome o (λ found. IsCrossed input.now cap listed found)) }
+{
+    let strip_input = PassInput::of_column(input);
+    let found = cross_strip_while(alloc, &strip_input, cap, listed, wish)?;
+    Ok(found)
+}
+
 /// The boundary of a strip's input, found by one pass that stops after more than so many pieces in all. Where there are no
 /// more, the pieces that begin in one of its columns stand together, and are that column's tile.
 pub fn cross_strip(
@@ -86,6 +102,23 @@ pub fn cross_strip(
     let pass = Pass::new(alloc, input, listed)?;
     let pass = pass.run(alloc, cap)?;
     Ok(pass.into_crossed())
+}
+
+/// The same as long as it is wanted: None says that the pass was left.
+pub fn cross_strip_while<W: Wish>(
+    alloc: Global,
+    input: &PassInput,
+    cap: usize,
+    listed: bool,
+    wish: &W,
+) -> Result<Option<Crossed>, AllocError>
+    ensures { IfOk result (λ o. IfSome o (λ found. IsStripCrossed input.now cap listed found)) }
+{
+    let pass = Pass::new(alloc, input, listed)?;
+    match pass.run_while(alloc, cap, wish)? {
+        Some(pass) => Ok(Some(pass.into_crossed())),
+        None => Ok(None),
+    }
 }
 
 impl<'a> Pass<'a> {
@@ -136,6 +169,33 @@ impl<'a> Pass<'a> {
             go_on(alloc, input, &values, &mut stay, &mut progress)?;
         }
         Ok(Pass { input, progress })
+    }
+
+    /// The same as long as it is wanted: after each portion of the nodes the wish is asked. None says that it was left.
+    fn run_while<W: Wish>(
+        self,
+        alloc: Global,
+        cap: usize,
+        wish: &W,
+    ) -> Result<Option<Pass<'a>>, AllocError>
+        ensures input { IfOk result (λ o. IfSome o (λ pass. pass.input ≡ self.entry.input)) }
+        ensures listed { IfOk result (λ o. IfSome o (λ pass. pass.listed ≡ self.entry.listed)) }
+        ensures ended { IfOk result (λ o. IfSome o (λ pass. (pass.ahead ≡ 0) ⊎ (cap < pass.rows))) }
+        ensures settled { IfOk result (λ o. IfSome o (λ pass. self.entry.settled ≤ cap → pass.settled ≤ cap)) }
+    {
+        let Pass {
+            input,
+            mut progress,
+        } = self;
+        let values = first_values(alloc, input)?;
+        let mut stay = Vec::new(alloc);
+        while is_under_way(&progress, cap) {
+            go_on(alloc, input, &values, &mut stay, &mut progress)?;
+            if is_portion(progress.nodes) && !wish.is_wanted() {
+                return Ok(None);
+            }
+        }
+        Ok(Some(Pass { input, progress }))
     }
 
     /// What it has found, where it has come to the end, or has more rows than a cap.

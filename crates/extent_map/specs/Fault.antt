@@ -10,7 +10,7 @@ code_of Full = 31
 code_of Overlap = 33
 code_of OutOfMemory = 40
 
--- the text that is printed after the number
+-- the text that is printed after the number; two extents with a block in common are damage 9
 abbrev pub text_of : ExtentFault → List ℕ
 text_of Overlap = filled 9 (text 33)
 text_of fault = text (code_of fault)

@@ -6,6 +6,7 @@ ghost use Rattle.overlay_terms.specs.Histories.{pieces_max};
 ghost use Rattle.overlay_terms.specs.Tiles.{Input};
 ghost use Rattle.crossing_sweep.specs.Crossed.{IsSpan};
 ghost use Rattle.crossing_sweep.specs.NodeNames.{named_ends, AreNumbered};
+ghost use Rattle.crossing_sweep.specs.StripCrossed.{IsStripCrossed};
 ghost use Rattle.crossing_sweep.specs.StripInput.{part, IsStripTile};
 ghost use Rattle.tile_build.specs.StripTiles.{AreOfStrip};
 
@@ -13,7 +14,7 @@ use crate::building::pieces_of;
 use crate::built::{Built, PIECES_MAX};
 use crate::ends::is_name_in;
 use crate::tile::Tile;
-use crossing_sweep::{NodeName, Row, cross_strip, name_of};
+use crossing_sweep::{Crossed, NodeName, Row, cross_strip, name_of};
 use plane_base::Column;
 use std::alloc::{AllocError, Global};
 use strip_inputs::StripInput;
@@ -36,6 +37,18 @@ fn build_whole(alloc: Global, input: &StripInput) -> Result<Option<Vec<Built>>, 
 {
     let pass = input.pass();
     let found = cross_strip(alloc, &pass, PIECES_MAX, false)?;
+    tiles_of(alloc, input, found)
+}
+
+/// The tiles by what one pass over the strip has found. None come where that are more pieces than a tile holds.
+pub(crate) fn tiles_of(
+    alloc: Global,
+    input: &StripInput,
+    found: Crossed,
+) -> Result<Option<Vec<Built>>, AllocError>
+    requires { IsStripCrossed input.now pieces_max false found }
+    ensures { IfOk result (λ o. IfSome o (λ list. AreOfStrip input.now list.items)) }
+{
     if found.rows.len() > PIECES_MAX {
         return Ok(None);
     }

@@ -1,0 +1,28 @@
+use Rattle.std.proofs.Common.{◌≡◌, ◌+◌, ◌≤◌, length, sym, subst, ◌∙◌, rules, arith}
+use Rattle.crossing_sweep.specs.Rows.{count_settled}
+use Rattle.crossing_sweep.specs.Values.{AreValues}
+use Rattle.crossing_sweep.specs.declared.progress.Progress.{Progress}
+use Rattle.crossing_sweep.proofs.pass.Pass.run_while.Goals as goal
+
+pub loop-alloc-preserved : goal.loop-alloc-preserved
+loop-alloc-preserved g c =
+    let before : Progress = c.loop-alloc.progress in
+    let after : Progress = c.go_on.new.progress in
+    let way : (¬ (length before.search.ahead ≡ 0)) × (length before.rows.items ≤ c.args.cap) = search rules in
+    let settled : count_settled after.nodes after.rows.items ≡ length before.rows.items = c.in_ok-go_on.ensures.settled way.0 in
+    record {
+      passing = c.in_ok-go_on.ensures.passing;
+      listed = c.in_ok-go_on.ensures.listed ∙ c.loop-alloc.invariant.listed;
+      settled = λ _. omega (arith, settled, way.1);
+    }
+
+pub loop-alloc-smaller : goal.loop-alloc-smaller
+loop-alloc-smaller g c =
+    let before : Progress = c.loop-alloc.progress in
+    let after : Progress = c.go_on.new.progress in
+    let way : (¬ (length before.search.ahead ≡ 0)) × (length before.rows.items ≤ c.args.cap) = search rules in
+    let more : after.nodes ≡ before.nodes + 1 = c.in_ok-go_on.ensures.more way.0 in
+    omega (arith, more, c.in_ok-go_on.ensures.few)
+
+pub go_on-requires-clause-known : goal.go_on-requires-clause-known
+go_on-requires-clause-known g c = subst (AreValues c.self.inside.input.now.steps) (sym c.deref.ensures.value) c.in_ok-values.ensures
