@@ -75,8 +75,8 @@ of_bracketed members h =
 of_point : (p : WrittenPoint) → All IsGood (point_kinds p) → IsInRange (point_of p)
 unfolding IsGood
 of_point p h = (
-  (one_range.texts (number_value p.x)).0 (All-head IsGood (run p.x) (run p.y ∷ []) h),
-  (one_range.texts (number_value p.y)).0 (All-head IsGood (run p.y) [] (All-tail IsGood (run p.x) (run p.y ∷ []) h)),
+  (one_range.coordinates (number_value p.x)).0 (All-head IsGood (run p.x) (run p.y ∷ []) h),
+  (one_range.coordinates (number_value p.y)).0 (All-head IsGood (run p.y) [] (All-tail IsGood (run p.x) (run p.y ∷ []) h)),
 )
 
 of_ring : (points : List WrittenPoint) → All IsGood (ring_kinds points) → All IsInRange (map point_of points)
