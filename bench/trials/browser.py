@@ -338,6 +338,9 @@ def changes(browser: Browser, address: str, pictures: pathlib.Path, tries: Tries
     browser.resize(*SIZE)
     time.sleep(0.5)
 
+
+def later_changes(browser: Browser, address: str, tries: Tries) -> None:
+    """A layer is hidden, one is dropped, and another client defines one."""
     browser.value("document.querySelector('#layers li:nth-child(4) input').click()")
     compared(browser, address, tries, "with a layer hidden")
     refused_thrice(browser, "iceland_110m", tries)
@@ -493,6 +496,7 @@ def visits(browser: Browser, words: argparse.Namespace, folder: pathlib.Path, tr
     with web_front.front("--store", store, "--writable", **running) as address:
         looks(browser, address, tries)
         changes(browser, address, pictures, tries)
+        later_changes(browser, address, tries)
         browser.leave()
     for name, shape in (("stars", star), ("flowers", flower)):
         three = plane(folder, words.program, name, shape)

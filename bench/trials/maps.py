@@ -302,6 +302,28 @@ def task_of(shapes: dict[str, Polygons], overlays: list[Overlay], features: list
     return {"shapes": texts, "overlays": asked, "features": features, "points": points}
 
 
+def rows_of(chart: Chart, folder: pathlib.Path) -> list[dict[str, str]]:
+    """The rows of a coded map's names; of another map none."""
+    if not chart.coded:
+        return []
+    with (folder / f"{chart.name}.names.csv").open(encoding="utf-8", newline="") as table:
+        return list(csv.DictReader(table))
+
+
+def compare_points(result: Result, which: list[list[str]], found: list[list[str]], names: dict[str, str]) -> None:
+    """Compares in which features points are, by which.py and by GEOS, but for those that which.py says to be on an edge."""
+    different, within, edges = 0, 0, 0
+    for own, other in zip(which, found, strict=True):
+        if own and own[0] == "edge":
+            edges += 1
+            continue
+        within += bool(own)
+        different += sorted(names.get(name, name) for name in own) != sorted(other)
+    result.points = f"{within} of {POINTS} in one, {edges} on an edge, {different} different"
+    if different:
+        result.wrong.append(f"{result.chart.name}: {different} points are in another feature")
+
+
 def tried(chart: Chart, program: str, folder: pathlib.Path) -> tuple[Result, str]:
     """One map, in whole and compared."""
     file = as_geojson(chart, folder)
@@ -311,10 +333,7 @@ def tried(chart: Chart, program: str, folder: pathlib.Path) -> tuple[Result, str
     stores = [stored(program, script) for script in scripts]
     extent = box_of([polygon for polygons in whole.values() for polygon in polygons])
     shapes = whole | {"star": [[star(extent)]]}
-    rows: list[dict[str, str]] = []
-    if chart.coded:
-        with (folder / f"{chart.name}.names.csv").open(encoding="utf-8", newline="") as table:
-            rows = list(csv.DictReader(table))
+    rows = rows_of(chart, folder)
     names = layer_names(told, list(whole))
     points = points_in(extent, scale)
     base = [script.read_bytes() for script in scripts]
@@ -336,16 +355,7 @@ def tried(chart: Chart, program: str, folder: pathlib.Path) -> tuple[Result, str
     compare(result, overlays, [area for own in ours for area in own], geos["areas"])
     words = ["--names", str(folder / f"{chart.name}.names.csv")] if chart.coded else []
     which = told_by_which(program, stores, words, [text for text, _ in points])
-    different, within, edges = 0, 0, 0
-    for own, other in zip(which, geos["found"], strict=True):
-        if own and own[0] == "edge":
-            edges += 1
-            continue
-        within += bool(own)
-        different += sorted(names.get(name, name) for name in own) != sorted(other)
-    result.points = f"{within} of {POINTS} in one, {edges} on an edge, {different} different"
-    if different:
-        result.wrong.append(f"{chart.name}: {different} points are in another feature")
+    compare_points(result, which, geos["found"], names)
     if geos["mended"]:
         print(f"{chart.name}: invalid for GEOS, as rounded, and given to it by make_valid: "
               f"{', '.join(geos['mended'])[:100]}", file=sys.stderr)
