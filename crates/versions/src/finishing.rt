@@ -63,7 +63,7 @@ impl Version {
     }
 
     /// Whether the tile of an input is awaited: it is pending, and the input is the present one. It takes no memory.
-    pub(crate) fn is_awaited(&self, name: &Name, input: &TileInput) -> bool
+    pub fn is_awaited(&self, name: &Name, input: &TileInput) -> bool
         ensures { IsTrue result ↔ IsAwaited self.now name.now input.now }
     {
         if !self.is_pending(name, input.column()) {
