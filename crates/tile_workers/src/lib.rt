@@ -2,4 +2,5 @@
 #![tactic(auto)]
 
 pub mod gate;
+mod strip_wish;
 pub mod worker;

@@ -1,13 +1,14 @@
 //! The loop of a worker.
-ghost use Rattle.std.specs.Prelude.{◌≡◌, ◌≤◌, IfOk};
+ghost use Rattle.std.specs.Prelude.{◌≡◌, ◌≤◌, IfOk, IfSome};
 ghost use Rattle.crossing_sweep.specs.StripInput.{part};
 ghost use Rattle.version_book.specs.Strips.{AreNext};
 
 use crate::gate::Gate;
+use crate::strip_wish::StripWish;
 use plane_base::Column;
 use std::alloc::{AllocError, Global};
 use std::sync::Wait;
-use tile_build::{Built, build_strip};
+use tile_build::{Built, build_strip_while, build_while};
 use version_book::resting::rest;
 use version_book::seen_log::BookName;
 use version_book::shared::Shared;
@@ -34,7 +35,7 @@ pub fn worker_loop<J: BookName, R: Wait + Drop, G: Gate, W: Wait>(
 }
 
 /// Enters the gate for each column of a strip, and builds its tiles. What is left of it is given back where memory runs
-/// out.
+/// out, and let go where none of it is wanted any more.
 fn work<J: BookName, R: Wait + Drop, G: Gate, W: Wait>(
     rt: &W,
     alloc: Global,
@@ -46,11 +47,53 @@ fn work<J: BookName, R: Wait + Drop, G: Gate, W: Wait>(
     requires whole { strip.next ≡ strip.input.strip.first }
 {
     enter(gate, &strip);
-    match build_strip(alloc, strip.input()) {
-        Ok(built) => finish_each(rt, alloc, shared, &mut strip, &built),
+    let is_left = match finish_whole(rt, alloc, shared, &mut strip) {
+        Ok(is_left) => is_left,
         Err(_) => finish_apart(rt, alloc, shared, &mut strip),
+    };
+    if is_left {
+        shared.let_go_strip(rt, strip);
+    } else {
+        shared.give_back_strip(rt, strip);
     }
-    shared.give_back_strip(rt, strip);
+}
+
+/// Builds the tiles of a strip by one pass, and spends them until memory runs out. It says whether it left them, as none of
+/// them was wanted any more.
+fn finish_whole<J: BookName, R: Wait + Drop, W: Wait>(
+    rt: &W,
+    alloc: Global,
+    shared: &Shared<J, R>,
+    strip: &mut StripJob,
+) -> Result<bool, AllocError>
+    requires book { strip.old.book ≡ J.book }
+    requires whole { strip.old.next ≡ strip.old.input.strip.first }
+    ensures { strip.new.book ≡ strip.old.book }
+{
+    let done = build(rt, alloc, shared, strip)?;
+    let Some(built) = done else {
+        return Ok(true);
+    };
+    finish_each(rt, alloc, shared, strip, &built);
+    Ok(false)
+}
+
+/// The tiles of a strip, as long as one of them is wanted.
+fn build<J: BookName, R: Wait + Drop, W: Wait>(
+    rt: &W,
+    alloc: Global,
+    shared: &Shared<J, R>,
+    strip: &StripJob,
+) -> Result<Option<Vec<Built>>, AllocError>
+    requires { strip.now.next ≡ strip.now.input.strip.first }
+    ensures { IfOk result (λ o. IfSome o (λ list. AreNext strip.now list.items)) }
+{
+    let wish = StripWish::new(rt, alloc, shared, strip);
+    let done = build_strip_while(alloc, strip.input(), &wish)?;
+    let Some(built) = done else {
+        return Ok(None);
+    };
+    Ok(Some(built))
 }
 
 /// Enters the gate for each column of a strip.
@@ -82,31 +125,40 @@ fn finish_each<J: BookName, R: Wait + Drop, W: Wait>(
 }
 
 /// Builds the tiles of a strip one after another, each by a pass over its own column alone, and spends them, until memory
-/// runs out.
+/// runs out. It says whether it left some, as none of them was wanted any more.
 fn finish_apart<J: BookName, R: Wait + Drop, W: Wait>(
     rt: &W,
     alloc: Global,
     shared: &Shared<J, R>,
     strip: &mut StripJob,
-)
+) -> bool
     requires { strip.old.book ≡ J.book }
     ensures { strip.new.book ≡ strip.old.book }
 {
     'tiles: while !strip.is_spent() {
-        let Ok(built) = build_next(alloc, strip) else {
-            return;
+        let Ok(done) = build_next(rt, alloc, shared, strip) else {
+            return false;
+        };
+        let Some(built) = done else {
+            return true;
         };
         match shared.finish_next(rt, alloc, strip, &built) {
             Ok((_is_kept, _log)) => {}
-            Err(_fault) => return,
+            Err(_fault) => return false,
         }
     }
+    false
 }
 
-/// The next tile of a strip, by a pass over its own column alone.
-fn build_next(alloc: Global, strip: &StripJob) -> Result<Built, AllocError>
+/// The next tile of a strip, by a pass over its own column alone, as long as one that is not spent is wanted.
+fn build_next<J: BookName, R: Wait + Drop, W: Wait>(
+    rt: &W,
+    alloc: Global,
+    shared: &Shared<J, R>,
+    strip: &StripJob,
+) -> Result<Option<Built>, AllocError>
     requires { strip.now.next ≤ strip.now.input.strip.last }
-    ensures { IfOk result (λ built. built.0 ≡ part strip.now.input strip.now.next) }
+    ensures { IfOk result (λ o. IfSome o (λ built. built.0 ≡ part strip.now.input strip.now.next)) }
 {
     let input = strip.input();
     // The strip ends at a column that there is.
@@ -115,8 +167,7 @@ fn build_next(alloc: Global, strip: &StripJob) -> Result<Built, AllocError>
         unreachable!()
     };
     let own = input.column_input(alloc, column)?;
-    match Built::new(alloc, own) {
-        Ok(built) => Ok(built),
-        Err((_own, error)) => Err(error),
-    }
+    let wish = StripWish::new(rt, alloc, shared, strip);
+    let done = build_while(alloc, own, &wish)?;
+    Ok(done)
 }

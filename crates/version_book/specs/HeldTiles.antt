@@ -55,6 +55,10 @@ marked_within name first last tile =
 abbrev pub strip_given_back : Name → ℕ → ℕ → List HeldTile → List HeldTile
 strip_given_back name first last held = map (marked_within name first last) held
 
+-- tiles that were handed out, from one column to another, are not handed out any more
+abbrev pub strip_taken_in : Name → ℕ → ℕ → List HeldTile → List HeldTile
+strip_taken_in name first last held = filter (λ tile. tile.marked || not (is_within name first last tile)) held
+
 -- no tile is marked
 abbrev pub unmarked : List HeldTile → List HeldTile
 unmarked held = filter (λ tile. not tile.marked) held

@@ -1,6 +1,6 @@
 //! The book's state beside its log.
 ghost use Rattle.std.specs.Prelude.{◌≡◌};
-ghost use Rattle.version_book.specs.HeldTiles.{given_back, strip_given_back, unmarked_of};
+ghost use Rattle.version_book.specs.HeldTiles.{given_back, strip_given_back, strip_taken_in, unmarked_of};
 ghost use Rattle.version_book.specs.BookState.{HasHeld, IsAfterClosing, IsAfterCommand, IsAfterFailure, IsAfterFinish};
 ghost use Rattle.version_book.specs.BookState.{IsFresh, left_over, told};
 
@@ -77,6 +77,13 @@ impl BookState {
         ensures { HasHeld self.old (strip_given_back name.now first last self.old.held.list.items) self.new }
     {
         self.held.give_back_strip(name, first, last);
+    }
+
+    /// Tiles that were handed out, from one column to another, were let go: they can be handed out again.
+    pub fn let_go_strip(&mut self, name: &Name, first: u8, last: u8)
+        ensures { HasHeld self.old (strip_taken_in name.now first last self.old.held.list.items) self.new }
+    {
+        self.held.take_in_strip(name, first, last);
     }
 
     /// A wait for the tiles of a layer was ended by its marks, which go.

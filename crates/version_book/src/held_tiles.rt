@@ -1,7 +1,7 @@
 //! Tiles that are handed out, and tiles that wait for memory.
 ghost use Rattle.std.specs.Prelude.{◌≡◌, [], length, take, OnErr, OnOk};
 ghost use Rattle.version_book.specs.HeldTiles.{given_back, handed_out, has_mark, is_held, is_of, is_within, marked_if};
-ghost use Rattle.version_book.specs.HeldTiles.{marked_within, strip_given_back, strip_handed_out, taken_in, unmarked, unmarked_of};
+ghost use Rattle.version_book.specs.HeldTiles.{marked_within, strip_given_back, strip_handed_out, strip_taken_in, taken_in, unmarked, unmarked_of};
 
 use layer_expr::name::Name;
 use plane_base::Column;
@@ -145,6 +145,14 @@ impl HeldTiles {
         for tile in self.list.iter_mut() {
             tile.mark_within(name, first, last);
         }
+    }
+
+    /// Takes the tiles of a layer in that were handed out, from one column to another.
+    pub fn take_in_strip(&mut self, name: &Name, first: u8, last: u8)
+        ensures { self.new.list.items ≡ strip_taken_in name.now first last self.old.list.items }
+    {
+        self.list
+            .retain(|tile| tile.marked || !tile.is_within(name, first, last));
     }
 
     /// Drops all marks.

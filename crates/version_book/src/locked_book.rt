@@ -22,6 +22,7 @@ use tile_build::Built;
 pub mod closing;
 mod handouts;
 pub mod job;
+mod leaving;
 pub mod reports;
 pub mod strip_job;
 mod strips;

@@ -25,6 +25,7 @@ use crate::locked_book::reports::{report, store_failed};
 use crate::locked_book::waits::{Awaited, tell_built, tell_durable, tell_news, tell_no_store};
 use crate::strip_job::StripJob;
 use crate::turns::{TurnKind, Turns};
+use arrange::TileInput;
 use book_history::fault::{BookFault, ToldFault};
 use book_history::seen_log::{BookName, LogWord, SeenLog};
 use book_lock::change::Change;
@@ -254,6 +255,33 @@ impl<J: BookName, R: Wait + Drop> Shared<J, R> {
         }
         let mut turn = self.turns.next(rt, TurnKind::GivenBack);
         turn.book.give_back_strip(strip);
+    }
+
+    /// The number of the newest version. None says that the book closes.
+    // It has no clause, as nothing of what lies under the lock can be said once that is given up: `LockedBook` says it.
+    pub fn open_number<W: Wait>(&self, rt: &W) -> Option<u64> {
+        let turn = self.turns.next(rt, TurnKind::Looked);
+        turn.book.open_number()
+    }
+
+    /// Whether the tile of an input is awaited. It takes no memory.
+    // It has no clause, for the same reason: `LockedBook::awaits` says it.
+    pub fn awaits<W: Wait>(&self, rt: &W, name: &Name, input: &TileInput) -> bool {
+        let turn = self.turns.next(rt, TurnKind::Looked);
+        turn.book.awaits(name, input)
+    }
+
+    /// Ends a strip that is not to be built any more. Those of its tiles that are not spent can be handed out again.
+    // It has no clause, for the reason that `give_back` has none: `LockedBook::let_go_strip` says what it does.
+    pub fn let_go_strip<W: Wait>(&self, rt: &W, strip: StripJob)
+        requires { strip.book ≡ J.book }
+    {
+        if strip.is_spent() {
+            strip.end_spent();
+            return;
+        }
+        let mut turn = self.turns.next(rt, TurnKind::LetGo);
+        turn.book.let_go_strip(strip);
     }
 
     /// Waits until the tiles of a layer are finished, and answers the number of such a version.

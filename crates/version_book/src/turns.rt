@@ -36,6 +36,8 @@ pub(crate) enum TurnKind {
     Finished { layer: Option<Name>, kept: bool },
     /// A tile was given back, and is marked.
     GivenBack,
+    /// Tiles were let go, and can be handed out again.
+    LetGo,
     /// A session learnt how a wait for a layer's tiles ends, by a fault or by their number.
     Told { fault: bool },
     /// A session or the reporter looked, and changed nothing.
@@ -53,6 +55,8 @@ pub(crate) enum TurnKind {
 enum Ended {
     /// Each wait, for all that is known.
     All,
+    /// Those of workers.
+    Workers,
     /// Those of sessions.
     Sessions,
     /// The reporter's alone.
@@ -81,6 +85,7 @@ impl TurnKind {
             TurnKind::Finished { .. } => Ended::All,
             // The layer's marks may have gone with a fault.
             TurnKind::Told { fault: true } => Ended::All,
+            TurnKind::LetGo => Ended::Workers,
             TurnKind::GivenBack | TurnKind::Reported | TurnKind::StoreFailed => Ended::Sessions,
             TurnKind::HandedOut | TurnKind::Looked | TurnKind::Told { fault: false } => {
                 Ended::Nothing
@@ -162,6 +167,7 @@ impl Waiting {
                 self.sessions.notify_all();
                 self.reporter.notify_all();
             }
+            Ended::Workers => self.workers.notify_all(),
             Ended::Sessions => self.sessions.notify_all(),
             Ended::Reporter => self.reporter.notify_all(),
             Ended::Nothing => {}

@@ -129,8 +129,10 @@ const STRIPS_BESIDE: &[&[Row]] = &[
         Row::BuildsStrip(Some(Call::Build), 17, 17),
         Row::BuildsStrip(None, 15, 15),
         Row::Calls(PUT_WIDE, Ok(Some(4))),
+        // The tiles that were let go are handed out again, but for the first one, with one more.
+        Row::LetsGoStrip(17),
         Row::GivesBackStrip(17),
-        Row::BuildsStrip(None, 16, 16),
+        Row::BuildsStrip(None, 15, 15),
         Row::Calls(Call::WaitBuilt("I"), Err(NO_MEMORY)),
         Row::BuildsStrip(None, 16, 16),
         Row::Calls(Call::WaitBuilt("I"), Ok(Some(4))),

@@ -82,6 +82,8 @@ pub enum Row {
     BuildsStrip(Option<Call>, usize, u64),
     /// A strip of so many tiles is taken. The first one is built, which is kept, and the others are given back.
     GivesBackStrip(usize),
+    /// The same, but the others are let go.
+    LetsGoStrip(usize),
     /// A tile is asked for and built in a thread of its own, beside a wait for a layer's tiles: what the wait answers.
     BuildsBeside(&'static str, Answer),
     /// A worker or the first session waits in a thread of its own, until a call ends that: what the wait answers.
@@ -229,7 +231,11 @@ fn play_row<J: BookName + Send + Sync, R: Threads + Wait + Clock + Abort + Sync>
             None
         }
         Row::GivesBackStrip(count) => {
-            check(rt, at, &give_back_strip(rt, alloc, shared), count);
+            check(rt, at, &give_back_strip(rt, alloc, shared, false), count);
+            None
+        }
+        Row::LetsGoStrip(count) => {
+            check(rt, at, &give_back_strip(rt, alloc, shared, true), count);
             None
         }
         Row::BuildsBeside(name, want) => {

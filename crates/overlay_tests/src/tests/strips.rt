@@ -44,30 +44,32 @@ pub fn build_late<J: BookName, R: Wait + Abort>(
         let Tokens { reporter, me, .. } = tokens;
         answer(rt, alloc, shared, reporter, me, asked).expect(rt, "a refusal");
     }
-    spend(rt, alloc, shared, strip, usize::MAX)
+    spend(rt, alloc, shared, strip, usize::MAX, false)
 }
 
-/// Takes a strip of tiles, builds and finishes the first one, and gives the others back as if memory had run out. It returns
-/// how many tiles there are in all.
+/// Takes a strip of tiles, builds and finishes the first one, and gives the others back as if memory had run out, or lets
+/// them go. It returns how many tiles there are in all.
 pub fn give_back_strip<J: BookName, R: Wait + Drop, W: Wait + Abort>(
     rt: &W,
     alloc: Global,
     shared: &Shared<J, R>,
+    lets_go: bool,
 ) -> usize {
     let strip = take_strip(rt, alloc, shared).expect(rt, "no strip");
-    let (count, kept) = spend(rt, alloc, shared, strip, 1);
+    let (count, kept) = spend(rt, alloc, shared, strip, 1, lets_go);
     assert!(rt; kept == 1);
     count
 }
 
-/// Builds the tiles of a strip, finishes the first ones of them, and gives back what is left. It returns how many tiles there
-/// are and how many of them are kept.
+/// Builds the tiles of a strip, finishes the first ones of them, and gives back what is left, or lets it go. It returns how
+/// many tiles there are and how many of them are kept.
 fn spend<J: BookName, R: Wait + Drop, W: Wait + Abort>(
     rt: &W,
     alloc: Global,
     shared: &Shared<J, R>,
     mut strip: StripJob,
     most: usize,
+    lets_go: bool,
 ) -> (usize, u64)
     requires book { strip.book ≡ J.book }
     requires whole { strip.next ≡ strip.input.strip.first }
@@ -76,7 +78,11 @@ fn spend<J: BookName, R: Wait + Drop, W: Wait + Abort>(
         panic!(rt; "memory")
     };
     let kept = finish_each(rt, alloc, shared, &mut strip, &built, most);
-    shared.give_back_strip(rt, strip);
+    if lets_go {
+        shared.let_go_strip(rt, strip);
+    } else {
+        shared.give_back_strip(rt, strip);
+    }
     (built.len(), kept)
 }
 

@@ -1,6 +1,9 @@
-use Rattle.std.proofs.Common.{◌≡◌, ℕ, ◌<◌, ◌≤◌, Bool, true, false, IsTrue, ◌↔◌, ⊎_elim, ap, sym, ◌∙◌, arith}
+use Rattle.std.proofs.Common.{◌≡◌, ℕ, ◌<◌, ◌≤◌, Bool, true, false, IsTrue, ◌↔◌, IfSome, ⊎_elim, ap, subst, sym, ◌∙◌, arith}
 use Rattle.std.proofs.lemmas.Bool.{cases_lt}
 use mathlib.Core.Bool.{true≢false}
+use Rattle.overlay_terms.specs.Histories.{Tile}
+use Rattle.overlay_terms.specs.Tiles.{Input}
+use Rattle.crossing_sweep.specs.StripInput.{part}
 use Rattle.version_book.specs.Strips.{HandedStrip}
 use Rattle.tile_workers.proofs.worker.finish_apart.Goals as goal
 
@@ -15,7 +18,7 @@ pub finish_next-requires : goal.finish_next-requires
 finish_next-requires g c = record {
   book = c.tiles.invariant ∙ c.requires;
   left = not_past c.is_spent.result c.tiles.strip.input.strip.last c.tiles.strip.next c.is_spent.ensures c.tiles-test.true;
-  input = c.in-Ok.ensures;
+  input = subst (λ o. IfSome o (λ (built : Input × Tile). built.0 ≡ part c.tiles.strip.input c.tiles.strip.next)) c.in-Some.is c.in-Ok.ensures;
 }
 
 pub tiles-preserved : goal.tiles-preserved

@@ -1,6 +1,0 @@
-use Rattle.version_book.proofs.StripLemmas.{all_next}
-use Rattle.tile_workers.proofs.worker.work.Goals as goal
-
-pub finish_each-requires-clause-tiles : goal.finish_each-requires-clause-tiles
-finish_each-requires-clause-tiles g c =
-    all_next c.args.strip c.input.result.now c.deref.result.now c.in-Ok.built.items c.requires.whole c.input.ensures.value c.deref.ensures.value c.in-Ok.ensures.each c.in-Ok.ensures.inputs
