@@ -73,7 +73,7 @@ fn serve_plan<'a, Q: Files<File = File> + Threads + Wait + Sync + AllocGlobal>(
                 Err(fault) => Err(about(fault, plan, &sessions)),
             }
         }
-        Err(refused) => Err(Refusal::from(ProgramFault::of_server(refused.code))),
+        Err(refused) => Err(Refusal::from(ProgramFault::of_server(refused.fault.code))),
     }
 }
 

@@ -1,6 +1,8 @@
 -- From what the threads of a server gave back that could not run, and what its book came to, to what it owes.
 use Rattle.std.proofs.Common.{◌≡◌, ◌+◌, ◌<◌, ◌∷◌, ◌||◌, ℕ, zero, suc, Bool, true, false, List, [], Option, MatchBool, All, length, map, refl, sym, ap, subst, ◌∙◌, arith}
 use Rattle.std.specs.List.{AllZip, list_any}
+use Rattle.std.specs.declared.alloc.Global.{Global}
+use Rattle.std.specs.declared.vec.Vec.{Vec}
 use Rattle.std.proofs.lemmas.Bool.{true≢false}
 use Rattle.std.proofs.lemmas.List.{length-map, nil_from_length}
 use Rattle.std.proofs.lemmas.List.Elements.{All-nil}
@@ -31,11 +33,14 @@ use Rattle.session_threads.specs.declared.running.Ended.{Ended}
 use Rattle.session_threads.proofs.Lists.{beside_length}
 use Rattle.session_threads.proofs.NotBegun.{unbegun_same}
 use Rattle.overlay_server.specs.Given.{given_to}
-use Rattle.overlay_server.specs.Refusing.{AreStopped, IsRefusedFrom, StoreComesBack}
-use Rattle.overlay_server.specs.Serving.{first_log, store_from}
+use Rattle.overlay_server.specs.Refusing.{AreBack, AreStopped, IsRefusedFrom, IsRefusedOf, StoreComesBack}
+use Rattle.overlay_server.specs.Serving.{AreServed, first_log, store_from}
 use Rattle.overlay_server.specs.declared.opening.BookAnswer.{BookAnswer}
+use Rattle.overlay_server.specs.declared.outcome.PortsBack.{PortsBack}
+use Rattle.overlay_server.specs.declared.outcome.PortsBack.TheVariants.{Stopped}
+use Rattle.overlay_server.specs.declared.outcome.PortsFault.{PortsFault}
 use Rattle.overlay_server.specs.declared.outcome.ServerFault.{ServerFault}
-use Rattle.overlay_server.proofs.Parts.{as_many, begins_first}
+use Rattle.overlay_server.proofs.Parts.{are_served, as_many, begins_first}
 use Rattle.overlay_server.proofs.Refusals.{IsAnswered, IsHistoryLeft, refused_from}
 use Rattle.overlay_server.proofs.ServedParts.{Began, IsClosed, Ran}
 use Rattle.overlay_server.proofs.StoppedParts.{are_stopped, none_stopped}
@@ -151,3 +156,25 @@ module _ {R W D : Type 0} (g : Ghosts D) (book : Book) (remaining : R → Option
       (subst (λ (l : BookLog). StoreComesBack g start l.log (told_in fault.told) (flusher_in store) closed.disk) (sym log)
       (subst (λ (t : ToldLog). StoreComesBack g start closed.seen_log.log (told_in t) (flusher_in store) closed.disk) (sym same.1.1)
       (back_from g start (flusher_in store) closed (left_by g start store after closed began.log began.none_told ran.kept.flushed so.store)))))
+
+-- the same with what comes back of its ports: each writer, with just what its session was answered
+pub stopped_of : {R W D : Type 0} (g : Ghosts D) (book : Book) (remaining : R → Option (List ℕ)) (contents : W → Option (List ℕ)) (start : Version) (ports : List (Port R W)) (store after : Store D g)
+    (scripts : List (Script R W)) (ended : List (Ended R W)) (refused : PortsFault R W D) → Began book start ports store scripts → Ran g book start remaining contents store after scripts ended
+    → (answer : BookAnswer) (closed : Closed D) → IsAnswered refused.fault answer → IsClosed g start after ended closed
+    → (refused.fault.disk ≡ closed.disk) × ((refused.fault.seen_log ≡ closed.seen_log) × (refused.fault.told ≡ closed.told))
+    → (finished : Vec (Finished W) Global) → finished.items ≡ map finished_of ended → refused.back ≡ Stopped finished
+    → MatchBool (any_of finished.items) (refused.fault.sessions.items ≡ map ended_session ended) (refused.fault.sessions.items ≡ [])
+    → IsRefusedOf remaining contents g start (flusher_in store) (given_to remaining contents ports) refused
+stopped_of {R} {W} g book remaining contents start ports store after scripts ended refused began ran answer closed answered so same finished finished_are back come =
+    let stored = store_from g start (flusher_in store) in
+    let all = given_to remaining contents ports in
+    let log = refused.fault.seen_log.log in
+    let own = subst (λ (l : BookLog). All (HasAllOf l.log) (map ended_session ended)) (sym same.1.0) so.sessions in
+    record {
+      fault = stopped_from g book remaining contents start ports store after scripts ended refused.fault began ran (any_of finished.items) answer closed answered so same
+          (ap (λ (fs : List (Finished W)). any_of fs) finished_are) come;
+      ports =
+          subst (λ (b : PortsBack R W). AreBack remaining contents stored start all refused.fault b) (sym back)
+          (subst (AreServed stored contents start log all) (sym finished_are)
+          (are_served book stored remaining contents start ports scripts began.seated ended ran.sessions log own));
+    }

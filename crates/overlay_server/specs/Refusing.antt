@@ -17,8 +17,11 @@ use Rattle.store_flushing.specs.Storing.{IsStoreOf}
 use Rattle.store_flushing.specs.Told.{StaysTold, told_in}
 use Rattle.store_flushing.specs.declared.keeper.told_log.Told.{Told}
 use Rattle.overlay_server.specs.Answering.{answer_in, refusal_code}
-use Rattle.overlay_server.specs.Given.{Given}
-use Rattle.overlay_server.specs.Serving.{first_log, store_from}
+use Rattle.overlay_server.specs.Given.{Given, given_to}
+use Rattle.overlay_server.specs.Serving.{AreServed, first_log, store_from}
+use Rattle.overlay_server.specs.declared.outcome.PortsBack.{PortsBack}
+use Rattle.overlay_server.specs.declared.outcome.PortsBack.TheVariants.{Unserved, Stopped}
+use Rattle.overlay_server.specs.declared.outcome.PortsFault.{PortsFault}
 use Rattle.overlay_server.specs.declared.outcome.ServerFault.{ServerFault}
 
 -- ---- sessions
@@ -86,3 +89,16 @@ pub record IsRefusedFrom {D : Type 0} (g : Ghosts D) (start : Version) (store : 
   pub none : fault.sessions.items ≡ [] → commands_in (history_of fault.seen_log.log).entries ≡ []
   pub sessions : AreStopped (store_from g start store) start fault.seen_log.log all fault.sessions.items
   pub back : StoreComesBack g start fault.seen_log.log (told_in fault.told) store fault.disk
+
+-- ---- the ports of a server
+
+-- all ports come back as they were, and no session was begun; or the writer of each, with just what its session was answered,
+-- as where the server ran: by histories that are all in the log that comes back
+abbrev pub AreBack : {R W D : Type 0} (remaining : R → Option (List ℕ)) (contents : W → Option (List ℕ)) (stored : BookStore) (start : Version) (all : List Given) → ServerFault D → PortsBack R W → Type 0
+AreBack remaining contents stored start all fault (Unserved ports) = (given_to remaining contents ports.items ≡ all) × (fault.sessions.items ≡ [])
+AreBack remaining contents stored start all fault (Stopped finished) = AreServed stored contents start fault.seen_log.log all finished.items
+
+-- a server of ports could not run: what its writers were given is of the history that comes back with the disk
+pub record IsRefusedOf {R W D : Type 0} (remaining : R → Option (List ℕ)) (contents : W → Option (List ℕ)) (g : Ghosts D) (start : Version) (store : Option (Flusher D g)) (all : List Given) (refused : PortsFault R W D) : Type 0 where
+  pub fault : IsRefusedFrom g start store all refused.fault
+  pub ports : AreBack remaining contents (store_from g start store) start all refused.fault refused.back

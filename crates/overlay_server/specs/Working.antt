@@ -12,6 +12,7 @@ use Rattle.session_threads.specs.Seats.{Leave}
 use Rattle.session_threads.specs.declared.running.Script.{Script}
 use Rattle.overlay_server.specs.Keeping.{HoldsOfStore, IsStoreKept}
 use Rattle.overlay_server.specs.declared.threads.Work.{Work}
+use Rattle.overlay_server.specs.declared.threads.Worked.{Worked}
 
 -- store and sessions are of this book, what the store comes to hold may be reported durable, what was stored may be
 -- reported to the writers, and there is room for what the sessions leave; `there` says whether the book has a store
@@ -24,6 +25,6 @@ pub record IsReady {J R W D : Type 0} {g : Ghosts D} (book : Book) (stored : Lis
 
 -- the threads have returned: the store's committed versions of the book alone, and each session ran its script, or was not
 -- begun and is as it was; `stored` is what is known of the book's store
-pub record HasWorked {J R W D : Type 0} (book : Book) (stored : BookStore) (remaining : R → Option (List ℕ)) (contents : W → Option (List ℕ)) (g : Ghosts D) (work after : Work J R W D g) : Type 0 where
+pub record HasWorked {J R W D : Type 0} (book : Book) (stored : BookStore) (remaining : R → Option (List ℕ)) (contents : W → Option (List ℕ)) (g : Ghosts D) (work : Work J R W D g) (after : Worked W D g) : Type 0 where
   pub store : IsStoreKept book g work.store after.store
-  pub left : Leave (IsRunOf book stored remaining contents) work.seats.scripts.items after.seats.sessions.items after.seats.finished.items
+  pub left : Leave (IsRunOf book stored remaining contents) work.seats.scripts.items after.sessions.items after.finished.items

@@ -1,25 +1,25 @@
 //! The book of a server, from its opening to its end.
-ghost use Rattle.std.specs.Prelude.{◌≡◌, ◌<◌, ◌≤◌, ◌↔◌, ℕ, List, length, IfOk, IfErr};
+ghost use Rattle.std.specs.Prelude.{◌≡◌, ◌<◌, ◌≤◌, ◌↔◌, ℕ, List, [], length, IfOk, IfErr};
 ghost use Rattle.book_history.specs.Rules.{head_of};
 ghost use Rattle.overlay_terms.specs.Histories.{Entry, History};
 ghost use Rattle.store_flushing.specs.Stores.{flusher_in};
 ghost use Rattle.overlay_server.specs.Given.{Given, bytes_of, given_by, given_to};
 ghost use Rattle.overlay_server.specs.Hosting.{IsHosted};
-ghost use Rattle.overlay_server.specs.Refusing.{IsRefusedFrom};
+ghost use Rattle.overlay_server.specs.Refusing.{IsRefusedFrom, IsRefusedOf};
 ghost use Rattle.overlay_server.specs.Serving.{IsHeldOf, IsLeftFrom, IsStoredOf, first_log, flusher_of, start_of};
 
 use crate::hosted::Hosted;
 use crate::listening::listened;
 use crate::opening::open_book;
-use crate::outcome::{Left, Served, ServerFault};
+use crate::outcome::{Left, PortsBack, PortsFault, Served, ServerFault};
 use crate::refusing::{only_now, refused, stopped};
 use crate::storing::keep_store;
-use crate::threads::{Work, run_threads};
+use crate::threads::{Work, Worked, run_threads};
 use disk_model::disk::Disk;
 use flush_core::flusher::Flusher;
 use overlay_engine::engine::Engine;
 use server_session::reply_writer::ReplyWriter;
-use session_threads::counting::{any_begun, await_number, made_by_all};
+use session_threads::counting::{await_number, made_by_all};
 use session_threads::halt::Halt;
 use session_threads::port::Port;
 use session_threads::seating::seated;
@@ -50,6 +50,7 @@ fn host<J: BookName, S: Wait + Drop, D: Disk>(
     ensures flusher { IfOk result (λ hosted. flusher_in hosted.store ≡ flusher_of engine) }
     ensures hosted { IfOk result (IsHosted J.book sessions) }
     ensures refused { IfErr result (λ fault. (all : List Given) → IsRefusedFrom D.Disk (start_of engine) (flusher_of engine) all fault) }
+    ensures sessions { IfErr result (λ fault. fault.sessions.items ≡ []) }
 {
     let (head, seen_log) = opened;
     let (version, flusher) = parts_of(alloc, engine);
@@ -116,7 +117,10 @@ where
     let Some(ports) = listened(alloc, readers) else {
         return Err(hosted.unserved(alloc));
     };
-    hosted.run(rt, alloc, workers, gate, ports)
+    match hosted.run(rt, alloc, workers, gate, ports) {
+        Ok(left) => Ok(left),
+        Err(refused) => Err(refused.fault),
+    }
 }
 
 /// The server of a book that is named by its history.
@@ -128,7 +132,7 @@ pub fn serve_in<J, D, R, W, G, Q>(
     opened: (LogWord<J>, SeenLog),
     engine: Option<Engine<D>>,
     ports: Vec<Port<R, W>>,
-) -> Result<Left<W, D>, ServerFault<D>>
+) -> Result<Left<W, D>, PortsFault<R, W, D>>
 where
     J: BookName + Send + Sync,
     D: Disk + Send + Drop,
@@ -143,10 +147,15 @@ where
     requires ports { (0 < length ports.items) × (length ports.items ≤ 4) }
     requires told { (history : History) → IsHeldOf D.Disk (start_of engine) (flusher_of engine) history → W.may_report history }
     ensures left { IfOk result (IsLeftFrom W.contents D.Disk (start_of engine) (flusher_of engine) (given_to R.remaining W.contents ports.items)) }
-    ensures refused { IfErr result (IsRefusedFrom D.Disk (start_of engine) (flusher_of engine) (given_to R.remaining W.contents ports.items)) }
+    ensures refused { IfErr result (IsRefusedOf R.remaining W.contents D.Disk (start_of engine) (flusher_of engine) (given_to R.remaining W.contents ports.items)) }
 {
-    let hosted = host::<J, &Q, D>(rt, alloc, opened, engine, ports.len())?;
-    hosted.run(rt, alloc, workers, gate, ports)
+    match host::<J, &Q, D>(rt, alloc, opened, engine, ports.len()) {
+        Ok(hosted) => hosted.run(rt, alloc, workers, gate, ports),
+        Err(fault) => Err(PortsFault {
+            fault,
+            back: PortsBack::Unserved(ports),
+        }),
+    }
 }
 
 impl<J, S, D> Hosted<J, S, D>
@@ -163,7 +172,7 @@ where
         workers: usize,
         gate: &G,
         ports: Vec<Port<R, W>>,
-    ) -> Result<Left<W, D>, ServerFault<D>>
+    ) -> Result<Left<W, D>, PortsFault<R, W, D>>
     where
         R: Read + Send + Drop,
         W: ReplyWriter + Send + Drop,
@@ -174,9 +183,9 @@ where
         requires told { (history : History) → IsHeldOf D.Disk self.version.value (flusher_in self.store) history → W.may_report history }
         requires meant { (log : List Entry) (number : ℕ) → J.stored log number ↔ IsStoredOf D.Disk self.version.value (flusher_in self.store) log number }
         ensures left { IfOk result (IsLeftFrom W.contents D.Disk self.version.value (flusher_in self.store) (given_to R.remaining W.contents ports.items)) }
-        ensures refused { IfErr result (IsRefusedFrom D.Disk self.version.value (flusher_in self.store) (given_to R.remaining W.contents ports.items)) }
+        ensures refused { IfErr result (IsRefusedOf R.remaining W.contents D.Disk self.version.value (flusher_in self.store) (given_to R.remaining W.contents ports.items)) }
         // The book gave its places, so 44 is not answered.
-        ensures code { IfErr result (λ fault. fault.code ≡ 40) }
+        ensures code { IfErr result (λ refused. refused.fault.code ≡ 40) }
     {
         let Hosted {
             number,
@@ -187,8 +196,14 @@ where
             store,
             sessions,
         } = self;
-        let Some(seats) = seated::<J, R, W>(alloc, sessions, ports) else {
-            return Err(refused(alloc, answer, store.into_flusher(), seen_log));
+        let seats = match seated::<J, R, W>(alloc, sessions, ports) {
+            Ok(seats) => seats,
+            Err(ports) => {
+                return Err(PortsFault {
+                    fault: refused(alloc, answer, store.into_flusher(), seen_log),
+                    back: PortsBack::Unserved(ports),
+                });
+            }
         };
         let halt = Halt::new();
         let work = Work {
@@ -196,21 +211,23 @@ where
             store,
             seats,
         };
-        let work = run_threads(rt, alloc, gate, &shared, &halt, work);
+        let Worked {
+            store,
+            sessions,
+            finished,
+        } = run_threads(rt, alloc, gate, &shared, &halt, work);
         // What was finished after the last commit is committed now that the workers have returned.
-        let store = keep_store(rt, alloc, &shared, work.store);
-        let seats = work.seats;
-        let made = made_by_all(rt, &seats.sessions);
-        let closed = store.close(rt, alloc, shared, &seats.sessions);
+        let store = keep_store(rt, alloc, &shared, store);
+        let made = made_by_all(rt, &sessions);
+        let closed = store.close(rt, alloc, shared, &sessions);
         // Were its last number not the first one and so many more as the sessions made batches, which cannot come, it
         // would wait for ever.
         await_number(rt, number, made, &closed.version);
         if halt.is_set() {
-            let begun = any_begun(&seats.finished);
-            return Err(stopped(alloc, answer, closed, seats.sessions, begun));
+            return Err(stopped(alloc, answer, closed, sessions, finished));
         }
         Ok(Left {
-            sessions: seats.finished,
+            sessions: finished,
             closed,
         })
     }

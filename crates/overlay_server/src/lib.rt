@@ -13,7 +13,7 @@ mod storing;
 mod threads;
 
 pub use opening::BookAnswer;
-pub use outcome::{Left, ServeOptions, Served, ServerFault};
+pub use outcome::{Left, PortsBack, PortsFault, ServeOptions, Served, ServerFault};
 pub use overlay_grid::{GridSpec, grid};
 pub use script_form::{CommandFault, SessionEnd};
 pub use server_session::session_run;

@@ -2,7 +2,7 @@
 ghost use Rattle.std.specs.Prelude.{◌≤◌};
 
 use crate::opening::BookAnswer;
-use session_threads::port::Finished;
+use session_threads::port::{Finished, Port};
 use store_flushing::closed::Closed;
 use store_flushing::keeper::told_log::ToldLog;
 use version_book::seen_log::SeenLog;
@@ -44,4 +44,21 @@ pub struct ServerFault<D> {
     /// The sessions, in the order of the ports or readers, with what they have seen and made. None where none was begun,
     /// and then no command was accepted.
     pub sessions: Vec<Session>,
+}
+
+/// Why a server of ports could not run, and what comes back of its ports.
+#[derive(Drop)]
+pub struct PortsFault<R, W, D> {
+    pub fault: ServerFault<D>,
+    pub back: PortsBack<R, W>,
+}
+
+/// What comes back of the ports of a server that could not run.
+#[derive(Drop)]
+pub enum PortsBack<R, W> {
+    /// The ports as they were: no thread was started for them.
+    Unserved(Vec<Port<R, W>>),
+    /// The writer of each session and how it ended, in the order of the ports. One that was not begun ended by 40, and its
+    /// writer is as it was.
+    Stopped(Vec<Finished<W>>),
 }

@@ -1,13 +1,17 @@
 //! A server that could not run: why, the disk that comes back, and what is left of a book of which no session was begun.
 ghost use Rattle.std.specs.Prelude.{◌≡◌, [], None, Some, MatchBool, MatchOption};
+ghost use Rattle.std.specs.List.{list_any};
+ghost use Rattle.session_threads.specs.Running.{was_begun};
 ghost use Rattle.store_flushing.specs.Told.{told_in};
 ghost use Rattle.overlay_server.specs.Answering.{answer_in, refusal_code};
 ghost use Rattle.overlay_server.specs.Moments.{HasOnlyNow};
 
 use crate::opening::BookAnswer;
-use crate::outcome::ServerFault;
+use crate::outcome::{PortsBack, PortsFault, ServerFault};
 use disk_model::disk::Disk;
 use flush_core::flusher::Flusher;
+use session_threads::counting::any_begun;
+use session_threads::port::Finished;
 use std::alloc::Global;
 use store_flushing::closed::Closed;
 use store_flushing::keeper::told_log::ToldLog;
@@ -40,28 +44,35 @@ pub fn refused<D: Disk>(
     }
 }
 
-/// A thread was refused: the disk comes back, and what the book has come to. The sessions come back where one of them was
-/// begun.
-pub fn stopped<D: Drop>(
+/// A thread was refused: the disk comes back, what the book has come to, and what the sessions leave. The sessions come back
+/// themselves where one of them was begun.
+pub fn stopped<R, W, D: Drop>(
     alloc: Global,
     answer: BookAnswer,
     closed: Closed<D>,
     sessions: Vec<Session>,
-    begun: bool,
-) -> ServerFault<D>
-    ensures code { result.code ≡ refusal_code (answer_in answer) }
-    ensures answer { result.answer ≡ answer }
-    ensures closed { (result.disk ≡ closed.disk) × ((result.seen_log ≡ closed.seen_log) × (result.told ≡ closed.told)) }
-    ensures sessions { MatchBool begun (result.sessions.items ≡ sessions.items) (result.sessions.items ≡ []) }
+    finished: Vec<Finished<W>>,
+) -> PortsFault<R, W, D>
+    ensures code { result.fault.code ≡ refusal_code (answer_in answer) }
+    ensures answer { result.fault.answer ≡ answer }
+    ensures closed { (result.fault.disk ≡ closed.disk) × ((result.fault.seen_log ≡ closed.seen_log) × (result.fault.told ≡ closed.told)) }
+    ensures sessions { MatchBool (list_any (λ one. was_begun one.end) finished.items)
+        (result.fault.sessions.items ≡ sessions.items) (result.fault.sessions.items ≡ []) }
+    // Each writer comes back, with how its session ended.
+    ensures back { result.back ≡ PortsBack.Stopped finished }
 {
+    let begun = any_begun(&finished);
     let code = answer.code();
-    ServerFault {
-        code,
-        disk: closed.disk,
-        answer,
-        seen_log: closed.seen_log,
-        told: closed.told,
-        sessions: if begun { sessions } else { Vec::new(alloc) },
+    PortsFault {
+        fault: ServerFault {
+            code,
+            disk: closed.disk,
+            answer,
+            seen_log: closed.seen_log,
+            told: closed.told,
+            sessions: if begun { sessions } else { Vec::new(alloc) },
+        },
+        back: PortsBack::Stopped(finished),
     }
 }
 

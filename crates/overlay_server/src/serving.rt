@@ -2,12 +2,12 @@
 ghost use Rattle.std.specs.Prelude.{◌≡◌, ◌<◌, ◌≤◌, is_some, length, IfOk, IfErr};
 ghost use Rattle.book_history.specs.Rules.{head_of};
 ghost use Rattle.overlay_server.specs.Given.{bytes_of, given_by, given_to};
-ghost use Rattle.overlay_server.specs.Refusing.{IsRefusedFrom};
+ghost use Rattle.overlay_server.specs.Refusing.{IsRefusedFrom, IsRefusedOf};
 ghost use Rattle.overlay_terms.specs.Histories.{History};
 ghost use Rattle.overlay_server.specs.Serving.{IsHeldOf, IsLeftFrom, first_log, flusher_of, start_of};
 
 use crate::hosting::{listen_in, serve_in};
-use crate::outcome::{Left, ServeOptions, Served, ServerFault};
+use crate::outcome::{Left, PortsFault, ServeOptions, Served, ServerFault};
 use disk_model::disk::Disk;
 use overlay_engine::engine::Engine;
 use server_session::reply_writer::ReplyWriter;
@@ -65,7 +65,7 @@ pub fn serve_ports<D, R, W, G, Q>(
     gate: &G,
     engine: Option<Engine<D>>,
     ports: Vec<Port<R, W>>,
-) -> Result<Left<W, D>, ServerFault<D>>
+) -> Result<Left<W, D>, PortsFault<R, W, D>>
 where
     D: Disk + Send + Drop,
     R: Read + Send + Drop,
@@ -78,7 +78,8 @@ where
     requires told { (history : History) → IsHeldOf D.Disk (start_of engine) (flusher_of engine) history → W.may_report history }
     ensures left { IfOk result (IsLeftFrom W.contents D.Disk (start_of engine) (flusher_of engine) (given_to R.remaining W.contents ports.items)) }
     ensures disk { IfOk result (λ left. is_some left.closed.disk ≡ is_some engine) }
-    ensures refused { IfErr result (IsRefusedFrom D.Disk (start_of engine) (flusher_of engine) (given_to R.remaining W.contents ports.items)) }
+    // Where it could not run, the ports come back as they were, or the writers, each with just what its session was answered.
+    ensures refused { IfErr result (IsRefusedOf R.remaining W.contents D.Disk (start_of engine) (flusher_of engine) (given_to R.remaining W.contents ports.items)) }
 {
     let opened = history_of(alloc, &engine);
     serve_in::<Brand, D, R, W, G, Q>(rt, alloc, options.workers, gate, opened, engine, ports)

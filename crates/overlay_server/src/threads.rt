@@ -8,6 +8,7 @@ use crate::storing::start_store;
 use disk_model::disk::Disk;
 use server_session::reply_writer::ReplyWriter;
 use session_threads::halt::Halt;
+use session_threads::port::Finished;
 use session_threads::running::{Seats, run_sessions};
 use std::alloc::Global;
 use std::io::Read;
@@ -18,6 +19,7 @@ use store_flushing::keeper::store::Store;
 use tile_workers::gate::Gate;
 use tile_workers::worker::worker_loop;
 use version_book::seen_log::BookName;
+use version_book::session::Session;
 use version_book::shared::Shared;
 
 /// What the threads work on: how many of them build tiles, the store, and the sessions with their scripts.
@@ -26,6 +28,14 @@ pub struct Work<J: BookName, R: Read, W: ReplyWriter, D: Disk> {
     pub workers: usize,
     pub store: Store<D>,
     pub seats: Seats<J, R, W>,
+}
+
+/// What the threads leave: the store, and the sessions with their writers and ends, in the order of the scripts.
+#[derive(Drop)]
+pub struct Worked<W, D: Disk> {
+    pub store: Store<D>,
+    pub sessions: Vec<Session>,
+    pub finished: Vec<Finished<W>>,
 }
 
 /// Runs workers, the store and a session for each script in threads of their own, and takes them in. Where a thread is
@@ -38,7 +48,7 @@ pub fn run_threads<J, S, G, Q, R, W, D>(
     shared: &Shared<J, S>,
     halt: &Halt,
     work: Work<J, R, W, D>,
-) -> Work<J, R, W, D>
+) -> Worked<W, D>
 where
     S: Wait + Drop + Send,
     J: BookName + Send + Sync,
@@ -53,7 +63,7 @@ where
     thread::scope(
         thread::scope_env(),
         rt,
-        |scope| -> Work<J, R, W, D>
+        |scope| -> Worked<W, D>
             requires { IsReady J.book J.stored (has_store shared.now) W.may_report work }
             ensures { HasWorked J.book (store_of J.stored (has_store shared.entry.now)) R.remaining W.contents D.Disk work result }
         { run_in(scope, rt, alloc, gate, shared, halt, work) },
@@ -69,7 +79,7 @@ fn run_in<'s, E, J, S, G, Q, R, W, D>(
     shared: &'s Shared<J, S>,
     halt: &'s Halt,
     work: Work<J, R, W, D>,
-) -> Work<J, R, W, D>
+) -> Worked<W, D>
 where
     S: Wait + Drop + Send + 's,
     J: BookName + Send + Sync,
@@ -91,16 +101,16 @@ where
     if !working || keeping.is_err() {
         halt.set();
     }
-    let seats = run_sessions(scope, rt, alloc, shared, halt, seats);
+    let (sessions, finished) = run_sessions(scope, rt, alloc, shared, halt, seats);
     shared.begin_close(rt);
     let store = match keeping {
         Ok(handle) => handle.join(rt),
         Err(store) => store,
     };
-    Work {
-        workers,
+    Worked {
         store,
-        seats,
+        sessions,
+        finished,
     }
 }
 

@@ -59,8 +59,7 @@ pub type Running<J, R, W> = PromisedHandle<Ended<R, W>, RunsScript<J, R, W>>;
 /// A thread that runs a script, or the script that came back as none could start.
 pub type Begun<J, R, W> = Result<Running<J, R, W>, Ended<R, W>>;
 
-/// The scripts, each with the session that runs it, room for their threads, and what the sessions that have ended leave, or
-/// room for that.
+/// The scripts, each with the session that runs it, and room for their threads and for what the sessions leave.
 #[derive(Drop)]
 pub struct Seats<J: BookName, R: Read, W: ReplyWriter> {
     pub scripts: Vec<Script<R, W>>,
@@ -79,7 +78,7 @@ pub fn run_sessions<'s, E, J, S, Q, R, W>(
     shared: &'s Shared<J, S>,
     halt: &'s Halt,
     seats: Seats<J, R, W>,
-) -> Seats<J, R, W>
+) -> (Vec<Session>, Vec<Finished<W>>)
 where
     J: BookName + Send + Sync,
     S: Wait + Drop + Send + 's,
@@ -90,7 +89,7 @@ where
     requires told { All (λ script. MayReport J.stored (has_store shared.now) script.session W.may_report) seats.scripts.items }
     requires room { HasRoom seats (length seats.scripts.items) }
     ensures { Leave (λ script ended. IsRunOf J.book (store_of J.stored (has_store shared.now)) R.remaining W.contents script ended) seats.scripts.items
-        result.sessions.items result.finished.items }
+        result.0.items result.1.items }
 {
     let Seats {
         scripts,
@@ -101,7 +100,7 @@ where
     for script in scripts {
         running.push_reserved(start_session(scope, rt, alloc, shared, halt, script));
     }
-    join_sessions(rt, alloc, running, sessions, finished)
+    join_sessions(rt, running, sessions, finished)
 }
 
 /// Starts a thread for a script, where the run has not halted. Where it is refused the run halts, the book closes, and the
@@ -156,15 +155,14 @@ where
 /// Takes the threads of the scripts in, in their order, into lists that have room for what they leave.
 fn join_sessions<J: BookName, Q: Threads, R: Read + Drop, W: ReplyWriter + Drop>(
     rt: &Q,
-    alloc: Global,
     running: Vec<Begun<J, R, W>>,
     mut sessions: Vec<Session>,
     mut finished: Vec<Finished<W>>,
-) -> Seats<J, R, W>
+) -> (Vec<Session>, Vec<Finished<W>>)
     requires { IsReserved sessions (length running.items) × IsReserved finished (length running.items) }
     ensures { Leave (λ begun ended. MatchResult begun
         (λ h. IsRunOf J.book (store_of J.stored h.promise.stored) R.remaining W.contents h.promise.begun.value ended)
-        (λ back. ended ≡ back)) running.items result.sessions.items result.finished.items }
+        (λ back. ended ≡ back)) running.items result.0.items result.1.items }
 {
     for begun in running {
         let Ended { session, port, end } = join_session(rt, begun);
@@ -176,12 +174,7 @@ fn join_sessions<J: BookName, Q: Threads, R: Read + Drop, W: ReplyWriter + Drop>
         sessions.push_reserved(session);
         finished.push_reserved(Finished { writer, end });
     }
-    Seats {
-        scripts: Vec::new(alloc),
-        running: Vec::new(alloc),
-        sessions,
-        finished,
-    }
+    (sessions, finished)
 }
 
 /// Takes the thread of a script in, where it has one.

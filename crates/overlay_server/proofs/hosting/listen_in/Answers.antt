@@ -1,4 +1,4 @@
-use Rattle.std.proofs.Common.{rules, ◌≡◌, ◌∙◌, IfErr, IfOk, length, subst, sym}
+use Rattle.std.proofs.Common.{rules, ◌≡◌, ◌∙◌, length, subst, sym}
 use Rattle.store_flushing.specs.Stores.{flusher_in}
 use Rattle.overlay_server.specs.Given.{bytes_of, given_by, given_to}
 use Rattle.overlay_server.specs.Hosting.{IsHosted}
@@ -25,23 +25,25 @@ run-requires-clause-meant g c κs within =
     subst (λ v. CountsAs g.D.Disk g.J.BookName.stored v (flusher_in hosted.hosted.store)) (sym hosted.ensures.version)
     (subst (CountsAs g.D.Disk g.J.BookName.stored (start_of c.args.engine)) (sym hosted.ensures.flusher) c.requires.stored)
 
-pub returns-clause-left : goal.returns-clause-left
-returns-clause-left g c =
+pub returns-in-Ok-clause-left : goal.returns-in-Ok-clause-left
+returns-in-Ok-clause-left g c =
     let engine = c.args.engine in
     let hosted = c.in_ok-hosted in
+    let left = c.in-Ok.left in
     let all = given_to g.R.Read.remaining bytes_of c.in-Some.ports.items in
-    subst (λ given. IfOk c.run.result (IsLeftFrom bytes_of g.D.Disk (start_of engine) (flusher_of engine) given)) c.in-Some.ensures.given
-    (subst (λ v. IfOk c.run.result (IsLeftFrom bytes_of g.D.Disk v (flusher_of engine) all)) hosted.ensures.version
-    (subst (λ f. IfOk c.run.result (IsLeftFrom bytes_of g.D.Disk hosted.hosted.version.value f all)) hosted.ensures.flusher c.run.ensures.left))
+    subst (λ given. IsLeftFrom bytes_of g.D.Disk (start_of engine) (flusher_of engine) given left) c.in-Some.ensures.given
+    (subst (λ v. IsLeftFrom bytes_of g.D.Disk v (flusher_of engine) all left) hosted.ensures.version
+    (subst (λ f. IsLeftFrom bytes_of g.D.Disk hosted.hosted.version.value f all left) hosted.ensures.flusher c.in-Ok.ensures.left))
 
-pub returns-clause-refused : goal.returns-clause-refused
-returns-clause-refused g c =
+pub returns-in-Err-clause-refused : goal.returns-in-Err-clause-refused
+returns-in-Err-clause-refused g c =
     let engine = c.args.engine in
     let hosted = c.in_ok-hosted in
+    let fault = c.in-Err.refused.fault in
     let all = given_to g.R.Read.remaining bytes_of c.in-Some.ports.items in
-    subst (λ given. IfErr c.run.result (IsRefusedFrom g.D.Disk (start_of engine) (flusher_of engine) given)) c.in-Some.ensures.given
-    (subst (λ v. IfErr c.run.result (IsRefusedFrom g.D.Disk v (flusher_of engine) all)) hosted.ensures.version
-    (subst (λ f. IfErr c.run.result (IsRefusedFrom g.D.Disk hosted.hosted.version.value f all)) hosted.ensures.flusher c.run.ensures.refused))
+    subst (λ given. IsRefusedFrom g.D.Disk (start_of engine) (flusher_of engine) given fault) c.in-Some.ensures.given
+    (subst (λ v. IsRefusedFrom g.D.Disk v (flusher_of engine) all fault) hosted.ensures.version
+    (subst (λ f. IsRefusedFrom g.D.Disk hosted.hosted.version.value f all fault) hosted.ensures.flusher c.in-Err.ensures.refused.fault))
 
 pub returns-in_default-clause-refused : goal.returns-in_default-clause-refused
 returns-in_default-clause-refused g c =

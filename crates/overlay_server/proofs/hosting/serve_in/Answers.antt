@@ -1,50 +1,50 @@
-use Rattle.std.proofs.Common.{rules, ◌≡◌, IfErr, IfOk, length, subst, sym}
+use Rattle.std.proofs.Common.{rules, ◌≡◌, refl, IfErr, IfOk, length, subst, sym}
 use Rattle.overlay_terms.specs.Histories.{History}
 use Rattle.store_flushing.specs.Stores.{flusher_in}
 use Rattle.overlay_server.specs.Given.{given_to}
 use Rattle.overlay_server.specs.Hosting.{IsHosted}
-use Rattle.overlay_server.specs.Refusing.{IsRefusedFrom}
+use Rattle.overlay_server.specs.Refusing.{IsRefusedOf}
 use Rattle.overlay_server.specs.Serving.{IsHeldOf, IsLeftFrom, flusher_of, start_of}
-use Rattle.overlay_server.proofs.Refusals.{passed_on}
 use Rattle.overlay_server.proofs.StoreParts.{CountsAs}
 use Rattle.overlay_server.proofs.hosting.serve_in.Goals as goal
 
 pub run-requires-clause-hosted : goal.run-requires-clause-hosted
 run-requires-clause-hosted g c κs within =
     let count : c.len.result ≡ length c.args.ports.items = search rules in
-    subst (λ n. IsHosted g.J.BookName.book n c.in_ok-hosted.hosted) count c.in_ok-hosted.ensures.hosted
+    subst (λ n. IsHosted g.J.BookName.book n c.in-Ok.hosted) count c.in-Ok.ensures.hosted
 
 pub run-requires-clause-meant : goal.run-requires-clause-meant
 run-requires-clause-meant g c κs within =
-    let hosted = c.in_ok-hosted in
+    let hosted = c.in-Ok in
     subst (λ v. CountsAs g.D.Disk g.J.BookName.stored v (flusher_in hosted.hosted.store)) (sym hosted.ensures.version)
     (subst (CountsAs g.D.Disk g.J.BookName.stored (start_of c.args.engine)) (sym hosted.ensures.flusher) c.requires.stored)
 
 pub run-requires-clause-told : goal.run-requires-clause-told
 run-requires-clause-told g c κs within =
-    let hosted = c.in_ok-hosted in
+    let hosted = c.in-Ok in
     let may = g.W.ReplyWriter.may_report in
     subst (λ v. (history : History) → IsHeldOf g.D.Disk v (flusher_in hosted.hosted.store) history → may history) (sym hosted.ensures.version)
     (subst (λ f. (history : History) → IsHeldOf g.D.Disk (start_of c.args.engine) f history → may history) (sym hosted.ensures.flusher) c.requires.told)
 
-pub returns-in_err-hosted-clause-refused : goal.returns-in_err-hosted-clause-refused
-returns-in_err-hosted-clause-refused g c =
+pub returns-in-Err-clause-refused : goal.returns-in-Err-clause-refused
+returns-in-Err-clause-refused g c =
     let all = given_to g.R.Read.remaining g.W.ReplyWriter.contents c.args.ports.items in
-    passed_on (IsRefusedFrom g.D.Disk (start_of c.args.engine) (flusher_of c.args.engine) all) c.from_residual.result c.in_err-hosted.field-0.0 c.from_residual.ensures.1
-    (c.in_err-hosted.ensures.refused all)
+    record { fault = c.in-Err.ensures.refused all; ports = (refl, c.in-Err.ensures.sessions) }
 
-pub returns-clause-left : goal.returns-clause-left
-returns-clause-left g c =
+pub returns-in-Ok-clause-left : goal.returns-in-Ok-clause-left
+returns-in-Ok-clause-left g c =
     let engine = c.args.engine in
-    let hosted = c.in_ok-hosted in
+    let hosted = c.in-Ok in
     let all = given_to g.R.Read.remaining g.W.ReplyWriter.contents c.args.ports.items in
     subst (λ v. IfOk c.run.result (IsLeftFrom g.W.ReplyWriter.contents g.D.Disk v (flusher_of engine) all)) hosted.ensures.version
     (subst (λ f. IfOk c.run.result (IsLeftFrom g.W.ReplyWriter.contents g.D.Disk hosted.hosted.version.value f all)) hosted.ensures.flusher c.run.ensures.left)
 
-pub returns-clause-refused : goal.returns-clause-refused
-returns-clause-refused g c =
+pub returns-in-Ok-clause-refused : goal.returns-in-Ok-clause-refused
+returns-in-Ok-clause-refused g c =
     let engine = c.args.engine in
-    let hosted = c.in_ok-hosted in
-    let all = given_to g.R.Read.remaining g.W.ReplyWriter.contents c.args.ports.items in
-    subst (λ v. IfErr c.run.result (IsRefusedFrom g.D.Disk v (flusher_of engine) all)) hosted.ensures.version
-    (subst (λ f. IfErr c.run.result (IsRefusedFrom g.D.Disk hosted.hosted.version.value f all)) hosted.ensures.flusher c.run.ensures.refused)
+    let hosted = c.in-Ok in
+    let remaining = g.R.Read.remaining in
+    let contents = g.W.ReplyWriter.contents in
+    let all = given_to remaining contents c.args.ports.items in
+    subst (λ v. IfErr c.run.result (IsRefusedOf remaining contents g.D.Disk v (flusher_of engine) all)) hosted.ensures.version
+    (subst (λ f. IfErr c.run.result (IsRefusedOf remaining contents g.D.Disk hosted.hosted.version.value f all)) hosted.ensures.flusher c.run.ensures.refused)

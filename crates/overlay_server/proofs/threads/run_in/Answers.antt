@@ -12,5 +12,5 @@ returns g c =
             (subst (λ s. IsStoreKept g.J.BookName.book g.D.Disk s w.join-store.result) w.in-Ok.ensures w.join-store.ensures)
         | in-Err w ↦ subst (IsStoreKept g.J.BookName.book g.D.Disk old) (sym w.store-is) w.in-Err.ensures
       ];
-      left = c.run_sessions-seats.ensures;
+      left = c.run_sessions-sessions.ensures;
     }

@@ -1,5 +1,7 @@
 use Rattle.std.proofs.Common.{◌≡◌, ◌+◌, ◌∙◌, ℕ, List, All, None, Some, MatchOption, length, map, ap, sym, subst}
 use Rattle.std.specs.List.{AllZip}
+use Rattle.std.specs.declared.alloc.Global.{Global}
+use Rattle.std.specs.declared.vec.Vec.{Vec}
 use Rattle.book_history.specs.BookLogs.{BookLog}
 use Rattle.book_history.specs.Known.{Known}
 use Rattle.book_lock.specs.Steps.{HasAllOf}
@@ -11,15 +13,15 @@ use Rattle.session_threads.specs.Counting.{made_in}
 use Rattle.session_threads.specs.Rooms.{HasRoom}
 use Rattle.session_threads.specs.Running.{IsRunOf}
 use Rattle.session_threads.specs.Seats.{ended_session}
-use Rattle.session_threads.specs.declared.port.Finished.{Finished}
+use Rattle.session_threads.specs.declared.port.Port.{Port}
 use Rattle.server_session.specs.Stores.{store_of}
-use Rattle.overlay_server.specs.Given.{given_to}
+use Rattle.overlay_server.specs.Given.{Given, given_to}
 use Rattle.overlay_server.specs.Serving.{first_log}
 use Rattle.overlay_server.proofs.Held.{runs_held}
 use Rattle.overlay_server.proofs.Refusals.{MayAnswer, refused_at_once}
 use Rattle.overlay_server.proofs.Reporting.{may_report_all}
 use Rattle.overlay_server.proofs.Parts.{AreSeated, all_of_book, as_many, begin_there, of_ended}
-use Rattle.overlay_server.proofs.Stopping.{any_of, come_to, stopped_from}
+use Rattle.overlay_server.proofs.Stopping.{any_of, come_to, stopped_of}
 use Rattle.overlay_server.proofs.StoreParts.{holds_first, holds_on, kept_twice, stopped_at_once}
 use Rattle.overlay_server.proofs.ServedParts.{served_from}
 use Rattle.overlay_server.proofs.hosted.Hosted.run.Goals as goal
@@ -28,67 +30,72 @@ pub seated-requires : goal.seated-requires
 seated-requires g c =
     ap (λ (ks : List Known). length ks) c.requires.hosted.sessions ∙ count_of (record { book = g.J.BookName.book; log = first_log c.args.self.version.value }) (length c.args.ports.items)
 
-pub returns-in_default-clause-refused : goal.returns-in_default-clause-refused
-returns-in_default-clause-refused g c =
+pub returns-in-Err-clause-refused : goal.returns-in-Err-clause-refused
+returns-in-Err-clause-refused g c =
     let self = c.args.self in
     let fault = c.refused.result in
-    refused_at_once g.D.Disk self.version.value (flusher_in self.store) (given_to g.R.Read.remaining g.W.ReplyWriter.contents c.args.ports.items) fault self.answer
-    (record { code = c.refused.ensures.code; same = c.refused.ensures.answer; may = subst MayAnswer (sym c.requires.hosted.answer) tt })
-    (ap (λ (l : BookLog). l.log) c.refused.ensures.seen_log ∙ c.requires.hosted.first) c.refused.ensures.told c.refused.ensures.sessions
-    (stopped_at_once g.D.Disk self.version.value (flusher_in self.store) fault.disk c.refused.ensures.now
-    (subst (λ o. MatchOption o (fault.disk ≡ None) (λ f. fault.disk ≡ Some f.commit.disk)) c.into_flusher.ensures c.refused.ensures.disk))
+    let given : List (Port _ _) → List Given = given_to g.R.Read.remaining g.W.ReplyWriter.contents in
+    record {
+      fault =
+          refused_at_once g.D.Disk self.version.value (flusher_in self.store) (given c.args.ports.items) fault self.answer
+          (record { code = c.refused.ensures.code; same = c.refused.ensures.answer; may = subst MayAnswer (sym c.requires.hosted.answer) tt })
+          (ap (λ (l : BookLog). l.log) c.refused.ensures.seen_log ∙ c.requires.hosted.first) c.refused.ensures.told c.refused.ensures.sessions
+          (stopped_at_once g.D.Disk self.version.value (flusher_in self.store) fault.disk c.refused.ensures.now
+          (subst (λ o. MatchOption o (fault.disk ≡ None) (λ f. fault.disk ≡ Some f.commit.disk)) c.into_flusher.ensures c.refused.ensures.disk));
+      ports = (ap (λ (ps : Vec (Port _ _) Global). given ps.items) c.in-Err.ensures.refused, c.refused.ensures.sessions);
+    }
 
-pub run_threads-work-requires-after_bounds : goal.run_threads-work-requires-after_bounds
-run_threads-work-requires-after_bounds g c κs within =
+pub run_threads-store-requires-after_bounds : goal.run_threads-store-requires-after_bounds
+run_threads-store-requires-after_bounds g c κs within =
     let self = c.args.self in
     let start = self.version.value in
     let ports = c.args.ports.items in
-    let seats = c.in-Some.seats in
-    let seated : AreSeated g.J.BookName.book start ports seats.scripts.items = record { sessions = c.in-Some.ensures.sessions ∙ c.requires.hosted.sessions; ports_are = c.in-Some.ensures.ports } in
+    let seats = c.in-Ok.seats in
+    let seated : AreSeated g.J.BookName.book start ports seats.scripts.items = record { sessions = c.in-Ok.ensures.sessions ∙ c.requires.hosted.sessions; ports_are = c.in-Ok.ensures.ports } in
     record {
       store = c.requires.hosted.of;
       durable = holds_first g.D.Disk g.J.BookName.stored start self.store c.requires.hosted.begun c.requires.meant;
       scripts = all_of_book g.J.BookName.book start ports seats.scripts.items seated;
       told = may_report_all g.D.Disk c.requires.hosted.now start g.J.BookName.stored (flusher_in self.store) (λ log number. (c.requires.meant log number).0)
           g.W.ReplyWriter.may_report c.requires.told _ c.requires.hosted.stored seats.scripts.items (begin_there g.J.BookName.book start ports seats.scripts.items seated);
-      room = subst (HasRoom seats) (sym (as_many g.J.BookName.book start ports seats.scripts.items seated)) c.in-Some.ensures.room;
+      room = subst (HasRoom seats) (sym (as_many g.J.BookName.book start ports seats.scripts.items seated)) c.in-Ok.ensures.room;
     }
 
 pub keep_store-store-requires-clause-stored : goal.keep_store-store-requires-clause-stored
 keep_store-store-requires-clause-stored g c =
     let old = c.args.self.store in
-    let work = c.run_threads-work in
+    let work = c.run_threads-store in
     holds_on g.D.Disk g.J.BookName.stored old work.result.store work.ensures.store.flushed
     (holds_first g.D.Disk g.J.BookName.stored c.args.self.version.value old c.requires.hosted.begun c.requires.meant)
 
 pub close-closed-requires-clause-sessions : goal.close-closed-requires-clause-sessions
 close-closed-requires-clause-sessions g c =
-    let left = c.run_threads-work.ensures.left in
+    let left = c.run_threads-store.ensures.left in
     subst (All (λ (k : Known). k.book ≡ g.J.BookName.book)) (sym (c.deref-2.ensures.value ∙ left.sessions_are))
-    (of_ended g.J.BookName.book (store_of g.J.BookName.stored (has_store c.args.self.shared)) g.R.Read.remaining g.W.ReplyWriter.contents c.in-Some.seats.scripts.items left.ended left.each)
+    (of_ended g.J.BookName.book (store_of g.J.BookName.stored (has_store c.args.self.shared)) g.R.Read.remaining g.W.ReplyWriter.contents c.in-Ok.seats.scripts.items left.ended left.each)
 
 pub returns-then-is_set-clause-refused : goal.returns-then-is_set-clause-refused
 returns-then-is_set-clause-refused g c =
     let self = c.args.self in
     let start = self.version.value in
     let ports = c.args.ports.items in
-    let scripts = c.in-Some.seats.scripts.items in
-    let work = c.run_threads-work in
+    let scripts = c.in-Ok.seats.scripts.items in
+    let work = c.run_threads-store in
     let left = work.ensures.left in
     let after = c.keep_store-store.result in
     let closed = c.close-closed in
-    let these : work.result.seats.sessions.items ≡ map ended_session left.ended = left.sessions_are in
-    let seated : AreSeated g.J.BookName.book start ports scripts = record { sessions = c.in-Some.ensures.sessions ∙ c.requires.hosted.sessions; ports_are = c.in-Some.ensures.ports } in
+    let these : work.result.sessions.items ≡ map ended_session left.ended = left.sessions_are in
+    let seated : AreSeated g.J.BookName.book start ports scripts = record { sessions = c.in-Ok.ensures.sessions ∙ c.requires.hosted.sessions; ports_are = c.in-Ok.ensures.ports } in
     let there = subst (λ b. AllZip (IsRunOf g.J.BookName.book (store_of g.J.BookName.stored b) g.R.Read.remaining g.W.ReplyWriter.contents) scripts left.ended) c.requires.hosted.stored left.each in
     let held =
     runs_held g.D.Disk c.requires.hosted.now start g.J.BookName.stored g.J.BookName.book (flusher_in self.store) g.R.Read.remaining g.W.ReplyWriter.contents
     (λ log number. (c.requires.meant log number).0) scripts left.ended (begin_there g.J.BookName.book start ports scripts seated) there in
-    let fault = c.stopped in
-    stopped_from g.D.Disk g.J.BookName.book g.R.Read.remaining g.W.ReplyWriter.contents start ports self.store after scripts left.ended fault.result
+    let refused = c.stopped in
+    stopped_of g.D.Disk g.J.BookName.book g.R.Read.remaining g.W.ReplyWriter.contents start ports self.store after scripts left.ended refused.result
     (record { log = c.requires.hosted.begun; none_told = c.requires.hosted.untold; some = c.requires.ports; seated = seated })
     (record { sessions = held; kept = kept_twice g.D.Disk g.J.BookName.book self.store work.result.store after work.ensures.store c.keep_store-store.ensures })
-    c.any_begun-begun.result self.answer closed.result
-    (record { code = fault.ensures.code; same = fault.ensures.answer; may = subst MayAnswer (sym c.requires.hosted.answer) tt })
+    self.answer closed.result
+    (record { code = refused.ensures.code; same = refused.ensures.answer; may = subst MayAnswer (sym c.requires.hosted.answer) tt })
     (record {
       version = closed.ensures.version;
       sessions = subst (All (HasAllOf closed.result.seen_log.log)) (c.deref-2.ensures.value ∙ these) closed.ensures.sessions;
@@ -105,28 +112,27 @@ returns-then-is_set-clause-refused g c =
         told = closed.ensures.told;
       };
     })
-    fault.ensures.closed
-    (c.any_begun-begun.ensures ∙ ap (λ (fs : List (Finished _)). any_of fs) (c.deref-then-is_set.ensures.value ∙ left.finished_are))
-    (come_to c.any_begun-begun.result fault.result.sessions.items work.result.seats.sessions.items (map ended_session left.ended) fault.ensures.sessions these)
+    refused.ensures.closed work.result.finished left.finished_are refused.ensures.back
+    (come_to (any_of work.result.finished.items) refused.result.fault.sessions.items work.result.sessions.items (map ended_session left.ended) refused.ensures.sessions these)
 
 pub returns-clause-left : goal.returns-clause-left
 returns-clause-left g c =
     let self = c.args.self in
     let start = self.version.value in
     let ports = c.args.ports.items in
-    let scripts = c.in-Some.seats.scripts.items in
-    let work = c.run_threads-work in
+    let scripts = c.in-Ok.seats.scripts.items in
+    let work = c.run_threads-store in
     let left = work.ensures.left in
     let after = c.keep_store-store.result in
     let closed = c.close-closed in
-    let these : work.result.seats.sessions.items ≡ map ended_session left.ended = left.sessions_are in
-    let seated : AreSeated g.J.BookName.book start ports scripts = record { sessions = c.in-Some.ensures.sessions ∙ c.requires.hosted.sessions; ports_are = c.in-Some.ensures.ports } in
+    let these : work.result.sessions.items ≡ map ended_session left.ended = left.sessions_are in
+    let seated : AreSeated g.J.BookName.book start ports scripts = record { sessions = c.in-Ok.ensures.sessions ∙ c.requires.hosted.sessions; ports_are = c.in-Ok.ensures.ports } in
     let there = subst (λ b. AllZip (IsRunOf g.J.BookName.book (store_of g.J.BookName.stored b) g.R.Read.remaining g.W.ReplyWriter.contents) scripts left.ended) c.requires.hosted.stored left.each in
     let held =
     runs_held g.D.Disk c.requires.hosted.now start g.J.BookName.stored g.J.BookName.book (flusher_in self.store) g.R.Read.remaining g.W.ReplyWriter.contents
     (λ log number. (c.requires.meant log number).0) scripts left.ended (begin_there g.J.BookName.book start ports scripts seated) there in
     served_from g.D.Disk g.J.BookName.book g.R.Read.remaining g.W.ReplyWriter.contents start ports self.store after scripts left.ended
-    (record { sessions = work.result.seats.finished; closed = closed.result })
+    (record { sessions = work.result.finished; closed = closed.result })
     (record { log = c.requires.hosted.begun; none_told = c.requires.hosted.untold; some = c.requires.ports; seated = seated })
     (record { sessions = held; kept = kept_twice g.D.Disk g.J.BookName.book self.store work.result.store after work.ensures.store c.keep_store-store.ensures })
     (record {
