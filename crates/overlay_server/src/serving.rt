@@ -1,5 +1,5 @@
 //! A server: from readers and an engine to what the sessions wrote, and what is left of the book and its store.
-ghost use Rattle.std.specs.Prelude.{◌≡◌, ◌<◌, ◌≤◌, is_some, length, IfOk, IfErr};
+ghost use Rattle.std.specs.Prelude.{◌≡◌, ◌<◌, ◌≤◌, None, All, is_some, length, IfOk, IfErr};
 ghost use Rattle.book_history.specs.Rules.{head_of};
 ghost use Rattle.overlay_server.specs.Given.{bytes_of, given_by, given_to};
 ghost use Rattle.overlay_server.specs.Refusing.{IsRefusedFrom, IsRefusedOf};
@@ -76,6 +76,8 @@ where
     // To the writers may be reported what the store holds, and nothing else: this says what counts as stored, also in a call
     // that never returns. Each writer of bytes meets it.
     requires told { (history : History) → IsHeldOf D.Disk (start_of engine) (flusher_of engine) history → W.may_report history }
+    // None of them keeps a reply of another session. Each writer of bytes meets it.
+    requires fresh { All (λ port. W.last port.writer ≡ None) ports.items }
     ensures left { IfOk result (IsLeftFrom W.contents D.Disk (start_of engine) (flusher_of engine) (given_to R.remaining W.contents ports.items)) }
     ensures disk { IfOk result (λ left. is_some left.closed.disk ≡ is_some engine) }
     // Where it could not run, the ports come back as they were, or the writers, each with just what its session was answered.
