@@ -16,7 +16,7 @@ MOST = 45
 
 @dataclasses.dataclass(frozen=True)
 class Beside:
-    """Something that is proved: the lines that say it, and the definitions of which it speaks."""
+    """Something that is proved: the lines that say it, and the definitions and types of which it speaks."""
 
     lines: tuple[str, ...]
     keys: frozenset[Key]
@@ -29,8 +29,9 @@ def besides(told: Told, keys: set[Key], cut: Cut) -> list[Beside]:
     kinds = sorted((key for key in keys if not key[0] and house.model(key[1], key[2])), key=lambda key: (house.crates[key[1]], key[2]))
     found = [keeps_to(house, key, keys) for key in kinds]
     for law in told.tables.laws:
-        reach = house.mine(house.of_call(Call(law.name, law.file, law.name, ""), cut).keys)
-        is_near = law.name in told.tables.shown and reach & keys and house.lines(reach - keys) <= MOST
+        reach = house.of_call(Call(law.name, law.file, law.name, ""), cut).keys
+        mine = house.mine(reach)
+        is_near = law.name in told.tables.shown and mine & keys and house.lines(mine - keys) <= MOST
         if reached_by(house, law) & listed <= keys or is_near:
             found.append(Beside(tuple(said(law, house)), frozenset(reach)))
     return found
@@ -46,12 +47,12 @@ def keeps_to(house: House, key: Key, keys: set[Key]) -> Beside:
     _, crate, name = key
     seen = re.sub(r"\s+", " ", house.model(crate, name))
     lines = [f"`{name}`, a type of {crate}: each value is seen as `{seen}`"]
-    rests = house.mine(house.reached({key}).keys)
+    rests = house.reached({key}).keys
     kept = re.sub(r"\s+", " ", house.invariant(crate, name))
     if not kept:
         return Beside((lines[0] + ".",), frozenset(rests))
     lines = [f"{lines[0]}, and keeps to", f"    {kept}"]
-    words = house.mine(house.reached(house.named(kept, None, *imports(house.types[crate, name].read_text()))).keys)
-    if house.lines(words - keys) > MOST:
+    words = house.reached(house.named(kept, None, *imports(house.types[crate, name].read_text()))).keys
+    if house.lines(house.mine(words) - keys) > MOST:
         return Beside((*lines, "whose words are not all here."), frozenset(rests))
     return Beside(tuple(lines), frozenset(rests | words))

@@ -31,9 +31,9 @@ def text(told: Told, title: str) -> str:
     lines = [*head(told, title, body), *(line for call in calls for line in [
         f"==== {call.title}: {call.says}", f"     crates/{call.file}", "", *marked(quoted(house, call), call.title, cut), ""])]
     lines += body.lines()
-    lines += rest(house, reach.keys, sorted(link.title for link in reach.links))
+    lines += rest(house, body.keys, sorted(link.title for link in reach.links))
     lines += body.types(body.kinds)
-    return "\n".join([*lines, *index(lines, reach.keys | body.done)])
+    return "\n".join([*lines, *index(lines, body.keys)])
 
 
 def head(told: Told, title: str, body: Body) -> list[str]:
@@ -52,7 +52,7 @@ def head(told: Told, title: str, body: Body) -> list[str]:
                          ("Of the contracts this row has these promises alone; the words of others are not defined here:", row.only)]:
         if parts:
             lines += [first, "", *(f"    {one}" for one in parts), ""]
-    found = names_of(house, body.all_keys())
+    found = names_of(house, body.keys)
     for first, names in [("These names have two meanings here:", meanings(found)),
                          ("These differ in the case of their letters alone:", alike(found))]:
         if names:
@@ -76,17 +76,13 @@ class Body:
         calls, reach = told.row(title)
         self.house = told.house
         self.cut = told.cut(title)
-        self.keys = reach.keys
         self.mine = self.house.mine(reach.keys)
-        said = [*(self.house.head(call)[1] for call in calls), *("\n".join(self.house.shown(key, self.cut)) for key in reach.keys if key[0])]
-        self.fields = set(re.findall(r"\.(\w+)", "\n".join(said)))
         self.waiting = besides(told, reach.keys, self.cut)
-        self.kinds = {key for key in reach.keys if not key[0] and not self.house.model(key[1], key[2])}
+        self.keys = reach.keys.union(*(one.keys for one in self.waiting))
+        said = [*(self.house.head(call)[1] for call in calls), *("\n".join(self.house.shown(key, self.cut)) for key in self.keys if key[0])]
+        self.fields = set(re.findall(r"\.(\w+)", "\n".join(said)))
+        self.kinds = {key for key in self.keys if not key[0] and not self.house.model(key[1], key[2])}
         self.done: set[Key] = set()
-
-    def all_keys(self) -> set[Key]:
-        """All that the text prints."""
-        return self.keys | set().union(*(one.keys for one in self.waiting))
 
     def lines(self) -> list[str]:
         """The definitions, file by file, with types and laws between them; at last what speaks of none of them."""
