@@ -266,7 +266,7 @@ def writes(top: pathlib.Path) -> int:
     assert row.index("`Thing`, a type of low: each value is seen as `Pair`, and keeps to\n    λ t. Part ≡ Part\n\n-- a part\n") > row.index("pub left")
     assert "goes_law (crates/high/src/calling.rt): What goes, goes on.\n\nabbrev pub GoesLaw : Type 0\n" in row
     places = dict(re.findall(r"(\w+) (\d+)(?:,|$)", row.partition("==== Names, and the lines at which they are\n\n")[2], re.M))
-    assert set(places) == {"Goes", "GoesLaw", "Pair", "Part", "Takes", "twice", "twofold"}, places
+    assert set(places) == {"Goes", "GoesLaw", "Pair", "Part", "Takes", "Thing", "twice", "twofold"}, places
     assert row.splitlines()[int(places["Goes"]) - 1] == "abbrev pub Goes : Thing → ℕ → Type 0" and "left" not in places
     assert "==== Of the kit: core Numbers\n\n-- both\nabbrev pub twofold : ℕ → ℕ\ntwofold n = n + n\n" in row, row
     for call, head, lines in [("opens", "A type of low: Box", "/// A box.\npub struct Box<D: Disk> {\n    pub(crate) thing: Vec<Thing>,\n}\n"),

@@ -127,11 +127,12 @@ def index(lines: list[str], keys: set[Key]) -> list[str]:
     """The definitions and types of a text, each with the line at which it is."""
     either = "|".join(sorted({re.escape(key[2]) for key in keys}, key=len, reverse=True))
     first = re.compile(rf" *(?:(?:abbrev|unfoldable) )?pub (?:(?:record|data|struct|enum|trait) )?({either})(?=[ <(:{{]|$)")
+    kept = re.compile(rf"`({either})`, a type of ")
     found: dict[str, list[str]] = {}
     for at, line in enumerate(lines, 1):
         # A field has the form of a definition, but no empty line before it.
         above = next((one for one in reversed(lines[: at - 1]) if not re.match(r" *(--|//|#)", one)), "")
-        named = first.match(line)
+        named = first.match(line) or kept.match(line)
         if named and not above:
             found.setdefault(named[1], []).append(str(at))
     # What belongs together is not parted at the end of a line.
