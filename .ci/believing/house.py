@@ -258,8 +258,16 @@ class House:
 
     def model(self, crate: str, name: str) -> str:
         """What a value of a type is seen as, or nothing where the type is seen by its fields."""
-        text = self.types[crate, name].read_text()
-        found = re.search(rf"^impl[^\n]*Model for {name}\b.*?ghost Value = \{{ (.*?) \}};", text, re.M | re.S)
+        return self.of_model(crate, name, "Value")
+
+    def invariant(self, crate: str, name: str) -> str:
+        """What each value of a type with a model keeps to, of its fields, or nothing where the model says none."""
+        return self.of_model(crate, name, "invariant")
+
+    def of_model(self, crate: str, name: str, part: str) -> str:
+        """A part of a type's model, or nothing."""
+        block = re.search(rf"^impl[^\n]*Model for {name}\b.*?^\}}", self.types[crate, name].read_text(), re.M | re.S)
+        found = re.search(rf"ghost {part} = \{{ (.*?) \}};", block[0], re.S) if block else None
         return found[1] if found else ""
 
     def declared(self, crate: str, name: str, fields: set[str], cut: Cut = NOTHING) -> list[str]:

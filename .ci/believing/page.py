@@ -57,6 +57,8 @@ class Tables:
     together: list[Row]
     promises: list[Word]
     laws: list[Law]
+    # The laws that a text shows where it has nearly all of their words.
+    shown: tuple[str, ...] = ()
 
 
 class Told:
@@ -125,13 +127,14 @@ def page(house: House, tables: Tables) -> str:
 
 
 def quoted(house: House, call: Call) -> list[str]:
-    """A function's head as it stands in its source, moved to the margin."""
+    """A function's head as it stands in its source, moved to the margin; a method's after the type that has it."""
     lines = (house.top / "crates" / call.file).read_text().splitlines()
     head = re.compile(rf"\s*(?:pub )?fn {call.name}\b(?!.*;$)")
     first = next(k for k, line in enumerate(lines) if head.match(line))
     shift = len(lines[first]) - len(lines[first].lstrip())
     last = next(k for k in range(first, len(lines)) if re.match(rf" {{{shift}}}\{{", lines[k]))
-    return [line[shift:] for line in lines[first:last]]
+    owner = [line for line in lines[:first] if shift and re.match(r"impl\b", line)][-1:]
+    return [*owner, *(line[shift:] for line in lines[first:last])]
 
 
 def links(told: Told) -> str:

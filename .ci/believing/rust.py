@@ -74,6 +74,14 @@ def parts(text: str, name: str) -> list[tuple[str, str]]:
     return []
 
 
+def cases(text: str, name: str) -> list[str]:
+    """The names of the cases of an enum; none of another type."""
+    plain = re.sub(r"//.*|#\[[^\n]*\]", "", text)
+    head = re.search(HEADED.format(kind="enum", name=name), plain, re.M | re.S)
+    inside = block(plain, head.start("rest")) if head else ""
+    return [found[0] for part in split_outside(inside, ",") if (found := re.search(r"[A-Z]\w*", part))]
+
+
 def declared(text: str, name: str, fields: set[str]) -> list[str]:
     """A type or a trait as it is declared, with its comments, without attributes; of a struct the fields of these names."""
     lines = text.splitlines()

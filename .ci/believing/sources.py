@@ -170,7 +170,9 @@ def fields_of(shown: list[str]) -> set[str]:
 
 
 def without(shown: list[str], fields: set[str]) -> list[str]:
-    """The lines of a definition without some of its fields and the comments above these; a line at the end names them."""
+    """The lines of a definition without some of its fields and the comments above these; a line at the end names them, as
+    the sentence above speaks of them too.
+    """
     kept: list[str] = []
     gone: list[str] = []
     margin = ""
@@ -189,4 +191,4 @@ def without(shown: list[str], fields: set[str]) -> list[str]:
             is_gone = False
         if not is_gone:
             kept.append(line)
-    return [*kept, f"{margin}-- left out: {', '.join(gone)}"] if gone else kept
+    return [*kept, f"{margin}-- fields left out, of which the sentence may speak: {', '.join(gone)}"] if gone else kept

@@ -8,9 +8,9 @@ import tempfile
 
 from believing import rust
 from believing.house import Call, House, Key, Link, Pin
-from believing.page import Law, Row, Tables, Told, Word, compare, page, with_numbers
+from believing.page import Law, Row, Tables, Told, Word, compare, page, quoted, with_numbers
 from believing.sources import fields_of, read_module, without
-from believing.texts import path_of, text, twice
+from believing.texts import alike, meanings, names_of, path_of, text, twice
 
 LOW = """-- numbers
 use Rattle.std.specs.Prelude.{ℕ, ◌≡◌, twofold}
@@ -103,6 +103,7 @@ ghost use Rattle.low.specs.Numbers.{Pair, Part};
 pub struct Thing { left: usize }
 impl Model for Thing {
     ghost Value = { Pair };
+    ghost invariant = { λ t. Part ≡ Part };
 }
 pub struct Other(usize);
 impl Model for Other {
@@ -146,10 +147,11 @@ def files() -> dict[str, str]:
     calls = "".join(f"pub fn {name}({words}) -> usize\n    // Turns is no word of a clause here.\n    ensures first {{ {clause} }}\n{{\n    0\n}}\n"
                     for name, words, clause in BODIES)
     law = "/// What goes,\n/// goes on.\npub fn goes_law()\n    ensures { GoesLaw }\n{}\n"
+    method = "impl Thing {\n    pub fn look(&self) -> usize\n        ensures { Pair }\n    {\n        0\n    }\n}\n"
     return {"crates.txt": "# all\nlow:\nhigh: low\nabove: high\n", "crates/low/specs/Numbers.antt": LOW,
             "crates/high/specs/Calls.antt": HIGH, "crates/high/specs/Lib.antt": "pub mod Calls\npub use Rattle.low.specs.Numbers\n",
             "crates/above/specs/From.antt": TOP, "crates/low/src/thing.rt": THING, "crates/high/src/lib.rt": LIB,
-            "crates/high/src/calling.rt": CALLING + calls + law, **{f"kit/{path}": said for path, said in KIT.items()}}
+            "crates/high/src/calling.rt": CALLING + calls + law + method, **{f"kit/{path}": said for path, said in KIT.items()}}
 
 
 def calls_of(*names: str) -> list[Call]:
@@ -244,13 +246,18 @@ def pins(top: pathlib.Path) -> int:
     return 5
 
 
+def small_tables() -> Tables:
+    """A page of the small tree: three calls, and rows of them."""
+    return Tables("# Head\n@CONTRACT@\n@LINKS@\n@WITHOUT@", calls_of("go", "give", "take"),
+                  [Row("both", ("go", "take"), "Two."), Row("few", ("go", "take"), "Less.", ("Goes", "go: first")),
+                   Row("part", ("give",), "One field.", only=("Handed.rest",))],
+                  [Word("high", "Calls", "Goes", "A word.")], [Law("go", "high/src/calling.rt", "goes_law")])
+
+
 def writes(top: pathlib.Path) -> int:
-    """The page and a row's text."""
+    """The page."""
     house = House(top, top / "kit", LINKS)
-    tables = Tables("# Head\n@CONTRACT@\n@LINKS@\n@WITHOUT@", calls_of("go", "give", "take"),
-                    [Row("both", ("go", "take"), "Two."), Row("few", ("go", "take"), "Less.", ("Goes", "go: first")),
-                     Row("part", ("give",), "One field.", only=("Handed.rest",))],
-                    [Word("high", "Calls", "Goes", "A word.")], [Law("go", "high/src/calling.rt", "goes_law")])
+    tables = small_tables()
     said = page(house, tables)
     for line in ["| `go` | 3 | 10 | 2 | 1 (3) | A call. |", "| `give` | 1 | 2 | 1 |  | A call. |", "| both | 4 | 12 | 2 | 1 (3) | Two. |",
                  "| [`Handed`](../crates/high/specs/Calls.antt) | `give` | `take` |", "Link words: `Handed`.",
@@ -259,24 +266,8 @@ def writes(top: pathlib.Path) -> int:
                  "`Goes`](../crates/high/specs/Calls.antt) | 3 | 10 | 2 | 1 (3) | A word. | `go` 3 |"]:
         assert line in said, (line, said)
     assert said.index("low Numbers") < said.index("high Calls") and "`Thing` as `Pair`" in said
-    row = text(Told(house, tables), "both")
-    assert row.index("abbrev pub twice") < row.index("-- goes up\nabbrev pub Goes") < row.index("Takes n = Handed n → Goes n n")
-    assert "What to believe of: both (4 definitions, 12 lines)" in row and "low `Thing` as `Pair`" in row and "idle" not in row
-    assert "goes_law (high/src/calling.rt): What goes, goes on." in row
-    places = dict(re.findall(r"(\w+) (\d+)(?:,|$)", row.partition("==== Names, and the lines at which they are\n\n")[2], re.M))
-    assert set(places) == {"Goes", "Pair", "Takes", "twice", "twofold"}, places
-    assert row.splitlines()[int(places["Goes"]) - 1] == "abbrev pub Goes : Thing → ℕ → Type 0" and "left" not in places
-    assert "==== Of the kit: core Numbers\n\n-- both\nabbrev pub twofold : ℕ → ℕ\ntwofold n = n + n\n" in row, row
-    for call, head, lines in [("opens", "A type of low: Box", "/// A box.\npub struct Box<D: Disk> {\n    pub(crate) thing: Vec<Thing>,\n}\n"),
-                              ("sort", "A type of low: Kind", "pub enum Kind {\n    /// One.\n    One { thing: Thing },\n    Two(Box<u8>),\n}\n")]:
-        looked = text(Told(house, Tables("", calls_of(call), [], [], [])), call)
-        assert f"==== {head}\n\n{lines}" in looked, looked
-    cut = Tables("", calls_of("store"), [Row("less", ("store",), "Less.", ("Store: two",))], [], [])
-    assert "ensures one" in text(Told(house, cut), "less") and "ensures two" not in text(Told(house, cut), "less")
     assert "| few | 2 | 6 | 2 |  | Less. |" in said and "- `few` leaves out `Goes`, `go: first`." in said, said
-    assert "    go: first" in text(Told(house, tables), "few")
-    assert "- `part` has `Handed.rest`." in said and "    Handed.rest" in text(Told(house, tables), "part")
-    assert "  -- left out: few" in text(Told(house, tables), "part") and "pub few" not in text(Told(house, tables), "part")
+    assert "- `part` has `Handed.rest`." in said
     for wrong, fault in [(Law("give", "high/src/calling.rt", "goes_law"), "speaks of nothing"), (Law("go", "high/src/calling.rt", "go"), "no law")]:
         try:
             page(house, Tables("", tables.calls, [], [], [wrong]))
@@ -284,7 +275,59 @@ def writes(top: pathlib.Path) -> int:
             assert fault in str(stop), stop
         else:
             raise AssertionError(fault)
-    return 11
+    return 5
+
+
+def prints(top: pathlib.Path) -> int:
+    """The texts of rows."""
+    house = House(top, top / "kit", LINKS)
+    tables = small_tables()
+    row = text(Told(house, tables), "both")
+    assert row.index("abbrev pub twice") < row.index("-- goes up\nabbrev pub Goes") < row.index("Takes n = Handed n → Goes n n")
+    assert "What to believe of: both (4 definitions, 12 lines)" in row and "idle" not in row
+    assert row.index("`Thing`, a type of low: each value is seen as `Pair`, and keeps to\n    λ t. Part ≡ Part\n\n-- a part\n") > row.index("pub left")
+    assert "goes_law (crates/high/src/calling.rt): What goes, goes on.\n\nabbrev pub GoesLaw : Type 0\n" in row
+    places = dict(re.findall(r"(\w+) (\d+)(?:,|$)", row.partition("==== Names, and the lines at which they are\n\n")[2], re.M))
+    assert set(places) == {"Goes", "GoesLaw", "Pair", "Part", "Takes", "Thing", "twice", "twofold"}, places
+    assert row.splitlines()[int(places["Goes"]) - 1] == "abbrev pub Goes : Thing → ℕ → Type 0" and "left" not in places
+    assert "==== Of the kit: core Numbers\n\n-- both\nabbrev pub twofold : ℕ → ℕ\ntwofold n = n + n\n" in row, row
+    for call, head, lines in [("opens", "A type of low: Box", "/// A box.\npub struct Box<D: Disk> {\n    pub(crate) thing: Vec<Thing>,\n}\n"),
+                              ("sort", "A type of low: Kind", "pub enum Kind {\n    /// One.\n    One { thing: Thing },\n    Two(Box<u8>),\n}\n")]:
+        looked = text(Told(house, Tables("", calls_of(call), [], [], [])), call)
+        assert f"==== {head}\n\n{lines}" in looked, looked
+        assert call == "sort" or looked.index(f"==== {head}") < looked.index("abbrev pub Opens"), looked
+    cut = Tables("", calls_of("store"), [Row("less", ("store",), "Less.", ("Store: two",))], [], [])
+    assert "ensures one" in text(Told(house, cut), "less") and "ensures two" not in text(Told(house, cut), "less")
+    assert text(Told(house, cut), "less").index("A type of low: Store") < text(Told(house, cut), "less").index("pub record Pair")
+    assert "    go: first" in text(Told(house, tables), "few") and "{ Goes thing.now result }  // left out" in text(Told(house, tables), "few")
+    assert "    Handed.rest" in text(Told(house, tables), "part")
+    assert "  -- fields left out, of which the sentence may speak: few" in text(Told(house, tables), "part") and "pub few" not in text(Told(house, tables), "part")
+    return 9
+
+
+def proves(top: pathlib.Path) -> int:
+    """What a text prints besides: a law with words that its row has not, and the type that has a method."""
+    house = House(top, top / "kit", LINKS)
+    for shown in (("goes_law",), ()):
+        tables = Tables("", calls_of("go", "rest"), [], [], [Law("go", "high/src/calling.rt", "goes_law")], shown)
+        row = text(Told(house, tables), "rest")
+        assert ("goes_law" in row) == ("-- goes up" in row) == ("-- both" in row) == bool(shown), row
+        assert "(2 definitions, 6 lines)" in row, row
+    head = ["impl Thing {", "pub fn look(&self) -> usize", "    ensures { Pair }"]
+    assert quoted(house, calls_of("look")[0]) == head, quoted(house, calls_of("look")[0])
+    return 3
+
+
+def names(top: pathlib.Path) -> int:
+    """The names that have two meanings, as definitions, types and cases; and those that differ in letters' cases."""
+    found = names_of(House(top, top / "kit"), {("", "low", "Kind"), ("", "low", "Box"), *low("Way", "twice", "Pair"), ("above", "From", "Passed")})
+    assert found["Two"] == ["a case of Kind, a type of low"] and found["up"] == ["a case of Way, a definition of low Numbers"], found
+    assert meanings(found) == [] and alike(found) == []
+    found["up"].append("a type of low")
+    found["TWICE"] = ["a type of low"]
+    assert meanings(found) == ["up: a case of Way, a definition of low Numbers; a type of low"], meanings(found)
+    assert alike(found) == ["TWICE, a type of low; twice, a definition of low Numbers"], alike(found)
+    return 3
 
 
 def compares(top: pathlib.Path) -> int:
@@ -313,8 +356,8 @@ def reads() -> int:
     assert path_of("a crash of a run, and its opening").name == "a-crash-of-a-run-and-its-opening.txt"
     shown = ["-- a claim", "pub record P : Type 0 where", "  pub a : A", "  -- of b", "  pub b : B", "    → C", "  -- of c", "  pub c : C"]
     assert fields_of(shown) == {"a", "b", "c"} and without(shown, set()) == shown
-    assert without(shown, {"b"}) == [*shown[:3], *shown[6:], "  -- left out: b"], without(shown, {"b"})
-    assert without(shown, {"c", "a"}) == [*shown[:2], *shown[3:6], "  -- left out: a, c"]
+    assert without(shown, {"b"}) == [*shown[:3], *shown[6:], "  -- fields left out, of which the sentence may speak: b"], without(shown, {"b"})
+    assert without(shown, {"c", "a"}) == [*shown[:2], *shown[3:6], "  -- fields left out, of which the sentence may speak: a, c"]
     return 5
 
 
@@ -325,6 +368,6 @@ def test() -> int:
         for path, said in files().items():
             (top / path).parent.mkdir(parents=True, exist_ok=True)
             (top / path).write_text(said)
-        passed = reaches(top) + hides(top) + pins(top) + writes(top) + compares(top) + reads()
+        passed = reaches(top) + hides(top) + pins(top) + writes(top) + prints(top) + proves(top) + names(top) + compares(top) + reads()
     print(f"{passed} passed, 0 failed")
     return 0

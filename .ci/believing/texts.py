@@ -6,11 +6,15 @@ import pathlib
 import re
 import textwrap
 
+from believing import rust
+from believing.beside import Beside, besides
 from believing.house import Cut, File, House, Key
-from believing.page import Told, quoted, reached_by, seen_as, sentence_of
+from believing.page import Told, quoted
 
 FOLDER = pathlib.Path("docs/believe")
 FIRM = "\u00a0"  # a space at which no line ends
+# Every table of faults has these two.
+OF_FAULTS = ("code_of", "text_of")
 
 
 def path_of(title: str) -> pathlib.Path:
@@ -22,39 +26,113 @@ def text(told: Told, title: str) -> str:
     """The text of a row, to print: contracts, definitions lowest first, link words, words of the kit, and types."""
     house = told.house
     calls, reach = told.row(title)
-    row, cut = told.row_of(title), told.cut(title)
-    mine = house.mine(reach.keys)
-    kit = house.of_kit(reach.keys)
-    count = f"({len(mine)} definitions, {house.lines(mine, cut):,} lines), over {len(kit)} of the kit ({house.lines(kit):,} lines)"
+    cut = told.cut(title)
+    body = Body(told, title)
+    lines = [*head(told, title, body), *(line for call in calls for line in [
+        f"==== {call.title}: {call.says}", f"     crates/{call.file}", "", *marked(quoted(house, call), call.title, cut), ""])]
+    lines += body.lines()
+    lines += rest(house, body.keys, sorted(link.title for link in reach.links))
+    lines += body.types(body.kinds)
+    return "\n".join([*lines, *index(lines, body.keys)])
+
+
+def head(told: Told, title: str, body: Body) -> list[str]:
+    """The first lines of a text: how it is read, what is left out, and which names have two meanings."""
+    house = told.house
+    row, reach = told.row_of(title), told.row(title)[1]
+    mine, kit = house.mine(reach.keys), house.of_kit(reach.keys)
+    count = f"({len(mine)} definitions, {house.lines(mine, told.cut(title)):,} lines), over {len(kit)} of the kit ({house.lines(kit):,} lines)"
     lines = [f"What to believe of: {title} {count}", "",
              "`.ci/believe --text` wrote this from the sources. docs/BELIEVE.md says how to read it. First the contracts,",
              "then the definitions on which they rest, lowest first: each comes after those that it rests on, or beside them",
-             "in one file. At the end, to be looked up, are the kit's definitions that these name, the types of the sources",
-             "with the fields that these name, and the lines of all names.", ""]
-    for head, parts in [("Left out are these promises, which stand beside (docs/BELIEVE.md); their words are not defined here:", row.without),
-                        ("Of the contracts this row has these promises alone; the words of others are not defined here:", row.only)]:
+             "in one file. A type of the sources, with the fields that these name, stands before the first file that needs it.",
+             "After a file stands, not counted, what is proved of it: laws, and what each value of a type with a model keeps",
+             "to. At the end, to be looked up, are the kit's definitions that these name, and the lines of all names.", ""]
+    for first, parts in [("Left out are these promises, which stand beside (docs/BELIEVE.md); their words are not defined here:", row.without),
+                         ("Of the contracts this row has these promises alone; the words of others are not defined here:", row.only)]:
         if parts:
-            lines += [head, "", *(f"    {one}" for one in parts), ""]
-    if twice(mine):
-        lines += ["These names have two meanings here, each in its file:", "", *(f"    {one}" for one in twice(mine)), ""]
-    for call in calls:
-        lines += [f"==== {call.title}: {call.says}", f"     crates/{call.file}", "", *quoted(house, call), ""]
-    for file, names in house.in_order(mine):
-        lines += definitions(house, file, names, cut)
-    lines += proved(told, reach.keys)
-    lines += rest(house, reach.keys, sorted(link.title for link in reach.links), cut, "\n".join(lines))
-    return "\n".join([*lines, *index(lines, reach.keys)])
+            lines += [first, "", *(f"    {one}" for one in parts), ""]
+    found = names_of(house, body.keys)
+    for first, names in [("These names have two meanings here:", meanings(found)),
+                         ("These differ in the case of their letters alone:", alike(found))]:
+        if names:
+            lines += [first, "", *(f"    {one}" for one in names), ""]
+    return lines
+
+
+def marked(lines: list[str], title: str, cut: Cut) -> list[str]:
+    """The lines of a contract; a clause that the row leaves out is marked."""
+    gone = {clause for call, clause in cut.clauses if call == title}
+    return [line + ("  // left out" if found and found[1] in gone else "")
+            for line in lines for found in [re.match(r" *ensures (\w+) \{", line)]]
+
+
+class Body:
+    """The definitions of a text, each type before the first file that needs it, and what is proved after the last file
+    of which it speaks.
+    """
+
+    def __init__(self, told: Told, title: str) -> None:
+        calls, reach = told.row(title)
+        self.house = told.house
+        self.cut = told.cut(title)
+        self.mine = self.house.mine(reach.keys)
+        self.waiting = besides(told, reach.keys, self.cut)
+        self.keys = reach.keys.union(*(one.keys for one in self.waiting))
+        said = [*(self.house.head(call)[1] for call in calls), *("\n".join(self.house.shown(key, self.cut)) for key in self.keys if key[0])]
+        self.fields = set(re.findall(r"\.(\w+)", "\n".join(said)))
+        self.kinds = {key for key in self.keys if not key[0] and not self.house.model(key[1], key[2])}
+        self.done: set[Key] = set()
+
+    def lines(self) -> list[str]:
+        """The definitions, file by file, with types and laws between them; at last what speaks of none of them."""
+        lines: list[str] = []
+        for file, names in self.house.in_order(self.mine):
+            keys = {(*file, name) for name in names}
+            lines += self.types({kind for kind in self.kinds if self.is_needed(kind, keys)})
+            lines += definitions(self.house, file, names, self.cut)
+            self.done |= keys
+            lines += self.proved([one for one in self.waiting if one.keys & self.mine <= self.done])
+        return lines + self.proved(self.waiting)
+
+    def is_needed(self, kind: Key, keys: set[Key]) -> bool:
+        """Whether some definitions name a type, or are named by the clauses of a trait."""
+        return any(kind in self.house.uses(key, self.cut) for key in keys) or bool(self.house.uses(kind, self.cut) & keys)
+
+    def types(self, kinds: set[Key]) -> list[str]:
+        """Some types as their sources declare them, each after those that its fields and cases name."""
+        lines: list[str] = []
+        for kind in sorted(kinds, key=lambda kind: (self.house.crates[kind[1]], kind[2])):
+            if kind in self.kinds:
+                self.kinds = self.kinds - {kind}
+                shown = self.house.declared(kind[1], kind[2], self.fields, self.cut)
+                lines += self.types(self.house.within(kind, self.fields) & self.kinds)
+                lines += [f"==== A type of {kind[1]}: {kind[2]}", "", *shown, ""] if shown else []
+        return lines
+
+    def proved(self, ready: list[Beside]) -> list[str]:
+        """What is proved, each with the words that stand nowhere above."""
+        lines = ["==== Proved of these, and not counted", ""] if ready else []
+        for one in ready:
+            fresh = self.house.mine(one.keys) - self.mine - self.done
+            lines += [*one.lines, ""]
+            for file, names in self.house.in_order(fresh):
+                lines += definitions(self.house, file, names, self.cut)[2:]
+            self.done |= fresh
+        self.waiting = [one for one in self.waiting if one not in ready]
+        return lines
 
 
 def index(lines: list[str], keys: set[Key]) -> list[str]:
     """The definitions and types of a text, each with the line at which it is."""
     either = "|".join(sorted({re.escape(key[2]) for key in keys}, key=len, reverse=True))
-    head = re.compile(rf" *(?:(?:abbrev|unfoldable) )?pub (?:(?:record|data|struct|enum|trait) )?({either})(?=[ <(:{{]|$)")
+    first = re.compile(rf" *(?:(?:abbrev|unfoldable) )?pub (?:(?:record|data|struct|enum|trait) )?({either})(?=[ <(:{{]|$)")
+    kept = re.compile(rf"`({either})`, a type of ")
     found: dict[str, list[str]] = {}
     for at, line in enumerate(lines, 1):
         # A field has the form of a definition, but no empty line before it.
         above = next((one for one in reversed(lines[: at - 1]) if not re.match(r" *(--|//|#)", one)), "")
-        named = head.match(line)
+        named = first.match(line) or kept.match(line)
         if named and not above:
             found.setdefault(named[1], []).append(str(at))
     # What belongs together is not parted at the end of a line.
@@ -64,20 +142,39 @@ def index(lines: list[str], keys: set[Key]) -> list[str]:
 
 
 def twice(keys: set[Key]) -> list[str]:
-    """The names that more than one of some definitions has, and their files; every table of faults has the same two."""
+    """The names that more than one of some definitions has, and their files."""
     files: dict[str, list[str]] = {}
     for crate, module, name in sorted(keys):
-        if name not in ("code_of", "text_of"):
+        if name not in OF_FAULTS:
             files.setdefault(name, []).append(f"{crate} {module}")
     return [f"{name}: {', '.join(places)}" for name, places in sorted(files.items()) if len(places) > 1]
 
 
-def proved(told: Told, keys: set[Key]) -> list[str]:
-    """What is proved of the definitions of a text: the laws that speak, of all that the page lists, of these alone."""
-    listed = set().union(*(reach.keys for reach in told.reach.values()))
-    lines = [f"{law.name} ({law.file}): {sentence_of(told.house, law)}" for law in told.tables.laws
-             if reached_by(told.house, law) & listed <= keys]
-    return ["==== What is proved of these: laws, each a public function with this contract", "", *lines, ""] if lines else []
+def names_of(house: House, keys: set[Key]) -> dict[str, list[str]]:
+    """The names of some definitions and types, and of the cases of these, and what each is."""
+    found: dict[str, list[str]] = {}
+    for crate, module, name in sorted(keys):
+        what = f"a definition of {crate} {module}" if crate else f"a type of {module}"
+        made = house.module((crate, module)).constructors.items() if crate else []
+        cases = [case for case, of in made if of == name] if crate else rust.cases(house.types[module, name].read_text(), name)
+        if name not in OF_FAULTS:
+            found.setdefault(name, []).append(what)
+        for case in cases:
+            found.setdefault(case, []).append(f"a case of {name}, {what}")
+    return found
+
+
+def meanings(found: dict[str, list[str]]) -> list[str]:
+    """The names that more than one thing has, and what each is."""
+    return [f"{name}: {'; '.join(places)}" for name, places in sorted(found.items()) if len(places) > 1]
+
+
+def alike(found: dict[str, list[str]]) -> list[str]:
+    """The names that differ from another in the case of their letters alone, and what each is."""
+    names: dict[str, list[str]] = {}
+    for name in sorted(found):
+        names.setdefault(name.lower(), []).append(f"{name}, {found[name][0]}")
+    return ["; ".join(said) for _, said in sorted(names.items()) if len(said) > 1]
 
 
 def definitions(house: House, file: File, names: list[str], cut: Cut) -> list[str]:
@@ -99,19 +196,11 @@ def definitions(house: House, file: File, names: list[str], cut: Cut) -> list[st
     return lines
 
 
-def rest(house: House, keys: set[Key], links: list[str], cut: Cut, said: str) -> list[str]:
-    """What a text is looked up in: link words, the kit's definitions and types, with the fields that the text names."""
+def rest(house: House, keys: set[Key], links: list[str]) -> list[str]:
+    """What a text is looked up in: link words, and the kit's definitions."""
     lines = ["==== Link words, which calls hand to one another", "", *links, ""] if links else []
     for file, names in house.in_order(house.of_kit(keys)):
         lines += [f"==== Of the kit: {file[0]} {file[1]}", ""]
         for name in names:
             lines += [*house.shown((*file, name)), ""]
-    kinds = sorted({key[1:] for key in keys if not key[0]}, key=lambda kind: (house.crates[kind[0]], kind[1]))
-    seen = [f"{crate} {seen_as(house, crate, name)}" for crate, name in kinds if house.model(crate, name)]
-    lines += ["==== Types with a model, and what their values are seen as", "", *seen, ""] if seen else []
-    fields = set(re.findall(r"\.(\w+)", said))
-    for crate, name in kinds:
-        shown = [] if house.model(crate, name) else house.declared(crate, name, fields, cut)
-        if shown:
-            lines += [f"==== A type of {crate}: {name}", "", *shown, ""]
     return lines
