@@ -1,5 +1,5 @@
 -- What a session may write.
-use Rattle.std.specs.Prelude.{◌≡◌, ◌⊎◌, ℕ, Bool, IsTrue, List}
+use Rattle.std.specs.Prelude.{◌≡◌, ◌⊎◌, ℕ, Bool, IsTrue, List, Option, Some, None, IfSome}
 use Rattle.overlay_terms.specs.Batches.{Batch}
 use Rattle.overlay_terms.specs.Histories.{Entry, History, BeginsWith}
 use Rattle.book_history.specs.Known.{Known, seen}
@@ -14,13 +14,25 @@ use Rattle.server_session.specs.Stores.{IsToldOf}
 abbrev pub IsFaultText : List ℕ → Type 0
 IsFaultText text = (fault : CommandFault) × ((text ≡ error_line fault) ⊎ ((place : ℕ) × (text ≡ refused_line place fault)))
 
--- a reply of a session that knows so much: a fault, or the answer to a request or to a batch, which the session gives now;
--- `stored` is what is known of the book's store
-abbrev pub IsReplyAt : BookStore → Known → List ℕ → Type 0
-IsReplyAt stored now text =
-    IsFaultText text
-    ⊎ ((was : Known) × (request : Request) × Answers stored was request now text)
-    ⊎ ((was : Known) × (commands : Batch) × SubmitsAll was commands now text)
+-- a fault for which the session made nothing
+pub record IsFaultSince (was now : Known) (text : List ℕ) : Type 0 where
+  pub fault : IsFaultText text
+  pub nothing_made : now.made ≡ was.made
+
+-- a reply of a session that knew so much before it: a fault, or the answer to a request or to a batch, which the session
+-- gives now; `stored` is what is known of the book's store
+abbrev pub IsReplySince : BookStore → Known → Known → List ℕ → Type 0
+IsReplySince stored was now text =
+    IsFaultSince was now text ⊎ ((request : Request) × Answers stored was request now text) ⊎ ((commands : Batch) × SubmitsAll was commands now text)
+
+-- the next reply of a writer: what the session knew before it is what it knew at the reply before, where the writer keeps that
+abbrev pub IsReplyAfter : BookStore → Option Known → Known → List ℕ → Type 0
+IsReplyAfter stored None now text = (was : Known) × IsReplySince stored was now text
+IsReplyAfter stored (Some was) now text = IsReplySince stored was now text
+
+-- the last reply of a writer, where it keeps that, was given at what a session knows
+abbrev pub IsLastAt : Option Known → Known → Type 0
+IsLastAt last now = IfSome last (λ was. was ≡ now)
 
 -- what was stored may be reported: by a book with a store, of each history that goes on from what a session has seen
 abbrev pub MayReport : (List Entry → ℕ → Type 0) → Bool → Known → (History → Type 0) → Type 0

@@ -9,7 +9,7 @@ ghost use Rattle.script_form.specs.Requests.{request, put_text, locate, grid, li
 ghost use Rattle.script_form.specs.Transcript.{asked_column};
 ghost use Rattle.server_session.specs.Stores.{no_store, store_of};
 ghost use Rattle.server_session.specs.Answering.{Answers, Submits, result_text};
-ghost use Rattle.server_session.specs.Replying.{IsReplyAt};
+ghost use Rattle.server_session.specs.Replying.{IsReplySince};
 ghost use Rattle.server_session.specs.Session.{Stays};
 ghost use Rattle.server_session.specs.Turn.{TakesTurn};
 ghost use Rattle.version_book.specs.Store.{has_store};
@@ -47,7 +47,7 @@ pub fn answer<J: BookName, S: Wait + Drop, Q: Wait + Threads + Sync>(
     requires { me.old.book ≡ J.book }
     ensures takes { TakesTurn (store_of J.stored (has_store shared.now)) me.old waiting.old line.now me.new waiting.new (reply_text result) }
     // So much is owed before it is written.
-    ensures right { IsReplyAt (store_of J.stored (has_store shared.now)) me.new (reply_text result) }
+    ensures right { IsReplySince (store_of J.stored (has_store shared.now)) me.old me.new (reply_text result) }
 {
     match take_line(alloc, waiting, line) {
         LineTurn::Waits => LineReply::Nothing,

@@ -3,7 +3,7 @@ ghost use Rattle.std.specs.Prelude.{◌≡◌};
 ghost use Rattle.script_form.specs.LineReply.{reply_text};
 ghost use Rattle.server_session.specs.Answering.{AnswersAll, SubmitsAll};
 ghost use Rattle.server_session.specs.Fault.{lines_told};
-ghost use Rattle.server_session.specs.Replying.{IsReplyAt};
+ghost use Rattle.server_session.specs.Replying.{IsReplySince};
 ghost use Rattle.server_session.specs.Stores.{store_of};
 ghost use Rattle.version_book.specs.Store.{has_store};
 
@@ -27,7 +27,7 @@ pub(crate) fn answer_batch<J: BookName, S: Wait + Drop, Q: Wait>(
 ) -> LineReply
     requires { me.old.book ≡ J.book }
     ensures answers { AnswersAll me.old read me.new (reply_text result) }
-    ensures right { IsReplyAt (store_of J.stored (has_store shared.now)) me.new (reply_text result) }
+    ensures right { IsReplySince (store_of J.stored (has_store shared.now)) me.old me.new (reply_text result) }
 {
     match read {
         Ok(batch) => submit_all(rt, alloc, shared, me, &batch),

@@ -5,7 +5,7 @@ ghost use Rattle.book_history.specs.Known.{seen};
 ghost use Rattle.version_book.specs.Store.{has_store};
 ghost use Rattle.script_form.specs.Fault.{code_of};
 ghost use Rattle.script_form.specs.Replies.{error_line};
-ghost use Rattle.server_session.specs.Replying.{MayReport};
+ghost use Rattle.server_session.specs.Replying.{IsLastAt, MayReport};
 ghost use Rattle.server_session.specs.Stores.{store_of};
 ghost use Rattle.server_session.specs.Session.{IsSharedSession, IsSessionWithin, Stays};
 ghost use Rattle.server_session.specs.SessionState.{has_ended, HasTaken};
@@ -66,12 +66,14 @@ pub fn session_run_within<
     requires book { me.old.book ≡ J.book }
     requires countable { most < 2 ^ 63 }
     requires told { MayReport J.stored (has_store shared.now) me.old W.may_report }
+    requires last { IsLastAt (W.last writer.old) me.old }
     ensures run { IsSessionWithin most (store_of J.stored (has_store shared.now)) result me.old me.new (R.remaining reader.old)
         (R.remaining reader.new) (W.contents writer.old) (W.contents writer.new) }
     ensures goes_on { BeginsWith (seen me.new) (seen me.old) }
     // Each version that it reports is one of a history.
     ensures history { IsHistory (seen me.new) }
     ensures same { (me.new.book ≡ me.old.book) × (me.new.session ≡ me.old.session) }
+    ensures last { IsLastAt (W.last writer.new) me.new }
 {
     match rooms(alloc) {
         Ok((mut state, mut chunk)) => {
@@ -125,8 +127,10 @@ fn run<J: BookName, S: Wait + Drop, Q: Wait + Threads + Sync, R: Read, W: ReplyW
     requires room { 0 < length chunk.old }
     requires countable { most < 2 ^ 63 }
     requires told { MayReport J.stored (has_store shared.now) me.old W.may_report }
+    requires last { IsLastAt (W.last writer.old) me.old }
     ensures run { IsSessionWithin most (store_of J.stored (has_store shared.now)) result me.old me.new (R.remaining reader.old)
         (R.remaining reader.new) (W.contents writer.old) (W.contents writer.new) }
+    ensures last { IsLastAt (W.last writer.new) me.new }
     ensures stays { Stays me.old me.new }
 {
     let mut taken = 0;
@@ -158,8 +162,10 @@ fn finish<J: BookName, S: Wait + Drop, Q: Wait + Threads + Sync, W: ReplyWriter>
     requires book { me.old.book ≡ J.book }
     requires going { has_ended state.old ≡ false }
     requires told { MayReport J.stored (has_store shared.now) me.old W.may_report }
+    requires last { IsLastAt (W.last writer.old) me.old }
     ensures finishes { Finishes (store_of J.stored (has_store shared.now)) result state.old me.old me.new (W.contents writer.old)
         (W.contents writer.new) }
+    ensures last { IsLastAt (W.last writer.new) me.new }
     ensures stays { Stays me.old me.new }
 {
     match state.finish(rt, alloc, shared, me, writer) {
@@ -170,7 +176,9 @@ fn finish<J: BookName, S: Wait + Drop, Q: Wait + Threads + Sync, W: ReplyWriter>
 
 /// Writes the line of the fault that ends the session.
 fn end_by<W: ReplyWriter>(me: &Session, fault: CommandFault, writer: &mut W) -> SessionEnd
-    ensures { EndsBy result (code_of fault) (error_line fault) (W.contents writer.old) (W.contents writer.new) }
+    requires { IsLastAt (W.last writer.old) me.now }
+    ensures ends { EndsBy result (code_of fault) (error_line fault) (W.contents writer.old) (W.contents writer.new) }
+    ensures last { IsLastAt (W.last writer.new) me.now }
 {
     match writer.reply(me, &LineReply::Fault(fault)) {
         Ok(()) => SessionEnd::Failed(fault.code()),

@@ -3,7 +3,7 @@ ghost use Rattle.std.specs.Prelude.{◌≡◌, Bool, ◌∷◌, ◌++◌, [], Li
 ghost use Rattle.overlay_terms.specs.Histories.{IsHistory};
 ghost use Rattle.book_history.specs.Known.{seen};
 ghost use Rattle.version_book.specs.Store.{has_store};
-ghost use Rattle.server_session.specs.Replying.{MayReport};
+ghost use Rattle.server_session.specs.Replying.{IsLastAt, MayReport};
 ghost use Rattle.server_session.specs.Stores.{store_of};
 ghost use Rattle.server_session.specs.Session.{Stays};
 ghost use Rattle.server_session.specs.SessionState.{has_ended, HasTaken, turns_ended, turns_at_end, AnswersTurns, AnswersInPart};
@@ -62,6 +62,7 @@ impl SessionState {
         requires book { me.old.book ≡ J.book }
         requires going { has_ended self.old ≡ false }
         requires told { MayReport J.stored (has_store shared.now) me.old W.may_report }
+        requires last { IsLastAt (W.last writer.old) me.old }
         ensures takes { OnOk result ((taken : List ℕ) → HasTaken self.old taken → HasTaken self.new (taken ++ bytes.now)) }
         ensures answers { OnOk result ((taken : List ℕ) → HasTaken self.old taken
             → AnswersTurns (store_of J.stored (has_store shared.now)) me.old (turns_ended taken bytes.now) me.new (W.contents writer.old) (W.contents writer.new)) }
@@ -69,6 +70,7 @@ impl SessionState {
             → AnswersInPart (store_of J.stored (has_store shared.now)) me.old (turns_ended taken bytes.now) me.new (W.contents writer.old) (W.contents writer.new)) }
         ensures fault { IfErr result (λ fault. fault ≡ CommandFault.Write) }
         ensures ended { has_ended self.new ≡ is_err result }
+        ensures last { IsLastAt (W.last writer.new) me.new }
         ensures stays { Stays me.old me.new }
         // Each version that a reply reports is one of a history.
         ensures history { IsHistory (seen me.new) }
@@ -91,6 +93,7 @@ impl SessionState {
         requires book { me.old.book ≡ J.book }
         requires going { has_ended self.old ≡ false }
         requires told { MayReport J.stored (has_store shared.now) me.old W.may_report }
+        requires last { IsLastAt (W.last writer.old) me.old }
         ensures takes { OnOk result ((taken : List ℕ) → HasTaken self.old taken → HasTaken self.new (taken ++ bytes.now)) }
         ensures answers { OnOk result ((taken : List ℕ) → HasTaken self.old taken
             → AnswersTurns (store_of J.stored (has_store shared.now)) me.old (turns_ended taken bytes.now) me.new (W.contents writer.old) (W.contents writer.new)) }
@@ -98,6 +101,7 @@ impl SessionState {
             → AnswersInPart (store_of J.stored (has_store shared.now)) me.old (turns_ended taken bytes.now) me.new (W.contents writer.old) (W.contents writer.new)) }
         ensures fault { IfErr result (λ fault. fault ≡ CommandFault.Write) }
         ensures ended { has_ended self.new ≡ is_err result }
+        ensures last { IsLastAt (W.last writer.new) me.new }
         ensures stays { Stays me.old me.new }
     {
         for byte in bytes {
@@ -118,6 +122,7 @@ impl SessionState {
         requires book { me.old.book ≡ J.book }
         requires going { has_ended self.old ≡ false }
         requires told { MayReport J.stored (has_store shared.now) me.old W.may_report }
+        requires last { IsLastAt (W.last writer.old) me.old }
         ensures takes { OnOk result ((taken : List ℕ) → HasTaken self.old taken → HasTaken self.new (taken ++ byte ∷ [])) }
         ensures answers { OnOk result ((taken : List ℕ) → HasTaken self.old taken
             → AnswersTurns (store_of J.stored (has_store shared.now)) me.old (turns_ended taken (byte ∷ [])) me.new (W.contents writer.old) (W.contents writer.new)) }
@@ -125,6 +130,7 @@ impl SessionState {
             → AnswersInPart (store_of J.stored (has_store shared.now)) me.old (turns_ended taken (byte ∷ [])) me.new (W.contents writer.old) (W.contents writer.new)) }
         ensures fault { IfErr result (λ fault. fault ≡ CommandFault.Write) }
         ensures ended { has_ended self.new ≡ is_err result }
+        ensures last { IsLastAt (W.last writer.new) me.new }
         ensures stays { Stays me.old me.new }
     {
         if byte != b'\n' {
@@ -153,12 +159,14 @@ impl SessionState {
         requires book { me.old.book ≡ J.book }
         requires going { has_ended self.old ≡ false }
         requires told { MayReport J.stored (has_store shared.now) me.old W.may_report }
+        requires last { IsLastAt (W.last writer.old) me.old }
         ensures answers { OnOk result ((taken : List ℕ) → HasTaken self.old taken
             → AnswersTurns (store_of J.stored (has_store shared.now)) me.old (turns_at_end taken) me.new (W.contents writer.old) (W.contents writer.new)) }
         ensures stops { OnErr result ((taken : List ℕ) → HasTaken self.old taken
             → AnswersInPart (store_of J.stored (has_store shared.now)) me.old (turns_at_end taken) me.new (W.contents writer.old) (W.contents writer.new)) }
         ensures fault { IfErr result (λ fault. fault ≡ CommandFault.Write) }
         ensures ended { has_ended self.new ≡ true }
+        ensures last { IsLastAt (W.last writer.new) me.new }
         ensures stays { Stays me.old me.new }
         ensures history { IsHistory (seen me.new) }
     {
@@ -178,12 +186,14 @@ impl SessionState {
         requires book { me.old.book ≡ J.book }
         requires going { has_ended self.old ≡ false }
         requires told { MayReport J.stored (has_store shared.now) me.old W.may_report }
+        requires last { IsLastAt (W.last writer.old) me.old }
         ensures answers { OnOk result ((taken : List ℕ) → HasTaken self.old taken
             → AnswersTurns (store_of J.stored (has_store shared.now)) me.old (turns_at_end taken) me.new (W.contents writer.old) (W.contents writer.new)) }
         ensures stops { OnErr result ((taken : List ℕ) → HasTaken self.old taken
             → AnswersInPart (store_of J.stored (has_store shared.now)) me.old (turns_at_end taken) me.new (W.contents writer.old) (W.contents writer.new)) }
         ensures fault { IfErr result (λ fault. fault ≡ CommandFault.Write) }
         ensures ended { has_ended self.new ≡ true }
+        ensures last { IsLastAt (W.last writer.new) me.new }
         ensures stays { Stays me.old me.new }
     {
         self.ended = true;
@@ -209,9 +219,11 @@ fn answer_line<J: BookName, S: Wait + Drop, Q: Wait + Threads + Sync, W: ReplyWr
 ) -> Result<(), CommandFault>
     requires book { me.old.book ≡ J.book }
     requires told { MayReport J.stored (has_store shared.now) me.old W.may_report }
+    requires last { IsLastAt (W.last writer.old) me.old }
     ensures answers { AnswersLine (store_of J.stored (has_store shared.now)) result me.old waiting.old line.now me.new waiting.new
         (W.contents writer.old) (W.contents writer.new) }
     ensures fault { IfErr result (λ fault. fault ≡ CommandFault.Write) }
+    ensures last { IsLastAt (W.last writer.new) me.new }
 {
     let reply = answer(rt, alloc, shared, me, waiting, line);
     writer.reply(me, &reply)
@@ -223,8 +235,10 @@ fn end_batch<J: BookName, W: ReplyWriter>(
     waiting: &Option<OpenBatch>,
     writer: &mut W,
 ) -> Result<(), CommandFault>
+    requires last { IsLastAt (W.last writer.old) me.now }
     ensures ends { (there : Bool) → EndsBatch (store_of J.stored there) result waiting.now (W.contents writer.old) (W.contents writer.new) }
     ensures fault { IfErr result (λ fault. fault ≡ CommandFault.Write) }
+    ensures last { IsLastAt (W.last writer.new) me.now }
 {
     if waiting.is_none() {
         return Ok(());

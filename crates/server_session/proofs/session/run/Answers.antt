@@ -10,6 +10,7 @@ loop-taken-init g c = record {
   room = refl;
   going = c.requires.going;
   stays = stays_self _;
+  last = c.requires.last;
   way = begins _ _ _ _ _ _ c.requires.begun;
 }
 
@@ -17,7 +18,7 @@ pub returns-in-Err-clause-run : goal.returns-in-Err-clause-run
 returns-in-Err-clause-run g c =
     let within : c.loop-taken.taken ≤ c.args.most = c.loop-taken-test.true in
     ends-at_read c.args.most _ c.args.me.now c.end_by.result _ _ _ _ (g.W.ReplyWriter.contents c.loop-taken.writer) (g.W.ReplyWriter.contents c.end_by.new.writer) _ c.loop-taken.state c.loop-taken.me
-    c.loop-taken.invariant.way within c.in-Err.ensures.err c.end_by.ensures
+    c.loop-taken.invariant.way within c.in-Err.ensures.err c.end_by.ensures.ends
 
 pub returns-in-Err-clause-stays : goal.returns-in-Err-clause-stays
 returns-in-Err-clause-stays g c = c.loop-taken.invariant.stays
@@ -61,6 +62,7 @@ loop-taken-preserved g c =
       room = search rules;
       going = c.take-told.ensures.ended ∙ works;
       stays = stays_trans _ _ _ c.loop-taken.invariant.stays c.take-told.ensures.stays;
+      last = c.take-told.ensures.last;
       way =
           goes_on c.args.most _ c.args.me.now _ (g.R.Read.remaining c.loop-taken.reader) (g.R.Read.remaining c.read_chunk.new.reader) _ (g.W.ReplyWriter.contents c.loop-taken.writer) (g.W.ReplyWriter.contents c.take-told.new.writer)
           c.loop-taken.taken c.in-Ok.count c.min-allowed.result c.read_chunk.new.chunk c.loop-taken.state c.take-told.new.self c.loop-taken.me c.take-told.new.me
@@ -71,7 +73,7 @@ pub returns-clause-run : goal.returns-clause-run
 returns-clause-run g c =
     let past : c.loop-taken.taken ≡ c.args.most + 1 = omega arith in
     ends-past_limit c.args.most _ c.args.me.now c.end_by-2.result _ _ _ (g.W.ReplyWriter.contents c.loop-taken.writer) (g.W.ReplyWriter.contents c.end_by-2.new.writer) _ c.loop-taken.state c.loop-taken.me
-    c.loop-taken.invariant.way past c.end_by-2.ensures
+    c.loop-taken.invariant.way past c.end_by-2.ensures.ends
 
 pub returns-clause-stays : goal.returns-clause-stays
 returns-clause-stays g c = c.loop-taken.invariant.stays

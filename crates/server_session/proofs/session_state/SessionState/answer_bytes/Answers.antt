@@ -11,6 +11,7 @@ loop-byte-init g c = record {
   answers = λ taken has. answers_nothing _ _ _ taken;
   going = c.requires.going;
   stays = stays_self _;
+  last = c.requires.last;
 }
 
 pub take_byte-requires-clause-told : goal.take_byte-requires-clause-told
@@ -28,6 +29,7 @@ loop-byte-preserved g c =
       answers = answers_more _ c.args.self.now c.loop-byte.self _ _ c.take_byte.new.me (take i bytes) _ _ _ _ (g.W.ReplyWriter.contents c.take_byte.new.writer) joined here.stays here.takes here.answers next.answers;
       going = next.ended;
       stays = stays_trans _ _ _ here.stays next.stays;
+      last = next.last;
     }
 
 pub returns-in_err-take_byte-clause-stops : goal.returns-in_err-take_byte-clause-stops

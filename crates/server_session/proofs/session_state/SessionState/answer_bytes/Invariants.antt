@@ -1,6 +1,7 @@
 -- The bytes so far are taken, and the turns that they end are answered.
 use Rattle.std.proofs.Common.{◌≡◌, ℕ, false, List, ◌++◌, take}
 use Rattle.version_book.specs.Store.{has_store}
+use Rattle.server_session.specs.Replying.{IsLastAt}
 use Rattle.server_session.specs.Session.{Stays}
 use Rattle.server_session.specs.Stores.{store_of}
 use Rattle.server_session.specs.SessionState.{has_ended, HasTaken, turns_ended, AnswersTurns}
@@ -13,4 +14,5 @@ invariant-loop-byte g l = record {
       → AnswersTurns (store_of g.J.BookName.stored (has_store l.shared)) l.initial.me (turns_ended taken (take l.byte-index l.bytes)) l.me (g.W.ReplyWriter.contents l.initial.writer) (g.W.ReplyWriter.contents l.writer);
   going : has_ended l.self ≡ false;
   stays : Stays l.initial.me l.me;
+  last : IsLastAt (g.W.ReplyWriter.last l.writer) l.me;
 }
