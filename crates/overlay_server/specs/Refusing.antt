@@ -32,8 +32,8 @@ pub record StoppedPart : Type 0 where
   pub given : Given
   pub now : Known
 
--- it ran the script that it was given, or was not begun and made nothing: there are replies to its lines, by histories that
--- it has seen then; the log has all of that, and of the session's batches just those that it made
+-- it ran its script, or was not begun: its lines have replies by histories that it has seen then, which the log has all, and
+-- of the session's batches just those that it made
 pub record IsStopped (stored : BookStore) (log : List Entry) (part : StoppedPart) : Type 0 where
   pub end : SessionEnd
   pub left : Option (List ℕ)
@@ -56,9 +56,8 @@ pub record AreStopped (stored : BookStore) (start : Version) (log : List Entry) 
 -- ---- the store
 
 module _ {D : Type 0} (g : Ghosts D) where
-  -- what is left of a store: a crash at any moment left a file that stands for a version of this log, no older than what was
-  -- stored at first. What the log reports durable was written down as it was reported, and from that moment on a crash leaves no
-  -- older version
+  -- what is left of a store: a crash at any moment leaves a file that stands for a version of this log, none older than at
+  -- first; once the log has reported a version durable, which was written down then, no crash leaves an older one
   pub record IsStoppedBy (log : List Entry) (written : List Told) (old : Flusher D g) (disk : D) : Type 0 where
     pub moments : LeavesOnly g old.commit.disk disk (IsFileIn (history_of log) old.commit.root.version)
     pub told : StaysTold g (history_of log) written old.commit.disk disk
@@ -76,10 +75,8 @@ module _ {D : Type 0} (g : Ghosts D) where
 
 -- ---- the server
 
--- a server could not run: for want of memory or of a thread, or of places in the book. Its number is that of what the book
--- answered as it was to be opened, and 40 where it was opened. The history that it leaves begins with the first version; the
--- sessions that come back, numbered from 0, alone had commands accepted, those of their scripts; where none comes back, none
--- was accepted. The disk comes back
+-- a server could not run, as memory, a thread (40) or places in the book (44) were refused. Its history begins with the first
+-- version; the sessions that come back, numbered from 0, alone had commands accepted, those of their scripts. The disk comes back
 pub record IsRefusedFrom {D : Type 0} (g : Ghosts D) (start : Version) (store : Option (Flusher D g)) (all : List Given) (fault : ServerFault D) : Type 0 where
   pub code : (fault.code ≡ 40) ⊎ (fault.code ≡ 44)
   pub exactly : fault.code ≡ refusal_code (answer_in fault.answer)
@@ -92,8 +89,7 @@ pub record IsRefusedFrom {D : Type 0} (g : Ghosts D) (start : Version) (store : 
 
 -- ---- the ports of a server
 
--- all ports come back as they were, and no session was begun; or the writer of each, with just what its session was answered,
--- as where the server ran: by histories that are all in the log that comes back
+-- all ports come back as they were; or each one's writer, with what its session was answered by histories of the log that does
 abbrev pub AreBack : {R W D : Type 0} (remaining : R → Option (List ℕ)) (contents : W → Option (List ℕ)) (stored : BookStore) (start : Version) (all : List Given) → ServerFault D → PortsBack R W → Type 0
 AreBack remaining contents stored start all fault (Unserved ports) = (given_to remaining contents ports.items ≡ all) × (fault.sessions.items ≡ [])
 AreBack remaining contents stored start all fault (Stopped finished) = AreServed stored contents start fault.seen_log.log all finished.items

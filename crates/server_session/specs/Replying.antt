@@ -19,8 +19,7 @@ pub record IsFaultSince (was now : Known) (text : List ℕ) : Type 0 where
   pub fault : IsFaultText text
   pub nothing_made : now.made ≡ was.made
 
--- a reply of a session that knew so much before it: a fault, or the answer to a request or to a batch, which the session
--- gives now; `stored` is what is known of the book's store
+-- a reply of a session that knew `was` before: a fault, or the answer to a request or a batch, at what it knows now
 abbrev pub IsReplySince : BookStore → Known → Known → List ℕ → Type 0
 IsReplySince stored was now text =
     IsFaultSince was now text ⊎ ((request : Request) × Answers stored was request now text) ⊎ ((commands : Batch) × SubmitsAll was commands now text)
