@@ -239,8 +239,8 @@ def types(house: House, keys: set[Key]) -> str:
     """The types of the sources that contracts and definitions name."""
     lines = ["## Types of the sources", "",
              "Not counted above. A value of a type with a model is seen as the model's value; of any other its fields are",
-             "seen, and of an enum its cases. A trait has clauses of its own: what a disk has to keep, a crash's premise,",
-             "is in `Disk`.", "",
+             "seen, and of an enum its cases. What each value of a type with a model keeps to, the texts of rows say. A trait",
+             "has clauses of its own: what a disk has to keep, a crash's premise, is in `Disk`.", "",
              "| File | Types, and what they are seen as |", "|---|---|"]
     files: dict[tuple[int, str], list[str]] = {}
     for crate, name in sorted({key[1:] for key in keys if not key[0]}):

@@ -47,7 +47,8 @@ def head(told: Told, title: str, body: Body) -> list[str]:
              "then the definitions on which they rest, lowest first: each comes after those that it rests on, or beside them",
              "in one file. A type of the sources, with the fields that these name, stands before the first file that needs it.",
              "After a file stands, not counted, what is proved of it: laws, and what each value of a type with a model keeps",
-             "to. At the end, to be looked up, are the kit's definitions that these name, and the lines of all names.", ""]
+             "to. At the end, to be looked up, are the kit's definitions that these name, the types that no definition of the",
+             "row names, and the lines of all names.", ""]
     for first, parts in [("Left out are these promises, which stand beside (docs/BELIEVE.md); their words are not defined here:", row.without),
                          ("Of the contracts this row has these promises alone; the words of others are not defined here:", row.only)]:
         if parts:
