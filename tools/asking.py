@@ -42,9 +42,22 @@ def found_program(names: tuple[str, ...]) -> str:
     built = [TOP / "crates" / name / "out" / name for name in names] + [TOP / name for name in names]
     found = [str(file) for file in built if file.is_file()] + [file for file in map(shutil.which, names) if file]
     if not found:
-        raise Unusable(f"no program: neither {' nor '.join(names)} is built in {TOP} or is on the path; say "
-                       "--program PATH")
+        raise Unusable(f"no program: {missing(names)}; {how_to_build(names[0])}say --program PATH")
     return found[0]
+
+
+def missing(names: tuple[str, ...]) -> str:
+    """Where programs were looked for, and are not."""
+    if len(names) == 1:
+        return f"{names[0]} is neither built in {TOP} nor on the path"
+    return f"neither {' nor '.join(names)} is built in {TOP} or on the path"
+
+
+def how_to_build(name: str) -> str:
+    """The words that build a program, unproved, where the repository's sources are."""
+    if not (TOP / "bench" / "unproved.py").is_file():
+        return ""
+    return f"build it there by `python3 bench/unproved.py --unchecked crates/{name}/src ./{name}`, or "
 
 
 def ran(program: str, words: list[str], script: bytes) -> bytes:

@@ -13,7 +13,8 @@ from believing.house import NOTHING, Call, Cut, House, Key, Reach
 # The rows of which README.md has the numbers.
 OF_README = r"(?:`locate`|the sentence in bold|a crash of a run, and its opening|all without what stands beside|all together)"
 ROW = re.compile(rf"^\| {OF_README} \| (\d+) \| ([\d,]+) \|", re.M)
-TOLD = re.compile(r"\d+(\s+definitions\s+\()[\d,]+(\s+lines\))")
+# Those rows of README.md: their cells of definitions and of lines.
+TOLD = re.compile(r"^(\| [^|\n]+ \| )\d+( \| )[\d,]+( \|)$", re.M)
 
 
 @dataclasses.dataclass(frozen=True)
@@ -266,7 +267,7 @@ def with_numbers(readme: str, page_text: str) -> str:
 
     def counted(found: re.Match[str]) -> str:
         definitions, lines = next(numbers)
-        return f"{definitions}{found[1]}{lines}{found[2]}"
+        return f"{found[1]}{definitions}{found[2]}{lines}{found[3]}"
 
     return TOLD.sub(counted, readme, count=5)
 

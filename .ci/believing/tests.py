@@ -334,10 +334,11 @@ def compares(top: pathlib.Path) -> int:
     """The numbers of README.md, and what is not as it would be written."""
     rows = ("| `locate` | 4 | 1,009 | 2 |\n| the sentence in bold | 5 | 8 | 2 |\n| a crash of a run, and its opening | 5 | 9 | 2 |\n"
             "| all without what stands beside | 5 | 3 | 2 |\n| all together | 6 | 7 | 2 |\n")
-    told = with_numbers("believe 1 definitions (2 lines), 3\ndefinitions (4 lines), 3 definitions (4 lines), 3 definitions (4 lines),"
-                        " 5 definitions (6\nlines)", rows)
-    assert told == ("believe 4 definitions (1,009 lines), 5\ndefinitions (8 lines), 5 definitions (9 lines), 5 definitions (3 lines),"
-                    " 6 definitions (7\nlines)"), told
+    readme = ("| Line | Reply | Meaning |\n|---|---|---|\n| a line of 1 | 2 | lines |\n\n| To read | Definitions | Lines |\n|---|---|---|\n"
+              "| LOCATE | 1 | 2 |\n| new files | 3 | 4 |\n| a crash | 3 | 4 |\n| most | 3 | 4 |\n| all | 5 | 1,006 |\n")
+    told = with_numbers(readme, rows)
+    assert told == readme[: readme.index("| LOCATE")] + ("| LOCATE | 4 | 1,009 |\n| new files | 5 | 8 |\n| a crash | 5 | 9 |\n| most | 5 | 3 |\n"
+                                                         "| all | 6 | 7 |\n"), told
     kept, other = top / "kept.md", top / "other.md"
     kept.write_text("kept")
     assert compare({kept: "kept"}) == [] and compare({kept: "more", other: "none"}) == [kept, other]

@@ -309,8 +309,14 @@ class ProgramsThatAreFound(InFolder):
             for place in places:
                 self.assertEqual(asking.found_program((asking.LIVE, asking.BATCHED)), str(place))
                 place.unlink()
-            with self.assertRaisesRegex(sessions.Unusable, "neither overlay_live nor overlayd is built in .*--program"):
+            with self.assertRaisesRegex(sessions.Unusable, "neither overlay_live nor overlayd is built in .*; say --program"):
                 asking.found_program((asking.LIVE, asking.BATCHED))
+            builder = top / "bench" / "unproved.py"
+            builder.parent.mkdir()
+            builder.touch()
+            with self.assertRaisesRegex(sessions.Unusable, "overlay_live is neither built in .* nor on the path; build it there"
+                                        " by `.* crates/overlay_live/src ./overlay_live`, or say --program PATH"):
+                asking.found_program((asking.LIVE,))
 
 
 class OfAnswers(InFolder):
