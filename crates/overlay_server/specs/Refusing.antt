@@ -75,8 +75,8 @@ module _ {D : Type 0} (g : Ghosts D) where
 
 -- ---- the server
 
--- a server could not run, as memory, a thread (40) or places in the book (44) were refused. Its history begins with the first
--- version; the sessions that come back, numbered from 0, alone had commands accepted, those of their scripts. The disk comes back
+-- a server could not run: its number is the book's as it was to be opened, else 40. Its history begins with the first version;
+-- the sessions that come back, from 0, alone had commands accepted, of their scripts; if none does, none had. The disk comes back
 pub record IsRefusedFrom {D : Type 0} (g : Ghosts D) (start : Version) (store : Option (Flusher D g)) (all : List Given) (fault : ServerFault D) : Type 0 where
   pub code : (fault.code ≡ 40) ⊎ (fault.code ≡ 44)
   pub exactly : fault.code ≡ refusal_code (answer_in fault.answer)
@@ -89,7 +89,7 @@ pub record IsRefusedFrom {D : Type 0} (g : Ghosts D) (start : Version) (store : 
 
 -- ---- the ports of a server
 
--- all ports come back as they were; or each one's writer, with what its session was answered by histories of the log that does
+-- all ports come back, with what they gave and held; or each one's writer, with its session's answers by the log that comes back
 abbrev pub AreBack : {R W D : Type 0} (remaining : R → Option (List ℕ)) (contents : W → Option (List ℕ)) (stored : BookStore) (start : Version) (all : List Given) → ServerFault D → PortsBack R W → Type 0
 AreBack remaining contents stored start all fault (Unserved ports) = (given_to remaining contents ports.items ≡ all) × (fault.sessions.items ≡ [])
 AreBack remaining contents stored start all fault (Stopped finished) = AreServed stored contents start fault.seen_log.log all finished.items
