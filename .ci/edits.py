@@ -35,10 +35,9 @@ ASKED = (
     "commits_a_version_of_its_own",
 )
 
-# Those among them that may lack a control still: they are named, and the gate does not fail for it.
-LACKING = (
-    "book_lock/add_opening_version_for_all", "book_lock/keep_finished_with_another_tile", "book_lock/keep_job_dropped",
-)
+# Those among them that may lack a control, or fall at a limit of the search, still: they are named, and the gate does not
+# fail for it.
+LACKING = ("book_lock/keep_job_dropped",)
 
 
 class Misfit(Exception):
