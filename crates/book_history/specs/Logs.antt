@@ -8,7 +8,7 @@ use Rattle.overlay_terms.specs.Histories.{empty_version}
 abbrev pub entry : Event → Version → Entry
 entry event version = record { event = event; version = version }
 
--- the event of a first entry, which reports nothing
+-- the event of a first entry: a report of 0, which `history_of` drops
 abbrev pub no_event : Event
 no_event = durable_to 0
 

@@ -5,7 +5,7 @@ use Rattle.std.proofs.lemmas.List.{length-append}
 use Rattle.std.proofs.lemmas.List.Sums.{sum_by-cons, sum_by-append}
 use Rattle.overlay_terms.specs.Layers.{Name, Layer}
 use Rattle.overlay_terms.specs.Histories.{Finished}
-use Rattle.commit_plan.specs.Staying.{LiveContent, layer_stays, record_stays}
+use Rattle.commit_plan.specs.Staying.{LiveContent, layer_stays, tile_record_stays}
 use Rattle.commit_plan.specs.Filed.{Record, fresh, stays, fresh_of, FiledLayer, a_base, a_definition, filed_tiles, filed_of, SaysLayer, SaysTile, SpellTiles, SpellLayer, SpellLayers}
 use Rattle.commit_plan.specs.Sizes.{new_count}
 
@@ -14,7 +14,7 @@ module _ (live : LiveContent) where
   layer_count layer = new_count (layer_stays live layer)
 
   abbrev tile_count : Finished → ℕ
-  tile_count t = new_count (record_stays live t)
+  tile_count t = new_count (tile_record_stays live t)
 
   own_count : (layer : Layer) (r : Record) → SaysLayer live layer r → length (fresh_of r) ≡ layer_count layer
   own_count layer (fresh f) says = sym (ap new_count says.1)

@@ -7,7 +7,7 @@ use Rattle.layer_book.specs.Layer.{content_named}
 use Rattle.store_terms.specs.declared.root.RecordExtent.{RecordExtent}
 use Rattle.store_terms.specs.Catalog.{Records, Listed}
 use Rattle.store_terms.specs.Places.{all_apart, some_extents, extents_of_records, extents_listed}
-use Rattle.commit_plan.specs.Staying.{LiveContent, own_extent, entry_at, tile_extent, records_named, is_near, if_near, holds_content, holds_tile, layer_stays, record_stays, near_ones}
+use Rattle.commit_plan.specs.Staying.{LiveContent, own_extent, entry_at, tile_extent, records_named, is_near, if_near, holds_content, holds_tile, layer_stays, tile_record_stays, near_ones}
 use Rattle.commit_plan.proofs.Placed.{Beside, beside_turned}
 use Rattle.commit_plan.proofs.HeldApart.{Among, Before, both_beside, among_front, among_back, before_front, before_back, before_both}
 
@@ -170,11 +170,11 @@ layer_sits live layer e is =
     let near = near_is (option_map own_extent o) e so in
     own_is live.listing layer.name e o refl near.0 near.1
 
-pub tile_holds : (live : LiveContent) (t : Finished) (e : RecordExtent) → record_stays live t ≡ Some e
+pub tile_holds : (live : LiveContent) (t : Finished) (e : RecordExtent) → tile_record_stays live t ≡ Some e
     → holds_tile (tile_at live.tiles t.name t.column) t.tile ≡ true
 tile_holds live t e is = (where_true (holds_tile (tile_at live.tiles t.name t.column) t.tile) _ e is).0
 
-pub tile_sits : (live : LiveContent) (t : Finished) (e : RecordExtent) → record_stays live t ≡ Some e
+pub tile_sits : (live : LiveContent) (t : Finished) (e : RecordExtent) → tile_record_stays live t ≡ Some e
     → Sits live.listing t.name (Some t.column) e
 tile_sits live t e is =
     let o = records_named live.listing t.name in

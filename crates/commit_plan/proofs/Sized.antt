@@ -13,7 +13,7 @@ use Rattle.record_writing.specs.Tiles.{named_by}
 use Rattle.store_terms.specs.TileRecord.{named_tile}
 use Rattle.store_terms.specs.declared.root.RecordExtent.{RecordExtent}
 use Rattle.commit_plan.specs.Drafted.{Drafted, HasNoRunFor}
-use Rattle.commit_plan.specs.Staying.{LiveContent, layer_stays, record_stays}
+use Rattle.commit_plan.specs.Staying.{LiveContent, layer_stays, tile_record_stays}
 use Rattle.commit_plan.specs.Sizes.{own_record, tile_size, if_new, own_sizes, tile_sizes, row_sizes, layer_sizes, sizes_of_layers}
 use Rattle.commit_plan.proofs.Drafts.{no_run_more}
 
@@ -37,18 +37,18 @@ module _ (live : LiveContent) where
   kept_own layer e is = kept_sizes (layer_stays live layer) (length (own_record layer.content)) e is
 
   -- the tile of the code, by the names of its ends
-  stays_same : (name : Name) (k : ℕ) (tile : Tile) → record_stays live (finished_as name k (by_places (named_pieces tile))) ≡ record_stays live (finished_as name k (tile_of tile))
-  stays_same name k tile = ap (λ t. record_stays live (finished_as name k t)) (by_its_names tile)
+  stays_same : (name : Name) (k : ℕ) (tile : Tile) → tile_record_stays live (finished_as name k (by_places (named_pieces tile))) ≡ tile_record_stays live (finished_as name k (tile_of tile))
+  stays_same name k tile = ap (λ t. tile_record_stays live (finished_as name k t)) (by_its_names tile)
 
-  pub new_tile : (name : Name) (k : ℕ) (tile : Tile) (bytes : List ℕ) → record_stays live (finished_as name k (tile_of tile)) ≡ None → bytes ≡ named_tile.text (named_by k tile)
+  pub new_tile : (name : Name) (k : ℕ) (tile : Tile) (bytes : List ℕ) → tile_record_stays live (finished_as name k (tile_of tile)) ≡ None → bytes ≡ named_tile.text (named_by k tile)
       → length bytes ∷ [] ≡ tile_sizes live name k (named_pieces tile)
   new_tile name k tile bytes none spelled =
       ap (λ (l : List ℕ). length l ∷ []) spelled
-      ∙ sym (new_sizes (record_stays live (finished_as name k (by_places (named_pieces tile)))) (tile_size k (named_pieces tile)) (stays_same name k tile ∙ none))
+      ∙ sym (new_sizes (tile_record_stays live (finished_as name k (by_places (named_pieces tile)))) (tile_size k (named_pieces tile)) (stays_same name k tile ∙ none))
 
-  pub kept_tile : (name : Name) (k : ℕ) (tile : Tile) (e : RecordExtent) → record_stays live (finished_as name k (tile_of tile)) ≡ Some e → tile_sizes live name k (named_pieces tile) ≡ []
+  pub kept_tile : (name : Name) (k : ℕ) (tile : Tile) (e : RecordExtent) → tile_record_stays live (finished_as name k (tile_of tile)) ≡ Some e → tile_sizes live name k (named_pieces tile) ≡ []
   kept_tile name k tile e is =
-      kept_sizes (record_stays live (finished_as name k (by_places (named_pieces tile)))) (tile_size k (named_pieces tile)) e (stays_same name k tile ∙ is)
+      kept_sizes (tile_record_stays live (finished_as name k (by_places (named_pieces tile)))) (tile_size k (named_pieces tile)) e (stays_same name k tile ∙ is)
 
   -- ---- rows
 

@@ -13,7 +13,7 @@ use Rattle.store_terms.specs.Catalog.{Records, Listed}
 use Rattle.store_terms.specs.Spelled.{Spells, TilesAre, LayerIs, LayersAre}
 use Rattle.store_terms.proofs.HeldLemmas.{held_is_spelled}
 use Rattle.commit_plan.specs.Kept.{Kept, Shut}
-use Rattle.commit_plan.specs.Staying.{LiveContent, kept_content, own_extent, entry_at, tile_extent, records_named, holds_content, holds_tile, layer_stays, record_stays}
+use Rattle.commit_plan.specs.Staying.{LiveContent, kept_content, own_extent, entry_at, tile_extent, records_named, holds_content, holds_tile, layer_stays, tile_record_stays}
 use Rattle.commit_plan.proofs.EqualityTests.{content_decides, tile_decides}
 use Rattle.commit_plan.proofs.Sitting.{layer_sits, layer_holds, tile_sits, tile_holds}
 
@@ -152,7 +152,7 @@ module _ (file : List ℕ) where
 -- what stays is read where it stays
 pub record StayReads (live : LiveContent) (file : List ℕ) : Type 0 where
   pub own : (layer : Layer) (e : RecordExtent) → layer_stays live layer ≡ Some e → OwnSpells file e layer.content
-  pub tile : (t : Finished) (e : RecordExtent) → record_stays live t ≡ Some e
+  pub tile : (t : Finished) (e : RecordExtent) → tile_record_stays live t ≡ Some e
       → Spells file e (tile_of_record t.column) t.tile
 
 held_content : (o : Option Content) (content : Content) → holds_content o content ≡ true → o ≡ Some content

@@ -16,7 +16,7 @@ use Rattle.store_terms.specs.Places.{block_size, blocks, all_apart, extents_list
 use Rattle.store_terms.specs.Spelled.{MayBeStored}
 use Rattle.commit_plan.specs.declared.write.Write.{Write}
 use Rattle.commit_plan.specs.Kept.{Kept, Shut}
-use Rattle.commit_plan.specs.Staying.{LiveContent, kept_content, layer_stays, record_stays}
+use Rattle.commit_plan.specs.Staying.{LiveContent, kept_content, layer_stays, tile_record_stays}
 use Rattle.commit_plan.specs.Planning.{IsWritten, Makes}
 
 -- the bytes of a record, and where they go
@@ -84,8 +84,8 @@ module _ (live : LiveContent) where
 
   -- the same of a tile's record
   abbrev pub SaysTile : Finished → Record → Type 0
-  SaysTile t (fresh f) = (tile_of_record t.column f.bytes ≡ Some t.tile) × (record_stays live t ≡ None)
-  SaysTile t (stays e) = record_stays live t ≡ Some e
+  SaysTile t (fresh f) = (tile_of_record t.column f.bytes ≡ Some t.tile) × (tile_record_stays live t ≡ None)
+  SaysTile t (stays e) = tile_record_stays live t ≡ Some e
 
   -- the tiles that some records say, from a column on
   abbrev pub SpellTiles : Name → ℕ → List (Option Record) → List Finished → Type 0

@@ -13,7 +13,7 @@ use Rattle.store_terms.specs.declared.root.RecordExtent.{RecordExtent}
 use Rattle.store_terms.specs.Image.{Held}
 use Rattle.record_writing.specs.Tiles.{named_at}
 use Rattle.commit_plan.specs.declared.image.Image.{Image}
-use Rattle.commit_plan.specs.Staying.{LiveContent, layer_stays, record_stays}
+use Rattle.commit_plan.specs.Staying.{LiveContent, layer_stays, tile_record_stays}
 
 -- a layer's own record: its rings, or its expression
 abbrev pub own_record : Content → List ℕ
@@ -35,7 +35,7 @@ own_sizes live layer = if_new (layer_stays live layer) (length (own_record layer
 
 -- those of a tile's record, if it is new
 abbrev pub tile_sizes : LiveContent → Name → ℕ → Named → List ℕ
-tile_sizes live name k tile = if_new (record_stays live (finished_as name k (by_places tile))) (tile_size k tile)
+tile_sizes live name k tile = if_new (tile_record_stays live (finished_as name k (by_places tile))) (tile_size k tile)
 
 -- those of the new records of a layer's tiles, from a column on
 abbrev pub row_sizes : LiveContent → Name → ℕ → List (Option Named) → List ℕ
@@ -77,4 +77,4 @@ new_count (Some e) = 0
 -- how many records a commit writes beside the catalog: those of layers and of tiles that do not stay
 abbrev pub new_records : LiveContent → Held → ℕ
 new_records live x =
-    sum_by (λ layer. new_count (layer_stays live layer)) x.layers + sum_by (λ t. new_count (record_stays live t)) x.tiles
+    sum_by (λ layer. new_count (layer_stays live layer)) x.layers + sum_by (λ t. new_count (tile_record_stays live t)) x.tiles

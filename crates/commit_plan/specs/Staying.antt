@@ -82,8 +82,8 @@ layer_stays live layer =
     then if_near (option_map own_extent (records_named live.listing layer.name)) else None
 
 -- where a tile's record stays: the live root has a tile of this name and column that is equal
-abbrev pub record_stays : LiveContent → Finished → Option RecordExtent
-record_stays live t =
+abbrev pub tile_record_stays : LiveContent → Finished → Option RecordExtent
+tile_record_stays live t =
     if holds_tile (tile_at live.tiles t.name t.column) t.tile
     then if_near (option_and_then (λ records. tile_extent records t.column) (records_named live.listing t.name)) else None
 

@@ -11,7 +11,7 @@ ghost use Rattle.layer_tiles.specs.Filling.{finished_as};
 ghost use Rattle.overlay_terms.specs.Histories.{tile_at};
 ghost use Rattle.tile_build.specs.Tile.{tile_of};
 ghost use Rattle.commit_plan.specs.TakenRoom.{TakesRoom};
-ghost use Rattle.commit_plan.specs.Staying.{read_content, own_extent, tile_extent, records_named, if_near, layer_named, layer_stays, record_stays, holds_tile, near_ones};
+ghost use Rattle.commit_plan.specs.Staying.{read_content, own_extent, tile_extent, records_named, if_near, layer_named, layer_stays, tile_record_stays, holds_tile, near_ones};
 
 use crate::equality::{same_layer, same_tile};
 use crate::room::Room;
@@ -199,7 +199,7 @@ impl LiveRecords {
     ) -> Option<RecordExtent>
         requires listed { option_map (λ records. records_of records.now) records ≡ records_named (live_content self.now).listing name.now }
         requires known { IsTrue known → tile_at (live_content self.now).tiles name.now column ≡ Some (tile_of tile.now) }
-        ensures { result ≡ record_stays (live_content self.now) (finished_as name.now column (tile_of tile.now)) }
+        ensures { result ≡ tile_record_stays (live_content self.now) (finished_as name.now column (tile_of tile.now)) }
     {
         if !self.is_equal(name, column, tile, known) {
             return None;

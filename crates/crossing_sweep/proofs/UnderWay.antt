@@ -43,7 +43,7 @@ use Rattle.crossing_sweep.specs.PassState.{nodes_max}
 use Rattle.crossing_sweep.specs.RowLaws.{AreAll}
 use Rattle.crossing_sweep.specs.Rows.{place_at, IsRow, row_ends, count_settled, AreSorted, BeginAt, Carries}
 use Rattle.crossing_sweep.specs.NodeNames.{no_name, name_at, IsNamed, named_ends, AreKept}
-use Rattle.crossing_sweep.specs.Crossed.{IsUnitPair, IsCrossingAmong, IsSpan}
+use Rattle.crossing_sweep.specs.Crossed.{IsUnitPair, IsCrossingAmong, IsRowSpan}
 use Rattle.crossing_sweep.specs.StripCrossed.{IsInnerInStrip, AreStripNodes, HasStripFound}
 use Rattle.crossing_sweep.specs.UnderWay.{IsCaused, IsKey, IsUnderWay}
 use Rattle.crossing_sweep.specs.declared.node_name.NodeName.{NodeName}
@@ -334,7 +334,7 @@ module _ (input : StripInput) (valid : IsStripInput input) (listed : Bool) (stat
   all_ends : map (row_ends (map place_of names)) sorted ≡ map (named_ends kept) sorted
   all_ends = map_alike (row_ends (map place_of names)) (named_ends kept) sorted (All-weaker IsNamedRow (λ row. row_ends (map place_of names) row ≡ named_ends kept row) ends_named sorted all_named)
 
-  is_span : (row : Row) → IsNamedRow row → IsSpan kept row
+  is_span : (row : Row) → IsNamedRow row → IsRowSpan kept row
   is_span row both = let is = both.0 in record {
     from_known = both.1.0;
     to_known = both.1.1;
@@ -362,8 +362,8 @@ module _ (input : StripInput) (valid : IsStripInput input) (listed : Bool) (stat
       On : Point → Type 0
       On z = IsTrue (is_on row.support z)
 
-  spans : All (IsSpan kept) sorted
-  spans = All-weaker IsNamedRow (IsSpan kept) is_span sorted all_named
+  spans : All (IsRowSpan kept) sorted
+  spans = All-weaker IsNamedRow (IsRowSpan kept) is_span sorted all_named
 
   none_ahead : length sorted ≤ cap → ahead ≡ []
   none_ahead few = by ended

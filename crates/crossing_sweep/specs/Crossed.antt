@@ -43,7 +43,7 @@ abbrev pub IsUnitPair : List Marked → Segment × Segment → Type 0
 IsUnitPair marked t = IsUnit marked t.0 × IsUnit marked t.1
 
 -- the nodes of a row have names there, and these places on its support, the first before the second
-pub record IsSpan (names : List NodeName) (row : Row) : Type 0 where
+pub record IsRowSpan (names : List NodeName) (row : Row) : Type 0 where
   pub from_known : IsNamed names row.first
   pub to_known : IsNamed names row.last
   pub from_named : HasPlace (name_at names row.first)
@@ -69,7 +69,7 @@ pub record AreCounted (input : Input) (to_the_end : Type 0) (count : ℕ) : Type
 -- the rows, the names that they need, the count of nodes and the tests of a pass that stops after more rows than a cap, so that no more of them than the
 -- cap end before the last node; it lists its tests or not
 pub record HasFound (input : Input) (cap : ℕ) (listed : Bool) (rows : List Row) (names : List NodeName) (nodes : ℕ) (tests : List (Segment × Segment)) : Type 0 where
-  pub spans : All (IsSpan names) rows
+  pub spans : All (IsRowSpan names) rows
   pub numbered : AreNumbered names
   pub tile : length rows ≤ cap → IsTileOf input.marked input.steps input.column (map (named_ends names) rows)
   pub too_many : cap < length rows → IsTileAt cap input oversize

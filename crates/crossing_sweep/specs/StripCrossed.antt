@@ -11,7 +11,7 @@ use Rattle.crossing_sweep.specs.StripInput.{StripInput, segments_in, part, IsStr
 use Rattle.crossing_sweep.specs.Queue.{IsUpTo, IsQueued}
 use Rattle.crossing_sweep.specs.Rows.{count_settled}
 use Rattle.crossing_sweep.specs.NodeNames.{named_ends, IsNameAmong, AreNumbered}
-use Rattle.crossing_sweep.specs.Crossed.{IsCrossingAmong, IsUnitPair, IsSpan}
+use Rattle.crossing_sweep.specs.Crossed.{IsCrossingAmong, IsUnitPair, IsRowSpan}
 use Rattle.crossing_sweep.specs.declared.node_name.NodeName.{NodeName}
 use Rattle.crossing_sweep.specs.declared.row.Row.{Row}
 use Rattle.crossing_sweep.specs.declared.pass.Crossed.{Crossed}
@@ -38,7 +38,7 @@ pub record AreStripNodes (input : StripInput) (to_the_end : Type 0) (places : Li
 -- the rows, the names that they need, the count of nodes and the tests of a pass that stops after more rows than a cap, so that no more of them than the
 -- cap end before the last node; it lists its tests or not
 pub record HasStripFound (input : StripInput) (cap : ℕ) (listed : Bool) (rows : List Row) (names : List NodeName) (nodes : ℕ) (tests : List (Segment × Segment)) : Type 0 where
-  pub spans : All (IsSpan names) rows
+  pub spans : All (IsRowSpan names) rows
   pub numbered : AreNumbered names
   pub are_some : AreStripSome input (map (named_ends names) rows)
   pub tile : length rows ≤ cap → IsStripTile input (map (named_ends names) rows)

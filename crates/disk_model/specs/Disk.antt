@@ -10,7 +10,7 @@ pub record Holds (file : List ℕ) (at : ℕ) (bytes : List ℕ) : Type 0 where
   pub within : at + length bytes ≤ length file
   pub each : (i : ℕ) → i < length bytes → slice_index file (at + i) ≡ slice_index bytes i
 
--- after a write of n bytes, whole or not: anything in that range and past the old end, the same elsewhere
+-- after a write of n bytes, whole or not: anything in that range and past the old end; no byte beside it is harmed, and the file is no shorter
 pub record Torn (at n : ℕ) (old new : List ℕ) : Type 0 where
   pub no_shorter : length old ≤ length new
   pub no_longer : length new ≤ max (length old) (at + n)

@@ -10,5 +10,5 @@ Leaves g disk P = (c : List ℕ) → g.may_leave disk c → P c
 pub record LeavesOnly {D : Type 0} (g : Ghosts D) (old new : D) (P : List ℕ → Type 0) : Type 0 where
   pub later : g.moment old ≤ g.moment new
   pub each : (c : List ℕ) → g.left_since new (g.moment old) c → P c
-  -- for a run that began earlier
+  -- since an earlier moment only files that have P are added: so two such stretches make one
   pub before : (t : ℕ) (c : List ℕ) → t ≤ g.moment old → g.left_since new t c → g.left_since old t c ⊎ P c

@@ -29,7 +29,7 @@ accepted_by (Submit change) (Accepted number) = (command change ∷ []) ∷ []
 accepted_by (SubmitAll batch) (Accepted number) = batch ∷ []
 accepted_by step reply = []
 
--- a step of an engine that has accepted these batches: the store covers them, with the step's, as it ends; and a crash at any moment of the step leaves a version of them that is no older than what was durable as it began
+-- a step of an engine that has accepted these batches: the store covers them, with the step's, as it ends; and a crash at any moment of the step leaves a version of the batches before it that is no older than what was durable as it began
 pub record Survives {D : Type 0} (g : Ghosts D) (start : Start) (batches : List Batch) (step : Step) (old : Engine D g) (reply : Reply) (new : Engine D g) : Type 0 where
   pub covers : Covers g start new.flusher new.version (batches ++ accepted_by step reply)
   pub moments : LeavesOnly g old.flusher.commit.disk new.flusher.commit.disk (Covered start old.version.durable batches)

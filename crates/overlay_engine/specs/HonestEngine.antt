@@ -48,7 +48,7 @@ module _ {D : Type 0} (g : Ghosts D) where
     pub err : IfErr result
         (λ refused. (start : Start) (least : ℕ) (batches : List Batch)
         → Leaves g disk (Covered start least batches) → Refused g start disk refused least batches)
-    -- so it is after a crash within any step of a run of an engine: at least what was durable as that step began
+    -- by the two above, so it is after a crash within any step of a run of an engine: at least what was durable as that step began
     pub crashed : (start : Start) (batches : List Batch) (run : List (Made D g)) → EachSurvives g start batches run
         → (crash : CrashesIn g run disk)
         → MatchResult result

@@ -22,7 +22,7 @@ module _ {D : Type 0} (g : Ghosts D) (start : Start) where
   abbrev pub IsCovered : Stage D g → Type 0
   IsCovered stage = Covers g start stage.engine.flusher stage.engine.version stage.batches
 
-  -- a step is made: what `act` says of it
+  -- a step is made: what `Engine::drive` says of it
   pub record StepsTo (old new : Stage D g) : Type 0 where
     pub step : Step
     pub reply : Reply
@@ -66,6 +66,6 @@ module _ {D : Type 0} (g : Ghosts D) (start : Start) where
     pub durable : old.engine.version.durable ≤ new.engine.version.durable
     pub same : up_to start old.engine.version.durable new.batches ≡ up_to start old.engine.version.durable old.batches
 
-  -- through any steps, crashes and recoveries nothing is lost that was durable at some moment
+  -- through any steps, crashes and recoveries nothing is lost that was durable at some stage
   abbrev pub NothingIsLost : Type 0
   NothingIsLost = (stage : Stage D g) (later : List (Stage D g)) → IsCovered stage → Lives stage later → AllByRecursion (StillStands stage) later

@@ -44,7 +44,7 @@ module _ {D : Type 0} (g : Ghosts D) where
   abbrev pub EachCommits : List (Made D g) → Type 0
   EachCommits run = AllByRecursion (λ (made : Made D g). CommitsJust g made.old made.reply made.new) run
 
-  -- steps are made one after the other, by a run of which each step commits just what it is to commit, and that a crash within any of its steps survives; in the end the store covers the batches, with those that were accepted
+  -- steps are made one after the other, by a run of which each step commits just what it is to commit, and survives a crash within it; in the end the store covers the batches, with those that were accepted
   pub record Drives (steps : List Step) (old : Engine D g) (replies : List Reply) (new : Engine D g) : Type 0 where
     pub run : List (Made D g)
     pub is : IsRun steps old replies new run
@@ -52,7 +52,7 @@ module _ {D : Type 0} (g : Ghosts D) where
     pub survives : (start : Start) (batches : List Batch) → Covers g start old.flusher old.version batches
         → EachSurvives start batches run × Covers g start new.flusher new.version (batches ++ accepted_in_run run)
 
-  -- a machine crashes within a step of a run: a disk may leave only what a crash at some moment of that step may have left
+  -- a machine crashes within a step of a run, which is taken as if it had returned: a disk may leave only what a crash at some moment of that step may have left
   pub record CrashesIn (run : List (Made D g)) (disk : D) : Type 0 where
     pub before : List (Made D g)
     pub made : Made D g

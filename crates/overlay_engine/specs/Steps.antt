@@ -22,7 +22,7 @@ use Rattle.overlay_engine.specs.declared.engine.HeldJob.{HeldJob}
 use Rattle.overlay_engine.specs.declared.step.Reply.{Reply}
 use Rattle.overlay_engine.specs.declared.step.Reply.TheVariants.{Accepted, Refused, RefusedAt, Taken, NoJob, Kept, Stale, Done, Durable}
 
--- the number of a refusal: that of the first reason; where there is none, that of want of memory
+-- the number of a refusal: that of the first reason; where there is none, 40, that of want of memory
 abbrev pub RefusedAs : Option LayerFault → ℕ → Type 0
 RefusedAs (Some fault) code = code ≡ code_of fault
 RefusedAs None code = code ≡ 40
@@ -54,7 +54,7 @@ module _ {D : Type 0} {g : Ghosts D} where
     pub jobs : new.jobs.items ≡ old.jobs.items
     pub next_job : new.next_job ≡ old.next_job
 
-  -- an engine makes a command: it is accepted, and the version follows; or it is refused for the first reason
+  -- an engine makes a command: it is accepted, and the version follows; it is refused for the first reason, or by 40
   abbrev pub Submits : Command → Engine D g → Reply → Engine D g → Type 0
   Submits command old (Accepted number) new =
       FollowsCommand old.version command new.version × (number ≡ new.version.number) × (new ≡ record old { version = new.version })
@@ -85,7 +85,7 @@ module _ {D : Type 0} {g : Ghosts D} where
   abbrev pub HasNoJob : Name → ℕ → Engine D g → Type 0
   HasNoJob name column e = IsTrue (is_some (tile_at e.version.tiles name column)) ⊎ (e.next_job ≡ jobs_max)
 
-  -- an engine hands out the input of a tile: there is no such tile, or no job can be had of it, or it is pending and its job is held
+  -- an engine hands out the input of a tile: there is no such tile, or no job can be had of it, or it is pending and its job is held; or memory runs out, and but for the place of jobs nothing changes
   abbrev pub Takes : Name → ℕ → Engine D g → Reply → Engine D g → Type 0
   Takes name column old (Taken number) new =
       (tile_refusal old.version.layers name (column_numbered column) ≡ None) × ¬ (HasNoJob name column old) × HoldsJob name column old number new
@@ -112,7 +112,7 @@ module _ {D : Type 0} {g : Ghosts D} where
   Finishes number old (Refused code) new = IsTrue (is_some (job_at number old.jobs.items)) × (code ≡ 40) × (new ≡ old)
   Finishes number old reply new = ⊥
 
-  -- an engine reports what is stored, and says what is durable now
+  -- an engine reports what is stored, and says what is durable now; or it is refused by 40, and nothing changes
   abbrev pub Reports : Engine D g → Reply → Engine D g → Type 0
   Reports old (Durable number) new =
       IsReported old.version old.flusher.commit.root.version new.version × (number ≡ new.version.durable) × (new ≡ record old { version = new.version })

@@ -26,12 +26,12 @@ pub record Moment (D : Type 0) (g : Ghosts D) : Type 0 where
 abbrev pub batches_at : {D : Type 0} {g : Ghosts D} → Moment D g → List Batch
 batches_at m = m.before ++ accepted_in m.history.entries
 
--- the number that was reported durable last
+-- the number that was reported durable last, or recovered where none was since
 abbrev pub durable_at : {D : Type 0} {g : Ghosts D} → Moment D g → ℕ
 durable_at m = (newest m.history).durable
 
 module _ {D : Type 0} (g : Ghosts D) (start : Start) where
-  -- a run is under way: its first version is that of the batches before it, with right tiles, and the store is one of its history
+  -- a run is under way: its first version is that of the batches before it, with right tiles and a durable number no greater than its own, and the store is one of its history
   pub record IsRunning (m : Moment D g) : Type 0 where
     pub valid : IsHistory m.history
     pub exact : IsExact m.history.start
@@ -91,7 +91,7 @@ module _ {D : Type 0} (g : Ghosts D) (start : Start) where
   abbrev pub cut_call : (old new : Moment D g) → CutTo old new → Moment D g
   cut_call old new cut = record { before = old.before; history = cut.history; flusher = cut.end }
 
-  -- what was reported durable within a call that was cut is so at these moments
+  -- what was reported durable within a call that was cut (`cut`; nothing of others) is so at these moments
   abbrev pub CutStands : (old new : Moment D g) → CallsTo old new ⊎ (ClosesTo old new ⊎ CutTo old new) → List (Moment D g) → Type 0
   CutStands old new (inl calls) later = Unit {0}
   CutStands old new (inr (inl closes)) later = Unit {0}

@@ -32,7 +32,7 @@ reason_of (whole reason) = reason
 abbrev pub applied_all : List Layer → Batch → List Layer
 applied_all layers batch = fold applied layers batch
 
--- the first command that the layers after those before it refuse, with its place, counted on from one
+-- the first command that the layers after those before it refuse, with its place, counted on from i
 abbrev pub refusal_from : ℕ → List Layer → Batch → Option BatchRefusal
 refusal_from i layers [] = None
 refusal_from i layers (command ∷ commands) =
@@ -43,12 +43,12 @@ abbrev pub AllBatchesAccepted : List Layer → List Batch → Type 0
 AllBatchesAccepted layers [] = Unit {0}
 AllBatchesAccepted layers (batch ∷ batches) = (refusal_from 0 layers batch ≡ None) × AllBatchesAccepted (applied_all layers batch) batches
 
--- why a batch is refused at a version: for a command; or the number of the version is the last
+-- why a batch is refused at a version of this number: for a command, or since the number is the greatest
 abbrev pub batch_refusal_at : ℕ → List Layer → Batch → Option BatchRefusal
 batch_refusal_at number layers batch =
     option_or (refusal_from 0 layers batch) (option_map whole (when (number == version_max) version_limit))
 
--- whether a tile that was touched, or not, is touched when these commands are made
+-- whether a tile was touched by an earlier command (`seen`), or is by one of these, each at the layers that it meets
 abbrev pub is_touched_from : Bool → List Layer → Batch → Name → ℕ → Bool
 is_touched_from seen layers [] name k = seen
 is_touched_from seen layers (command ∷ commands) name k =

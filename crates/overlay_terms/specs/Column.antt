@@ -3,7 +3,7 @@ use Rattle.std.specs.Prelude.{ℕ, ℤ, pos, ◌+◌, ◌*◌, ◌-ℤ◌, ◌*�
 use Rattle.std.specs.List.{range_with_len}
 use Rattle.overlay_terms.specs.Plane.{Point, Segment, coordinate_max}
 
--- how many columns there are; the last has of the coordinates the line x = 2^20 alone
+-- how many columns there are; of the last only its left border, x = 2^20, can have points
 abbrev pub column_count : ℕ
 column_count = 33
 

@@ -91,11 +91,11 @@ refusal_of layers (put name rings) = refusal_of_put layers name
 refusal_of layers (define name expression) = refusal_of_define layers name expression
 refusal_of layers (remove name) = refusal_of_remove layers name
 
--- the greatest number of a version
+-- the greatest number of a version; a version may have it
 abbrev pub version_max : ℕ
 version_max = 2 ^ 62
 
--- the same at a version: its number may be the last
+-- why a command is refused at a version of this number: for the layers, or since the number is the greatest
 abbrev pub refusal_at : ℕ → List Layer → Command → Option Refusal
 refusal_at number layers command =
     option_or (refusal_of layers command) (when (number == version_max) version_limit)

@@ -80,7 +80,7 @@ marked_segments bases = flat_map (λ numbered. map (λ s. record { layer = numbe
 abbrev pub segments_in_reach : List Layer → Name → List Marked
 segments_in_reach layers name = marked_segments (map (λ b. b.1) (filter_map base_of (layers_in_reach layers name)))
 
--- a name as the number of a base layer or of a definition in reach
+-- a name as the number of a base layer or of a definition in reach; among orderly layers each leaf is one of these
 abbrev pub source_of : List Name → List Name → Name → Source
 source_of bases definitions name = first_of bases 0 where
   among : List Name → ℕ → Source
@@ -91,7 +91,7 @@ source_of bases definitions name = first_of bases 0 where
   first_of [] k = among definitions 0
   first_of (b ∷ bs) k = if bytes_eq b name then base_bit k else first_of bs (k + 1)
 
--- the definitions in reach, each name replaced by its number
+-- the definitions in reach, each name replaced by its number; among orderly layers the layer itself is the last
 abbrev pub steps_in_reach : List Layer → Name → Steps
 steps_in_reach layers name =
     let bases = filter_map base_of (layers_in_reach layers name) in

@@ -9,13 +9,13 @@ pub record WholePoint : Type 0 where
   pub x : ℤ
   pub y : ℤ
 
--- the point (x / w, y / w), where w is at least 1
+-- the point (x / w, y / w); that w is at least 1 says whoever makes or takes one
 pub record Point : Type 0 where
   pub x : ℤ
   pub y : ℤ
   pub w : ℤ
 
--- two different consecutive points of a ring, the left end first: before the right one by x, then by y
+-- two points; as `segment_between` makes it they differ, the left end first: before the right one by x, then by y
 pub record Segment : Type 0 where
   pub left : WholePoint
   pub right : WholePoint
@@ -40,7 +40,7 @@ point_cmp p q = ordering_then (int_cmp (p.x *ℤ q.w) (q.x *ℤ p.w)) (int_cmp (
 abbrev pub same_place : Point → Point → Bool
 same_place p q = int_eq (p.x *ℤ q.w) (q.x *ℤ p.w) && int_eq (p.y *ℤ q.w) (q.y *ℤ p.w)
 
--- the largest coordinate, 2^20; the smallest is its negative
+-- the largest coordinate of a ring and of a query, 2^20; the smallest is its negative
 abbrev pub coordinate_max : ℕ
 coordinate_max = 1048576
 
@@ -52,7 +52,7 @@ InRange n = (neg_ℤ (pos coordinate_max) ≤ℤ n) × (n ≤ℤ pos coordinate_
 abbrev pub is_coordinate : ℤ → Bool
 is_coordinate z = int_le (neg_ℤ (pos coordinate_max)) z && int_le z (pos coordinate_max)
 
--- how far a point lies above the line of a segment: positive above, 0 on the line. Left of a vertical line counts as above
+-- on which side of the line of a segment a point lies, by its sign alone: positive above, or left of a vertical one; 0 on it
 abbrev pub height_over : Segment → Point → ℤ
 height_over s p =
     (s.right.x -ℤ s.left.x) *ℤ (p.y -ℤ s.left.y *ℤ p.w) -ℤ (s.right.y -ℤ s.left.y) *ℤ (p.x -ℤ s.left.x *ℤ p.w)
@@ -94,7 +94,7 @@ is_closed ring = same_ends (slice_get ring 0) (slice_get ring (length ring - 1))
 abbrev pub ring_steps : List WholePoint → List (WholePoint × WholePoint)
 ring_steps ring = zip ring (drop 1 ring)
 
--- the segments of a ring (a LinearRing of ISO 19125-1:2004, 6.1.7), with repeats
+-- the segments between a ring's consecutive points, with repeats; that its last point is its first, `is_closed` says
 abbrev pub ring_segments : List WholePoint → List Segment
 ring_segments ring = filter_map segment_between (ring_steps ring)
 

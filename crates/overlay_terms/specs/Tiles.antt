@@ -68,7 +68,7 @@ under_of marked steps p r = steps_value steps (below_bits marked (midpoint p r))
 abbrev pub over_of : List Marked → Steps → Point → Point → Bool
 over_of marked steps p r = steps_value steps (over_bits marked (midpoint p r))
 
--- a piece of the boundary, its left end in the column
+-- a piece of the boundary: its left end is in the column, and the layer differs on its two sides
 pub record IsBoundary (marked : List Marked) (steps : Steps) (k : ℕ) (p r : Point) : Type 0 where
   pub piece : IsPiece (map (λ m. m.segment) marked) p r
   pub column : IsTrue (is_in_column k p)

@@ -4,7 +4,7 @@ ghost use Rattle.overlay_terms.specs.TileLaws.{is_pair_below};
 ghost use Rattle.exact_point.specs.Place.{place};
 ghost use Rattle.exact_point.specs.NamedPiece.{ends_of};
 ghost use Rattle.exact_point.specs.PointName.{HasPlace};
-ghost use Rattle.crossing_sweep.specs.Crossed.{IsSpan};
+ghost use Rattle.crossing_sweep.specs.Crossed.{IsRowSpan};
 ghost use Rattle.crossing_sweep.specs.NodeNames.{name_at, named_ends, AreNumbered};
 
 use crate::ends::{is_name_in, name_cmp};
@@ -94,7 +94,7 @@ impl Piece {
 
     /// The row of a pass, of which these names are those of its ends, as a piece of the boundary.
     pub(crate) fn of_row(names: &[NodeName], row: &Row) -> Piece
-        requires span { IsSpan names.now row.now }
+        requires span { IsRowSpan names.now row.now }
         requires numbered { AreNumbered names.now }
         ensures value { result ≡ record { support = row.now.support; from = name_at names.now row.now.first; to = name_at names.now row.now.last } }
         ensures ends { ends_of result ≡ named_ends names.now row.now }

@@ -4,7 +4,7 @@ ghost use Rattle.overlay_terms.specs.Column.{is_in_column};
 ghost use Rattle.overlay_terms.specs.Histories as terms;
 ghost use Rattle.overlay_terms.specs.Histories.{pieces_max};
 ghost use Rattle.overlay_terms.specs.Tiles.{Input};
-ghost use Rattle.crossing_sweep.specs.Crossed.{IsSpan};
+ghost use Rattle.crossing_sweep.specs.Crossed.{IsRowSpan};
 ghost use Rattle.crossing_sweep.specs.NodeNames.{named_ends, AreNumbered};
 ghost use Rattle.crossing_sweep.specs.StripCrossed.{IsStripCrossed};
 ghost use Rattle.crossing_sweep.specs.StripInput.{part, IsStripTile};
@@ -85,7 +85,7 @@ fn split(
     names: &[NodeName],
     rows: &[Row],
 ) -> Result<Vec<Built>, AllocError>
-    requires spans { All (IsSpan names.now) rows.now }
+    requires spans { All (IsRowSpan names.now) rows.now }
     requires numbered { AreNumbered names.now }
     requires tile { IsStripTile input.now (map (named_ends names.now) rows.now) }
     requires few { length rows.now ≤ pieces_max }
@@ -112,7 +112,7 @@ fn split(
 /// Where the rows end that begin in a column, from some row on.
 fn part_end(column: Column, names: &[NodeName], rows: &[Row], start: usize) -> usize
     requires known { start ≤ length rows.now }
-    requires spans { All (IsSpan names.now) rows.now }
+    requires spans { All (IsRowSpan names.now) rows.now }
     requires numbered { AreNumbered names.now }
     ensures from { start ≤ result }
     ensures to { result ≤ length rows.now }
@@ -129,7 +129,7 @@ fn part_end(column: Column, names: &[NodeName], rows: &[Row], start: usize) -> u
 
 /// Whether a row begins in a column.
 fn begins_in(column: Column, names: &[NodeName], row: &Row) -> bool
-    requires span { IsSpan names.now row.now }
+    requires span { IsRowSpan names.now row.now }
     requires numbered { AreNumbered names.now }
     ensures { result ≡ is_in_column column (named_ends names.now row.now).0 }
 {

@@ -2,7 +2,7 @@
 use Rattle.std.proofs.Common.{◌≡◌, ◌^◌, ◌<◌, ◌++◌, ◌∷◌, [], ℕ, List, length, None, refl, sym, ◌∙◌, ap, subst, rules}
 use Rattle.tile_build.specs.Tile.{named_pieces, tile_of}
 use Rattle.layer_tiles.specs.Filling.{finished_as}
-use Rattle.commit_plan.specs.Staying.{record_stays}
+use Rattle.commit_plan.specs.Staying.{tile_record_stays}
 use Rattle.commit_plan.specs.Live.{live_content}
 use Rattle.commit_plan.specs.Filed.{fresh, stays, SaysTile}
 use Rattle.commit_plan.specs.Drafted.{HasNoRunFor, sizes_in, with_filed}
@@ -28,7 +28,7 @@ pub returns-clause-ok : goal.returns-clause-ok
 returns-clause-ok c =
     let live = live_content c.args.live.now in
     let t = finished_as c.args.name.now c.args.column (tile_of c.args.tile.now) in
-    let none : record_stays live t ≡ None = search rules in
+    let none : tile_record_stays live t ≡ None = search rules in
     let bytes = c.in_ok-bytes.bytes.items in
     if_ok c.file.result (λ e. c.file.new.self ≡ with_filed c.args.draft.now (record { extent = e; bytes = bytes } ∷ []))
     (λ e. IsFiled c.args.draft.now (SaysTile live t) e c.file.new.self)
@@ -39,7 +39,7 @@ returns-clause-sizes c =
     let live = live_content c.args.live.now in
     let name = c.args.name.now in
     let tile = c.args.tile.now in
-    let none : record_stays live (finished_as name c.args.column (tile_of tile)) ≡ None = search rules in
+    let none : tile_record_stays live (finished_as name c.args.column (tile_of tile)) ≡ None = search rules in
     let bytes = c.in_ok-bytes.bytes.items in
     let d = c.args.draft.now in
     if_ok c.file.result (λ e. c.file.new.self ≡ with_filed d (record { extent = e; bytes = bytes } ∷ []))
@@ -52,7 +52,7 @@ returns-clause-full c u =
     let live = live_content c.args.live.now in
     let name = c.args.name.now in
     let tile = c.args.tile.now in
-    let none : record_stays live (finished_as name c.args.column (tile_of tile)) ≡ None = search rules in
+    let none : tile_record_stays live (finished_as name c.args.column (tile_of tile)) ≡ None = search rules in
     subst (HasNoRunFor c.args.draft.now) (new_tile live name c.args.column tile c.in_ok-bytes.bytes.items none c.in_ok-bytes.ensures.spelled) (c.file.ensures.full u)
 
 pub file-requires : goal.file-requires

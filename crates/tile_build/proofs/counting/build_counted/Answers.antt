@@ -4,7 +4,7 @@ use Rattle.crossing_sweep.specs.NodeNames.{named_ends, AreNumbered}
 use Rattle.crossing_sweep.specs.declared.node_name.NodeName.{NodeName}
 use Rattle.crossing_sweep.specs.declared.row.Row.{Row}
 use Rattle.exact_point.specs.NamedPiece.{ends_of}
-use Rattle.crossing_sweep.specs.Crossed.{IsSpan}
+use Rattle.crossing_sweep.specs.Crossed.{IsRowSpan}
 use Rattle.tile_build.proofs.CountedLemmas.{counted_for, crossings_for, tile_for}
 use Rattle.tile_build.proofs.counting.build_counted.Goals as goal
 
@@ -24,8 +24,8 @@ pub pieces_of-requires-clause-spans : goal.pieces_of-requires-clause-spans
 pieces_of-requires-clause-spans c =
     let rows : List Row = c.in_ok-found.found.rows.items in
     let names : List NodeName = c.in_ok-found.found.names.items in
-    subst (λ (ns : List NodeName). All (IsSpan ns) c.deref-2.result.now) (sym c.deref.ensures.value)
-    (subst (λ (rs : List Row). All (IsSpan names) rs) (sym c.deref-2.ensures.value) c.in_ok-found.ensures.spans)
+    subst (λ (ns : List NodeName). All (IsRowSpan ns) c.deref-2.result.now) (sym c.deref.ensures.value)
+    (subst (λ (rs : List Row). All (IsRowSpan names) rs) (sym c.deref-2.ensures.value) c.in_ok-found.ensures.spans)
 
 pub pieces_of-requires-clause-numbered : goal.pieces_of-requires-clause-numbered
 pieces_of-requires-clause-numbered c = subst AreNumbered (sym c.deref.ensures.value) c.in_ok-found.ensures.numbered

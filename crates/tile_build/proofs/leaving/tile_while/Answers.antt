@@ -1,6 +1,6 @@
 use Rattle.std.proofs.Common.{◌≡◌, ◌<◌, ◌≤◌, false, IfSome, List, map, length, subst, sym, ap, ◌∙◌, arith}
 use Rattle.std.specs.Prelude.{All}
-use Rattle.crossing_sweep.specs.Crossed.{IsCrossed, IsSpan}
+use Rattle.crossing_sweep.specs.Crossed.{IsCrossed, IsRowSpan}
 use Rattle.crossing_sweep.specs.NodeNames.{named_ends, AreNumbered}
 use Rattle.crossing_sweep.specs.declared.node_name.NodeName.{NodeName}
 use Rattle.crossing_sweep.specs.declared.pass.Crossed.{Crossed}
@@ -19,8 +19,8 @@ pub pieces_of-requires-clause-spans : goal.pieces_of-requires-clause-spans
 pieces_of-requires-clause-spans g c =
     let is = subst (λ o. IfSome o (λ (f : Crossed). IsCrossed c.args.input.now 65536 false f)) c.in-Some.is c.in_ok-done.ensures in
     let names : List NodeName = c.in-Some.found.names.items in
-    subst (λ (ns : List NodeName). All (IsSpan ns) c.deref-2.result.now) (sym c.deref.ensures.value)
-    (subst (λ (rs : List Row). All (IsSpan names) rs) (sym c.deref-2.ensures.value) is.spans)
+    subst (λ (ns : List NodeName). All (IsRowSpan ns) c.deref-2.result.now) (sym c.deref.ensures.value)
+    (subst (λ (rs : List Row). All (IsRowSpan names) rs) (sym c.deref-2.ensures.value) is.spans)
 
 pub pieces_of-requires-clause-numbered : goal.pieces_of-requires-clause-numbered
 pieces_of-requires-clause-numbered g c =

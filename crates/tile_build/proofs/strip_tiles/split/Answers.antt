@@ -5,7 +5,7 @@ use Rattle.overlay_terms.specs.Plane.{Point}
 use Rattle.overlay_terms.specs.Histories.{pieces, pieces_max, IsTileAt}
 use Rattle.overlay_terms.specs.Tiles.{Input}
 use Rattle.exact_point.specs.NamedPiece.{ends_of}
-use Rattle.crossing_sweep.specs.Crossed.{IsSpan}
+use Rattle.crossing_sweep.specs.Crossed.{IsRowSpan}
 use Rattle.crossing_sweep.specs.NodeNames.{named_ends}
 use Rattle.crossing_sweep.specs.StripInput.{part, Span, StripInput}
 use Rattle.crossing_sweep.specs.declared.node_name.NodeName.{NodeName}
@@ -70,7 +70,7 @@ of-requires c =
 
 pub pieces_of-requires-clause-spans : goal.pieces_of-requires-clause-spans
 pieces_of-requires-clause-spans c =
-    All-take (IsSpan c.args.names.now) (c.part_end-next.result - c.loop-number.start) (drop c.loop-number.start c.args.rows.now) (All-drop (IsSpan c.args.names.now) c.loop-number.start c.args.rows.now c.requires.spans)
+    All-take (IsRowSpan c.args.names.now) (c.part_end-next.result - c.loop-number.start) (drop c.loop-number.start c.args.rows.now) (All-drop (IsRowSpan c.args.names.now) c.loop-number.start c.args.rows.now c.requires.spans)
 
 pub part_end-next-requires-clause-known : goal.part_end-next-requires-clause-known
 part_end-next-requires-clause-known c = c.loop-number.invariant.split.fits

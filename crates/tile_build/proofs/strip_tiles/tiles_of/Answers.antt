@@ -1,6 +1,6 @@
 use Rattle.std.proofs.Common.{◌≤◌, List, map, length, sym, subst, arith}
 use Rattle.std.specs.Prelude.{All}
-use Rattle.crossing_sweep.specs.Crossed.{IsSpan}
+use Rattle.crossing_sweep.specs.Crossed.{IsRowSpan}
 use Rattle.crossing_sweep.specs.NodeNames.{named_ends, AreNumbered}
 use Rattle.crossing_sweep.specs.StripInput.{IsStripTile}
 use Rattle.crossing_sweep.specs.declared.node_name.NodeName.{NodeName}
@@ -9,8 +9,8 @@ use Rattle.tile_build.proofs.strip_tiles.tiles_of.Goals as goal
 
 pub split-requires-clause-spans : goal.split-requires-clause-spans
 split-requires-clause-spans c =
-    subst (λ (ns : List NodeName). All (IsSpan ns) c.deref-2.result.now) (sym c.deref.ensures.value)
-    (subst (λ (rs : List Row). All (IsSpan c.args.found.names.items) rs) (sym c.deref-2.ensures.value) c.requires.spans)
+    subst (λ (ns : List NodeName). All (IsRowSpan ns) c.deref-2.result.now) (sym c.deref.ensures.value)
+    (subst (λ (rs : List Row). All (IsRowSpan c.args.found.names.items) rs) (sym c.deref-2.ensures.value) c.requires.spans)
 
 pub split-requires-clause-numbered : goal.split-requires-clause-numbered
 split-requires-clause-numbered c = subst AreNumbered (sym c.deref.ensures.value) c.requires.numbered
