@@ -19,7 +19,7 @@ use version_core::verifying::Verdict;
 
 /// Writes the text to its end, by as many writes as the writer asks for. A write that fails or takes
 /// no byte ends it.
-fn write_text<W: Write>(writer: &mut W, text: &[u8]) -> Result<(), CommandFault>
+pub fn write_text<W: Write>(writer: &mut W, text: &[u8]) -> Result<(), CommandFault>
     ensures writes { Writes result (W.contents writer.old) (W.contents writer.new) text.now }
     ensures err { IfErr result (λ fault. fault ≡ CommandFault.Write) }
 {
