@@ -82,7 +82,7 @@ pub trait BookName {
 
     ghost book: { Book };
 
-    /// Of which log which number is stored. Who adds an entry by which a number is durable has to prove that it is stored.
+    /// What to prove of a log and a number before that is reported; who opens the book picks it (`serve`: `IsStoredOf`).
     ghost stored: { List terms.Entry → ℕ → Type 0 };
 }
 

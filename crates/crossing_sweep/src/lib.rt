@@ -26,4 +26,4 @@ pub use pass::{Crossed, cross, cross_strip, cross_strip_while, cross_while};
 pub use pass_input::PassInput;
 pub use row::Row;
 pub use strip::Strip;
-pub use wish::Wish;
+pub use wish::{Always, Wish};

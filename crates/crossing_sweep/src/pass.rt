@@ -1,5 +1,5 @@
 //! One pass over a strip of columns from node to node.
-ghost use Rattle.std.specs.Prelude.{◌≡◌, ◌<◌, ◌≤◌, ◌+◌, ℕ, ◌⊎◌, ◌++◌, [], ◌∷◌, true, false, length, All, IfOk, IfSome, OnOk};
+ghost use Rattle.std.specs.Prelude.{◌≡◌, ◌<◌, ◌≤◌, ◌+◌, ℕ, ◌⊎◌, ◌++◌, [], ◌∷◌, true, false, length, All, IfOk, IfSome, IsNone, OnOk};
 ghost use Rattle.crossing_sweep.specs.Amid.{IsPassing};
 ghost use Rattle.crossing_sweep.specs.Crossed.{IsCrossed};
 ghost use Rattle.crossing_sweep.specs.StripCrossed.{IsStripCrossed};
@@ -16,7 +16,7 @@ use crate::row::{Row, sort};
 use crate::search::Search;
 use crate::starts::starts;
 use crate::values::first_values;
-use crate::wish::{Wish, is_portion};
+use crate::wish::{Always, Wish, is_portion};
 use arrange::TileInput;
 use exact_point::PointName;
 use plane_base::Seg;
@@ -69,12 +69,13 @@ pub fn cross(
 ) -> Result<Crossed, AllocError>
     ensures { IfOk result (λ found. IsCrossed input.now cap listed found) }
 {
-    let strip_input = PassInput::of_column(input);
-    let found = cross_strip(alloc, &strip_input, cap, listed)?;
-    Ok(found)
+    match cross_while(alloc, input, cap, listed, &Always)? {
+        Some(found) => Ok(found),
+        None => unreachable!(),
+    }
 }
 
-/// The same as long as it is wanted: None says that the pass was left.
+/// The same as long as it is wanted: None says that the wish has ended, and the pass was left.
 pub fn cross_while<W: Wish>(
     alloc: Global,
     input: &TileInput,
@@ -82,7 +83,8 @@ pub fn cross_while<W: Wish>(
     listed: bool,
     wish: &W,
 ) -> Result<Option<Crossed>, AllocError>
-    ensures { IfOk result (λ o. IfSome o (λ found. IsCrossed input.now cap listed found)) }
+    ensures found { IfOk result (λ o. IfSome o (λ found. IsCrossed input.now cap listed found)) }
+    ensures left { IfOk result (λ o. IsNone o → W.ended wish.now) }
 {
     let strip_input = PassInput::of_column(input);
     let found = cross_strip_while(alloc, &strip_input, cap, listed, wish)?;
@@ -99,12 +101,13 @@ pub fn cross_strip(
 ) -> Result<Crossed, AllocError>
     ensures { IfOk result (λ found. IsStripCrossed input.now cap listed found) }
 {
-    let pass = Pass::new(alloc, input, listed)?;
-    let pass = pass.run(alloc, cap)?;
-    Ok(pass.into_crossed())
+    match cross_strip_while(alloc, input, cap, listed, &Always)? {
+        Some(found) => Ok(found),
+        None => unreachable!(),
+    }
 }
 
-/// The same as long as it is wanted: None says that the pass was left.
+/// The same as long as it is wanted: None says that the wish has ended, and the pass was left.
 pub fn cross_strip_while<W: Wish>(
     alloc: Global,
     input: &PassInput,
@@ -112,7 +115,8 @@ pub fn cross_strip_while<W: Wish>(
     listed: bool,
     wish: &W,
 ) -> Result<Option<Crossed>, AllocError>
-    ensures { IfOk result (λ o. IfSome o (λ found. IsStripCrossed input.now cap listed found)) }
+    ensures found { IfOk result (λ o. IfSome o (λ found. IsStripCrossed input.now cap listed found)) }
+    ensures left { IfOk result (λ o. IsNone o → W.ended wish.now) }
 {
     let pass = Pass::new(alloc, input, listed)?;
     match pass.run_while(alloc, cap, wish)? {
@@ -152,26 +156,8 @@ impl<'a> Pass<'a> {
         Ok(Pass { input, progress })
     }
 
-    /// Goes from node to node to the end of the strip, or until there are more rows than a cap.
-    fn run(self, alloc: Global, cap: usize) -> Result<Pass<'a>, AllocError>
-        ensures input { IfOk result (λ pass. pass.input ≡ self.entry.input) }
-        ensures listed { IfOk result (λ pass. pass.listed ≡ self.entry.listed) }
-        ensures ended { IfOk result (λ pass. (pass.ahead ≡ 0) ⊎ (cap < pass.rows)) }
-        ensures settled { IfOk result (λ pass. self.entry.settled ≤ cap → pass.settled ≤ cap) }
-    {
-        let Pass {
-            input,
-            mut progress,
-        } = self;
-        let values = first_values(alloc, input)?;
-        let mut stay = Vec::new(alloc);
-        while is_under_way(&progress, cap) {
-            go_on(alloc, input, &values, &mut stay, &mut progress)?;
-        }
-        Ok(Pass { input, progress })
-    }
-
-    /// The same as long as it is wanted: after each portion of the nodes the wish is asked. None says that it was left.
+    /// Goes from node to node to the end of the strip, or until there are more rows than a cap. After each portion of the
+    /// nodes the wish is asked: None says that it has ended, and the pass was left.
     fn run_while<W: Wish>(
         self,
         alloc: Global,
@@ -182,6 +168,7 @@ impl<'a> Pass<'a> {
         ensures listed { IfOk result (λ o. IfSome o (λ pass. pass.listed ≡ self.entry.listed)) }
         ensures ended { IfOk result (λ o. IfSome o (λ pass. (pass.ahead ≡ 0) ⊎ (cap < pass.rows))) }
         ensures settled { IfOk result (λ o. IfSome o (λ pass. self.entry.settled ≤ cap → pass.settled ≤ cap)) }
+        ensures left { IfOk result (λ o. IsNone o → W.ended wish.now) }
     {
         let Pass {
             input,

@@ -25,11 +25,11 @@ OneStepOn step old new = (c : List ℕ) → new c → (d : List ℕ) × old d ×
 abbrev pub Fewer : (List ℕ → Type 0) → (List ℕ → Type 0) → Type 0
 Fewer old new = (c : List ℕ) → new c → old c
 
--- a crash leaves this and nothing else
+-- a crash leaves nothing but this
 abbrev pub Only : List ℕ → (List ℕ → Type 0) → Type 0
 Only file outcomes = (c : List ℕ) → outcomes c → c ≡ file
 
--- time goes on: a crash since t might have left what it might have left before, or what it may leave now
+-- over a call: a crash within it leaves what one before it might (`past`), or what one after it may
 pub record Elapses (before now : ℕ) (past since : ℕ → List ℕ → Type 0) (may_leave : List ℕ → Type 0) : Type 0 where
   pub later : before ≤ now
   pub nothing_else : (t : ℕ) (c : List ℕ) → t ≤ before → since t c → past t c ⊎ may_leave c

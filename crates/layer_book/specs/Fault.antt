@@ -32,6 +32,6 @@ fault_of in_use = InUse
 fault_of too_many_layers = TooManyLayers
 fault_of version_limit = VersionLimit
 
--- a call is refused by a fault: by the first reason that applies; where none applies, for want of memory
+-- a call is refused by a fault: by the first reason that applies; where none applies, by `memory`
 abbrev pub RefusedBy : {F : Type 0} → F → Option F → F → Type 0
 RefusedBy memory reason fault = ((fault ≡ memory) × (reason ≡ None)) ⊎ (reason ≡ Some fault)

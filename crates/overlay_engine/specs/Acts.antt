@@ -14,7 +14,7 @@ use Rattle.overlay_engine.specs.Covers.{Covered, Covers}
 use Rattle.overlay_engine.specs.Steps.{Submits, SubmitsBatch, Takes, Finishes, Reports}
 use Rattle.overlay_engine.specs.Devices.{Devices}
 
--- a step is made and answered: what becomes of the engine
+-- what a step makes of the engine (of `Device`: left out)
 abbrev pub Acts : {D : Type 0} (g : Ghosts D) → Step → Engine D g → Reply → Engine D g → Type 0
 Acts g (Submit change) old reply new = Submits (command change) old reply new
 Acts g (SubmitAll batch) old reply new = SubmitsBatch batch old reply new
@@ -29,7 +29,7 @@ accepted_by (Submit change) (Accepted number) = (command change ∷ []) ∷ []
 accepted_by (SubmitAll batch) (Accepted number) = batch ∷ []
 accepted_by step reply = []
 
--- a step of an engine that has accepted these batches: the store covers them, with the step's, as it ends; and a crash at any moment of the step leaves a version of the batches before it that is no older than what was durable as it began
+-- a step of an engine that has accepted these batches: the store covers them, with the step's, as it ends; and a crash at any moment of the step leaves what is after the first so many batches before it, no fewer than were durable then
 pub record Survives {D : Type 0} (g : Ghosts D) (start : Start) (batches : List Batch) (step : Step) (old : Engine D g) (reply : Reply) (new : Engine D g) : Type 0 where
   pub covers : Covers g start new.flusher new.version (batches ++ accepted_by step reply)
   pub moments : LeavesOnly g old.flusher.commit.disk new.flusher.commit.disk (Covered start old.version.durable batches)

@@ -44,11 +44,11 @@ module _ {D : Type 0} (g : Ghosts D) where
     pub ok : IfOk result
         (λ e. (start : Start) (least : ℕ) (batches : List Batch)
         → Leaves g disk (Covered start least batches) → Recovered g start disk e least batches)
-    -- such a file is refused only for the device or for memory, and is left such a file
+    -- such a file is refused as `Device` or `OutOfMemory` alone, and is left such a file
     pub err : IfErr result
         (λ refused. (start : Start) (least : ℕ) (batches : List Batch)
         → Leaves g disk (Covered start least batches) → Refused g start disk refused least batches)
-    -- by the two above, so it is after a crash within any step of a run of an engine: at least what was durable as that step began
+    -- by the two above: a crash within a step leaves what was durable as it began; after the last step: `CoveredStays`, `ok`
     pub crashed : (start : Start) (batches : List Batch) (run : List (Made D g)) → EachSurvives g start batches run
         → (crash : CrashesIn g run disk)
         → MatchResult result

@@ -30,7 +30,7 @@ module _ {D : Type 0} (g : Ghosts D) (start : Start) where
     pub survives : IsCovered old → Survives g start old.batches step old.engine reply new.engine
     pub batches : new.batches ≡ old.batches ++ accepted_by step reply
 
-  -- a recovery of one disk is stopped, or refused, and leaves another: what `recover` says of each moment of it
+  -- a recovery of `disk` is cut by a crash, or refused, and leaves `next` (`end`: the disk as had it returned)
   pub record Tries (disk next : D) : Type 0 where
     pub end : D
     pub moments : (least : ℕ) (batches : List Batch) → Leaves g disk (Covered start least batches) → LeavesOnly g disk end (Covered start least batches)
@@ -41,7 +41,7 @@ module _ {D : Type 0} (g : Ghosts D) (start : Start) where
   TriesTo disk [] last = last ≡ disk
   TriesTo disk (next ∷ more) last = Tries disk next × TriesTo next more last
 
-  -- the machine crashes within a step, and what that leaves is recovered in the end, after so many recoveries that were stopped or refused
+  -- the machine crashes before or within a step (`end`: as had it returned); what that leaves is recovered, after tries that were stopped
   pub record CrashesTo (old new : Stage D g) : Type 0 where
     pub step : Step
     pub reply : Reply
@@ -66,6 +66,6 @@ module _ {D : Type 0} (g : Ghosts D) (start : Start) where
     pub durable : old.engine.version.durable ≤ new.engine.version.durable
     pub same : up_to start old.engine.version.durable new.batches ≡ up_to start old.engine.version.durable old.batches
 
-  -- through any steps, crashes and recoveries nothing is lost that was durable at some stage
+  -- through any steps, crashes and recoveries nothing is lost that was durable at the first
   abbrev pub NothingIsLost : Type 0
   NothingIsLost = (stage : Stage D g) (later : List (Stage D g)) → IsCovered stage → Lives stage later → AllByRecursion (StillStands stage) later

@@ -15,7 +15,7 @@ use Rattle.overlay_engine.specs.Start.{Start, layers_from, up_to}
 use Rattle.overlay_engine.specs.Covers.{Covered, Covers}
 
 module _ {D : Type 0} (g : Ghosts D) (start : Start) (disk : D) where
-  -- an engine is recovered: its version is the one after the first batches, no older than that of the number `least`, and durable; a crash meanwhile leaves what recovers as well
+  -- an engine is recovered: its version is the one after as many batches as its number says, at least `least`, and durable; a crash meanwhile leaves what recovers as well
   pub record Recovered (e : Engine D g) (least : ℕ) (batches : List Batch) : Type 0 where
     pub no_less : least ≤ e.version.number
     pub no_more : e.version.number ≤ start.number + length batches
@@ -25,7 +25,7 @@ module _ {D : Type 0} (g : Ghosts D) (start : Start) (disk : D) where
     -- what might have been left before is left until the first sync has succeeded, which is the first device call, and from then on what stands for the same; after the reads there are two calls at most
     pub phases : InPhases g disk e.flusher.commit.disk
 
-  -- a recovery is refused, by the name of the device or of memory, and what is left recovers as well
+  -- a recovery is refused, by the fault `Device` or `OutOfMemory`, and what is left recovers as well
   pub record Refused (refused : OpenFault D) (least : ℕ) (batches : List Batch) : Type 0 where
     pub honest : g.is_honest refused.disk
     pub leaves : Leaves g refused.disk (Covered start least batches)

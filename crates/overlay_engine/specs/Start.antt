@@ -3,7 +3,7 @@ use Rattle.std.specs.Prelude.{ℕ, ◌-◌, List, [], take, fold}
 use Rattle.overlay_terms.specs.Layers.{Layer}
 use Rattle.overlay_terms.specs.Batches.{Batch, applied_all}
 
--- the version before the first batch: its number and its layers
+-- from where batches are counted, over crashes: number, layers
 pub record Start : Type 0 where
   pub number : ℕ
   pub layers : List Layer

@@ -95,7 +95,7 @@ module _ {D : Type 0} {g : Ghosts D} where
       RefusedAs (tile_refusal old.version.layers name (column_numbered column)) code × (code ≡ 40 → ¬ (HasNoJob name column old)) × StaysEqual old new
   Takes name column old reply new = ⊥
 
-  -- a job that is held is given up, and nothing else changes but the version
+  -- a job that is held is given up; all but the version stays as it is
   pub record GivesUp (number : ℕ) (old : Engine D g) (job : HeldJob) (new : Engine D g) : Type 0 where
     pub index : ℕ
     pub there : job_at number old.jobs.items ≡ Some index

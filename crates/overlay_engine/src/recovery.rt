@@ -23,7 +23,7 @@ impl<D: Disk> Engine<D> {
     /// What is promised of an honest disk (`RecoversHonestly`):
     /// - `ok`: of a file that a crash may have left of an engine, the version is the one after the first so many
     ///   batches.
-    /// - `err`: such a file is refused only for the device or for memory, and is left such a file.
+    /// - `err`: such a file is refused as `Device` or `OutOfMemory` alone, and is left such a file.
     /// - `crashed`: so it is after a crash within any step of a run of an engine, with at least what was durable as
     ///   that step began.
     /// - `old`: of a file of the old format the version is what it stands for, with no finished tile, and the engine

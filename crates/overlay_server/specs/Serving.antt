@@ -111,7 +111,7 @@ module _ {D : Type 0} (g : Ghosts D) where
         ⊎ Leaves g last.commit.disk (IsFileExactlyIn (history_of log) last.commit.root.version))
     pub told : StaysTold g (history_of log) written old.commit.disk last.commit.disk
 
-  -- what is left of a store of the first version: its disk, with no commit under way
+  -- what is left of a store of the first version: its disk, idle or failed
   pub record IsLeft (start : Version) (old : Flusher D g) (closed : Closed D) : Type 0 where
     pub last : Flusher D g
     pub disk : closed.disk ≡ Some last.commit.disk

@@ -17,7 +17,7 @@ pub struct ServeOptions {
     pub ghost few: { workers ≤ 8 },
 }
 
-/// What a server leaves: the writer of each session and how it ended, in the order of the ports or readers, and what is left
+/// What a server leaves (`serve`: `Served`): the writer of each session and how it ended, in the order of the ports or readers, and what is left
 /// of the book and its store.
 #[derive(Debug, Drop)]
 pub struct Left<W, D> {

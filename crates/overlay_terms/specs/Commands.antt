@@ -73,7 +73,7 @@ refusal_of_uses layers defined [] = None
 refusal_of_uses layers defined (used ∷ others) =
     option_or (refusal_of_use layers defined used) (refusal_of_uses layers defined others)
 
--- why a DEFINE is refused: the name is a base layer's; a name in the expression; the name is new and there is no room
+-- why a DEFINE is refused: the name is a base layer's; it uses what it may not; the name is new and there is no room
 abbrev pub refusal_of_define : List Layer → Name → Tree Name → Option Refusal
 refusal_of_define layers name expression =
     option_or (when (stands_as_base layers name) not_derived)

@@ -76,7 +76,7 @@ pub record Marked : Type 0 where
 abbrev pub marked_segments : List (List (List WholePoint)) → List Marked
 marked_segments bases = flat_map (λ numbered. map (λ s. record { layer = numbered.0; segment = s }) (segments_of numbered.1)) (enumerate_from 0 bases)
 
--- the segments of the base layers in reach, with their numbers
+-- the segments in reach, each with the place of its base layer among those in reach
 abbrev pub segments_in_reach : List Layer → Name → List Marked
 segments_in_reach layers name = marked_segments (map (λ b. b.1) (filter_map base_of (layers_in_reach layers name)))
 
@@ -98,7 +98,7 @@ steps_in_reach layers name =
     let definitions = filter_map derived_of (layers_in_reach layers name) in
     record { bases = length bases; definitions = map (λ d. relabel (source_of (map (λ b. b.0) bases) (map (λ e. e.0) definitions)) d.1) definitions }
 
--- in, out, or edge: off the edges the first two are the interior and exterior of ISO 19125-1:2004, 6.1.14.2; edge is any
+-- in, out, or edge: off the edges the first two are interior and exterior (ISO 19125-1:2004, 6.1.14.2) of valid layers; edge is any
 -- point on a segment of a base layer in reach
 pub data Location : Type 0 where
   inside : Location

@@ -84,7 +84,7 @@ pub record IsTileOf (marked : List Marked) (steps : Steps) (k : ℕ) (tile : Lis
   pub sound : All (λ a. IsBoundary marked steps k a.0 a.1) tile
   pub complete : (p r : Point) → IsBoundary marked steps k p r → Any (λ a. IsTrue (same_place p a.0 && same_place r a.1)) tile
 
--- what a tile is made of: the segments in reach that have a point in its column, and the definitions in reach
+-- what decides a tile: segments in reach with a point in its column (`tile_of_input`), definitions in reach
 pub record Input : Type 0 where
   pub column : ℕ
   pub marked : List Marked

@@ -36,7 +36,7 @@ abbrev pub relabel : {A B : Type 0} → (A → B) → Tree A → Tree B
 relabel f (leaf a) = leaf (f a)
 relabel f (combine o l r) = combine o (relabel f l) (relabel f r)
 
--- what a leaf of a definition stands for: the bit of a base layer (its parity), or an earlier definition, by number
+-- what a leaf stands for: whether a base layer has the point (its bit), or an earlier definition, by its number
 pub data Source : Type 0 where
   base_bit : ℕ → Source
   definition : ℕ → Source
@@ -60,7 +60,7 @@ abbrev pub last_or : Bool → List Bool → Bool
 last_or b [] = b
 last_or b (x ∷ xs) = last_or x xs
 
--- what the last definition is, or the last base layer where nothing is defined (which is of no tile)
+-- what the last definition is, or the last base layer where nothing is defined (no tile has this)
 abbrev pub steps_value : Steps → (ℕ → Bool) → Bool
 steps_value steps bits = last_or (bits (steps.bases - 1)) (definition_values bits steps.definitions)
 

@@ -34,8 +34,8 @@ pub record StaysTold {D : Type 0} (g : Ghosts D) (history : History) (told : Lis
   pub stays : All (λ (t : Told). (g.moment old ≤ t.moment) × (t.moment ≤ g.moment last)
       × ((c : List ℕ) → g.left_since last t.moment c → IsFileIn history t.number c)) told
 
--- from a history, what is written down of it and its disk to later ones: nothing is struck out, and where all was so from
--- some earlier disk on, it is so still
+-- a history, its notes and its disk have become others: no note is struck out, and if all of them were true since an
+-- earlier disk (`first`), they are so still
 pub record TellsOn {D : Type 0} (g : Ghosts D) (was : History) (told : List Told) (old : D) (now : History) (more : List Told) (new : D) : Type 0 where
   pub goes_on : IsPrefix told more
   pub later : g.moment old ≤ g.moment new

@@ -1,24 +1,22 @@
 //! Building tiles as long as they are wanted.
-ghost use Rattle.std.specs.Prelude.{◌≡◌, ◌+◌, ◌<◌, ℕ, length, get_or, IfOk, IfSome};
+ghost use Rattle.std.specs.Prelude.{◌≡◌, ◌+◌, ◌<◌, ℕ, length, get_or, IfOk, IfSome, IsNone};
 ghost use Rattle.overlay_terms.specs.Histories as terms;
-ghost use Rattle.overlay_terms.specs.Histories.{IsTileAt, pieces_max};
 ghost use Rattle.overlay_terms.specs.Tiles.{Input};
 ghost use Rattle.crossing_sweep.specs.StripInput.{part};
 ghost use Rattle.tile_build.specs.StripTiles.{AreOfStrip};
-ghost use Rattle.tile_build.specs.Tile.{tile_of};
 
-use crate::building::pieces_of;
+use crate::building::tile_while;
 use crate::built::{Built, PIECES_MAX};
 use crate::strip_tiles::tiles_of;
-use crate::tile::Tile;
 use arrange::TileInput;
-use crossing_sweep::{Wish, cross_strip_while, cross_while};
+use crossing_sweep::{Wish, cross_strip_while};
 use plane_base::Column;
 use std::alloc::{AllocError, Global};
 use strip_inputs::StripInput;
 
-/// Builds the tiles of a strip's columns as `build_strip` does, as long as they are wanted: after each portion of a pass
-/// the wish is asked. None says that it was left.
+/// Builds the tiles of a strip's columns in order, each of its own column's input, as long as they are wanted: after each
+/// portion of a pass the wish is asked. They are found by one pass over the strip; where it has more pieces in all than a
+/// tile holds, by one pass over each column. None says that the wish has ended, and the pass was left.
 pub fn build_strip_while<W: Wish>(
     alloc: Global,
     input: &StripInput,
@@ -26,6 +24,7 @@ pub fn build_strip_while<W: Wish>(
 ) -> Result<Option<Vec<Built>>, AllocError>
     ensures each { IfOk result (λ o. IfSome o (λ list. length list.items + input.now.strip.first ≡ input.now.strip.last + 1)) }
     ensures inputs { IfOk result (λ o. IfSome o (λ list. (i : ℕ) (d : Input × terms.Tile) → i < length list.items → (get_or list.items i d).0 ≡ part input.now (input.now.strip.first + i))) }
+    ensures left { IfOk result (λ o. IsNone o → W.ended wish.now) }
 {
     let pass = input.pass();
     let done = cross_strip_while(alloc, &pass, PIECES_MAX, false, wish)?;
@@ -44,7 +43,8 @@ fn build_apart_while<W: Wish>(
     input: &StripInput,
     wish: &W,
 ) -> Result<Option<Vec<Built>>, AllocError>
-    ensures { IfOk result (λ o. IfSome o (λ list. AreOfStrip input.now list.items)) }
+    ensures each { IfOk result (λ o. IfSome o (λ list. AreOfStrip input.now list.items)) }
+    ensures left { IfOk result (λ o. IsNone o → W.ended wish.now) }
 {
     let mut list = Vec::new(alloc);
     let strip = input.strip();
@@ -64,36 +64,19 @@ fn build_apart_while<W: Wish>(
     Ok(Some(list))
 }
 
-/// Builds the tile of an input as `Built::new` does, as long as it is wanted. None says that the pass was left.
+/// Builds the tile of an input as `Built::new` does, as long as it is wanted. None says that the wish has ended, and the
+/// pass was left.
 pub fn build_while<W: Wish>(
     alloc: Global,
     input: TileInput,
     wish: &W,
 ) -> Result<Option<Built>, AllocError>
-    ensures { IfOk result (λ o. IfSome o (λ built. built.0 ≡ input)) }
+    ensures input { IfOk result (λ o. IfSome o (λ built. built.0 ≡ input)) }
+    ensures left { IfOk result (λ o. IsNone o → W.ended wish.now) }
 {
-    let done = tile_while(alloc, &input, wish)?;
+    let done = tile_while(alloc, &input, PIECES_MAX, wish)?;
     let Some(tile) = done else {
         return Ok(None);
     };
     Ok(Some(Built::of(input, tile)))
-}
-
-/// The tile of an input, by one pass over the column, as long as it is wanted.
-fn tile_while<W: Wish>(
-    alloc: Global,
-    input: &TileInput,
-    wish: &W,
-) -> Result<Option<Tile>, AllocError>
-    ensures { IfOk result (λ o. IfSome o (λ tile. IsTileAt pieces_max input.now (tile_of tile))) }
-{
-    let done = cross_while(alloc, input, PIECES_MAX, false, wish)?;
-    let Some(found) = done else {
-        return Ok(None);
-    };
-    if found.rows.len() > PIECES_MAX {
-        return Ok(Some(Tile::Oversize));
-    }
-    let pieces = pieces_of(alloc, &found.names, &found.rows)?;
-    Ok(Some(Tile::Pieces(pieces)))
 }

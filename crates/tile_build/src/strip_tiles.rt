@@ -13,31 +13,22 @@ ghost use Rattle.tile_build.specs.StripTiles.{AreOfStrip};
 use crate::building::pieces_of;
 use crate::built::{Built, PIECES_MAX};
 use crate::ends::is_name_in;
+use crate::leaving::build_strip_while;
 use crate::tile::Tile;
-use crossing_sweep::{Crossed, NodeName, Row, cross_strip, name_of};
+use crossing_sweep::{Always, Crossed, NodeName, Row, name_of};
 use plane_base::Column;
 use std::alloc::{AllocError, Global};
 use strip_inputs::StripInput;
 
-/// Builds the tiles of a strip's columns in order, each of its own column's input. They are found by one pass over the strip;
-/// where it has more pieces in all than a tile holds, by one pass over each column.
+/// Builds the tiles of a strip's columns as `build_strip_while` does, to the end.
 pub fn build_strip(alloc: Global, input: &StripInput) -> Result<Vec<Built>, AllocError>
     ensures each { IfOk result (λ list. length list.items + input.now.strip.first ≡ input.now.strip.last + 1) }
     ensures inputs { IfOk result (λ list. (i : ℕ) (d : Input × terms.Tile) → i < length list.items → (get_or list.items i d).0 ≡ part input.now (input.now.strip.first + i)) }
 {
-    if let Some(list) = build_whole(alloc, input)? {
-        return Ok(list);
+    match build_strip_while(alloc, input, &Always)? {
+        Some(list) => Ok(list),
+        None => unreachable!(),
     }
-    build_apart(alloc, input)
-}
-
-/// The tiles by one pass over the strip. None come where it has more pieces in all than a tile holds.
-fn build_whole(alloc: Global, input: &StripInput) -> Result<Option<Vec<Built>>, AllocError>
-    ensures { IfOk result (λ o. IfSome o (λ list. AreOfStrip input.now list.items)) }
-{
-    let pass = input.pass();
-    let found = cross_strip(alloc, &pass, PIECES_MAX, false)?;
-    tiles_of(alloc, input, found)
 }
 
 /// The tiles by what one pass over the strip has found. None come where that are more pieces than a tile holds.
@@ -54,27 +45,6 @@ pub(crate) fn tiles_of(
     }
     let list = split(alloc, input, &found.names, &found.rows)?;
     Ok(Some(list))
-}
-
-/// The tiles by one pass over each column.
-fn build_apart(alloc: Global, input: &StripInput) -> Result<Vec<Built>, AllocError>
-    ensures { IfOk result (λ list. AreOfStrip input.now list.items) }
-{
-    let mut list = Vec::new(alloc);
-    let strip = input.strip();
-    let first = strip.first().number();
-    let end = strip.last().number() + 1;
-    for number in first..end {
-        let Some(column) = Column::new(u64::from(number)) else {
-            unreachable!()
-        };
-        let own = input.column_input(alloc, column)?;
-        match Built::new(alloc, own) {
-            Ok(built) => list.push(built)?,
-            Err((_own, error)) => return Err(error),
-        }
-    }
-    Ok(list)
 }
 
 /// Rows that have these names for their ends as the tiles of the strip's columns, where they are all pieces of the boundary

@@ -56,6 +56,9 @@ impl<'a, J: BookName, R: Wait + Drop, W: Wait> StripWish<'a, J, R, W> {
 }
 
 impl<J: BookName, R: Wait + Drop, W: Wait> Wish for StripWish<'_, J, R, W> {
+    /// Nothing can be said of what lies under a lock that others may have taken since.
+    ghost ended = { λ wish. Unit {0} };
+
     fn is_wanted(&self) -> bool {
         let Some(number) = self.shared.open_number(self.rt) else {
             return false;

@@ -4,8 +4,8 @@ use Rattle.crossing_sweep.specs.StripInput.{StripInput}
 use Rattle.crossing_sweep.specs.StripCrossed.{IsStripCrossed}
 use Rattle.crossing_sweep.proofs.pass.cross_strip_while.Goals as goal
 
-pub returns-in-Some : goal.returns-in-Some
-returns-in-Some g c =
+pub returns-in-Some-clause-found : goal.returns-in-Some-clause-found
+returns-in-Some-clause-found g c =
     let cap = c.args.cap in
     let before : PassState = c.in_ok-pass.pass in
     let input = subst (λ o. IfSome o (λ (p : PassState). p.input ≡ before.input)) c.in-Some.is c.in_ok-pass-2.ensures.input ∙ c.in_ok-pass.ensures.input in

@@ -21,7 +21,7 @@ pub loop-number-preserved : goal.loop-number-preserved
 loop-number-preserved g c =
     let last : c.number-end.result ≡ c.args.input.now.strip.last = c.number-end.ensures.value ∙ c.last.ensures.value ∙ ap (λ (s : Span). s.last) c.strip-strip.ensures.value in
     let same : c.in-Some.column ≡ c.loop-number.number = search rules in
-    let is = subst (λ o. IfSome o (λ (b : Input × Tile). b.0 ≡ c.in_ok-own.own)) c.in-Some-done.is c.in_ok-done.ensures in
+    let is = subst (λ o. IfSome o (λ (b : Input × Tile). b.0 ≡ c.in_ok-own.own)) c.in-Some-done.is c.in_ok-done.ensures.input in
     let own : c.in-Some-done.built.0 ≡ part c.args.input.now c.loop-number.number = is ∙ c.in_ok-own.ensures ∙ ap (part c.args.input.now) same in
     record {
       from = omega (arith, c.loop-number.invariant.from);
@@ -35,8 +35,8 @@ column_input-requires g c =
     let same : c.in-Some.column ≡ c.loop-number.number = search rules in
     (omega (arith, same, c.loop-number.invariant.from), omega (arith, same, last))
 
-pub returns : goal.returns
-returns g c =
+pub returns-clause-each : goal.returns-clause-each
+returns-clause-each g c =
     let first : c.number-first.result ≡ c.args.input.now.strip.first = c.number-first.ensures.value ∙ c.first.ensures.value ∙ ap (λ (s : Span). s.first) c.strip-strip.ensures.value in
     let last : c.number-end.result ≡ c.args.input.now.strip.last = c.number-end.ensures.value ∙ c.last.ensures.value ∙ ap (λ (s : Span). s.last) c.strip-strip.ensures.value in
     let order : c.args.input.now.strip.first ≤ c.args.input.now.strip.last = c.strip-strip.ensures.valid.in_order in
