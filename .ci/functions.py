@@ -52,7 +52,8 @@ def within(*parts: str) -> str:
 
 def of_trait(trait: str, held: str) -> str:
     """A trait's name with the types that it is given, but for parameters (one letter) and for the type that has it alone."""
-    name, *given = re.findall(r"(?:\w+::)*(\w+)", re.sub(r"'\w+", "", trait))
+    parts: list[str] = re.findall(r"(?:\w+::)*(\w+)", re.sub(r"'\w+", "", trait))
+    name, given = parts[0], parts[1:]
     return name + "".join(one for one in given if len(one) > 1 and given != [held])
 
 

@@ -3,12 +3,18 @@
 from __future__ import annotations
 
 import argparse
+import os
 import pathlib
 import shutil
 import sys
 import tempfile
 from collections.abc import Callable, Iterable
 from typing import Any
+
+
+def absolute(path: str) -> str:
+    """A path that holds wherever a program is run."""
+    return os.path.abspath(path)
 
 
 class Words(argparse.ArgumentParser):

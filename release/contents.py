@@ -16,8 +16,8 @@ import pathlib
 import re
 from collections.abc import Iterator
 
-import packing
-from packing import Entry
+from . import packing
+from .packing import Entry
 
 TOP = pathlib.Path(__file__).resolve().parent.parent
 PARTS = pathlib.Path(__file__).resolve().parent / "parts"

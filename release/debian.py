@@ -7,9 +7,8 @@ from __future__ import annotations
 
 import email.utils
 
-import contents
-import packing
-from packing import Entry
+from . import contents, packing
+from .packing import Entry
 
 PACKAGE = "overlayd"
 ARCHITECTURE = "amd64"

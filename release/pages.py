@@ -13,10 +13,9 @@ import sys
 import time
 from collections.abc import Iterable
 
-import contents
-import packing
-from contents import Unmade
-from packing import Entry
+from . import contents, packing
+from .contents import Unmade
+from .packing import Entry
 
 COLUMNS = 80
 COMPLETIONS = "share/bash-completion/completions"

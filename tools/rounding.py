@@ -42,7 +42,7 @@ class Tally:
                 f"{shown(self.furthest)}, {self.merged} equal points merged{heights}")
 
 
-def shown(number: Fraction, digits: int = 3) -> str:
+def shown(number: Fraction | float, digits: int = 3) -> str:
     """A fraction with a few significant digits."""
     return f"{float(number):.{digits}g}" if number else "0"
 

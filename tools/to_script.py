@@ -6,7 +6,7 @@ import sys
 
 if __name__ == "__main__":
     here = pathlib.Path(__file__).resolve()
-    # The folder above has the packages tools and web. It takes the place of this one, which python3 -P leaves out.
+    # The folder above has the packages. It takes the place of this one, which python3 -P leaves out.
     sys.path[: not sys.flags.safe_path] = [str(here.parents[1])]
     from tools import ending
 

@@ -9,6 +9,7 @@ import dataclasses
 import itertools
 import pathlib
 import re
+from collections.abc import Iterable
 
 from believing import rust
 from believing.sources import Import, Module, bound, fields_of, imports, read_module, spoken, without
@@ -420,7 +421,7 @@ class House:
 
     # ---- order and counts
 
-    def mine(self, keys: set[Key]) -> set[Key]:
+    def mine(self, keys: Iterable[Key]) -> set[Key]:
         """Those that are definitions of the tree."""
         return {key for key in keys if key[0] in self.crates}
 

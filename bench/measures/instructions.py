@@ -54,7 +54,7 @@ def instructions(program: pathlib.Path, folder: pathlib.Path, lines: list[str]) 
     """How many instructions a program takes for a script."""
     path = folder / "script"
     path.write_text("\n".join(lines) + "\n")
-    words = ["valgrind", "--tool=callgrind", f"--callgrind-out-file={folder / 'callgrind'}", program, "--workers", "1"]
+    words: list[str | pathlib.Path] = ["valgrind", "--tool=callgrind", f"--callgrind-out-file={folder / 'callgrind'}", program, "--workers", "1"]
     done = subprocess.run([*words, path], stdin=subprocess.DEVNULL, capture_output=True, check=False, text=True)
     found = COLLECTED.search(done.stderr)
     if done.returncode != 0 or "error " in done.stdout or not found:

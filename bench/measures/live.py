@@ -25,9 +25,9 @@ import sys
 import tempfile
 import time
 from collections.abc import Iterator, Sequence
-from typing import NamedTuple
+from typing import Any, NamedTuple
 
-from bench.counting import Words, counted
+from bench.counting import Words, absolute, counted
 from bench.measures import serving
 
 HERE = pathlib.Path(__file__).resolve().parent
@@ -209,9 +209,9 @@ def postgres() -> Iterator[str]:
     with tempfile.TemporaryDirectory(prefix="live") as place:
         if user:
             os.chown(place, pwd.getpwnam(user).pw_uid, -1)
-        quiet = {"stdout": subprocess.DEVNULL, "stderr": subprocess.DEVNULL, "user": user, "cwd": place}
-        subprocess.run([POSTGRES / "initdb", "-U", "postgres", "-D", f"{place}/data"], check=True, **quiet)
-        words = [POSTGRES / "postgres", "-D", f"{place}/data", "-k", place, "-c", "listen_addresses="]
+        quiet: dict[str, Any] = {"stdout": subprocess.DEVNULL, "stderr": subprocess.DEVNULL, "user": user, "cwd": place}
+        subprocess.run([str(POSTGRES / "initdb"), "-U", "postgres", "-D", f"{place}/data"], check=True, **quiet)
+        words: list[str | pathlib.Path] = [POSTGRES / "postgres", "-D", f"{place}/data", "-k", place, "-c", "listen_addresses="]
         server = subprocess.Popen(words, **quiet)
         try:
             while not pathlib.Path(f"{place}/.s.PGSQL.5432").exists() and server.poll() is None:
@@ -334,7 +334,7 @@ def test() -> int:
 
 def main() -> int:
     parser = Words(__doc__, test)
-    parser.add_argument("program", type=os.path.abspath)
+    parser.add_argument("program", type=absolute)
     parser.add_argument("--quick", action="store_true")
     parser.add_argument("--install", action="store_true", help="gets SpatiaLite and PostGIS by apt-get first")
     parser.add_argument("--folder", help="where the store is made")

@@ -170,7 +170,7 @@ def main() -> int:
         return 0
     with tempfile.TemporaryDirectory() as made:
         folder = words.folder or pathlib.Path(made)
-        making = [PYTHON, TOP / "bench" / "map_making.py", str(words.parcels), str(words.zones), folder]
+        making = [PYTHON, str(TOP / "bench" / "map_making.py"), str(words.parcels), str(words.zones), str(folder)]
         subprocess.run(making + ["--lattice"] * words.lattice, check=True)
         boxes, base = boxes_that_meet(folder), ours(words.live, folder, folder / "ours.csv")
         print(f"{boxes:,} pairs of boxes\n\n| what | processor s | us a pair of boxes | MB | overlaps | more than ours | fewer "

@@ -23,7 +23,7 @@ import sys
 import tempfile
 import time
 
-from bench.counting import Words
+from bench.counting import Words, absolute
 from bench.processor_time import processor
 from tools.limits import COLUMNS
 
@@ -216,7 +216,7 @@ def test() -> int:
 
 def main() -> int:
     parser = Words(__doc__, test)
-    parser.add_argument("program", type=os.path.abspath)
+    parser.add_argument("program", type=absolute)
     parser.add_argument("--quick", action="store_true")
     parser.add_argument("--folder", help="where the store is made")
     words = parser.words()

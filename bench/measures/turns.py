@@ -20,7 +20,8 @@ Found = TypeVar("Found")
 
 def programs_of(named: Sequence[pathlib.Path], source: str, place: pathlib.Path) -> list[pathlib.Path]:
     """The programs that were named, or where none was the one of this folder, built unproved and without checks."""
-    return [unproved.program_of(one, HERE / source, place, checked=False) for one in named or [None]]
+    given: list[pathlib.Path | None] = [*named] or [None]
+    return [unproved.program_of(one, HERE / source, place, checked=False) for one in given]
 
 
 def least_times(

@@ -48,7 +48,7 @@ def at_once(program: pathlib.Path, folder: pathlib.Path, script: list[str], coun
     path = folder / "together.txt"
     path.write_text("\n".join(script) + "\n")
     start = time.monotonic()
-    words = [program, "--workers", "1", path]
+    words: list[str | pathlib.Path] = [program, "--workers", "1", path]
     running = [subprocess.Popen(words, stdin=subprocess.DEVNULL, stdout=subprocess.DEVNULL) for _ in range(count)]
     for one in running:
         one.wait()

@@ -29,9 +29,10 @@ from typing import Any
 
 from PIL import Image
 
-from bench import web_front
+from bench import TOP, web_front
 from bench.counting import Tries, Words
 from bench.web_front import asked
+from tools import overlay_client
 
 SIZE = (1280, 800)
 NARROW = (420, 900)
@@ -378,7 +379,7 @@ def flower(x: int, y: int) -> str:
 def plane(folder: pathlib.Path, program: str, name: str, shape: Callable[[int, int], str]) -> pathlib.Path:
     """A store of three shapes that cross each other, in a plane that is nowhere on the earth."""
     store = folder / f"{name}.db"
-    with web_front.overlay_client.Server(store, create=True, program=program) as server, server.session() as one:
+    with overlay_client.Server(store, create=True, program=program) as server, server.session() as one:
         places = (("A", -150_000, 0), ("B", 170_000, 60_000), ("C", 0, -190_000))
         one.batch([one.put_line(layer, shape(x, y)) for layer, x, y in places])
     store.with_suffix(".scale.json").write_text(
@@ -481,7 +482,7 @@ def features(browser: Browser, address: str, picture: pathlib.Path, size: tuple[
 
 def visit_features(browser: Browser, words: argparse.Namespace, folder: pathlib.Path, tries: Tries) -> None:
     """Looks at a front over North Carolina, as wide as on a desk and as narrow as on a telephone."""
-    web_front.first_map(web_front.TOP / "tools/data/north_carolina.geojson", folder, words.program)
+    web_front.first_map(TOP / "tools/data/north_carolina.geojson", folder, words.program)
     pictures, running = words.pictures or folder, {"program": words.program, "python": words.python}
     with web_front.front("--store", folder / "north_carolina.db", **running) as address:
         features(browser, address, pictures / "features.png", SIZE, tries)

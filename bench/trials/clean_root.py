@@ -22,9 +22,8 @@ import subprocess
 import sys
 import tempfile
 
-from bench import web_front
+from bench import TOP, web_front
 from bench.counting import Tries, Words
-from bench.web_front import TOP
 
 SUITE, MIRROR = "bookworm", "http://deb.debian.org/debian"
 # What lintian says of a package for which nobody has chosen a licence.

@@ -37,11 +37,12 @@ from osgeo import gdal  # noqa: E402
 from owslib.ogcapi.features import Features  # noqa: E402
 from shapely import geometry, wkb  # noqa: E402
 
-from bench import web_front  # noqa: E402
+from bench import TOP, web_front  # noqa: E402
 from bench.counting import Tries, Words  # noqa: E402
 from bench.reference import read_store  # noqa: E402
 from bench.trials.maps import loaded  # noqa: E402
-from bench.web_front import TOP, asked, sent  # noqa: E402
+from bench.web_front import asked, sent  # noqa: E402
+from tools import overlay_client  # noqa: E402
 from tools.limits import COLUMN_WIDTH, COORDINATE_MAX
 
 try:
@@ -127,7 +128,7 @@ def by_ogr2ogr(address: str, collection: str, folder: pathlib.Path, key: str) ->
 
 def by_owslib(address: str, collection: str, key: str) -> Found:
     """The features of a collection as owslib has them, by pages of 50."""
-    front, found = Features(address), {}
+    front, found = Features(address), dict[str, Any]()
     for offset in range(0, 10_000, 50):
         items = front.collection_items(collection, limit=50, offset=offset)["features"]
         found |= {one["properties"][key]: Feature(one["properties"], geometry.shape(one["geometry"])) for one in items}
@@ -414,7 +415,7 @@ def edited(tries: Tries, store: pathlib.Path, program: str) -> set[int]:
 def try_layers(tries: Tries, folder: pathlib.Path, program: str) -> None:
     """What GDAL copies of derived layers, whose outlines are exact, beside what the client has of them."""
     store = web_front.iceland(folder, program)
-    with web_front.overlay_client.Server(store, read_only=True, program=program) as server, server.session() as one:
+    with overlay_client.Server(store, read_only=True, program=program) as server, server.session() as one:
         wanted = {name: geometry.shape(server.shape_of(one.rings(name))) for name in web_front.DEFINITIONS}
     with fronts_of([store], program) as (address,):
         for name, shape in wanted.items():

@@ -21,9 +21,9 @@ import sys
 import tempfile
 from typing import Any
 
-from bench import web_front
+from bench import TOP, web_front
 from bench.counting import Tries, Words
-from bench.web_front import TOP, asked, sent
+from bench.web_front import asked, sent
 
 SOURCE = TOP / "tools/data/north_carolina.geojson"
 

@@ -12,7 +12,7 @@ from collections.abc import Callable, Sequence
 from typing import Any
 
 from bench import unproved
-from bench.counting import Words
+from bench.counting import Words, absolute
 from bench.reference import judging, model
 from bench.trials import stress
 
@@ -74,7 +74,7 @@ QUIET_CREATED = Scenario("two of them, a new store", QUIET, 2)
 def compiled(name: str, folder: pathlib.Path) -> pathlib.Path:
     """Compiles a source beside this file, by the kit's compiler, into something that a program can be made to load."""
     library, tools = folder / (name + ".so"), unproved.kit() / "toolchain/bin"
-    words = [tools / "clang", "--target=x86_64-unknown-linux-gnu", "--no-default-config", "-fintegrated-cc1", "-O1"]
+    words: unproved.Command = [tools / "clang", "--target=x86_64-unknown-linux-gnu", "--no-default-config", "-fintegrated-cc1", "-O1"]
     words += ["-fno-builtin", "-fPIC", "-shared", "-nostdlib", f"--ld-path={tools / 'ld.lld'}"]
     subprocess.run([*words, "-o", library, HERE / (name + ".c")], check=True)
     return library
@@ -209,7 +209,7 @@ class LiveRunner(Runner):
 def parser_of(page: str | None, test: Callable[[], int | None]) -> Words:
     """The words of a script that refuses something to a program."""
     parser = Words(page, test)
-    parser.add_argument("program", type=os.path.abspath)
+    parser.add_argument("program", type=absolute)
     parser.add_argument("--live", action="store_true", help="the program is overlay_live")
     parser.add_argument("--seconds", type=int, default=20, help="how long a run may take (20)")
     return parser

@@ -28,7 +28,7 @@ import time
 from collections.abc import Iterable, Iterator
 from typing import IO, Any, Optional, Union
 
-from bench.counting import Kept, Words, checked
+from bench.counting import Kept, Words, absolute, checked
 from bench.reference import judging, model, read_store
 from bench.trials import stress
 
@@ -428,7 +428,7 @@ def test() -> int:
 
 def main() -> int:
     parser = Words(__doc__, test)
-    parser.add_argument("program", type=os.path.abspath)
+    parser.add_argument("program", type=absolute)
     parser.add_argument("--most", type=int, help="how many files the program opens (all)")
     parser.add_argument("--forget", type=int, metavar="N", help="leaves the Nth sync out")
     parser.add_argument("--keep", metavar="FOLDER", help="keeps the traces, the store and the wrong files here")

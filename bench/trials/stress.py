@@ -13,7 +13,6 @@ from __future__ import annotations
 
 import argparse
 import functools
-import os
 import pathlib
 import random
 import subprocess
@@ -22,7 +21,7 @@ import time
 from collections.abc import Callable, Sequence
 from typing import Optional
 
-from bench.counting import Kept, Words
+from bench.counting import Kept, Words, absolute
 from bench.reference import judging, model, read_store
 from tools.limits import COLUMNS
 
@@ -336,7 +335,7 @@ def stress(words: argparse.Namespace, folder: pathlib.Path) -> int:
 
 def main() -> int:
     parser = Words(__doc__)
-    parser.add_argument("program", type=os.path.abspath)
+    parser.add_argument("program", type=absolute)
     parser.add_argument("--commands", type=int, default=100000)
     parser.add_argument("--sessions", type=int, default=4)
     parser.add_argument("--workers", type=int, default=8)

@@ -25,9 +25,10 @@ import tempfile
 import time
 from collections.abc import Iterator
 
+from bench import TOP
 from bench.counting import Tries
 from bench.trials.clean_root import Done, copied_root, made_release, words_of
-from bench.web_front import TOP, first_map
+from bench.web_front import first_map
 
 WANTED = ["systemd", "systemd-sysv", "dbus"]
 SECONDS = 60

@@ -20,6 +20,7 @@ from collections.abc import Callable
 from typing import Any, TextIO
 
 from .. import asking, limits, scale as scales, sessions
+from ..areas import Ring
 from ..asking import Map
 from ..sessions import Corner, Grid, Piece, Session
 from . import to_rings
@@ -75,7 +76,7 @@ def base_layer(view: View, rings: list[list[tuple[int, int]]], colour: str) -> s
             f'stroke="{colour}" stroke-width="0.9"/>')
 
 
-def boundary(view: View, pieces: list[Piece], polygons: list[list[to_rings.Ring]] | None) -> str:
+def boundary(view: View, pieces: list[Piece], polygons: list[list[Ring]] | None) -> str:
     """The boundary, bold: as filled rings where they are known, else piece by piece."""
     style = f'stroke="{INK}" stroke-width="2.2" stroke-linejoin="round" stroke-linecap="round"'
     if polygons is None:
@@ -132,7 +133,7 @@ def legend(view: View, names: list[str], text: str) -> tuple[list[str], float]:
 
 
 def joined(session: Session, layer: str, say: Callable[[str], None]
-           ) -> tuple[list[Piece], list[int | str], list[list[to_rings.Ring]] | None]:
+           ) -> tuple[list[Piece], list[int | str], list[list[Ring]] | None]:
     """The pieces, how many each column has, and the polygons, None where they can't be joined."""
     pieces, missing = sessions.pieces_of(session, layer)
     counts: list[int | str] = ["?"] * limits.COLUMNS

@@ -4,27 +4,15 @@ A pass over one half-plane leaves of each run of points in it the first and the 
 """
 
 from collections.abc import Iterator
-from typing import Any
 
 import numpy as np
 
 from .drawing_in import LEFT, OVER, RIGHT, UNDER, Drawn, Plain
+from .numpy_arrays import Numbers, of_array, spans
 from .task_form import GAPS, Task
 from .whole_maps import Ring
 
 POINTS_AT_ONCE = 400_000
-Numbers = np.ndarray
-
-
-def of_array(given: object) -> Numbers:
-    whole: Any = given
-    return np.frombuffer(whole, np.int64) if len(whole) else np.zeros(0, np.int64)
-
-
-def spans(begins: Numbers, counts: Numbers) -> Numbers:
-    """The numbers begins[0] up to begins[0] + counts[0], then those of begins[1], and so on."""
-    ends = np.cumsum(counts)
-    return np.arange(int(counts.sum()), dtype=np.int64) + np.repeat(begins - (ends - counts), counts)
 
 
 class Flat:

@@ -11,9 +11,9 @@ import numpy as np
 
 from .. import rounding
 from .bending import EDGE_MAX, Longest, way_points
+from .numpy_arrays import Numbers
 from .whole_maps import FARTHEST, MapFault, Told, WholeMap, numbers
 
-Numbers = np.ndarray
 SPLIT = float(2**27 + 1)
 NEAR = 2**30  # rings that are no wider have areas of 64 bits
 

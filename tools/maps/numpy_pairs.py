@@ -4,15 +4,9 @@ from collections.abc import Iterator
 
 import numpy as np
 
+from .numpy_arrays import Numbers, spans
 
 PAIRS_AT_ONCE = 1 << 20
-Numbers = np.ndarray
-
-
-def spans(begins: Numbers, counts: Numbers) -> Numbers:
-    """The numbers begins[0] up to begins[0] + counts[0], then those of begins[1], and so on."""
-    ends = np.cumsum(counts)
-    return np.arange(int(counts.sum()), dtype=np.int64) + np.repeat(begins - (ends - counts), counts)
 
 
 def levels_of(boxes: Numbers) -> Numbers:

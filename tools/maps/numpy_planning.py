@@ -6,12 +6,11 @@ import numpy as np
 
 from . import numpy_pairs, planning, spooled
 from .cells import halved
-from .numpy_drawing import of_array
+from .numpy_arrays import Numbers, of_array
 from .planning import CELL_POINTS, Job
 from .task_form import NOBODY
 from .whole_maps import NOWHERE, Box, WholeMap
 
-Numbers = np.ndarray
 AT_ONCE = 1 << 16  # pairs of which jobs are made
 FEATURES_AT_ONCE = 1 << 18  # of a map that are looked at together
 

@@ -6,7 +6,8 @@ from itertools import islice
 import numpy as np
 
 from .drawing_in import Drawn, wanted_of
-from .numpy_drawing import Flat, Numbers, Points
+from .numpy_arrays import Numbers
+from .numpy_drawing import Flat, Points
 from .slots import CORE_MAX
 from .task_form import Task
 from .whole_maps import Ring

@@ -161,6 +161,6 @@ def expression_of(kind: str, names: list[str], cell: str | None) -> str:
     if kind == "gaps":
         return f"{cell} - ({' | '.join(names)})"
     if kind == "common":
-        return " & ".join(names + [cell] * (cell is not None))
+        return " & ".join([*names, cell] if cell else names)
     rest = f"{names[0]} - ({' | '.join(names[1:])})" if names[1:] else names[0]
     return f"({rest}) & {cell}" if cell else rest

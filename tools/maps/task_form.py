@@ -6,6 +6,8 @@ what a task file holds, `Found.to_bytes` what its result file holds, and `run` (
     found = jobs.run(Task.of_bytes(data), program)      # program: rounds.Program
 """
 
+from __future__ import annotations
+
 import json
 import struct
 import sys
@@ -42,12 +44,12 @@ class Task:
     touches: bool = False  # whether pairs that only touch are wanted
     own_map: WholeMap = field(default_factory=WholeMap)
     other_map: WholeMap = field(default_factory=WholeMap)
-    own_numbers: array = field(default_factory=numbers)
-    other_numbers: array = field(default_factory=numbers)
-    cores: array = field(default_factory=numbers)  # four numbers a job
-    own: array = field(default_factory=numbers)
-    others: array = field(default_factory=numbers)
-    others_at: array = field(default_factory=lambda: numbers([0]))
+    own_numbers: array[int] = field(default_factory=numbers)
+    other_numbers: array[int] = field(default_factory=numbers)
+    cores: array[int] = field(default_factory=numbers)  # four numbers a job
+    own: array[int] = field(default_factory=numbers)
+    others: array[int] = field(default_factory=numbers)
+    others_at: array[int] = field(default_factory=lambda: numbers([0]))
 
     def __len__(self) -> int:
         return len(self.own)
@@ -89,13 +91,13 @@ class Task:
             whole.ids = [""] * len(whole)
         return task
 
-    def _arrays(self) -> Iterator[array]:
+    def _arrays(self) -> Iterator[array[int]]:
         for whole in (self.own_map, self.other_map):
             yield from (whole.xs, whole.ys, whole.ring_at, whole.feature_at)
         yield from (self.own_numbers, self.other_numbers, self.cores, self.own, self.others, self.others_at)
 
 
-def little(one: array) -> bytes:
+def little(one: array[int]) -> bytes:
     if sys.byteorder == "little":
         return one.tobytes()
     swapped = numbers(one)
@@ -103,7 +105,7 @@ def little(one: array) -> bytes:
     return swapped.tobytes()
 
 
-def of_little(data: bytes) -> array:
+def of_little(data: bytes) -> array[int]:
     found = numbers()
     found.frombytes(data)
     if sys.byteorder == "big":

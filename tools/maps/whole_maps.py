@@ -6,6 +6,8 @@ ring of each polygon runs counter-clockwise and its holes clockwise, so that whe
 is the sum of those of its rings with their signs.
 """
 
+from __future__ import annotations
+
 from array import array
 from collections.abc import Iterable, Sequence
 from dataclasses import dataclass, field
@@ -19,7 +21,7 @@ NOWHERE: Box = (1, 1, 0, 0)
 FARTHEST = 2**52  # a coordinate is no greater than this either way, so that a double has it exactly
 
 
-def numbers(given: Iterable[int] = ()) -> array:
+def numbers(given: Iterable[int] = ()) -> array[int]:
     """An array of 64-bit numbers; numpy reads it without a copy, by numpy.frombuffer(.., numpy.int64)."""
     return array("q", given)
 
@@ -30,10 +32,10 @@ class WholeMap:
     to ring_at[r + 1], at xs and ys."""
 
     ids: list[str] = field(default_factory=list)
-    xs: array = field(default_factory=numbers)
-    ys: array = field(default_factory=numbers)
-    ring_at: array = field(default_factory=lambda: numbers([0]))
-    feature_at: array = field(default_factory=lambda: numbers([0]))
+    xs: array[int] = field(default_factory=numbers)
+    ys: array[int] = field(default_factory=numbers)
+    ring_at: array[int] = field(default_factory=lambda: numbers([0]))
+    feature_at: array[int] = field(default_factory=lambda: numbers([0]))
 
     def __len__(self) -> int:
         return len(self.feature_at) - 1

@@ -47,7 +47,8 @@ class Helps(unittest.TestCase):
                 second.symlink_to(TOP / path)
                 first.symlink_to("second")
                 for called in (first, folder / "tree" / path, folder / "copy" / path):
-                    words = [sys.executable, *(["-P"] if path != "overlay" else []), called, "--help"]
+                    words: list[str | pathlib.Path] = [sys.executable, *(["-P"] if path != "overlay" else []), called, "--help"]
                     done = subprocess.run(words, cwd=made, capture_output=True, text=True, check=True, timeout=SECONDS)
                     self.assertTrue(done.stdout.startswith(f"usage: {called.name} {usage}"), done.stdout)
-                first.unlink(), second.unlink()
+                first.unlink()
+                second.unlink()

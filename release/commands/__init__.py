@@ -1,0 +1,1 @@
+"""What each command of release/ does, in the module of its name."""
