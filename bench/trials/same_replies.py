@@ -1,6 +1,6 @@
 """Has two programs run the same scripts, and compares their replies byte for byte.
 
-python3 -m bench.trials.same_replies FIRST SECOND [--scripts N] [--seed N] [--workers N].. [--keep FOLDER]
+python3 -m bench.trials.same_replies FIRST SECOND [--scripts N] [--after N] [--seed N] [--workers N].. [--keep FOLDER]
 python3 -m bench.trials.same_replies --test
 
 FIRST may be of another commit: `python3 bench/unproved.py --unchecked crates/overlayd/src FIRST` in a worktree of it. The
@@ -159,11 +159,11 @@ def script(seed: int, number: int) -> bytes:
     return "\n".join([*lines, *last, ""]).encode()
 
 
-def scripts(seed: int, count: int) -> Iterator[tuple[str, bytes]]:
-    """The scripts of examples/, then drawn ones, by name."""
-    for path in sorted(EXAMPLES.glob("*.txt")):
+def scripts(seed: int, first: int, count: int) -> Iterator[tuple[str, bytes]]:
+    """The scripts of examples/, or where drawn ones are left out none; then drawn ones from a number on, by name."""
+    for path in [] if first else sorted(EXAMPLES.glob("*.txt")):
         yield path.stem, path.read_bytes()
-    for number in range(count):
+    for number in range(first, count):
         yield f"drawn {number}", script(seed, number)
 
 
@@ -231,7 +231,7 @@ def difference(first: Ran, second: Ran) -> str | None:
 def compare(words: argparse.Namespace, folder: pathlib.Path) -> int:
     """Compares all runs, and gives how many differ."""
     pair, wrong, count = Pair([words.first, words.second], folder), 0, 0
-    for name, text in scripts(words.seed, words.scripts):
+    for name, text in scripts(words.seed, words.after, words.scripts):
         count += 1
         for workers in words.workers or WORKERS:
             for found in pair.differences(text, workers):
@@ -284,6 +284,7 @@ def test() -> int:
     checks = [
         ("the same once more", script(1, 5) == script(1, 5) != script(2, 5), True),
         ("all words", needed - words, set()), ("early", [line for lines in drawn for line in early(lines)], []),
+        ("a rest", [name for name, _ in scripts(1, 3, 5)], ["drawn 3", "drawn 4"]),
         ("steps", steps, [240, 240]), ("crowded", any("PUT X" in line for line in drawn[-1]), True),
         ("alike", difference(Ran(0, b"ok 1\n", b""), Ran(0, b"ok 1\n", b"")), None),
         ("another line", difference(Ran(0, b"ok 1\nok 2\n", b""), Ran(0, b"ok 1\nok 3\n", b"")), "line 2 of the replies: b'ok 2', b'ok 3'"),
@@ -301,6 +302,7 @@ def main() -> int:
     parser.add_argument("first", type=os.path.abspath)
     parser.add_argument("second", type=os.path.abspath)
     parser.add_argument("--scripts", type=int, default=2000, help="how many are drawn (2000)")
+    parser.add_argument("--after", type=int, default=0, help="goes on after the examples and so many drawn ones")
     parser.add_argument("--seed", type=int, default=1)
     parser.add_argument("--workers", type=int, action="append", help="by how many workers (1, 4 and 8)")
     parser.add_argument("--keep", metavar="FOLDER", help="keeps scripts that differ here")
