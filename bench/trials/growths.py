@@ -49,7 +49,7 @@ def refuse(words: argparse.Namespace, folder: pathlib.Path) -> tuple[int, int]:
     library = refused_runs.compiled("growths", folder)
     right = wrong = 0
     print(refusal_tables.HEAD)
-    waiting = (refused_runs.MEMORY, refused_runs.CREATED, refused_runs.OPENED)
+    waiting = (refused_runs.MEMORY, refused_runs.CREATED, refused_runs.OPENED, refused_runs.STRIPS_CREATED)
     for scenario in (*waiting, refused_runs.QUIET_MEMORY, refused_runs.QUIET_CREATED):
         runner = refused_runs.runner_of(words, scenario, library, folder)
         runner.count_early("REFUSE")

@@ -31,6 +31,14 @@ FIRST = [f"PUT A {SQUARE}", "DEFINE I = A", "WAIT I", "EDGES I 16", "SYNC", "GRI
 SECOND = [f"PUT B {OTHER}", "SYNC", "DEFINE J = A ^ B", "WAIT J", "VERIFY J 16", "DROP I", "SYNC"]
 BEFORE = [f"PUT A {SQUARE}", f"PUT B {OTHER}", "DEFINE I = A & B"]
 AFTER = ["LOCATE I 7 7", "EDGES I 16", f"PUT C {SQUARE}", "SYNC", "DROP I", "VERIFY I 16"]
+# Two layers over five columns, so that a WAIT takes strips, all of whose tiles have pieces; then a change in two of them.
+LONG = "((-720000 0, -400000 9, -400000 -9, -720000 0))"
+STRIPS = [
+    f"PUT A POLYGON {LONG}", "PUT B POLYGON ((-690000 9, -430000 -7, -430000 7, -690000 9))", "DEFINE I = A ^ B", "WAIT I",
+    "EDGES I 5", "EDGES I 7", "VERIFY I 9", "SYNC",
+    f"PUT A MULTIPOLYGON ({LONG}, ((-530000 1, -520000 1, -520000 30, -530000 1)))", "WAIT I",
+    *[f"EDGES I {column}" for column in range(5, 10)], "VERIFY I 8", "SYNC",
+]
 
 
 class Scenario:
@@ -65,6 +73,7 @@ class Scenario:
 MEMORY = Scenario("one script in memory", [WORDS], 1, None)
 CREATED = Scenario("two scripts, a new store", [FIRST, SECOND], 2)
 OPENED = Scenario("one script, a store opened", [AFTER], 2, BEFORE)
+STRIPS_CREATED = Scenario("strips of columns, a new store", [STRIPS], 2)
 # Scripts that wait for nothing: runs that end, though memory never comes back.
 QUIET = [[f"PUT A {SQUARE}", "DEFINE I = A", "LOCATE I 2 2", "LAYERS"], [f"PUT B {OTHER}", "GRID B 4 4 2 4 4"]]
 QUIET_MEMORY = Scenario("one script that waits for nothing", QUIET[:1], 1, None)
