@@ -118,7 +118,7 @@ module _ {D : Type 0} (g : Ghosts D) (start : Start) where
   over_a_call : (old new : Moment D g) → CallsTo g start old new → IsRunning g start old → StandsAt g start old new
   over_a_call old new calls running =
       let kept = calls.keeps running.store in
-      moved old new calls.before (goes_on old new.history new.flusher running kept.goes_on calls.valid kept.store)
+      moved old new calls.before (goes_on old new.history new.flusher running kept.goes_on kept.valid kept.store)
 
   over_an_end : (old new : Moment D g) → ClosesTo g start old new → IsRunning g start old → StandsAt g start old new
   over_an_end old new closes running =
@@ -147,7 +147,7 @@ module _ {D : Type 0} (g : Ghosts D) (start : Start) where
       let exact : IsExact cut.history.start = subst IsExact (sym first) running.exact in
       let left : Leaves g cut.disk (Covered start least all) = (λ c leaves.
       rebased start cut.history.start old.before batches least c (ap (λ (v : Version). v.number) first ∙ running.number) (ap (λ (v : Version). v.layers) first ∙ running.layers)
-      (files_are_covered cut.history least c cut.valid exact (kept.moments.each c (cut.leaves c leaves)))) in
+      (files_are_covered cut.history least c kept.valid exact (kept.moments.each c (cut.leaves c leaves)))) in
       let is = cut.recovered least all (tried least all cut.disk cut.tried cut.last cut.tries left) in
       let e = cut.engine in
       let d = (newest cut.history).durable in
@@ -186,7 +186,7 @@ module _ {D : Type 0} (g : Ghosts D) (start : Start) where
   over_one old new (inr (inl closes)) running = over_an_end old new closes running
   over_one old new (inr (inr cut)) running =
       let kept = cut.keeps running.store in
-      onward old (cut_call g start old new cut) new (goes_on old cut.history cut.end running kept.goes_on cut.valid kept.store) (over_a_crash old new cut running)
+      onward old (cut_call g start old new cut) new (goes_on old cut.history cut.end running kept.goes_on kept.valid kept.store) (over_a_crash old new cut running)
 
   -- what is so at a moment stays so
   stands_on : (first m : Moment D g) (later : List (Moment D g)) → StandsAt g start first m → Runs g start m later → AllByRecursion (StandsAt g start first) later

@@ -43,7 +43,6 @@ module _ {D : Type 0} (g : Ghosts D) (start : Start) where
   -- a call of the store's keeper has returned: what its clause `keeps` says
   pub record CallsTo (old new : Moment D g) : Type 0 where
     pub before : new.before ≡ old.before
-    pub valid : IsHistory new.history
     pub keeps : IsStoreOf g old.history old.flusher → KeepsTold g old.history old.flusher new.history new.flusher
 
   -- the book has closed: what `close` says of its last log, in which no more is reported durable than is stored
@@ -63,7 +62,6 @@ module _ {D : Type 0} (g : Ghosts D) (start : Start) where
   pub record CutTo (old new : Moment D g) : Type 0 where
     pub history : History
     pub end : Flusher D g
-    pub valid : IsHistory history
     pub keeps : IsStoreOf g old.history old.flusher → KeepsTold g old.history old.flusher history end
     pub disk : D
     pub leaves : (c : List ℕ) → g.may_leave disk c → g.left_since end.commit.disk (g.moment old.flusher.commit.disk) c

@@ -1,6 +1,6 @@
 //! The book of a server as it was opened.
-ghost use Rattle.std.specs.Prelude.{◌≡◌, List, None};
-ghost use Rattle.store_flushing.specs.Stores.{flusher_in};
+ghost use Rattle.std.specs.Prelude.{◌≡◌, List, [], None};
+ghost use Rattle.store_flushing.specs.Stores.{flusher_in, told_by};
 ghost use Rattle.overlay_server.specs.Answering.{answer_in};
 ghost use Rattle.overlay_server.specs.Given.{Given};
 ghost use Rattle.overlay_server.specs.Refusing.{IsRefusedFrom};
@@ -36,6 +36,7 @@ impl<J: BookName, S: Wait + Drop, D: Disk> Hosted<J, S, D> {
     pub fn unserved(self, alloc: Global) -> ServerFault<D>
         requires answer { answer_in self.answer ≡ None }
         requires first { self.seen_log.log ≡ first_log self.version.value }
+        requires untold { told_by self.store ≡ [] }
         ensures { (all : List Given) → IsRefusedFrom D.Disk self.version.value (flusher_in self.store) all result }
     {
         let Hosted {

@@ -364,9 +364,10 @@ module _ {D : Type 0} (g : Ghosts D) where
   -- ---- calls of a keeper
 
   -- a call that reports no more than was stored as it began
-  pub kept : (was now : History) (s t : Flusher D g) → Flushes g was s now t → (newest now).durable ≤ s.commit.root.version → KeepsTold g was s now t
-  kept was now s t run told = record {
+  pub kept : (was now : History) (s t : Flusher D g) → Flushes g was s now t → IsHistory now → (newest now).durable ≤ s.commit.root.version → KeepsTold g was s now t
+  kept was now s t run valid told = record {
     goes_on = run.goes_on;
+    valid = valid;
     store = run.store;
     no_less = run.no_less;
     told = told;
@@ -407,9 +408,10 @@ module _ {D : Type 0} (g : Ghosts D) where
       (λ file is. file_more now now s.commit.root.version (newest now).durable file (begins_self now) call.told is) call.moments
 
   -- a device call
-  pub step_kept : (h : History) (s new : Flusher D g) → IsStoreOf g h s → Moves h s new → FailsByDevice g s.commit new.commit → KeepsTold g h s h new
-  step_kept h s new is moved fails = record {
+  pub step_kept : (h : History) (s new : Flusher D g) → IsHistory h → IsStoreOf g h s → Moves h s new → FailsByDevice g s.commit new.commit → KeepsTold g h s h new
+  step_kept h s new valid is moved fails = record {
     goes_on = begins_self h;
+    valid = valid;
     store = moved.store;
     no_less = moved.no_less;
     told = is.reported;
@@ -430,11 +432,12 @@ module _ {D : Type 0} (g : Ghosts D) where
     no_more : (newest n).durable ≤ s.commit.root.version
     no_more = ⊎_elim (λ to. omega (arith, to)) (λ stays. omega (arith, stays, is.reported)) told
 
-    pub report_kept : KeepsTold g h s n s
-    report_kept =
+    pub report_kept : IsHistory n → KeepsTold g h s n s
+    report_kept valid =
         let store = store_more h n s on no_more is in
         record {
           goes_on = on;
+          valid = valid;
           store = store;
           no_less = omega arith;
           told = no_more;
@@ -462,6 +465,6 @@ pub begin_kept : {D A : Type 0} (g : Ghosts D) (h : History) (s new : Flusher D 
 begin_kept g h s new v (Ok u) at idle history latest failed begins stored busy disk same is =
     kept g h h s new
     (commit_begins g h s new v idle (λ why. never_both (Ok u) u fault.Failed refl (failed why)) history latest begins stored busy disk at is)
-    is.reported
+    history is.reported
 begin_kept {D} g h s new v (Err why) at idle history latest failed begins stored busy disk same is =
-    subst (λ (f : Flusher D g). KeepsTold g h s h f) (sym same) (kept g h h s s (begun g h s at is) is.reported)
+    subst (λ (f : Flusher D g). KeepsTold g h s h f) (sym same) (kept g h h s s (begun g h s at is) history is.reported)

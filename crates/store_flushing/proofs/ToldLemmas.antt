@@ -144,15 +144,15 @@ module _ {D : Type 0} (g : Ghosts D) where
         (run.before t.moment c is.1 left),
   )
 
-  pub none_told : (was now : History) (s t : Flusher D g) (told : List Told) → KeepsTold g was s now t → IsHistory now → (newest now).durable ≡ (newest was).durable
+  pub none_told : (was now : History) (s t : Flusher D g) (told : List Told) → KeepsTold g was s now t → (newest now).durable ≡ (newest was).durable
       → TellsOn g was told s.commit.disk now told t.commit.disk
-  none_told was now s t told call history same = record {
+  none_told was now s t told call same = record {
     goes_on = prefix_self told;
     later = call.moments.later;
     stays = λ first from is.
         let top = s.commit.root.version in
-        let each = told_same was now call.goes_on history same ∙ is.each in
-        let small = small_in top told (subst (All (λ n. n ≤ top)) each (all_low now top history call.told)) in
+        let each = told_same was now call.goes_on call.valid same ∙ is.each in
+        let small = small_in top told (subst (All (λ n. n ≤ top)) each (all_low now top call.valid call.told)) in
         record {
           each = each;
           stays = λ k d at. still was now top first s.commit.disk t.commit.disk (slice_index_or told k d) call.goes_on call.moments (small k d at) (is.stays k d at);
@@ -160,9 +160,9 @@ module _ {D : Type 0} (g : Ghosts D) where
   }
 
   -- news is reported, with the disk's moment
-  pub news_told : (was now : History) (s : Flusher D g) (told more : List Told) → OnlyNow g s → KeepsTold g was s now s → IsHistory now
+  pub news_told : (was now : History) (s : Flusher D g) (told more : List Told) → OnlyNow g s → KeepsTold g was s now s
       → more ≡ told ++ told_at (g.moment s.commit.disk) (news_in was now) → TellsOn g was told s.commit.disk now more s.commit.disk
-  news_told was now s told more at call history is_more = subst (λ (l : List Told). TellsOn g was told s.commit.disk now l s.commit.disk) (sym is_more) (record {
+  news_told was now s told more at call is_more = subst (λ (l : List Told). TellsOn g was told s.commit.disk now l s.commit.disk) (sym is_more) (record {
     goes_on = (told_at (g.moment s.commit.disk) (news_in was now), refl);
     later = omega arith;
     stays = λ first from is.
@@ -178,7 +178,7 @@ module _ {D : Type 0} (g : Ghosts D) where
               (All-weaker (Stays was first disk) P (λ (t : Told) old. (old.0, old.1, λ c left. file_more was now t.number t.number c call.goes_on (omega arith) (old.2 c left))) told is.stays)
               (All-map P (told_then m) news (All-weaker (λ n. n ≤ top) (λ n. P (told_then m n))
               (λ n low. (from, omega arith, λ c left. file_more now now top n c (begins_self now) low (store_leaves g now s call.store c (at c left))))
-              news (news_low was now call.goes_on top history call.told)));
+              news (news_low was now call.goes_on top call.valid call.told)));
         };
   })
 

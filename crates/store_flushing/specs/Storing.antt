@@ -3,7 +3,7 @@
 use Rattle.std.specs.Prelude.{◌≡◌, ◌≤◌, ℕ, List}
 use Rattle.disk_model.specs.declared.disk.Disk.{Ghosts}
 use Rattle.disk_model.specs.Moments.{Leaves, LeavesOnly}
-use Rattle.overlay_terms.specs.Histories.{Entry, History, BeginsWith, newest}
+use Rattle.overlay_terms.specs.Histories.{Entry, History, IsHistory, BeginsWith, newest}
 use Rattle.root_store.specs.declared.phase.Phase.{Phase}
 use Rattle.root_store.specs.declared.phase.Phase.TheVariants.{Idle, Close, Settle, Put, Open, Finish, Failed}
 use Rattle.commit_plan.specs.Kept.{Kept}
@@ -64,12 +64,13 @@ pub record Flushes {D : Type 0} (g : Ghosts D) (was : History) (old : Flusher D 
   pub moments : LeavesOnly g old.commit.disk new.commit.disk (IsFileIn now old.commit.root.version)
   pub by_device : FailsByDevice g old.commit new.commit
 
--- a call of a store's keeper: the history that the reporter has seen goes on, the store is one of it, and it fails by its
--- device alone. What is reported durable by the end of the call was stored as it began, and a crash at any moment of it leaves
--- a version of the history that is no older than that
+-- a call of a store's keeper: what the reporter has seen goes on and is a history, the store is one of it, and it fails by
+-- its device alone. What is reported durable by the end of the call was stored as it began, and a crash at any moment of it
+-- leaves a version of the history that is no older than that
 pub record KeepsTold {D : Type 0} (g : Ghosts D) (was : History) (old : Flusher D g) (now : History) (new : Flusher D g)
     : Type 0 where
   pub goes_on : BeginsWith now was
+  pub valid : IsHistory now
   pub store : IsStoreOf g now new
   pub no_less : old.commit.root.version ≤ new.commit.root.version
   pub told : (newest now).durable ≤ old.commit.root.version

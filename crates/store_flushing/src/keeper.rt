@@ -14,7 +14,8 @@ ghost use Rattle.store_flushing.specs.Since.{IsRemembered};
 ghost use Rattle.store_flushing.specs.Storing.{AllReported, IsStoreOf, Keeps};
 ghost use Rattle.store_flushing.specs.ToldFaults.{told_fault_of};
 
-pub use crate::flusher_loop::{flush, flusher_loop};
+pub use crate::flusher_loop::flush;
+pub use crate::keeper::flushing::flusher_loop;
 use crate::keeper::told_log::ToldLog;
 use crate::keeper::version_mark::VersionMark;
 use crate::reports;
@@ -31,6 +32,7 @@ use version_book::seen_log::BookName;
 use version_book::shared::Shared;
 use versions::Version;
 
+mod flushing;
 pub mod store;
 pub mod told_log;
 mod version_mark;
@@ -56,7 +58,7 @@ impl<D: Disk> Keeper<D> {
     ghost use Rattle.store_flushing.specs.Told.{KeepsTelling, news_in, told_at, told_in};
 
     /// A keeper of a reporter, a store, and what was reported durable.
-    pub(crate) fn of(reporter: Reporter, flusher: Flusher<D>, told: ToldLog) -> Keeper<D>
+    fn of(reporter: Reporter, flusher: Flusher<D>, told: ToldLog) -> Keeper<D>
         ensures reporter { result.reporter ≡ reporter }
         ensures flusher { result.flusher ≡ flusher }
         ensures told { result.told ≡ told }
@@ -71,7 +73,7 @@ impl<D: Disk> Keeper<D> {
     }
 
     /// What it was made of, as its calls left it.
-    pub(crate) fn into_parts(self) -> (Reporter, Flusher<D>, ToldLog)
+    fn into_parts(self) -> (Reporter, Flusher<D>, ToldLog)
         ensures reporter { result.0 ≡ self.reporter }
         ensures flusher { result.1 ≡ self.flusher }
         ensures told { result.2 ≡ self.told }
@@ -102,7 +104,7 @@ impl<D: Disk> Keeper<D> {
         requires { self.old.reporter.book ≡ J.book }
         ensures keeps { Keeps D.Disk self.old.reporter self.old.flusher self.new.reporter self.new.flusher }
         ensures tells { KeepsTelling D.Disk self.old self.new }
-        ensures history { IfOk result (λ o. IfSome o (λ _. IsHistory (history_of self.new.reporter.log))) }
+        ensures history { IsHistory (history_of self.new.reporter.log) }
         ensures newest { IfOk result (λ o. IfSome o (λ version. arc_value version ≡ newest_in self.new.reporter.log)) }
         ensures durable { (newest_in self.new.reporter.log).durable ≡ (newest_in self.old.reporter.log).durable }
         ensures none { IfOk result (λ o. IfNone o (self.new ≡ self.old)) }
@@ -182,6 +184,7 @@ impl<D: Disk> Keeper<D> {
         requires stored { J.stored self.old.reporter.log self.old.flusher.commit.root.version }
         ensures keeps { Keeps D.Disk self.old.reporter self.old.flusher self.new.reporter self.new.flusher }
         ensures tells { KeepsTelling D.Disk self.old self.new }
+        ensures history { IsHistory (history_of self.new.reporter.log) }
         ensures reported { IsStoreOf D.Disk (history_of self.old.reporter.log) self.old.flusher
             → AllReported (history_of self.new.reporter.log) self.new.flusher }
         ensures written { told_in self.new.told ≡ told_in self.old.told ++ told_at (D.moment self.old.flusher.commit.disk)

@@ -78,8 +78,9 @@ impl<D: Disk> Store<D> {
         }
     }
 
-    /// Gives the store up, where there is one.
+    /// Gives the store up, where there is one and nothing was reported durable: after a report only `close` does.
     pub fn into_flusher(self) -> Option<Flusher<D>>
+        requires untold { told_by self ≡ [] }
         ensures { result ≡ flusher_in self }
     {
         match self {

@@ -16,7 +16,7 @@ returns-in-Ok-clause-keeps g c is =
 pub returns-in-Ok-clause-tells : goal.returns-in-Ok-clause-tells
 returns-in-Ok-clause-tells g c is =
     let h = history_of c.args.self.now.reporter.log in
-    none_told g.D.Disk h h c.args.self.now.flusher c.begin_known.new.self (told_in c.args.self.now.told) (returns-in-Ok-clause-keeps g c is) c.requires.history refl
+    none_told g.D.Disk h h c.args.self.now.flusher c.begin_known.new.self (told_in c.args.self.now.told) (returns-in-Ok-clause-keeps g c is) refl
 
 pub returns-in-Err-clause-keeps : goal.returns-in-Err-clause-keeps
 returns-in-Err-clause-keeps g c is =
@@ -28,7 +28,7 @@ returns-in-Err-clause-keeps g c is =
 pub returns-in-Err-clause-tells : goal.returns-in-Err-clause-tells
 returns-in-Err-clause-tells g c is =
     let h = history_of c.args.self.now.reporter.log in
-    none_told g.D.Disk h h c.args.self.now.flusher c.begin_known.new.self (told_in c.args.self.now.told) (returns-in-Err-clause-keeps g c is) c.requires.history refl
+    none_told g.D.Disk h h c.args.self.now.flusher c.begin_known.new.self (told_in c.args.self.now.told) (returns-in-Err-clause-keeps g c is) refl
 
 pub returns-in-Err-clause-err : goal.returns-in-Err-clause-err
 returns-in-Err-clause-err g c =

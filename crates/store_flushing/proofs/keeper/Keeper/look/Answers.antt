@@ -7,6 +7,9 @@ use Rattle.store_flushing.proofs.Storage.{kept, longer}
 use Rattle.store_flushing.proofs.ToldLemmas.{none_told}
 use Rattle.store_flushing.proofs.keeper.Keeper.look.Goals as goal
 
+pub returns-clause-history : goal.returns-clause-history
+returns-clause-history g c = is_history c.next_version-looked.new.me.log c.given.ensures.valid
+
 pub returns-clause-keeps : goal.returns-clause-keeps
 returns-clause-keeps g c is =
     let d = g.D.Disk in
@@ -15,14 +18,14 @@ returns-clause-keeps g c is =
     let m = history_of c.next_version-looked.new.me.log in
     let e = c.next_version-looked.ensures in
     kept d h m s s (longer d h m s (λ k left. g.met.D.Disk.only_now s.commit.disk k is.honest left) e.goes_on e.durable is)
-    (omega (arith, e.durable, is.reported))
+    (returns-clause-history g c) (omega (arith, e.durable, is.reported))
 
 pub returns-clause-tells : goal.returns-clause-tells
 returns-clause-tells g c is =
     let s = c.args.self.now.flusher in
     let log = c.next_version-looked.new.me.log in
     none_told g.D.Disk (history_of c.args.self.now.reporter.log) (history_of log) s s (told_in c.args.self.now.told) (returns-clause-keeps g c is)
-    (is_history log c.given.ensures.valid) c.next_version-looked.ensures.durable
+    c.next_version-looked.ensures.durable
 
 pub invariant_of-self : goal.invariant_of-self
 invariant_of-self g c =

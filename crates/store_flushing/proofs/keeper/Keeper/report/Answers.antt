@@ -11,6 +11,9 @@ use Rattle.store_flushing.proofs.keeper.Keeper.report.Goals as goal
 pub report-requires-clause-stored : goal.report-requires-clause-stored
 report-requires-clause-stored g c = subst (g.J.BookName.stored c.args.self.now.reporter.log) (sym c.stored.ensures) c.requires.stored
 
+pub returns-clause-history : goal.returns-clause-history
+returns-clause-history g c = is_history c.report.new.me.log c.given.ensures.valid
+
 pub returns-clause-keeps : goal.returns-clause-keeps
 returns-clause-keeps g c is =
     let d = g.D.Disk in
@@ -19,7 +22,7 @@ returns-clause-keeps g c is =
     let s = c.args.self.now.flusher in
     let e = c.report.ensures in
     let told = subst (λ (k : ℕ). ((newest_in c.report.new.me.log).durable ≡ k) ⊎ ((newest_in c.report.new.me.log).durable ≡ (newest_in c.args.self.now.reporter.log).durable)) c.stored.ensures e.reported in
-    report_kept d h n s (λ k left. g.met.D.Disk.only_now s.commit.disk k is.honest left) e.goes_on told is
+    report_kept d h n s (λ k left. g.met.D.Disk.only_now s.commit.disk k is.honest left) e.goes_on told is (returns-clause-history g c)
 
 pub returns-clause-reported : goal.returns-clause-reported
 returns-clause-reported g c is =
@@ -37,7 +40,7 @@ returns-clause-tells g c is =
     let s = c.args.self.now.flusher in
     let log = c.report.new.me.log in
     news_told g.D.Disk (history_of c.args.self.now.reporter.log) (history_of log) s (told_in c.args.self.now.told) (told_in c.write.new.self)
-    (λ k left. g.met.D.Disk.only_now s.commit.disk k is.honest left) (returns-clause-keeps g c is) (is_history log c.given.ensures.valid)
+    (λ k left. g.met.D.Disk.only_now s.commit.disk k is.honest left) (returns-clause-keeps g c is)
     (subst (λ (r : Heard). told_in c.write.new.self ≡ told_in c.args.self.now.told ++ told_at (g.D.Disk.moment s.commit.disk) (news_in (history_of r.log) (history_of log)))
     c.of-was.ensures c.write.ensures)
 

@@ -13,13 +13,13 @@ returns-then-matches-clause-keeps g c is =
     let s = c.args.self.now.flusher in
     let u = c.step-stepped.new.self in
     let e = c.step-stepped.ensures in
-    step_kept d h s u is (steps d h s u c.step-stepped.result (λ k left. g.met.D.Disk.only_now s.commit.disk k is.honest left) e.moves e.stored e.honest.1 e.idle e.stuck is) (e.by_device is.honest)
+    step_kept d h s u (is_history c.args.self.now.reporter.log c.given.ensures.valid) is (steps d h s u c.step-stepped.result (λ k left. g.met.D.Disk.only_now s.commit.disk k is.honest left) e.moves e.stored e.honest.1 e.idle e.stuck is) (e.by_device is.honest)
 
 pub returns-then-matches-clause-tells : goal.returns-then-matches-clause-tells
 returns-then-matches-clause-tells g c is =
     let log = c.args.self.now.reporter.log in
     none_told g.D.Disk (history_of log) (history_of log) c.args.self.now.flusher c.step-stepped.new.self (told_in c.args.self.now.told) (returns-then-matches-clause-keeps g c is)
-    (is_history log c.given.ensures.valid) refl
+    refl
 
 pub returns-else-matches-clause-keeps : goal.returns-else-matches-clause-keeps
 returns-else-matches-clause-keeps g c is =
@@ -28,10 +28,10 @@ returns-else-matches-clause-keeps g c is =
     let s = c.args.self.now.flusher in
     let u = c.step-stepped.new.self in
     let e = c.step-stepped.ensures in
-    step_kept d h s u is (steps d h s u c.step-stepped.result (λ k left. g.met.D.Disk.only_now s.commit.disk k is.honest left) e.moves e.stored e.honest.1 e.idle e.stuck is) (e.by_device is.honest)
+    step_kept d h s u (is_history c.args.self.now.reporter.log c.given.ensures.valid) is (steps d h s u c.step-stepped.result (λ k left. g.met.D.Disk.only_now s.commit.disk k is.honest left) e.moves e.stored e.honest.1 e.idle e.stuck is) (e.by_device is.honest)
 
 pub returns-else-matches-clause-tells : goal.returns-else-matches-clause-tells
 returns-else-matches-clause-tells g c is =
     let log = c.args.self.now.reporter.log in
     none_told g.D.Disk (history_of log) (history_of log) c.args.self.now.flusher c.step-stepped.new.self (told_in c.args.self.now.told) (returns-else-matches-clause-keeps g c is)
-    (is_history log c.given.ensures.valid) refl
+    refl

@@ -3,7 +3,7 @@ use Rattle.flush_core.specs.declared.flusher.Flusher.{Flusher}
 use Rattle.book_history.specs.Logs.{history_of}
 use Rattle.book_lock.specs.Heard.{Heard}
 use Rattle.store_flushing.specs.Storing.{HoldsOfStored}
-use Rattle.store_flushing.proofs.flusher_loop.flusher_loop.Goals as goal
+use Rattle.store_flushing.proofs.keeper.flushing.flusher_loop.Goals as goal
 
 pub flush-requires-clause-stored : goal.flush-requires-clause-stored
 flush-requires-clause-stored g c =

@@ -1,0 +1,44 @@
+//! The loop of a flusher over reporter, store and list, which a keeper is made of meanwhile.
+ghost use Rattle.std.specs.Prelude.{◌≡◌, false};
+ghost use Rattle.root_store.specs.Running.{is_busy};
+ghost use Rattle.book_history.specs.Logs.{history_of};
+ghost use Rattle.store_flushing.specs.Storing.{HoldsOfStored, IsStoreOf, Flushes};
+ghost use Rattle.store_flushing.specs.Told.{TellsOn, told_in};
+
+use crate::flusher_loop::flush;
+use crate::keeper::Keeper;
+use crate::keeper::told_log::ToldLog;
+use disk_model::disk::Disk;
+use flush_core::flusher::Flusher;
+use std::alloc::Global;
+use std::sync::Wait;
+use version_book::reporter::Reporter;
+use version_book::seen_log::BookName;
+use version_book::shared::Shared;
+
+/// Commits each version that the book gives, and reports it once it is stored, until the book closes or the device
+/// fails. Meanwhile reporter, store and list are a keeper's: what a reporter alone reports nobody can write down.
+pub fn flusher_loop<J: BookName, R: Wait + Drop, D: Disk, W: Wait>(
+    rt: &W,
+    alloc: Global,
+    shared: &Shared<J, R>,
+    reporter: Reporter,
+    flusher: Flusher<D>,
+    told: ToldLog,
+) -> (Reporter, Flusher<D>, ToldLog)
+    requires book { reporter.book ≡ J.book }
+    // What this store holds may be reported durable, whenever it is reported.
+    requires stored { HoldsOfStored D.Disk J.stored (history_of reporter.log) flusher }
+    ensures flushes { IsStoreOf D.Disk (history_of reporter.log) flusher
+        → Flushes D.Disk (history_of reporter.log) flusher (history_of result.0.log) result.1 }
+    ensures rests { is_busy result.1.commit.phase ≡ false }
+    ensures same { result.0.book ≡ reporter.book }
+    // What it reports durable is written down at once, and from that moment on a crash leaves no older version.
+    ensures told { IsStoreOf D.Disk (history_of reporter.log) flusher
+        → TellsOn D.Disk (history_of reporter.log) (told_in told) flusher.commit.disk
+        (history_of result.0.log) (told_in result.2) result.1.commit.disk }
+{
+    let mut keeper = Keeper::of(reporter, flusher, told);
+    flush(rt, alloc, shared, &mut keeper);
+    keeper.into_parts()
+}
