@@ -8,7 +8,8 @@ ghost use Rattle.tile_build.specs.StripTiles.{AreOfStrip};
 ghost use Rattle.tile_build.specs.Tile.{tile_of};
 
 use crate::building::pieces_of;
-use crate::built::{Built, PIECES_MAX};
+use crate::built::PIECES_MAX;
+use crate::shared_built::SharedBuilt;
 use crate::strip_tiles::tiles_of;
 use crate::tile::Tile;
 use arrange::TileInput;
@@ -23,7 +24,7 @@ pub fn build_strip_while<W: Wish>(
     alloc: Global,
     input: &StripInput,
     wish: &W,
-) -> Result<Option<Vec<Built>>, AllocError>
+) -> Result<Option<Vec<SharedBuilt>>, AllocError>
     ensures each { IfOk result (λ o. IfSome o (λ list. length list.items + input.now.strip.first ≡ input.now.strip.last + 1)) }
     ensures inputs { IfOk result (λ o. IfSome o (λ list. (i : ℕ) (d : Input × terms.Tile) → i < length list.items → (get_or list.items i d).0 ≡ part input.now (input.now.strip.first + i))) }
 {
@@ -43,7 +44,7 @@ fn build_apart_while<W: Wish>(
     alloc: Global,
     input: &StripInput,
     wish: &W,
-) -> Result<Option<Vec<Built>>, AllocError>
+) -> Result<Option<Vec<SharedBuilt>>, AllocError>
     ensures { IfOk result (λ o. IfSome o (λ list. AreOfStrip input.now list.items)) }
 {
     let mut list = Vec::new(alloc);
@@ -69,14 +70,15 @@ pub fn build_while<W: Wish>(
     alloc: Global,
     input: TileInput,
     wish: &W,
-) -> Result<Option<Built>, AllocError>
+) -> Result<Option<SharedBuilt>, AllocError>
     ensures { IfOk result (λ o. IfSome o (λ built. built.0 ≡ input)) }
 {
     let done = tile_while(alloc, &input, wish)?;
     let Some(tile) = done else {
         return Ok(None);
     };
-    Ok(Some(Built::of(input, tile)))
+    let built = SharedBuilt::of(alloc, input, tile)?;
+    Ok(Some(built))
 }
 
 /// The tile of an input, by one pass over the column, as long as it is wanted.

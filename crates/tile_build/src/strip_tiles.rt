@@ -10,9 +10,10 @@ ghost use Rattle.crossing_sweep.specs.StripCrossed.{IsStripCrossed};
 ghost use Rattle.crossing_sweep.specs.StripInput.{part, IsStripTile};
 ghost use Rattle.tile_build.specs.StripTiles.{AreOfStrip};
 
-use crate::building::pieces_of;
-use crate::built::{Built, PIECES_MAX};
+use crate::building::{build, pieces_of};
+use crate::built::PIECES_MAX;
 use crate::ends::is_name_in;
+use crate::shared_built::SharedBuilt;
 use crate::tile::Tile;
 use crossing_sweep::{Crossed, NodeName, Row, cross_strip, name_of};
 use plane_base::Column;
@@ -21,7 +22,7 @@ use strip_inputs::StripInput;
 
 /// Builds the tiles of a strip's columns in order, each of its own column's input. They are found by one pass over the strip;
 /// where it has more pieces in all than a tile holds, by one pass over each column.
-pub fn build_strip(alloc: Global, input: &StripInput) -> Result<Vec<Built>, AllocError>
+pub fn build_strip(alloc: Global, input: &StripInput) -> Result<Vec<SharedBuilt>, AllocError>
     ensures each { IfOk result (λ list. length list.items + input.now.strip.first ≡ input.now.strip.last + 1) }
     ensures inputs { IfOk result (λ list. (i : ℕ) (d : Input × terms.Tile) → i < length list.items → (get_or list.items i d).0 ≡ part input.now (input.now.strip.first + i)) }
 {
@@ -32,7 +33,7 @@ pub fn build_strip(alloc: Global, input: &StripInput) -> Result<Vec<Built>, Allo
 }
 
 /// The tiles by one pass over the strip. None come where it has more pieces in all than a tile holds.
-fn build_whole(alloc: Global, input: &StripInput) -> Result<Option<Vec<Built>>, AllocError>
+fn build_whole(alloc: Global, input: &StripInput) -> Result<Option<Vec<SharedBuilt>>, AllocError>
     ensures { IfOk result (λ o. IfSome o (λ list. AreOfStrip input.now list.items)) }
 {
     let pass = input.pass();
@@ -45,7 +46,7 @@ pub(crate) fn tiles_of(
     alloc: Global,
     input: &StripInput,
     found: Crossed,
-) -> Result<Option<Vec<Built>>, AllocError>
+) -> Result<Option<Vec<SharedBuilt>>, AllocError>
     requires { IsStripCrossed input.now pieces_max false found }
     ensures { IfOk result (λ o. IfSome o (λ list. AreOfStrip input.now list.items)) }
 {
@@ -57,7 +58,7 @@ pub(crate) fn tiles_of(
 }
 
 /// The tiles by one pass over each column.
-fn build_apart(alloc: Global, input: &StripInput) -> Result<Vec<Built>, AllocError>
+fn build_apart(alloc: Global, input: &StripInput) -> Result<Vec<SharedBuilt>, AllocError>
     ensures { IfOk result (λ list. AreOfStrip input.now list.items) }
 {
     let mut list = Vec::new(alloc);
@@ -69,10 +70,9 @@ fn build_apart(alloc: Global, input: &StripInput) -> Result<Vec<Built>, AllocErr
             unreachable!()
         };
         let own = input.column_input(alloc, column)?;
-        match Built::new(alloc, own) {
-            Ok(built) => list.push(built)?,
-            Err((_own, error)) => return Err(error),
-        }
+        let tile = build(alloc, &own, PIECES_MAX)?;
+        let built = SharedBuilt::of(alloc, own, tile)?;
+        list.push(built)?;
     }
     Ok(list)
 }
@@ -84,7 +84,7 @@ fn split(
     input: &StripInput,
     names: &[NodeName],
     rows: &[Row],
-) -> Result<Vec<Built>, AllocError>
+) -> Result<Vec<SharedBuilt>, AllocError>
     requires spans { All (IsRowSpan names.now) rows.now }
     requires numbered { AreNumbered names.now }
     requires tile { IsStripTile input.now (map (named_ends names.now) rows.now) }
@@ -103,7 +103,8 @@ fn split(
         let next = part_end(column, names, rows, start);
         let pieces = pieces_of(alloc, names, &rows[start..next])?;
         let own = input.column_input(alloc, column)?;
-        list.push(Built::of(own, Tile::Pieces(pieces)))?;
+        let built = SharedBuilt::of(alloc, own, Tile::Pieces(pieces))?;
+        list.push(built)?;
         start = next;
     }
     Ok(list)

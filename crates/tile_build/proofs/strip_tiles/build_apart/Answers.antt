@@ -19,11 +19,11 @@ pub loop-number-preserved : goal.loop-number-preserved
 loop-number-preserved c =
     let last : c.number-end.result ≡ c.args.input.now.strip.last = c.number-end.ensures.value ∙ c.last.ensures.value ∙ ap (λ (s : Span). s.last) c.strip-strip.ensures.value in
     let same : c.in-Some.column ≡ c.loop-number.number = search rules in
-    let own : c.in-Ok.built.0 ≡ part c.args.input.now c.loop-number.number = c.in-Ok.ensures.ok ∙ c.in_ok-own.ensures ∙ ap (part c.args.input.now) same in
+    let own : c.in_ok-built.built.0 ≡ part c.args.input.now c.loop-number.number = c.in_ok-built.ensures.input ∙ c.in_ok-own.ensures ∙ ap (part c.args.input.now) same in
     record {
       from = omega (arith, c.loop-number.invariant.from);
       to = omega (arith, last);
-      built = more_up_to c.args.input.now c.loop-number.number c.loop-number.list.items _ c.in-Ok.built c.loop-number.invariant.built own c.in_ok-push-in-Ok.ensures.items;
+      built = more_up_to c.args.input.now c.loop-number.number c.loop-number.list.items _ c.in_ok-built.built c.loop-number.invariant.built own c.in_ok-push.ensures.items;
     }
 
 pub column_input-requires : goal.column_input-requires
