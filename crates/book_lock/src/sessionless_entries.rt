@@ -16,12 +16,17 @@ use book_history::seen_log::BookName;
 use layer_expr::name::Name;
 use std::alloc::Global;
 use std::sync::Wait;
-use tile_build::Built;
+use tile_build::SharedBuilt;
 use versions::Version;
 
 impl<J: BookName, R: Wait + Drop> LockedLog<J, R> {
-    /// Keeps a built tile where it is awaited: the one entry that this adds, or nothing.
-    pub fn keep(&mut self, alloc: Global, name: &Name, built: &Built) -> Result<bool, BookFault>
+    /// Keeps a built tile where it is awaited: the one entry that this adds, or nothing. The tile is shared, not copied.
+    pub fn keep(
+        &mut self,
+        alloc: Global,
+        name: &Name,
+        built: &SharedBuilt,
+    ) -> Result<bool, BookFault>
         ensures kept { IfOk result (λ is_kept. IsFinishedIn self.old name.now built.now.0 built.now.1 is_kept self.new) }
         ensures err { IfErr result (λ fault. (self.new ≡ self.old) × ((fault ≡ no_memory) ⊎ (fault ≡ BookFault.Gone))) }
     {

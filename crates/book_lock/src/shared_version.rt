@@ -10,7 +10,7 @@ use book_history::fault::{BookFault, NO_MEMORY};
 use layer_expr::name::Name;
 use std::alloc::Global;
 use std::sync::Arc;
-use tile_build::Built;
+use tile_build::SharedBuilt;
 use versions::{Finish, Version};
 
 /// A version for as many as ask for it.
@@ -29,14 +29,14 @@ pub(crate) fn kept_version(
     alloc: Global,
     now: &Version,
     name: &Name,
-    built: &Built,
+    built: &SharedBuilt,
 ) -> Result<Option<Arc<Version, Global>>, BookFault>
     ensures some { IfOk result (λ o. IfSome o (λ v. IsAwaited now.now name.now built.now.0
         × FollowsTile now.now name.now built.now.0.column built.now.1 (arc_value v))) }
     ensures none { IfOk result (λ o. IfNone o (¬ (IsAwaited now.now name.now built.now.0))) }
     ensures err { IfErr result (λ fault. fault ≡ no_memory) }
 {
-    match now.finish_with(alloc, name, built) {
+    match now.finish_shared(alloc, name, built) {
         Ok(Finish::Kept(next)) => Ok(Some(shared(alloc, next)?)),
         Ok(Finish::Stale) => Ok(None),
         Err(fault) => Err(BookFault::Version(fault)),

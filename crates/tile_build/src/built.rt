@@ -48,15 +48,6 @@ impl Built {
         }
     }
 
-    /// A tile that is that of an input.
-    pub(crate) fn of(input: TileInput, tile: Tile) -> Built
-        requires { IsTileAt pieces_max input (tile_of tile) }
-        ensures input { result.0 ≡ input }
-        ensures tile { result.1 ≡ tile_of tile }
-    {
-        Built { input, tile }
-    }
-
     pub fn input(&self) -> &TileInput
         ensures value { result.now ≡ self.now.0 }
         ensures right { IsTileAt pieces_max self.now.0 self.now.1 }

@@ -6,7 +6,8 @@ ghost use Rattle.crossing_sweep.specs.StripInput.{part};
 ghost use Rattle.tile_build.specs.StripTiles.{AreOfStrip};
 
 use crate::building::tile_while;
-use crate::built::{Built, PIECES_MAX};
+use crate::built::PIECES_MAX;
+use crate::shared_built::SharedBuilt;
 use crate::strip_tiles::tiles_of;
 use arrange::TileInput;
 use crossing_sweep::{Wish, cross_strip_while};
@@ -21,7 +22,7 @@ pub fn build_strip_while<W: Wish>(
     alloc: Global,
     input: &StripInput,
     wish: &W,
-) -> Result<Option<Vec<Built>>, AllocError>
+) -> Result<Option<Vec<SharedBuilt>>, AllocError>
     ensures each { IfOk result (λ o. IfSome o (λ list. length list.items + input.now.strip.first ≡ input.now.strip.last + 1)) }
     ensures inputs { IfOk result (λ o. IfSome o (λ list. (i : ℕ) (d : Input × terms.Tile) → i < length list.items → (get_or list.items i d).0 ≡ part input.now (input.now.strip.first + i))) }
     ensures left { IfOk result (λ o. IsNone o → W.ended wish.now) }
@@ -42,7 +43,7 @@ fn build_apart_while<W: Wish>(
     alloc: Global,
     input: &StripInput,
     wish: &W,
-) -> Result<Option<Vec<Built>>, AllocError>
+) -> Result<Option<Vec<SharedBuilt>>, AllocError>
     ensures each { IfOk result (λ o. IfSome o (λ list. AreOfStrip input.now list.items)) }
     ensures left { IfOk result (λ o. IsNone o → W.ended wish.now) }
 {
@@ -70,7 +71,7 @@ pub fn build_while<W: Wish>(
     alloc: Global,
     input: TileInput,
     wish: &W,
-) -> Result<Option<Built>, AllocError>
+) -> Result<Option<SharedBuilt>, AllocError>
     ensures input { IfOk result (λ o. IfSome o (λ built. built.0 ≡ input)) }
     ensures left { IfOk result (λ o. IsNone o → W.ended wish.now) }
 {
@@ -78,5 +79,6 @@ pub fn build_while<W: Wish>(
     let Some(tile) = done else {
         return Ok(None);
     };
-    Ok(Some(Built::of(input, tile)))
+    let built = SharedBuilt::of(alloc, input, tile)?;
+    Ok(Some(built))
 }

@@ -11,9 +11,10 @@ ghost use Rattle.crossing_sweep.specs.StripInput.{part, IsStripTile};
 ghost use Rattle.tile_build.specs.StripTiles.{AreOfStrip};
 
 use crate::building::pieces_of;
-use crate::built::{Built, PIECES_MAX};
+use crate::built::PIECES_MAX;
 use crate::ends::is_name_in;
 use crate::leaving::build_strip_while;
+use crate::shared_built::SharedBuilt;
 use crate::tile::Tile;
 use crossing_sweep::{Always, Crossed, NodeName, Row, name_of};
 use plane_base::Column;
@@ -21,7 +22,7 @@ use std::alloc::{AllocError, Global};
 use strip_inputs::StripInput;
 
 /// Builds the tiles of a strip's columns as `build_strip_while` does, to the end.
-pub fn build_strip(alloc: Global, input: &StripInput) -> Result<Vec<Built>, AllocError>
+pub fn build_strip(alloc: Global, input: &StripInput) -> Result<Vec<SharedBuilt>, AllocError>
     ensures each { IfOk result (λ list. length list.items + input.now.strip.first ≡ input.now.strip.last + 1) }
     ensures inputs { IfOk result (λ list. (i : ℕ) (d : Input × terms.Tile) → i < length list.items → (get_or list.items i d).0 ≡ part input.now (input.now.strip.first + i)) }
 {
@@ -36,7 +37,7 @@ pub(crate) fn tiles_of(
     alloc: Global,
     input: &StripInput,
     found: Crossed,
-) -> Result<Option<Vec<Built>>, AllocError>
+) -> Result<Option<Vec<SharedBuilt>>, AllocError>
     requires { IsStripCrossed input.now pieces_max false found }
     ensures { IfOk result (λ o. IfSome o (λ list. AreOfStrip input.now list.items)) }
 {
@@ -54,7 +55,7 @@ fn split(
     input: &StripInput,
     names: &[NodeName],
     rows: &[Row],
-) -> Result<Vec<Built>, AllocError>
+) -> Result<Vec<SharedBuilt>, AllocError>
     requires spans { All (IsRowSpan names.now) rows.now }
     requires numbered { AreNumbered names.now }
     requires tile { IsStripTile input.now (map (named_ends names.now) rows.now) }
@@ -73,7 +74,8 @@ fn split(
         let next = part_end(column, names, rows, start);
         let pieces = pieces_of(alloc, names, &rows[start..next])?;
         let own = input.column_input(alloc, column)?;
-        list.push(Built::of(own, Tile::Pieces(pieces)))?;
+        let built = SharedBuilt::of(alloc, own, Tile::Pieces(pieces))?;
+        list.push(built)?;
         start = next;
     }
     Ok(list)

@@ -8,7 +8,7 @@ use crate::strip_wish::StripWish;
 use plane_base::Column;
 use std::alloc::{AllocError, Global};
 use std::sync::Wait;
-use tile_build::{Built, build_strip_while, build_while};
+use tile_build::{SharedBuilt, build_strip_while, build_while};
 use version_book::resting::rest;
 use version_book::seen_log::BookName;
 use version_book::shared::Shared;
@@ -84,7 +84,7 @@ fn build<J: BookName, R: Wait + Drop, W: Wait>(
     alloc: Global,
     shared: &Shared<J, R>,
     strip: &StripJob,
-) -> Result<Option<Vec<Built>>, AllocError>
+) -> Result<Option<Vec<SharedBuilt>>, AllocError>
     requires { strip.now.next ≡ strip.now.input.strip.first }
     ensures { IfOk result (λ o. IfSome o (λ list. AreNext strip.now list.items)) }
 {
@@ -110,7 +110,7 @@ fn finish_each<J: BookName, R: Wait + Drop, W: Wait>(
     alloc: Global,
     shared: &Shared<J, R>,
     strip: &mut StripJob,
-    built: &[Built],
+    built: &[SharedBuilt],
 )
     requires book { strip.old.book ≡ J.book }
     requires tiles { AreNext strip.old built.now }
@@ -156,7 +156,7 @@ fn build_next<J: BookName, R: Wait + Drop, W: Wait>(
     alloc: Global,
     shared: &Shared<J, R>,
     strip: &StripJob,
-) -> Result<Option<Built>, AllocError>
+) -> Result<Option<SharedBuilt>, AllocError>
     requires { strip.now.next ≤ strip.now.input.strip.last }
     ensures { IfOk result (λ o. IfSome o (λ built. built.0 ≡ part strip.now.input strip.now.next)) }
 {

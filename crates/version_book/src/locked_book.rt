@@ -17,7 +17,7 @@ use book_lock::room::Room;
 use book_lock::session::Session;
 use std::alloc::Global;
 use std::sync::Wait;
-use tile_build::Built;
+use tile_build::SharedBuilt;
 
 pub mod closing;
 mod handouts;
@@ -84,31 +84,30 @@ impl<J: BookName, R: Wait + Drop> LockedBook<J, R> {
 
     /// Spends a job: keeps the tile that was built of its input where it is awaited, and says whether it was, by one
     /// entry or none. The tile is not handed out any more. Where that cannot be written down, or the log does not go on from
-    /// that at which the tile was handed out, both come back.
+    /// that at which the tile was handed out, the job comes back.
     pub fn finish(
         &mut self,
         alloc: Global,
         job: Job,
-        built: Built,
-    ) -> Result<bool, (Job, Built, BookFault)>
+        built: &SharedBuilt,
+    ) -> Result<bool, (Job, BookFault)>
         requires book { job.book ≡ J.book }
-        requires input { built.0 ≡ job.input }
+        requires input { built.now.0 ≡ job.input }
         ensures goes_on { IfOk result (λ _. IsPrefix job.log self.old.log) }
         ensures log { IfOk result
-            (λ is_kept. IsFinishedIn self.old.log job.name job.input built.1 is_kept self.new.log) }
+            (λ is_kept. IsFinishedIn self.old.log job.name job.input built.now.1 is_kept self.new.log) }
         ensures state { IfOk result
             (λ is_kept. IsAfterFinish self.old.state job.name job.input.column is_kept self.new.state) }
         ensures err { IfErr result
-            (λ e. (e.0 ≡ job) × (e.1 ≡ built) × (self.new.log ≡ self.old.log)
-            × (self.new.state ≡ self.old.state)) }
-        ensures refused { IfErr result (λ e. (e.2 ≡ no_memory) ⊎ (e.2 ≡ BookFault.Gone)) }
+            (λ e. (e.0 ≡ job) × (self.new.log ≡ self.old.log) × (self.new.state ≡ self.old.state)) }
+        ensures refused { IfErr result (λ e. (e.1 ≡ no_memory) ⊎ (e.1 ≡ BookFault.Gone)) }
     {
         if !self.log.has(job.seen_log()) {
-            return Err((job, built, BookFault::Gone));
+            return Err((job, BookFault::Gone));
         }
-        let kept = match self.log.keep(alloc, job.name(), &built) {
+        let kept = match self.log.keep(alloc, job.name(), built) {
             Ok(kept) => kept,
-            Err(fault) => return Err((job, built, fault)),
+            Err(fault) => return Err((job, fault)),
         };
         self.state
             .job_finished(job.name(), job.input().column(), kept);

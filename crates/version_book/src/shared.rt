@@ -26,7 +26,7 @@ use crate::locked_book::waits::{Awaited, tell_built, tell_durable, tell_news, te
 use crate::strip_job::StripJob;
 use crate::turns::{TurnKind, Turns};
 use arrange::TileInput;
-use book_history::fault::{BookFault, ToldFault};
+use book_history::fault::{BookFault, NO_MEMORY, ToldFault};
 use book_history::seen_log::{BookName, LogWord, SeenLog};
 use book_lock::change::Change;
 use book_lock::locked_log::LockedLog;
@@ -39,7 +39,7 @@ use layer_book::command::Command;
 use layer_expr::name::Name;
 use std::alloc::Global;
 use std::sync::{Arc, Wait};
-use tile_build::Built;
+use tile_build::{Built, SharedBuilt};
 use versions::Version;
 
 /// The book under its lock, and whether it has a store.
@@ -163,7 +163,7 @@ impl<J: BookName, R: Wait + Drop> Shared<J, R> {
     /// Spends a job with the tile that was built of its input. It says whether the tile was kept, with the log after
     /// it, whose last entry is the tile then; where it was not, that log is the one in which it was not awaited. It goes
     /// on from the log at which the tile was handed out. Where that cannot be written down, for want of memory, both come
-    /// back.
+    /// back. The tile is copied before the lock is taken.
     pub fn finish<W: Wait>(
         &self,
         rt: &W,
@@ -178,11 +178,14 @@ impl<J: BookName, R: Wait + Drop> Shared<J, R> {
         ensures err { IfErr result (λ e. (e.0 ≡ job) × (e.1 ≡ built)) }
         ensures refused { IfErr result (λ e. (e.2 ≡ no_memory) ⊎ (e.2 ≡ BookFault.Gone)) }
     {
-        let mut turn = self.turns.next(rt, TurnKind::Unsaid);
+        let Ok(shared) = SharedBuilt::copied(alloc, &built) else {
+            return Err((job, built, NO_MEMORY));
+        };
         let layer = job.name().clone().ok();
-        let kept = match turn.book.finish(alloc, job, built) {
+        let mut turn = self.turns.next(rt, TurnKind::Unsaid);
+        let kept = match turn.book.finish(alloc, job, &shared) {
             Ok(kept) => kept,
-            Err(back) => return Err(back),
+            Err((job, fault)) => return Err((job, built, fault)),
         };
         turn.kind = TurnKind::Finished { layer, kept };
         let log = turn.book.end();
@@ -212,14 +215,14 @@ impl<J: BookName, R: Wait + Drop> Shared<J, R> {
         turn.book.take_strip(alloc)
     }
 
-    /// Spends the next tile of a strip with the tile that was built of its input, as `finish` does with a job. Where that
-    /// cannot be written down, for want of memory, the strip stays as it was.
+    /// Spends the next tile of a strip with the tile that was built of its input, as `finish` does with a job, but that
+    /// nothing of it is copied. Where that cannot be written down, for want of memory, the strip stays as it was.
     pub fn finish_next<W: Wait>(
         &self,
         rt: &W,
         alloc: Global,
         strip: &mut StripJob,
-        built: &Built,
+        built: &SharedBuilt,
     ) -> Result<(bool, SeenLog), BookFault>
         requires book { strip.old.book ≡ J.book }
         requires left { strip.old.next ≤ strip.old.input.strip.last }
@@ -231,8 +234,8 @@ impl<J: BookName, R: Wait + Drop> Shared<J, R> {
         ensures err { IfErr result (λ _. strip.new ≡ strip.old) }
         ensures refused { IfErr result (λ fault. (fault ≡ no_memory) ⊎ (fault ≡ BookFault.Gone)) }
     {
-        let mut turn = self.turns.next(rt, TurnKind::Unsaid);
         let layer = strip.name().clone().ok();
+        let mut turn = self.turns.next(rt, TurnKind::Unsaid);
         let is_kept = match turn.book.finish_next(alloc, strip, built) {
             Ok(is_kept) => is_kept,
             Err(fault) => return Err(fault),

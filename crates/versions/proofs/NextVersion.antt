@@ -67,9 +67,9 @@ pub none_refused : (reason : Option Refusal) → None ≡ option_map fault_of re
 none_refused None e = refl
 none_refused (Some reason) e = absurd (cc)
 
-pub kept_follows : (old : Version) (name : Name) (input : Input) (tile held : Tile) (column number durable : ℕ) (table made next : Laid) (new : Version) → IsAwaited old name input → IsTileAt pieces_max input tile → input.column < column_count → number ≡ old.number → durable ≡ old.durable
-    → table ≡ laid_of old → held ≡ tile → column ≡ input.column → made.layers ≡ table.layers → ((other : Name) (k : ℕ) → tile_at made.tiles other k ≡ (if bytes_eq name other && (column == k) then Some held else tile_at table.tiles other k)) → next ≡ made → new ≡ numbered number next durable → FollowsTile old name input.column tile new
-kept_follows old name input tile held column number durable table made next new awaited right known same_number same_durable is same_tile same_column layers tiles same new_is =
+pub kept_follows : (old : Version) (name : Name) (input : Input) (tile : Tile) (column number durable : ℕ) (table made next : Laid) (new : Version) → IsAwaited old name input → IsTileAt pieces_max input tile → input.column < column_count → number ≡ old.number → durable ≡ old.durable
+    → table ≡ laid_of old → column ≡ input.column → made.layers ≡ table.layers → ((other : Name) (k : ℕ) → tile_at made.tiles other k ≡ (if bytes_eq name other && (column == k) then Some tile else tile_at table.tiles other k)) → next ≡ made → new ≡ numbered number next durable → FollowsTile old name input.column tile new
+kept_follows old name input tile column number durable table made next new awaited right known same_number same_durable is same_column layers tiles same new_is =
     subst (FollowsTile old name input.column tile) (sym (new_is ∙ ap (λ l. numbered number l durable) same)) (record {
       derived_layer = awaited.0.0;
       known_column = known;
@@ -77,9 +77,15 @@ kept_follows old name input tile held column number durable table made next new 
       right = subst (λ i. IsTileAt pieces_max i tile) awaited.1 right;
       number = same_number;
       layers = layers ∙ ap (λ (l : Laid). l.layers) is;
-      tiles = λ other k. tiles other k ∙ (λ i. if bytes_eq name other && (same_column i == k) then Some (same_tile i) else tile_at (is i).tiles other k);
+      tiles = λ other k. tiles other k ∙ (λ i. if bytes_eq name other && (same_column i == k) then Some tile else tile_at (is i).tiles other k);
       durable = same_durable;
     })
+
+-- the same tile under the same input
+pub follows_same : (old new : Version) (name : Name) (input other : Input) (tile held : Tile) → input ≡ other → held ≡ tile
+    → FollowsTile old name input.column held new → FollowsTile old name other.column tile new
+follows_same old new name input other tile held same is follows =
+    subst (λ (i : Input). FollowsTile old name i.column tile new) same (subst (λ t. FollowsTile old name input.column t new) is follows)
 
 -- where a layer is derived and a tile of it pending, the tile is awaited exactly where its input is the present one
 pub awaited_by : (version : Version) (name : Name) (input : Input) (layers : List Layer) (same : Bool) → stands_as_derived version.layers name ≡ true → tile_at version.tiles name input.column ≡ None → layers ≡ version.layers → IsTrue same ↔ (input ≡ input_of layers name input.column) → IsTrue same ↔ IsAwaited version name input

@@ -1,7 +1,6 @@
 //! Keeping a built tile.
-ghost use Rattle.std.specs.Prelude.{◌≡◌, ◌↔◌, ◌<◌, IsTrue, IfOk, IfErr};
-ghost use Rattle.overlay_terms.specs.Column.{column_count};
-ghost use Rattle.overlay_terms.specs.Histories.{FollowsTile, IsTileAt, is_formed, pieces_max};
+ghost use Rattle.std.specs.Prelude.{◌≡◌, ◌↔◌, IsTrue, IfOk, IfErr};
+ghost use Rattle.overlay_terms.specs.Histories.{FollowsTile, IsTileAt, pieces_max};
 ghost use Rattle.tile_build.specs.Tile.{tile_of};
 ghost use Rattle.versions.specs.Finish.{IfKept, IsAwaited, IsKept, IsPending};
 
@@ -13,7 +12,7 @@ use layer_expr::name::Name;
 use plane_base::Column;
 use std::alloc::{AllocError, Global};
 use std::sync::Arc;
-use tile_build::{Built, Tile};
+use tile_build::{Built, SharedBuilt, Tile};
 
 /// What became of a built tile.
 #[derive(Debug, Drop)]
@@ -43,7 +42,7 @@ impl Version {
         }
     }
 
-    /// The same for a built tile that the caller keeps, until all else that can fail is done.
+    /// The same for a built tile that the caller keeps, until all else that can fail is done. The version has a copy.
     pub fn finish_with(
         &self,
         alloc: Global,
@@ -55,11 +54,34 @@ impl Version {
         ensures err { IfErr result (λ fault. fault ≡ VersionFault.Layer LayerFault.OutOfMemory) }
         ensures pending { IfErr result (λ _. IsPending self.now name.now built.now.0.column) }
     {
-        if self.is_awaited(name, built.input()) {
-            Ok(Finish::Kept(self.with_tile(alloc, name, built)?))
+        let input = built.input();
+        if self.is_awaited(name, input) {
+            let tile = copied_tile(alloc, built)?;
+            Ok(Finish::Kept(self.with_tile(alloc, name, input, tile)?))
         } else {
             Ok(Finish::Stale)
         }
+    }
+
+    /// The same for a built tile that can be shared: the version has the tile itself, and nothing of it is copied.
+    pub fn finish_shared(
+        &self,
+        alloc: Global,
+        name: &Name,
+        built: &SharedBuilt,
+    ) -> Result<Finish, VersionFault>
+        ensures kept { IfOk result (λ finish. IfKept finish (λ next. FollowsTile self.now name.now built.now.0.column built.now.1 next)) }
+        ensures exactly { IfOk result (λ finish. IsKept finish ↔ IsAwaited self.now name.now built.now.0) }
+        ensures err { IfErr result (λ fault. fault ≡ VersionFault.Layer LayerFault.OutOfMemory) }
+        ensures pending { IfErr result (λ _. IsPending self.now name.now built.now.0.column) }
+    {
+        let input = built.input();
+        if !self.is_awaited(name, input) {
+            return Ok(Finish::Stale);
+        }
+        let tile = built.share()?;
+        let next = self.with_tile(alloc, name, input, tile)?;
+        Ok(Finish::Kept(next))
     }
 
     /// Whether the tile of an input is awaited: it is pending, and the input is the present one. It takes no memory.
@@ -84,14 +106,22 @@ impl Version {
         }
     }
 
-    /// The version with a built tile more, which is awaited.
-    fn with_tile(&self, alloc: Global, name: &Name, built: &Built) -> Result<Version, AllocError>
-        requires { IsAwaited self.now name.now built.now.0 }
-        ensures { IfOk result (λ next. FollowsTile self.now name.now built.now.0.column built.now.1 next) }
+    /// The version with a tile more, which is that of an input and awaited.
+    fn with_tile(
+        &self,
+        alloc: Global,
+        name: &Name,
+        input: &TileInput,
+        tile: Arc<Tile>,
+    ) -> Result<Version, AllocError>
+        requires awaited { IsAwaited self.now name.now input.now }
+        requires right { IsTileAt pieces_max input.now (tile_of tile.value) }
+        ensures { IfOk result (λ next. FollowsTile self.now name.now input.now.column (tile_of tile.value) next) }
     {
         let table = self.table(alloc)?;
-        let tile = kept_tile(alloc, built)?;
-        let column = built.input().column();
+        let column = input.column();
+        // A column is below their number by its type: the clauses rest on that.
+        let _ = column.number();
         let made = table.with_tile(alloc, name, column, tile)?;
         let next = Arc::new(alloc, made)?;
         let number = self.number();
@@ -100,15 +130,11 @@ impl Version {
     }
 }
 
-/// A built tile as versions share it.
-fn kept_tile(alloc: Global, built: &Built) -> Result<Arc<Tile>, AllocError>
+/// A copy of a built tile as versions share it.
+fn copied_tile(alloc: Global, built: &Built) -> Result<Arc<Tile>, AllocError>
     ensures value { IfOk result (λ tile. tile_of tile.value ≡ built.now.1) }
-    ensures formed { IfOk result (λ _. IsTrue (is_formed built.now.1 built.now.0.column)) }
     ensures right { IsTileAt pieces_max built.now.0 built.now.1 }
-    ensures known { built.now.0.column < column_count }
 {
-    // The tile is one of its input's column by the type: the clauses rest on that.
-    let _ = built.input().column();
     let copy = built.tile().try_copy(alloc)?;
     Ok(Arc::new(alloc, copy)?)
 }

@@ -7,7 +7,7 @@ use crate::tests::tokens::Tokens;
 use std::alloc::Global;
 use std::process::Abort;
 use std::sync::Wait;
-use tile_build::{Built, build_strip};
+use tile_build::{SharedBuilt, build_strip};
 use version_book::seen_log::BookName;
 use version_book::shared::Shared;
 use version_book::strip_job::StripJob;
@@ -92,7 +92,7 @@ fn finish_each<J: BookName, R: Wait + Drop, W: Wait + Abort>(
     alloc: Global,
     shared: &Shared<J, R>,
     strip: &mut StripJob,
-    built: &[Built],
+    built: &[SharedBuilt],
     most: usize,
 ) -> u64
     requires book { strip.old.book ≡ J.book }

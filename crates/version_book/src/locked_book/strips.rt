@@ -21,7 +21,7 @@ use layer_expr::name::Name;
 use plane_base::Column;
 use std::alloc::{AllocError, Global};
 use std::sync::Wait;
-use tile_build::{Built, StripInput};
+use tile_build::{SharedBuilt, StripInput};
 
 impl<J: BookName, R: Wait + Drop> LockedBook<J, R> {
     /// Hands out a pending tile that is neither handed out nor marked, and with it those of the columns right of it that
@@ -75,7 +75,7 @@ impl<J: BookName, R: Wait + Drop> LockedBook<J, R> {
         &mut self,
         alloc: Global,
         strip: &mut StripJob,
-        built: &Built,
+        built: &SharedBuilt,
     ) -> Result<bool, BookFault>
         requires book { strip.old.book ≡ J.book }
         requires left { strip.old.next ≤ strip.old.input.strip.last }

@@ -32,14 +32,14 @@ pub loop-number-preserved : goal.loop-number-preserved
 loop-number-preserved c =
     let last : c.number-end.result ≡ c.args.input.now.strip.last = c.number-end.ensures.value ∙ c.last.ensures.value ∙ ap (λ (s : Span). s.last) c.strip-strip.ensures.value in
     let same : c.in-Some.column ≡ c.loop-number.number = search rules in
-    let own : c.of.result.0 ≡ part c.args.input.now c.loop-number.number = c.of.ensures.input ∙ c.in_ok-own.ensures ∙ ap (part c.args.input.now) same in
+    let own : c.in_ok-built.built.0 ≡ part c.args.input.now c.loop-number.number = c.in_ok-built.ensures.input ∙ c.in_ok-own.ensures ∙ ap (part c.args.input.now) same in
     let positive : (i : ℕ) (d : Row) → i < length c.args.rows.now → pos 0 <ℤ (named_ends c.args.names.now (get_or c.args.rows.now i d)).0.w = λ i d l. (c.requires.spans i d l).from_positive in
     let Part : ℕ → Type 0 = λ k. IsPartOf (named_ends c.args.names.now) c.args.rows.now k c.loop-number.start c.part_end-next.result in
     let these : Part c.loop-number.number = subst Part same (record { from = c.part_end-next.ensures.from; to = c.part_end-next.ensures.to; within = c.part_end-next.ensures.within; next = c.part_end-next.ensures.next }) in
     record {
       from = omega (arith, c.loop-number.invariant.from);
       to = omega (arith, last);
-      built = more_up_to c.args.input.now c.loop-number.number c.loop-number.list.items _ c.of.result c.loop-number.invariant.built own c.in_ok-push.ensures.items;
+      built = more_up_to c.args.input.now c.loop-number.number c.loop-number.list.items _ c.in_ok-built.built c.loop-number.invariant.built own c.in_ok-push.ensures.items;
       split = next_split (named_ends c.args.names.now) c.args.rows.now c.requires.tile.are_some.ordered positive c.loop-number.number c.loop-number.start c.part_end-next.result c.loop-number.invariant.split these;
     }
 

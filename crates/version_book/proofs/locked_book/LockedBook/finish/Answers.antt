@@ -6,18 +6,18 @@ use Rattle.version_book.proofs.locked_book.LockedBook.finish.Goals as goal
 pub returns-in-Err : goal.returns-in-Err
 returns-in-Err g c =
     let e = c.in-Err.ensures.err in
-    record { goes_on = tt; log = tt; state = tt; err = (refl, refl, e.0, refl); refused = e.1 }
+    record { goes_on = tt; log = tt; state = tt; err = (refl, e.0, refl); refused = e.1 }
 
 pub returns : goal.returns
 returns g c =
     let old = c.args.self.now.log in
     let new = c.keep.new.self in
-    let tile = c.args.built.1 in
+    let tile = c.args.built.now.1 in
     let kept = c.in-Ok.ensures.kept in
     record {
       goes_on = subst (λ l. IsPrefix l old) c.seen_log.ensures.1 (c.has.ensures.0 c.if-not-has.false);
       log = subst (λ i. IsFinishedIn old c.args.job.name i tile c.in-Ok.kept new) c.requires.input
-          (subst (λ n. IsFinishedIn old n c.args.built.0 tile c.in-Ok.kept new) c.name.ensures kept);
+          (subst (λ n. IsFinishedIn old n c.args.built.now.0 tile c.in-Ok.kept new) c.name.ensures kept);
       state = search rules;
       err = tt;
       refused = tt;
