@@ -9,8 +9,8 @@ use Rattle.exact_point.specs.NamedPiece.{ends_of}
 use Rattle.tile_build.proofs.CountedLemmas.{tile_for}
 use Rattle.tile_build.proofs.building.tile_while.Goals as goal
 
-pub returns-then-len-cap : goal.returns-then-len-cap
-returns-then-len-cap g c =
+pub returns-then-len-cap-clause-tile : goal.returns-then-len-cap-clause-tile
+returns-then-len-cap-clause-tile g c =
     let is = subst (λ o. IfSome o (λ (f : Crossed). IsCrossed c.args.input.now c.args.cap false f)) c.in-Some.is c.in_ok-done.ensures.found in
     let more : c.args.cap < length c.in-Some.found.rows.items = omega arith in
     is.too_many more
@@ -27,8 +27,8 @@ pieces_of-requires-clause-numbered g c =
     let is = subst (λ o. IfSome o (λ (f : Crossed). IsCrossed c.args.input.now c.args.cap false f)) c.in-Some.is c.in_ok-done.ensures.found in
     subst AreNumbered (sym c.deref.ensures.value) is.numbered
 
-pub returns : goal.returns
-returns g c =
+pub returns-clause-tile : goal.returns-clause-tile
+returns-clause-tile g c =
     let is = subst (λ o. IfSome o (λ (f : Crossed). IsCrossed c.args.input.now c.args.cap false f)) c.in-Some.is c.in_ok-done.ensures.found in
     let rows : List Row = c.in-Some.found.rows.items in
     let names : List NodeName = c.in-Some.found.names.items in
