@@ -5,17 +5,15 @@ ghost use Rattle.exact_point.specs.declared.point_name.PointName.{PointName};
 ghost use Rattle.exact_point.specs.PointName.{IsCutBy};
 ghost use Rattle.overlay_terms.specs.Column.{border};
 ghost use Rattle.overlay_terms.specs.Plane.{whole};
-ghost use Rattle.arrange.specs.NamedPlaces.{named_cmp};
 ghost use Rattle.crossing_sweep.specs.StripInput.{is_in_closed_strip};
-ghost use Rattle.crossing_sweep.specs.Ahead.{AreKnownPlaces, AreOffered, cut_names, known_names, known_entry};
-ghost use Rattle.crossing_sweep.specs.RankedPlace.{named_of, ranked_entry};
+ghost use Rattle.crossing_sweep.specs.Ahead.{AreKnownPlaces, AreOffered, cut_names, known_names};
+ghost use Rattle.crossing_sweep.specs.RankedPlace.{ranked_cmp, ranked_entry};
 
 use crate::ahead::Ahead;
 use crate::pass_input::PassInput;
 use crate::rank::{rank, rank_over};
 use crate::ranked_place::RankedPlace;
 use crate::strip::Strip;
-use arrange::named_place::NamedPlace;
 use exact_point::PointName;
 use plane_base::{Column, Pt, Seg};
 use std::alloc::{AllocError, Global};
@@ -30,9 +28,9 @@ pub(crate) fn known_places(alloc: Global, input: &PassInput) -> Result<Ahead, Al
 }
 
 /// These places in their order, each once: a place of several segments under one of its names.
-fn places_in_order(alloc: Global, input: &PassInput) -> Result<Vec<NamedPlace>, AllocError>
-    ensures known { IfOk result (λ places. AreKnownPlaces input.now (map known_entry places.items)) }
-    ensures in_order { IfOk result (λ places. AllPairs (λ a b. named_cmp a b ≡ Less) places.items) }
+fn places_in_order(alloc: Global, input: &PassInput) -> Result<Vec<RankedPlace>, AllocError>
+    ensures known { IfOk result (λ places. AreKnownPlaces input.now (map ranked_entry places.items)) }
+    ensures in_order { IfOk result (λ places. AllPairs (λ a b. ranked_cmp a b ≡ Less) places.items) }
 {
     // Mostly two of each segment and column: it is cut by both borders, or ends within and is cut by one.
     let mut places = Vec::with_capacity(alloc, 2 * input.marked().len())?;
@@ -43,7 +41,7 @@ fn places_in_order(alloc: Global, input: &PassInput) -> Result<Vec<NamedPlace>, 
     let mut order = references(alloc, &places)?;
     order.sort_unstable();
     order.dedup();
-    let list = named(alloc, &order)?;
+    let list = copied(alloc, &order)?;
     Ok(list)
 }
 
@@ -61,16 +59,13 @@ fn references<'a>(
     Ok(order)
 }
 
-/// The places with their names alone.
-fn named(alloc: Global, places: &[&RankedPlace]) -> Result<Vec<NamedPlace>, AllocError>
-    ensures { IfOk result (λ list. list.items ≡ map (λ z. named_of z.now) places.now) }
+/// The places that some references are to.
+fn copied(alloc: Global, places: &[&RankedPlace]) -> Result<Vec<RankedPlace>, AllocError>
+    ensures { IfOk result (λ list. list.items ≡ map (λ z. z.now) places.now) }
 {
     let mut list = Vec::with_capacity(alloc, places.len())?;
     for place in places {
-        list.push(NamedPlace {
-            name: place.name,
-            at: place.at,
-        })?;
+        list.push(**place)?;
     }
     Ok(list)
 }
