@@ -1,7 +1,7 @@
 use Rattle.std.proofs.Common.{◌≡◌, ℕ, ℤ, pos, ◌*ℤ◌, List, [], ◌∷◌, ◌++◌, map, refl, ap, sym, subst, ◌∙◌, to_z, of_z}
 use Rattle.std.specs.Int.{w64}
 use Rattle.std.proofs.lemmas.List.Elements.{Contains-push}
-use Rattle.overlay_terms.specs.Plane.{Point, InRange}
+use Rattle.overlay_terms.specs.Plane.{InRange, Segment}
 use Rattle.overlay_terms.specs.Column.{border}
 use Rattle.exact_point.specs.Place.{place}
 use Rattle.exact_point.specs.PointName.{IsCutBy, IsCutOf}
@@ -18,19 +18,22 @@ use Rattle.crossing_sweep.proofs.KnownEnds.{cut_within, border_known}
 use Rattle.crossing_sweep.proofs.KnownLemmas.{offered_added, offered_nowhere}
 use Rattle.crossing_sweep.proofs.known_places.offer_cut.Goals as goal
 
-pub known_point-requires : goal.known_point-requires
-known_point-requires c = c.in-Some.ensures.cut
+pub known_point-at-requires : goal.known_point-at-requires
+known_point-at-requires c = c.in-Some.ensures.cut
+
+-- the x of a border that cuts a segment is a coordinate
+known : (k : ℕ) (s : Segment) (x : ℤ) → IsCutBy s k → x ≡ border k → InRange x
+known k s x cut e = subst (λ (z : ℤ). InRange z) (sym e) (border_known k cut.known_column)
 
 pub rank_over-requires-clause-in_range : goal.rank_over-requires-clause-in_range
 rank_over-requires-clause-in_range c =
-    let k : ℕ = c.args.number in
-    let cut : IsCutBy c.args.seg.now k = c.in-Some.ensures.cut in
-    subst InRange (sym (whole_is (border_known k cut.known_column) (sym c.in-Some.ensures.value))) (border_known k cut.known_column)
+    let cut : IsCutBy c.args.seg.now c.args.number = c.in-Some.ensures.cut in
+    subst (λ (z : ℤ). InRange z) (sym (whole_is (known c.args.number c.args.seg.now c.in-Some.x cut c.in-Some.ensures.value) c.in-Some.ensures.value)) (border_known c.args.number cut.known_column)
 
 pub rank_over-requires-clause-upright : goal.rank_over-requires-clause-upright
 rank_over-requires-clause-upright c =
     let is : IsCutOf c.args.seg.now c.args.number (place c.known_point-at.result) = c.known_point-at.ensures.stands in
-    ap (λ x. x *ℤ (place c.known_point-at.result).w) c.in-Some.ensures.value ∙ sym is.on_border
+    ap (λ x. x *ℤ (place c.known_point-at.result).w) (whole_is (known c.args.number c.args.seg.now c.in-Some.x c.in-Some.ensures.cut c.in-Some.ensures.value) c.in-Some.ensures.value) ∙ sym is.on_border
 
 pub returns-in_ok-push : goal.returns-in_ok-push
 returns-in_ok-push c = λ names h.
