@@ -1,4 +1,4 @@
-use Rattle.std.proofs.Common.{◌≡◌, ℤ, pos, inl, ◌+ℤ◌, ◌*ℤ◌, ◌<ℤ◌, ◌≤ℤ◌, to_z, of_z, sym, arith}
+use Rattle.std.proofs.Common.{◌≡◌, ℤ, pos, inl, ◌+ℤ◌, ◌*ℤ◌, ◌<ℤ◌, to_z, of_z, sym, arith}
 use Rattle.std.specs.Int.{w64, w128}
 use Rattle.std.proofs.lemmas.Int.{ints, to_z-of_z}
 use Rattle.exact_point.specs.Place.{place}
