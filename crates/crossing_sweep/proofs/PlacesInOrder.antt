@@ -19,12 +19,10 @@ use Rattle.exact_point.specs.PointName.{IsPlaceOf}
 use Rattle.exact_point.specs.declared.point.HPoint.{HPoint}
 use Rattle.exact_point.specs.declared.point_name.PointName.{PointName}
 use Rattle.exact_point.proofs.PlaceOrder.{same_through, same_self}
-use Rattle.arrange.specs.NamedPlaces.{named_cmp}
-use Rattle.arrange.specs.declared.named_place.NamedPlace.{NamedPlace}
 use Rattle.arrange.proofs.SortedPlaces.{strict_pairs, same_spots}
 use Rattle.arrange.proofs.FoundLemmas.{place_positive}
 use Rattle.crossing_sweep.specs.StripInput.{is_in_closed_strip, Span}
-use Rattle.crossing_sweep.specs.Ahead.{HasAdded, IsOffered, AreOffered, known_entry}
+use Rattle.crossing_sweep.specs.Ahead.{HasAdded, IsOffered, AreOffered}
 use Rattle.crossing_sweep.specs.RankedPlace.{ranked_cmp, ranked_total, same_ranked, named_of, ranked_entry}
 use Rattle.crossing_sweep.specs.declared.ranked_place.RankedPlace.{RankedPlace}
 use Rattle.crossing_sweep.proofs.PassLemmas.{all_of}
@@ -78,10 +76,10 @@ module _ {T : Type 0} (now : T → RankedPlace) (strip : Span) (names : List Poi
           any_from (λ (e : HPoint × PointName). IsTrue (same_place p (place e.0))) (map (λ t. ranked_entry (now t)) (dedup (λ a b. same_ranked (now a) (now b)) sorted)) (ranked_entry (now b.1)) (contains_map (λ t. ranked_entry (now t)) (dedup (λ a b. same_ranked (now a) (now b)) sorted) b.1 kept)
           (same_through p (place (now z.0).at) (place (now b.1).at) hp (place_positive (now z.0).at) (place_positive (now b.1).at) at (same_spots (named_of (now z.0)) (named_of (now b.1)) b.4))
 
--- without their ranks they are the same entries
-pub same_entries : {T : Type 0} (now : T → RankedPlace) (list : List T) (places : List NamedPlace) → places ≡ map (λ t. named_of (now t)) list → map known_entry places ≡ map (λ t. ranked_entry (now t)) list
-same_entries now list places e = ap (map known_entry) e ∙ map-map known_entry (λ t. named_of (now t)) list
+-- they are the same entries
+pub same_entries : {T : Type 0} (now : T → RankedPlace) (list : List T) (places : List RankedPlace) → places ≡ map now list → map ranked_entry places ≡ map (λ t. ranked_entry (now t)) list
+same_entries now list places e = ap (map ranked_entry) e ∙ map-map ranked_entry now list
 
 -- and in the same order
-pub named_in_order : {T : Type 0} (now : T → RankedPlace) (list : List T) (places : List NamedPlace) → places ≡ map (λ t. named_of (now t)) list → AllPairs (λ a b. ranked_cmp (now a) (now b) ≡ Less) list → AllPairs (λ a b. named_cmp a b ≡ Less) places
-named_in_order now list places e ordered = subst (λ (l : List NamedPlace). AllPairs (λ a b. named_cmp a b ≡ Less) l) (sym e) (pairs_map (λ a b. named_cmp a b ≡ Less) (λ t. named_of (now t)) list ordered)
+pub ranked_in_order : {T : Type 0} (now : T → RankedPlace) (list : List T) (places : List RankedPlace) → places ≡ map now list → AllPairs (λ a b. ranked_cmp (now a) (now b) ≡ Less) list → AllPairs (λ a b. ranked_cmp a b ≡ Less) places
+ranked_in_order now list places e ordered = subst (λ (l : List RankedPlace). AllPairs (λ a b. ranked_cmp a b ≡ Less) l) (sym e) (pairs_map (λ a b. ranked_cmp a b ≡ Less) now list ordered)

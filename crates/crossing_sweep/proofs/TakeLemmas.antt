@@ -15,11 +15,11 @@ use Rattle.overlay_terms.proofs.Tests.{less_told}
 use Rattle.exact_point.specs.Place.{place, hpoint_cmp, hpoint_cmp_total}
 use Rattle.exact_point.specs.declared.point.HPoint.{HPoint}
 use Rattle.exact_point.specs.declared.point_name.PointName.{PointName}
-use Rattle.arrange.specs.NamedPlaces.{named_cmp, named_total}
-use Rattle.arrange.specs.declared.named_place.NamedPlace.{NamedPlace}
+use Rattle.crossing_sweep.specs.RankedPlace.{ranked_cmp, ranked_entry, ranked_total}
+use Rattle.crossing_sweep.specs.declared.ranked_place.RankedPlace.{RankedPlace}
 use Rattle.arrange.proofs.FoundLemmas.{place_positive}
 use Rattle.exact_point.proofs.PlaceOrder.{same_from_equal, same_turned}
-use Rattle.crossing_sweep.specs.Ahead.{HasAdded, known_entry, put_all, is_first_before, AreAhead}
+use Rattle.crossing_sweep.specs.Ahead.{HasAdded, put_all, is_first_before, AreAhead}
 use Rattle.overlay_terms.proofs.Pairs.{pairs_head, pairs_second}
 use Rattle.crossing_sweep.proofs.PassLemmas.{all_of}
 use Rattle.crossing_sweep.proofs.PutLemmas.{all_put, found_first, none_put, put_added, known_there}
@@ -44,12 +44,12 @@ after_before : (p q : HPoint) → hpoint_cmp p q ≡ Greater → hpoint_cmp q p 
 after_before p q h = hpoint_cmp_total.antisymm q p ∙ ap ordering_reverse h
 
 -- ---- what is known and not taken out
-pub rest_ordered : (known : List NamedPlace) (k : ℕ) → AllPairs (λ a b. named_cmp a b ≡ Less) known → AllPairs (λ a b. named_cmp a b ≡ Less) (drop k known)
-rest_ordered known k h = λ i j d l m. pairs_second (λ a b. named_cmp a b ≡ Less) (take k known) (drop k known) (rw (take-append-drop k known) h) i j d l m
+pub rest_ordered : (known : List RankedPlace) (k : ℕ) → AllPairs (λ a b. ranked_cmp a b ≡ Less) known → AllPairs (λ a b. ranked_cmp a b ≡ Less) (drop k known)
+rest_ordered known k h = λ i j d l m. pairs_second (λ a b. ranked_cmp a b ≡ Less) (take k known) (drop k known) (rw (take-append-drop k known) h) i j d l m
 
 -- the next of them comes before all others
-pub next_before : (k : NamedPlace) (ks : List NamedPlace) → AllPairs (λ a b. named_cmp a b ≡ Less) (k ∷ ks) → All (λ y. hpoint_cmp k.at y.0 ≡ Less) (map known_entry ks)
-next_before k ks h = All-map (λ (y : HPoint × PointName). hpoint_cmp k.at y.0 ≡ Less) known_entry ks (pairs_head (λ (a b : NamedPlace). named_cmp a b ≡ Less) k ks h)
+pub next_before : (k : RankedPlace) (ks : List RankedPlace) → AllPairs (λ a b. ranked_cmp a b ≡ Less) (k ∷ ks) → All (λ y. hpoint_cmp k.at y.0 ≡ Less) (map ranked_entry ks)
+next_before k ks h = All-map (λ (y : HPoint × PointName). hpoint_cmp k.at y.0 ≡ Less) ranked_entry ks (pairs_head (λ (a b : RankedPlace). ranked_cmp a b ≡ Less) k ks h)
 
 -- ---- the first of those found since
 below : (p : HPoint × PointName) (rest : List (HPoint × PointName)) → All (IsLtBy hpoint_cmp p.0) (keys_of rest) → All (λ y. hpoint_cmp p.0 y.0 ≡ Less) rest
@@ -66,17 +66,17 @@ popped_least None rest known h k = h
 popped_least (Some p) rest known h k = all_put (λ (y : HPoint × PointName). hpoint_cmp p.0 y.0 ≡ Less) rest known (below p rest h) k
 
 -- it comes before the next of those known, so before all of these
-pub first_before : (o : Option (HPoint × PointName)) (es rest : List (HPoint × PointName)) (k : NamedPlace) (ks : List NamedPlace) → IfSome o (λ p. es ≡ p ∷ rest) → is_first_before es k.at ≡ true → AllPairs (λ a b. named_cmp a b ≡ Less) (k ∷ ks)
-    → IfSome o (λ p. All (λ y. hpoint_cmp p.0 y.0 ≡ Less) (map known_entry (k ∷ ks)))
+pub first_before : (o : Option (HPoint × PointName)) (es rest : List (HPoint × PointName)) (k : RankedPlace) (ks : List RankedPlace) → IfSome o (λ p. es ≡ p ∷ rest) → is_first_before es k.at ≡ true → AllPairs (λ a b. ranked_cmp a b ≡ Less) (k ∷ ks)
+    → IfSome o (λ p. All (λ y. hpoint_cmp p.0 y.0 ≡ Less) (map ranked_entry (k ∷ ks)))
 first_before None es rest k ks e t h = e
 first_before (Some p) es rest k ks e t h =
     let P : List (HPoint × PointName) → Type 0 = λ l. is_first_before l k.at ≡ true in
     let first : hpoint_cmp p.0 k.at ≡ Less = less_told (hpoint_cmp p.0 k.at) (subst P e t) in
-    all_of (λ (y : HPoint × PointName). hpoint_cmp p.0 y.0 ≡ Less) (map known_entry (k ∷ ks)) (λ y c. by y first (Contains-cons_cases (known_entry k) (map known_entry ks) y c))
+    all_of (λ (y : HPoint × PointName). hpoint_cmp p.0 y.0 ≡ Less) (map ranked_entry (k ∷ ks)) (λ y c. by y first (Contains-cons_cases (ranked_entry k) (map ranked_entry ks) y c))
   where
-    by : (y : HPoint × PointName) → hpoint_cmp p.0 k.at ≡ Less → (known_entry k ≡ y) ⊎ Contains (map known_entry ks) y → hpoint_cmp p.0 y.0 ≡ Less
+    by : (y : HPoint × PointName) → hpoint_cmp p.0 k.at ≡ Less → (ranked_entry k ≡ y) ⊎ Contains (map ranked_entry ks) y → hpoint_cmp p.0 y.0 ≡ Less
     by y first (inl f) = let Q : HPoint × PointName → Type 0 = λ z. hpoint_cmp p.0 z.0 ≡ Less in subst Q f first
-    by y first (inr c) = hpoint_cmp_total.trans p.0 k.at y.0 first (All-contains (λ (y : HPoint × PointName). hpoint_cmp k.at y.0 ≡ Less) (map known_entry ks) y (next_before k ks h) c)
+    by y first (inr c) = hpoint_cmp_total.trans p.0 k.at y.0 first (All-contains (λ (y : HPoint × PointName). hpoint_cmp k.at y.0 ≡ Less) (map ranked_entry ks) y (next_before k ks h) c)
 
 pub differ : false ≡ true → ⊥
 differ e = cc
@@ -93,60 +93,60 @@ popped_keeps P None es rest e same h = subst (λ (l : List (HPoint × PointName)
 popped_keeps P (Some p) es rest e same h = All-tail P p rest (subst (λ (l : List (HPoint × PointName)). All P l) e h)
 
 -- none is known where all are taken out
-pub all_taken : (known : List NamedPlace) (taken : ℕ) → length known ≤ taken → map known_entry (drop taken known) ≡ []
-all_taken known taken l = ap (map known_entry) (drop_all taken known l)
+pub all_taken : (known : List RankedPlace) (taken : ℕ) → length known ≤ taken → map ranked_entry (drop taken known) ≡ []
+all_taken known taken l = ap (map ranked_entry) (drop_all taken known l)
 
 pub below_none : (o : Option (HPoint × PointName)) (known : List (HPoint × PointName)) → known ≡ [] → IfSome o (λ p. All (λ y. hpoint_cmp p.0 y.0 ≡ Less) known)
 below_none None known e = tt
 below_none (Some p) known e = subst (λ (l : List (HPoint × PointName)). All (λ y. hpoint_cmp p.0 y.0 ≡ Less) l) (sym e) (All-nil (λ (y : HPoint × PointName). hpoint_cmp p.0 y.0 ≡ Less))
 
 -- ---- whether there is any
-pub none_if : (known : List NamedPlace) (taken : ℕ) (es v : List (HPoint × PointName)) (b : Bool) → length known ≤ taken → put_all es (map known_entry (drop taken known)) ≡ v → IsTrue b ↔ (length es ≡ 0) → IsTrue b ↔ (v ≡ [])
+pub none_if : (known : List RankedPlace) (taken : ℕ) (es v : List (HPoint × PointName)) (b : Bool) → length known ≤ taken → put_all es (map ranked_entry (drop taken known)) ≡ v → IsTrue b ↔ (length es ≡ 0) → IsTrue b ↔ (v ≡ [])
 none_if known taken es v b l view h = (
   λ yes. sym view ∙ ap (λ (m : List (HPoint × PointName)). put_all es m) (all_taken known taken l) ∙ empty es (h.0 yes),
-  λ no. h.1 (ap length (none_put es (map known_entry (drop taken known)) (view ∙ no)).0),
+  λ no. h.1 (ap length (none_put es (map ranked_entry (drop taken known)) (view ∙ no)).0),
 )
   where
     empty : (es : List (HPoint × PointName)) → length es ≡ 0 → put_all es [] ≡ []
     empty [] e = refl
     empty (x ∷ xs) e = absurd (omega (arith, e))
 
-pub some_left : (known : List NamedPlace) (taken : ℕ) (es v : List (HPoint × PointName)) → taken < length known → put_all es (map known_entry (drop taken known)) ≡ v → v ≡ [] → ⊥
+pub some_left : (known : List RankedPlace) (taken : ℕ) (es v : List (HPoint × PointName)) → taken < length known → put_all es (map ranked_entry (drop taken known)) ≡ v → v ≡ [] → ⊥
 some_left known taken es v l view e =
-    let none : map known_entry (drop taken known) ≡ [] = (none_put es (map known_entry (drop taken known)) (view ∙ e)).1 in
-    absurd (omega (arith, l, ap length none, length-map (drop taken known) known_entry, length-drop taken known))
+    let none : map ranked_entry (drop taken known) ≡ [] = (none_put es (map ranked_entry (drop taken known)) (view ∙ e)).1 in
+    absurd (omega (arith, l, ap length none, length-map (drop taken known) ranked_entry, length-drop taken known))
 
 -- ---- the next of those known
 -- it comes before the others
-pub next_of : (known : List NamedPlace) (taken : ℕ) (k : NamedPlace) → taken < length known → k ≡ get_or known taken k → drop taken known ≡ k ∷ drop (taken + 1) known
-next_of known taken k l e = drop_more known taken k l ∙ ap (λ (z : NamedPlace). z ∷ drop (taken + 1) known) (sym e)
+pub next_of : (known : List RankedPlace) (taken : ℕ) (k : RankedPlace) → taken < length known → k ≡ get_or known taken k → drop taken known ≡ k ∷ drop (taken + 1) known
+next_of known taken k l e = drop_more known taken k l ∙ ap (λ (z : RankedPlace). z ∷ drop (taken + 1) known) (sym e)
 
 -- where it is taken out
-pub next_taken : (known : List NamedPlace) (taken : ℕ) (es : List (HPoint × PointName)) (k : NamedPlace) → taken < length known → drop taken known ≡ k ∷ drop (taken + 1) known → AreAhead known taken es → AreAhead known (taken + 1) es
+pub next_taken : (known : List RankedPlace) (taken : ℕ) (es : List (HPoint × PointName)) (k : RankedPlace) → taken < length known → drop taken known ≡ k ∷ drop (taken + 1) known → AreAhead known taken es → AreAhead known (taken + 1) es
 next_taken known taken es k l e are = record {
   ordered = are.ordered;
   few = omega (arith, l);
   apart =
-      all_of (λ (x : HPoint × PointName). All (λ z. named_cmp z (record { name = x.1; at = x.0 }) ≡ Equal → ⊥) (drop (taken + 1) known)) es
-      (λ x c. All-tail (λ (z : NamedPlace). named_cmp z (record { name = x.1; at = x.0 }) ≡ Equal → ⊥) k (drop (taken + 1) known)
-      (subst (λ (l : List NamedPlace). All (λ z. named_cmp z (record { name = x.1; at = x.0 }) ≡ Equal → ⊥) l) e
-      (All-contains (λ (x : HPoint × PointName). All (λ z. named_cmp z (record { name = x.1; at = x.0 }) ≡ Equal → ⊥) (drop taken known)) es x are.apart c)));
+      all_of (λ (x : HPoint × PointName). All (λ z. hpoint_cmp z.at x.0 ≡ Equal → ⊥) (drop (taken + 1) known)) es
+      (λ x c. All-tail (λ (z : RankedPlace). hpoint_cmp z.at x.0 ≡ Equal → ⊥) k (drop (taken + 1) known)
+      (subst (λ (l : List RankedPlace). All (λ z. hpoint_cmp z.at x.0 ≡ Equal → ⊥) l) e
+      (All-contains (λ (x : HPoint × PointName). All (λ z. hpoint_cmp z.at x.0 ≡ Equal → ⊥) (drop taken known)) es x are.apart c)));
 }
 
 -- it comes before all found since, which are apart from it
-pub next_first : (es : List (HPoint × PointName)) (k : NamedPlace) (ks : List NamedPlace) → All (λ e. hpoint_cmp e.0 k.at ≡ Less → ⊥) es → All (λ e. All (λ z. named_cmp z (record { name = e.1; at = e.0 }) ≡ Equal → ⊥) (k ∷ ks)) es
+pub next_first : (es : List (HPoint × PointName)) (k : RankedPlace) (ks : List RankedPlace) → All (λ e. hpoint_cmp e.0 k.at ≡ Less → ⊥) es → All (λ e. All (λ z. hpoint_cmp z.at e.0 ≡ Equal → ⊥) (k ∷ ks)) es
     → All (λ e. hpoint_cmp e.0 k.at ≡ Greater) es
 next_first es k ks h apart = all_of (λ (e : HPoint × PointName). hpoint_cmp e.0 k.at ≡ Greater) es (λ e c. one e (All-contains (λ (e : HPoint × PointName). hpoint_cmp e.0 k.at ≡ Less → ⊥) es e h c) (first e c))
   where
     first : (e : HPoint × PointName) → Contains es e → hpoint_cmp k.at e.0 ≡ Equal → ⊥
-    first e c = All-head (λ (z : NamedPlace). named_cmp z (record { name = e.1; at = e.0 }) ≡ Equal → ⊥) k ks (All-contains (λ (e : HPoint × PointName). All (λ (z : NamedPlace). named_cmp z (record { name = e.1; at = e.0 }) ≡ Equal → ⊥) (k ∷ ks)) es e apart c)
+    first e c = All-head (λ (z : RankedPlace). hpoint_cmp z.at e.0 ≡ Equal → ⊥) k ks (All-contains (λ (e : HPoint × PointName). All (λ (z : RankedPlace). hpoint_cmp z.at e.0 ≡ Equal → ⊥) (k ∷ ks)) es e apart c)
 
     one : (e : HPoint × PointName) → (hpoint_cmp e.0 k.at ≡ Less → ⊥) → (hpoint_cmp k.at e.0 ≡ Equal → ⊥) → hpoint_cmp e.0 k.at ≡ Greater
     one e f g = greater_left (hpoint_cmp e.0 k.at) f (λ q. g (hpoint_cmp_total.antisymm k.at e.0 ∙ ap ordering_reverse q))
 
-pub next_least : (es : List (HPoint × PointName)) (k : NamedPlace) (ks : List NamedPlace) → All (λ e. hpoint_cmp e.0 k.at ≡ Greater) es → AllPairs (λ a b. named_cmp a b ≡ Less) (k ∷ ks) → All (λ y. hpoint_cmp k.at y.0 ≡ Less) (put_all es (map known_entry ks))
+pub next_least : (es : List (HPoint × PointName)) (k : RankedPlace) (ks : List RankedPlace) → All (λ e. hpoint_cmp e.0 k.at ≡ Greater) es → AllPairs (λ a b. ranked_cmp a b ≡ Less) (k ∷ ks) → All (λ y. hpoint_cmp k.at y.0 ≡ Less) (put_all es (map ranked_entry ks))
 next_least es k ks h up =
-    all_put (λ (y : HPoint × PointName). hpoint_cmp k.at y.0 ≡ Less) es (map known_entry ks)
+    all_put (λ (y : HPoint × PointName). hpoint_cmp k.at y.0 ≡ Less) es (map ranked_entry ks)
     (All-weaker (λ (e : HPoint × PointName). hpoint_cmp e.0 k.at ≡ Greater) (λ (y : HPoint × PointName). hpoint_cmp k.at y.0 ≡ Less) (λ e g. after_before e.0 k.at g) es h) (next_before k ks up)
 
 -- the first found is not before a place, so no other is
@@ -188,21 +188,21 @@ index_most Equal Equal f g = absurd (let e : Equal ≡ Less = g refl in cc)
 index_most Greater Less f g = absurd (let e : Greater ≡ Less = f refl in cc)
 index_most Greater Equal f g = absurd (let e : Greater ≡ Less = g refl in cc)
 
-rising : (x : NamedPlace) (known : List NamedPlace) → AllPairs (λ a b. named_cmp a b ≡ Less) known → IsNonDecreasingBy (λ y. ordering_index (named_cmp y x)) known
+rising : (x : RankedPlace) (known : List RankedPlace) → AllPairs (λ a b. ranked_cmp a b ≡ Less) known → IsNonDecreasingBy (λ y. ordering_index (ranked_cmp y x)) known
 rising x known up i j d le lt = by (same_or_less i j le)
   where
-    by : (i ≡ j) ⊎ (i < j) → ordering_index (named_cmp (get_or known i d) x) ≤ ordering_index (named_cmp (get_or known j d) x)
-    by (inl e) = omega (arith, ap (λ k. ordering_index (named_cmp (get_or known k d) x)) e)
+    by : (i ≡ j) ⊎ (i < j) → ordering_index (ranked_cmp (get_or known i d) x) ≤ ordering_index (ranked_cmp (get_or known j d) x)
+    by (inl e) = omega (arith, ap (λ k. ordering_index (ranked_cmp (get_or known k d) x)) e)
     by (inr l) =
-        let a : NamedPlace = get_or known i d in
-        let b : NamedPlace = get_or known j d in
-        let before : named_cmp a b ≡ Less = up i j d l lt in
-        index_most (named_cmp a x) (named_cmp b x) (λ f. named_total.trans a b x before f)
-        (λ f. let turned : named_cmp x b ≡ Equal = named_total.antisymm x b ∙ ap ordering_reverse f in
-        named_total.antisymm a x ∙ ap ordering_reverse (named_total.congr x b a turned ∙ named_total.antisymm b a ∙ ap ordering_reverse before))
+        let a : RankedPlace = get_or known i d in
+        let b : RankedPlace = get_or known j d in
+        let before : ranked_cmp a b ≡ Less = up i j d l lt in
+        index_most (ranked_cmp a x) (ranked_cmp b x) (λ f. ranked_total.trans a b x before f)
+        (λ f. let turned : ranked_cmp x b ≡ Equal = ranked_total.antisymm x b ∙ ap ordering_reverse f in
+        ranked_total.antisymm a x ∙ ap ordering_reverse (ranked_total.congr x b a turned ∙ ranked_total.antisymm b a ∙ ap ordering_reverse before))
 
 -- what it says where it has found none
-apart_at : (x : NamedPlace) (known : List NamedPlace) (k : ℕ) (d : NamedPlace) (o : Ordering) → named_cmp (get_or known k d) x ≡ o → (o ≡ Equal → ⊥) → named_cmp (get_or known k d) x ≡ Equal → ⊥
+apart_at : (x : RankedPlace) (known : List RankedPlace) (k : ℕ) (d : RankedPlace) (o : Ordering) → ranked_cmp (get_or known k d) x ≡ o → (o ≡ Equal → ⊥) → ranked_cmp (get_or known k d) x ≡ Equal → ⊥
 apart_at x known k d o e f g = f (sym e ∙ g)
 
 less_equal : Less ≡ Equal → ⊥
@@ -211,45 +211,42 @@ less_equal e = cc
 greater_equal : Greater ≡ Equal → ⊥
 greater_equal e = cc
 
-pub searched_apart : (x : NamedPlace) (known : List NamedPlace) (r : Result ℕ ℕ) → AllPairs (λ a b. named_cmp a b ≡ Less) known → IsBinarySearchResult (λ y. named_cmp y x) known r → is_ok r ≡ false → All (λ z. named_cmp z x ≡ Equal → ⊥) known
+pub searched_apart : (x : RankedPlace) (known : List RankedPlace) (r : Result ℕ ℕ) → AllPairs (λ a b. ranked_cmp a b ≡ Less) known → IsBinarySearchResult (λ y. ranked_cmp y x) known r → is_ok r ≡ false → All (λ z. ranked_cmp z x ≡ Equal → ⊥) known
 searched_apart x known (Ok i) up h f = absurd (cc)
 searched_apart x known (Err i) up h f = λ k d l. by k d l (h (rising x known up)) (less_or_most k i)
   where
-    by : (k : ℕ) (d : NamedPlace) → k < length known → IsPartitionPoint (λ y. named_cmp y x ≡ Less) (λ y. named_cmp y x ≡ Greater) known i → (k < i) ⊎ (i ≤ k) → named_cmp (get_or known k d) x ≡ Equal → ⊥
+    by : (k : ℕ) (d : RankedPlace) → k < length known → IsPartitionPoint (λ y. ranked_cmp y x ≡ Less) (λ y. ranked_cmp y x ≡ Greater) known i → (k < i) ⊎ (i ≤ k) → ranked_cmp (get_or known k d) x ≡ Equal → ⊥
     by k d l parts (inl m) = apart_at x known k d Less (parts.0 k d (omega arith) m) less_equal
     by k d l parts (inr m) = apart_at x known k d Greater (parts.1 k d m l) greater_equal
 
 -- and where it has found one
-pub searched_among : (x : NamedPlace) (known : List NamedPlace) (r : Result ℕ ℕ) → IsSearchInRange r (length known) → IsBinarySearchResult (λ y. named_cmp y x) known r → is_ok r ≡ true → Any (λ z. named_cmp z x ≡ Equal) known
+pub searched_among : (x : RankedPlace) (known : List RankedPlace) (r : Result ℕ ℕ) → IsSearchInRange r (length known) → IsBinarySearchResult (λ y. ranked_cmp y x) known r → is_ok r ≡ true → Any (λ z. ranked_cmp z x ≡ Equal) known
 searched_among x known (Err i) within h f = absurd (cc)
 searched_among x known (Ok i) within h f = (i, get_or known i x, within, get_or_default known i (get_or known i x) x within, h x)
 
 -- ---- a place is added
-module _ (items : List NamedPlace) (taken : ℕ) (es : List (HPoint × PointName)) (at : HPoint) (name : PointName) where
-  abbrev place_of_it : NamedPlace
-  place_of_it = record { name = name; at = at }
-
-  abbrev known : List NamedPlace
+module _ (items : List RankedPlace) (taken : ℕ) (es : List (HPoint × PointName)) (at : HPoint) (name : PointName) where
+  abbrev known : List RankedPlace
   known = drop taken items
 
   -- that is known
-  pub add_known : (v : List (HPoint × PointName)) → put_all es (map known_entry (drop taken items)) ≡ v → Any (λ z. named_cmp z (record { name = name; at = at }) ≡ Equal) (drop taken items) → HasAdded v at name v
+  pub add_known : (v : List (HPoint × PointName)) → put_all es (map ranked_entry (drop taken items)) ≡ v → Any (λ z. hpoint_cmp z.at at ≡ Equal) (drop taken items) → HasAdded v at name v
   add_known v view a =
       let same : IsTrue (same_place (place at) (place a.1.at)) = same_turned (place a.1.at) (place at) (same_from_equal (place a.1.at) (place at) (place_positive a.1.at) (place_positive at) a.4) in
-      let there : Contains known a.1 = any_contains (λ (z : NamedPlace). named_cmp z (record { name = name; at = at }) ≡ Equal) (drop taken items) a in
-      subst (λ (l : List (HPoint × PointName)). HasAdded l at name l) view (known_there es (map known_entry known) at name (known_entry a.1) (contains_map known_entry known a.1 there) same)
+      let there : Contains known a.1 = any_contains (λ (z : RankedPlace). hpoint_cmp z.at at ≡ Equal) (drop taken items) a in
+      subst (λ (l : List (HPoint × PointName)). HasAdded l at name l) view (known_there es (map ranked_entry known) at name (ranked_entry a.1) (contains_map ranked_entry known a.1 there) same)
 
   -- to those found
-  pub add_new : (v new : List (HPoint × PointName)) → put_all es (map known_entry (drop taken items)) ≡ v → HasAdded es at name new → HasAdded v at name (put_all new (map known_entry (drop taken items)))
-  add_new v new view h = subst (λ (l : List (HPoint × PointName)). HasAdded l at name (put_all new (map known_entry known))) view (put_added es new (map known_entry known) at name h)
+  pub add_new : (v new : List (HPoint × PointName)) → put_all es (map ranked_entry (drop taken items)) ≡ v → HasAdded es at name new → HasAdded v at name (put_all new (map ranked_entry (drop taken items)))
+  add_new v new view h = subst (λ (l : List (HPoint × PointName)). HasAdded l at name (put_all new (map ranked_entry known))) view (put_added es new (map ranked_entry known) at name h)
 
-  pub add_apart : (new : List (HPoint × PointName)) → AreAhead items taken es → All (λ z. named_cmp z (record { name = name; at = at }) ≡ Equal → ⊥) (drop taken items) → ((e : HPoint × PointName) → Contains new e → Contains es e ⊎ ((at, name) ≡ e)) → AreAhead items taken new
+  pub add_apart : (new : List (HPoint × PointName)) → AreAhead items taken es → All (λ z. hpoint_cmp z.at at ≡ Equal → ⊥) (drop taken items) → ((e : HPoint × PointName) → Contains new e → Contains es e ⊎ ((at, name) ≡ e)) → AreAhead items taken new
   add_apart new are h only = record {
     ordered = are.ordered;
     few = are.few;
-    apart = all_of (λ (e : HPoint × PointName). All (λ z. named_cmp z (record { name = e.1; at = e.0 }) ≡ Equal → ⊥) (drop taken items)) new (λ e c. by e (only e c));
+    apart = all_of (λ (e : HPoint × PointName). All (λ z. hpoint_cmp z.at e.0 ≡ Equal → ⊥) (drop taken items)) new (λ e c. by e (only e c));
   }
     where
-      by : (e : HPoint × PointName) → Contains es e ⊎ ((at, name) ≡ e) → All (λ z. named_cmp z (record { name = e.1; at = e.0 }) ≡ Equal → ⊥) (drop taken items)
-      by e (inl c) = All-contains (λ (e : HPoint × PointName). All (λ z. named_cmp z (record { name = e.1; at = e.0 }) ≡ Equal → ⊥) (drop taken items)) es e are.apart c
-      by e (inr f) = subst (λ (e : HPoint × PointName). All (λ z. named_cmp z (record { name = e.1; at = e.0 }) ≡ Equal → ⊥) (drop taken items)) f h
+      by : (e : HPoint × PointName) → Contains es e ⊎ ((at, name) ≡ e) → All (λ z. hpoint_cmp z.at e.0 ≡ Equal → ⊥) (drop taken items)
+      by e (inl c) = All-contains (λ (e : HPoint × PointName). All (λ z. hpoint_cmp z.at e.0 ≡ Equal → ⊥) (drop taken items)) es e are.apart c
+      by e (inr f) = subst (λ (e : HPoint × PointName). All (λ z. hpoint_cmp z.at e.0 ≡ Equal → ⊥) (drop taken items)) f h

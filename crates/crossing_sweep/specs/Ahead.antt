@@ -8,8 +8,8 @@ use Rattle.overlay_terms.specs.Tiles.{is_end, is_on_border}
 use Rattle.exact_point.specs.Place.{place, hpoint_cmp}
 use Rattle.exact_point.specs.PlaceOf.{place_of}
 use Rattle.exact_point.specs.PointName.{HasPlace, IsPlaceOf}
-use Rattle.arrange.specs.NamedPlaces.{named_cmp}
-use Rattle.arrange.specs.declared.named_place.NamedPlace.{NamedPlace}
+use Rattle.crossing_sweep.specs.RankedPlace.{ranked_cmp}
+use Rattle.crossing_sweep.specs.declared.ranked_place.RankedPlace.{RankedPlace}
 use Rattle.crossing_sweep.specs.StripInput.{StripInput, segments_in, is_in_closed_strip, Span}
 use Rattle.crossing_sweep.specs.Beginning.{AreKnown}
 use Rattle.exact_point.specs.declared.point.HPoint.{HPoint}
@@ -19,10 +19,6 @@ use Rattle.exact_point.specs.declared.point_name.PointName.TheVariants.{Vertex, 
 -- the places alone
 abbrev pub points_of : List (HPoint × PointName) → List Point
 points_of found = map (λ e. place e.0) found
-
--- a known place under its name
-abbrev pub known_entry : NamedPlace → HPoint × PointName
-known_entry z = (z.at, z.name)
 
 -- a place put before the first that does not come before it
 abbrev pub put_place : HPoint × PointName → List (HPoint × PointName) → List (HPoint × PointName)
@@ -35,10 +31,10 @@ put_all [] known = known
 put_all (e ∷ es) known = put_place e (put_all es known)
 
 -- known places in one sorted list, the first of which are taken out; none of those found since is one still in the list
-pub record AreAhead (known : List NamedPlace) (taken : ℕ) (found : List (HPoint × PointName)) : Type 0 where
-  pub ordered : AllPairs (λ a b. named_cmp a b ≡ Less) known
+pub record AreAhead (known : List RankedPlace) (taken : ℕ) (found : List (HPoint × PointName)) : Type 0 where
+  pub ordered : AllPairs (λ a b. ranked_cmp a b ≡ Less) known
   pub few : taken ≤ length known
-  pub apart : All (λ e. All (λ z. named_cmp z (record { name = e.1; at = e.0 }) ≡ Equal → ⊥) (drop taken known)) found
+  pub apart : All (λ e. All (λ z. hpoint_cmp z.at e.0 ≡ Equal → ⊥) (drop taken known)) found
 
 -- the first of some places comes before another
 abbrev pub is_first_before : List (HPoint × PointName) → HPoint → Bool

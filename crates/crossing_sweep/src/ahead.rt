@@ -5,10 +5,11 @@ ghost use Rattle.overlay_terms.specs.Plane.{point_cmp};
 ghost use Rattle.exact_point.specs.Place.{place, hpoint_cmp};
 ghost use Rattle.exact_point.specs.declared.point.HPoint.{HPoint};
 ghost use Rattle.exact_point.specs.declared.point_name.PointName.{PointName};
-ghost use Rattle.arrange.specs.NamedPlaces.{named_cmp};
-ghost use Rattle.crossing_sweep.specs.Ahead.{HasAdded, known_entry, is_first_before};
+ghost use Rattle.crossing_sweep.specs.RankedPlace.{ranked_cmp, ranked_entry};
+ghost use Rattle.crossing_sweep.specs.Ahead.{HasAdded, is_first_before};
 
-use arrange::named_place::NamedPlace;
+use crate::rank::rank;
+use crate::ranked_place::RankedPlace;
 use exact_point::{HPoint, PointName};
 use std::alloc::{AllocError, Global};
 use std::collections::BTreeMap;
@@ -18,7 +19,7 @@ use std::marker::Model;
 /// of which are out; those found since are in a tree, and none of them is a known one still in the list.
 #[derive(Drop)]
 pub(crate) struct Ahead {
-    known: Vec<NamedPlace>,
+    known: Vec<RankedPlace>,
     taken: usize,
     found: BTreeMap<HPoint, PointName>,
 }
@@ -27,20 +28,21 @@ impl Model for Ahead {
     ghost use Rattle.std.specs.Prelude.{List, map, drop};
     ghost use Rattle.exact_point.specs.declared.point.HPoint.{HPoint};
     ghost use Rattle.exact_point.specs.declared.point_name.PointName.{PointName};
-    ghost use Rattle.crossing_sweep.specs.Ahead.{known_entry, put_all, AreAhead};
+    ghost use Rattle.crossing_sweep.specs.Ahead.{put_all, AreAhead};
+    ghost use Rattle.crossing_sweep.specs.RankedPlace.{ranked_entry};
 
     ghost Value = { List (HPoint × PointName) };
 
-    ghost view = { λ a. put_all a.found.entries (map known_entry (drop a.taken a.known.items)) };
+    ghost view = { λ a. put_all a.found.entries (map ranked_entry (drop a.taken a.known.items)) };
 
     ghost invariant = { λ a. AreAhead a.known.items a.taken a.found.entries };
 }
 
 impl Ahead {
     /// Known places in their order, each once.
-    pub(crate) fn of(alloc: Global, known: Vec<NamedPlace>) -> Ahead
-        requires { AllPairs (λ a b. named_cmp a b ≡ Less) known.items }
-        ensures { result ≡ map known_entry known.items }
+    pub(crate) fn of(alloc: Global, known: Vec<RankedPlace>) -> Ahead
+        requires { AllPairs (λ a b. ranked_cmp a b ≡ Less) known.items }
+        ensures { result ≡ map ranked_entry known.items }
     {
         Ahead {
             known,
@@ -104,13 +106,14 @@ fn add_found(
 }
 
 /// Whether a place, under any name, is one of some places in order.
-fn is_among(known: &[NamedPlace], at: &HPoint, name: &PointName) -> bool
-    requires { AllPairs (λ a b. named_cmp a b ≡ Less) known.now }
-    ensures among { result ≡ true → Any (λ z. named_cmp z (record { name = name.now; at = at.now }) ≡ Equal) known.now }
-    ensures apart { result ≡ false → All (λ z. named_cmp z (record { name = name.now; at = at.now }) ≡ Equal → ⊥) known.now }
+fn is_among(known: &[RankedPlace], at: &HPoint, name: &PointName) -> bool
+    requires { AllPairs (λ a b. ranked_cmp a b ≡ Less) known.now }
+    ensures among { result ≡ true → Any (λ z. hpoint_cmp z.at at.now ≡ Equal) known.now }
+    ensures apart { result ≡ false → All (λ z. hpoint_cmp z.at at.now ≡ Equal → ⊥) known.now }
 {
-    let place = NamedPlace {
+    let place = RankedPlace {
         name: *name,
+        rank: rank(at),
         at: *at,
     };
     known.binary_search(&place).is_ok()

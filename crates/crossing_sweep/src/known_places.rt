@@ -1,21 +1,21 @@
 //! The places of a strip that are known before a pass over it: ends of segments and border places.
-ghost use Rattle.std.specs.Prelude.{◌≡◌, ◌++◌, [], ◌∷◌, List, map, AllPairs, IfOk, OnOk};
+ghost use Rattle.std.specs.Prelude.{◌≡◌, ◌≤◌, ◌+◌, ◌++◌, [], ◌∷◌, List, map, AllPairs, IfOk, IfSome, IsNone, OnOk};
 ghost use Rattle.std.specs.declared.cmp.Ordering.TheVariants.{Less};
 ghost use Rattle.exact_point.specs.declared.point_name.PointName.{PointName};
+ghost use Rattle.exact_point.specs.PointName.{IsCutBy};
+ghost use Rattle.overlay_terms.specs.Column.{border};
 ghost use Rattle.overlay_terms.specs.Plane.{whole};
-ghost use Rattle.arrange.specs.NamedPlaces.{named_cmp};
 ghost use Rattle.crossing_sweep.specs.StripInput.{is_in_closed_strip};
-ghost use Rattle.crossing_sweep.specs.Ahead.{AreKnownPlaces, AreOffered, cut_names, known_names, known_entry};
-ghost use Rattle.crossing_sweep.specs.RankedPlace.{named_of, ranked_entry};
+ghost use Rattle.crossing_sweep.specs.Ahead.{AreKnownPlaces, AreOffered, cut_names, known_names};
+ghost use Rattle.crossing_sweep.specs.RankedPlace.{ranked_cmp, ranked_entry};
 
 use crate::ahead::Ahead;
 use crate::pass_input::PassInput;
-use crate::rank::rank;
+use crate::rank::{rank, rank_over};
 use crate::ranked_place::RankedPlace;
 use crate::strip::Strip;
-use arrange::named_place::NamedPlace;
 use exact_point::PointName;
-use plane_base::{Pt, Seg};
+use plane_base::{Column, Pt, Seg};
 use std::alloc::{AllocError, Global};
 
 /// The ends of an input's segments, and where the borders of the strip cut them, in the closed
@@ -28,9 +28,9 @@ pub(crate) fn known_places(alloc: Global, input: &PassInput) -> Result<Ahead, Al
 }
 
 /// These places in their order, each once: a place of several segments under one of its names.
-fn places_in_order(alloc: Global, input: &PassInput) -> Result<Vec<NamedPlace>, AllocError>
-    ensures known { IfOk result (λ places. AreKnownPlaces input.now (map known_entry places.items)) }
-    ensures in_order { IfOk result (λ places. AllPairs (λ a b. named_cmp a b ≡ Less) places.items) }
+fn places_in_order(alloc: Global, input: &PassInput) -> Result<Vec<RankedPlace>, AllocError>
+    ensures known { IfOk result (λ places. AreKnownPlaces input.now (map ranked_entry places.items)) }
+    ensures in_order { IfOk result (λ places. AllPairs (λ a b. ranked_cmp a b ≡ Less) places.items) }
 {
     // Mostly two of each segment and column: it is cut by both borders, or ends within and is cut by one.
     let mut places = Vec::with_capacity(alloc, 2 * input.marked().len())?;
@@ -41,7 +41,7 @@ fn places_in_order(alloc: Global, input: &PassInput) -> Result<Vec<NamedPlace>, 
     let mut order = references(alloc, &places)?;
     order.sort_unstable();
     order.dedup();
-    let list = named(alloc, &order)?;
+    let list = copied(alloc, &order)?;
     Ok(list)
 }
 
@@ -59,16 +59,13 @@ fn references<'a>(
     Ok(order)
 }
 
-/// The places with their names alone.
-fn named(alloc: Global, places: &[&RankedPlace]) -> Result<Vec<NamedPlace>, AllocError>
-    ensures { IfOk result (λ list. list.items ≡ map (λ z. named_of z.now) places.now) }
+/// The places that some references are to.
+fn copied(alloc: Global, places: &[&RankedPlace]) -> Result<Vec<RankedPlace>, AllocError>
+    ensures { IfOk result (λ list. list.items ≡ map (λ z. z.now) places.now) }
 {
     let mut list = Vec::with_capacity(alloc, places.len())?;
     for place in places {
-        list.push(NamedPlace {
-            name: place.name,
-            at: place.at,
-        })?;
+        list.push(**place)?;
     }
     Ok(list)
 }
@@ -90,9 +87,52 @@ fn offer_cuts(places: &mut Vec<RankedPlace>, seg: &Seg, strip: Strip) -> Result<
     let first = strip.first().number();
     let end = strip.last().number() + 2;
     for number in first..end {
-        offer(places, PointName::Border(*seg, number), strip)?;
+        offer_cut(places, seg, number, strip)?;
     }
     Ok(())
+}
+
+/// Adds the place where the border with a number cuts a segment, if it does. Most borders of a wide strip do not.
+fn offer_cut(
+    places: &mut Vec<RankedPlace>,
+    seg: &Seg,
+    number: u8,
+    strip: Strip,
+) -> Result<(), AllocError>
+    requires from { strip.first ≤ number }
+    requires to { number ≤ strip.last + 1 }
+    ensures { OnOk result ((names : List PointName) → AreOffered strip names (map ranked_entry places.old.items) → AreOffered strip (names ++ PointName.Border seg.now number ∷ []) (map ranked_entry places.new.items)) }
+{
+    let Some(x) = border_between(seg, number) else {
+        return Ok(());
+    };
+    let name = PointName::Border(*seg, number);
+    let at = name.known_point();
+    places.push(RankedPlace {
+        name,
+        rank: rank_over(x, &at),
+        at,
+    })?;
+    Ok(())
+}
+
+/// The x of the border with a number, if there is one and it lies strictly between the ends of a segment.
+fn border_between(seg: &Seg, number: u8) -> Option<i64>
+    ensures cut { IfSome result (λ _. IsCutBy seg.now number) }
+    ensures value { IfSome result (λ x. x ≡ border number) }
+    ensures none { IsNone result → IsCutBy seg.now number → ⊥ }
+{
+    let Some(column) = Column::new(u64::from(number)) else {
+        return None;
+    };
+    let x = column.border();
+    if x <= seg.left().x() {
+        return None;
+    }
+    if seg.right().x() <= x {
+        return None;
+    }
+    Some(x)
 }
 
 /// Adds an end of a segment, if it lies in the closed strip. Most do not, and no exact place is made of these.

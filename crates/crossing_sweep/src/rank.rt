@@ -22,6 +22,15 @@ pub(crate) fn rank(p: &HPoint) -> i64
     numbered(across, 2 * COORD_MAX)
 }
 
+/// The same of a place over a whole x.
+pub(crate) fn rank_over(across: i64, p: &HPoint) -> i64
+    requires in_range { InRange across }
+    requires upright { across *ℤ (place p.now).w ≡ (place p.now).x }
+    ensures { ∥ IsRank result (place p.now) ∥₁ }
+{
+    numbered(across, floor(p.y, p.w))
+}
+
 /// Whether a coordinate over its denominator is a whole number.
 fn is_whole(number: i64, x: i128, w: i128) -> bool
     requires number_small { InRange number }

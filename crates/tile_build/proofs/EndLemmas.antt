@@ -1,19 +1,23 @@
 -- Whole points on segments and in columns, and what the names of places say of them.
-use Rattle.std.proofs.Common.{◌≡◌, ℕ, ◌+◌, ℤ, pos, ◌*ℤ◌, Bool, true, ◌&&◌, sym, ap, subst, ◌∙◌, arith}
+use Rattle.std.proofs.Common.{◌≡◌, ◌==◌, ℕ, ◌+◌, ◌≤◌, ℤ, pos, ◌*ℤ◌, ◌≤ℤ◌, ◌<ℤ◌, Bool, true, ◌&&◌, sym, ap, subst, ◌∙◌, arith}
+use Rattle.std.proofs.lemmas.Bool.{and_from, and_parts}
+use Rattle.std.proofs.lemmas.Bool.Decides.{Decides-eqb}
 use Rattle.std.proofs.lemmas.Int.{ints}
 use Rattle.std.specs.Prelude.{◌↔◌, IsTrue, int_le, int_lt}
 use Rattle.std.specs.Ordering.{is_lt}
 use Rattle.std.specs.declared.cmp.Ordering.TheVariants.{Less}
 use Rattle.overlay_terms.specs.Column.{border, is_in_column}
-use Rattle.overlay_terms.specs.Plane.{WholePoint, Segment, whole, whole_cmp, same_whole, is_on}
+use Rattle.overlay_terms.proofs.InputNumbers.{le_true, lt_true, true_le, true_lt, less_times, less_back, most_back}
+use Rattle.overlay_terms.specs.Plane.{Point, WholePoint, Segment, whole, whole_cmp, same_whole, is_on}
 use Rattle.overlay_terms.specs.SameInput.{same_segment, same_segment-Decides}
 use Rattle.overlay_terms.proofs.PointOrder.{same_points}
-use Rattle.overlay_terms.proofs.Tests.{less_told}
+use Rattle.overlay_terms.proofs.Tests.{less_told, same_tests}
 use Rattle.exact_point.specs.Crossing.{IsCrossingOf}
-use Rattle.exact_point.specs.PlaceOf.{place_of}
-use Rattle.exact_point.specs.PointName.{IsPlaceOf, IsCutOf}
+use Rattle.exact_point.specs.PlaceOf.{place_of, cut_place}
+use Rattle.exact_point.specs.PointName.{IsPlaceOf, IsCutBy, IsCutOf}
 use Rattle.exact_point.specs.declared.point_name.PointName.{PointName}
 use Rattle.exact_point.specs.declared.point_name.PointName.TheVariants.{Vertex, Cross, Border}
+use Rattle.exact_point.proofs.BorderLemmas.{at_border}
 use Rattle.exact_point.proofs.PlaceOrder.{one_positive}
 use Rattle.arrange.proofs.UnitLineLemmas.{whole_order}
 use Rattle.crossing_sweep.proofs.StartLemmas.{left_held, right_held}
@@ -86,3 +90,40 @@ whole_in k v =
   where
     once : (z : ℤ) → z ≡ z *ℤ pos 1
     once z = omega (arith, ints)
+
+-- where a border cuts a segment is in the column with the border's number alone
+pub cut_in : (k j : ℕ) (s : Segment) → IsCutBy s j → (k == j) ≡ is_in_column k (cut_place s j)
+cut_in k j s cut = same_tests (k == j) (is_in_column k p) there back
+  where
+    p : Point
+    p = cut_place s j
+
+    wide : pos 0 <ℤ p.w
+    wide = omega (arith, ints, cut.after_left, cut.before_right)
+
+    over : p.x ≡ border j *ℤ p.w
+    over = at_border s.left.x s.right.x (border j)
+
+    next : (i : ℕ) → border i <ℤ border (i + 1)
+    next i = omega (arith, ints)
+
+    least : (i j : ℕ) → border i ≤ℤ border j → i ≤ j
+    least i j h = omega (arith, ints, h)
+
+    before : (i j : ℕ) → border j <ℤ border (i + 1) → j ≤ i
+    before i j h = omega (arith, ints, h)
+
+    own : (i : ℕ) → p.x ≡ border i *ℤ p.w → is_in_column i p ≡ true
+    own i e =
+        and_from (int_le (border i *ℤ p.w) p.x) (int_lt p.x (border (i + 1) *ℤ p.w)) (true_le (border i *ℤ p.w) p.x (omega (arith, ints, e)))
+        (true_lt p.x (border (i + 1) *ℤ p.w) (rw e (less_times (border i) (border (i + 1)) p.w wide (next i))))
+
+    there : (k == j) ≡ true → is_in_column k p ≡ true
+    there h = own k (over ∙ ap (λ i. border i *ℤ p.w) (sym ((Decides-eqb k j).0 h)))
+
+    back : is_in_column k p ≡ true → (k == j) ≡ true
+    back h =
+        let parts = and_parts (int_le (border k *ℤ p.w) p.x) (int_lt p.x (border (k + 1) *ℤ p.w)) h in
+        let low : k ≤ j = least k j (most_back (border k) (border j) p.w wide (rw (← over) (le_true (border k *ℤ p.w) p.x parts.0))) in
+        let high : j ≤ k = before k j (less_back (border j) (border (k + 1)) p.w wide (rw (← over) (lt_true p.x (border (k + 1) *ℤ p.w) parts.1))) in
+        (Decides-eqb k j).1 (omega (arith, low, high))

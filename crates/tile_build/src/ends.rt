@@ -1,6 +1,6 @@
 //! The ends of pieces, by their names. What a name says of its place is not worked out: whole points and segments are
 //! compared as they are, and only what they leave open asks for exact coordinates.
-ghost use Rattle.std.specs.Prelude.{◌≡◌, ◌↔◌, IsTrue};
+ghost use Rattle.std.specs.Prelude.{◌≡◌, ◌==◌, ◌↔◌, IsTrue};
 ghost use Rattle.overlay_terms.specs.Column.{is_in_column};
 ghost use Rattle.overlay_terms.specs.Plane.{whole, same_whole, point_cmp, is_on};
 ghost use Rattle.overlay_terms.specs.SameInput.{same_segment};
@@ -151,8 +151,16 @@ pub(crate) fn is_name_in(column: Column, name: &PointName) -> bool
 {
     match name {
         PointName::Vertex(vertex) => is_whole_in(column, *vertex),
-        _ => is_in(column, &name.known_point()),
+        PointName::Border(_, number) => is_numbered(column, *number),
+        PointName::Cross(_, _) => is_in(column, &name.known_point()),
     }
+}
+
+/// Whether a column has a number, and so the places on the border with it.
+fn is_numbered(column: Column, number: u8) -> bool
+    ensures { result ≡ (column == number) }
+{
+    column.number() == number
 }
 
 /// Whether a whole point lies in a column.

@@ -1,14 +1,11 @@
 use Rattle.std.proofs.Common.{sym, ◌∙◌}
-use Rattle.arrange.specs.declared.named_place.NamedPlace.{NamedPlace}
 use Rattle.crossing_sweep.proofs.TakeLemmas.{searched_among, searched_apart}
 use Rattle.crossing_sweep.proofs.ahead.is_among.Goals as goal
 
 pub returns-clause-among : goal.returns-clause-among
 returns-clause-among c =
-    let place : NamedPlace = record { name = c.args.name.now; at = c.args.at.now } in
-    λ yes. searched_among place c.args.known.now c.binary_search.result c.binary_search.ensures.bound c.binary_search.ensures.position (sym c.is_ok.ensures.value ∙ yes)
+    λ yes. searched_among _ c.args.known.now c.binary_search.result c.binary_search.ensures.bound c.binary_search.ensures.position (sym c.is_ok.ensures.value ∙ yes)
 
 pub returns-clause-apart : goal.returns-clause-apart
 returns-clause-apart c =
-    let place : NamedPlace = record { name = c.args.name.now; at = c.args.at.now } in
-    λ no. searched_apart place c.args.known.now c.binary_search.result c.requires c.binary_search.ensures.position (sym c.is_ok.ensures.value ∙ no)
+    λ no. searched_apart _ c.args.known.now c.binary_search.result c.requires c.binary_search.ensures.position (sym c.is_ok.ensures.value ∙ no)

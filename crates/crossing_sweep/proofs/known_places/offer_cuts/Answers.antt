@@ -30,7 +30,7 @@ loop-number-preserved c =
     let a : ℕ = c.args.strip.first in
     let k : ℕ = c.loop-number.number in
     let from : c.args.strip.first ≤ c.loop-number.number = c.loop-number.invariant.from in
-    let new : List RankedPlace = c.offer.new.places.items in
+    let new : List RankedPlace = c.offer_cut.new.places.items in
     let longer : c.loop-number.number + 1 - c.args.strip.first ≡ (c.loop-number.number - c.args.strip.first) + 1 = omega (arith, from) in
     let back : c.args.strip.first + (c.loop-number.number - c.args.strip.first) ≡ c.loop-number.number = omega (arith, from) in
     let more : map cut (range_with_len a (k + 1 - a)) ≡ map cut (range_with_len a (k - a)) ++ cut k ∷ [] =
@@ -38,7 +38,7 @@ loop-number-preserved c =
     record {
       offered = λ names h.
           subst (λ (l : List PointName). AreOffered strip l (map ranked_entry new)) (append_assoc names (map cut (range_with_len a (k - a))) (cut k ∷ []) ∙ ap (λ (l : List PointName). names ++ l) (sym more))
-          (c.in_ok-offer.ensures (names ++ map cut (range_with_len a (k - a))) (c.loop-number.invariant.offered names h));
+          (c.in_ok-offer_cut.ensures (names ++ map cut (range_with_len a (k - a))) (c.loop-number.invariant.offered names h));
       from = omega arith;
       to = omega arith;
     }

@@ -13,9 +13,9 @@ use Rattle.arrange.specs.declared.marked_seg.MarkedSeg.{MarkedSeg}
 use Rattle.crossing_sweep.specs.StripInput.{Span}
 use Rattle.crossing_sweep.specs.declared.ranked_place.RankedPlace.{RankedPlace}
 use Rattle.crossing_sweep.specs.Ahead.{known_names, AreOffered, AreKnownPlaces}
-use Rattle.crossing_sweep.specs.RankedPlace.{ranked_entry, named_of, same_ranked}
+use Rattle.crossing_sweep.specs.RankedPlace.{ranked_entry, same_ranked}
 use Rattle.crossing_sweep.proofs.KnownLemmas.{own_more, known_places}
-use Rattle.crossing_sweep.proofs.PlacesInOrder.{in_order, offered_once, same_entries, named_in_order}
+use Rattle.crossing_sweep.proofs.PlacesInOrder.{in_order, offered_once, same_entries, ranked_in_order}
 use Rattle.crossing_sweep.proofs.known_places.places_in_order.Goals as goal
 
 pub loop-m-preserved : goal.loop-m-preserved
@@ -45,12 +45,12 @@ returns-clause-known c =
     let standing : map ranked_entry found ≡ map (λ z. ranked_entry (now z)) order =
     ap (map ranked_entry) (sym (c.in_ok-order.ensures ∙ c.deref.ensures.value)) ∙ map-map ranked_entry now order in
     let stand : AreOffered k names (map (λ z. ranked_entry (now z)) order) = subst (λ (l : List (HPoint × PointName)). AreOffered k names l) standing offered in
-    subst (λ (l : List (HPoint × PointName)). AreKnownPlaces c.args.input.now l) (sym (same_entries now c.dedup.new.self.items c.in_ok-list.list.items (c.in_ok-list.ensures ∙ ap (map (λ z. named_of (now z))) c.deref-2.ensures.value)))
+    subst (λ (l : List (HPoint × PointName)). AreKnownPlaces c.args.input.now l) (sym (same_entries now c.dedup.new.self.items c.in_ok-list.list.items (c.in_ok-list.ensures ∙ ap (map now) c.deref-2.ensures.value)))
     (known_places c.args.input.now c.marked-m-items.ensures.valid (map (λ z. ranked_entry (now z)) c.dedup.new.self.items)
     (offered_once now k names order c.sort_unstable.new.self.items c.dedup.new.self.items c.sort_unstable.ensures.permutation c.sort_unstable.ensures.sorted (dedup_is (λ a b. same_ranked (now a) (now b)) c.sort_unstable.new.self.items c.dedup.new.self.items c.dedup.ensures.filtered) stand))
 
 pub returns-clause-in_order : goal.returns-clause-in_order
 returns-clause-in_order c =
     let now : Bor RankedPlace → RankedPlace = λ z. z.now in
-    named_in_order now c.dedup.new.self.items c.in_ok-list.list.items (c.in_ok-list.ensures ∙ ap (map (λ z. named_of (now z))) c.deref-2.ensures.value)
+    ranked_in_order now c.dedup.new.self.items c.in_ok-list.list.items (c.in_ok-list.ensures ∙ ap (map now) c.deref-2.ensures.value)
     (in_order now c.args.input.now.strip [] c.in_ok-order.order.items c.sort_unstable.new.self.items c.dedup.new.self.items c.sort_unstable.ensures.permutation c.sort_unstable.ensures.sorted (dedup_is (λ a b. same_ranked (now a) (now b)) c.sort_unstable.new.self.items c.dedup.new.self.items c.dedup.ensures.filtered))
