@@ -4,18 +4,17 @@ use mathlib.Core.List.{IsPrefix}
 use Rattle.std.proofs.lemmas.Bool.{eq-eqb}
 use Rattle.std.proofs.lemmas.List.{append-nil}
 use Rattle.std.proofs.lemmas.List.Elements.{All-head, All-tail}
-use Rattle.disk_model.specs.declared.disk.Disk.{Ghosts}
 use Rattle.overlay_terms.specs.Batches.{Batch}
 use Rattle.overlay_terms.specs.Histories.{Entry, History, IsHistory, accepted_in, commands_in, commands_of}
 use Rattle.overlay_terms.proofs.HistoryFolds.{own_are_among_all}
 use Rattle.book_history.specs.Known.{seen}
 use Rattle.book_history.specs.Logs.{history_of, IsLog}
 use Rattle.book_history.proofs.Chains.{begins_with, commands_in_log, is_history}
+use Rattle.script_form.specs.Transcript.{BookStore}
 use Rattle.line_laws.specs.Deciding.{AreTurnsOf, made_by}
 use Rattle.line_laws.proofs.Entries.{accepted_more, count, history_front}
 use Rattle.line_laws.proofs.Runs.{transcripts_have_turns, turns_grow}
 use Rattle.overlay_server.specs.Alone.{OneSessionIsAlone, first_session}
-use Rattle.overlay_server.specs.Serving.{store_from}
 
 -- all that are numbered below 1 have the number 0
 keep_all : (cs : List (ℕ × Batch)) → All (λ (c : ℕ × Batch). c.0 < 1) cs → filter (λ c. c.0 == 0) cs ≡ cs
@@ -52,9 +51,8 @@ all_of_it front [] whole is long = sym (is ∙ append-nil front)
 all_of_it front (b ∷ behind) whole is long =
     absurd (omega (arith, long, ap (λ (bs : List Batch). length bs) is, length-append front (b ∷ behind)))
 
-pub one_session_is_alone : {D : Type 0} (g : Ghosts D) → OneSessionIsAlone g
-one_session_is_alone g start store book log turns now replies valid only first own run =
-    let stored = store_from g start store in
+pub one_session_is_alone : (stored : BookStore) → OneSessionIsAlone stored
+one_session_is_alone stored start book log turns now replies valid only first own run =
     let was = first_session book start in
     let told : AreTurnsOf stored 0 (seen was) _ = transcripts_have_turns stored 0 (seen was) (record { turns = turns; after = seen now; made = run.made; replies = replies }) run.told in
     let front = front_of now.log log valid own.longer in
