@@ -35,8 +35,8 @@ rank_over-requires-clause-upright c =
     let is : IsCutOf c.args.seg.now c.args.number (place c.known_point-at.result) = c.known_point-at.ensures.stands in
     ap (λ x. x *ℤ (place c.known_point-at.result).w) (whole_is (known c.args.number c.args.seg.now c.in-Some.x c.in-Some.ensures.cut c.in-Some.ensures.value) c.in-Some.ensures.value) ∙ sym is.on_border
 
-pub returns-in_ok-push : goal.returns-in_ok-push
-returns-in_ok-push c = λ names h.
+pub returns : goal.returns
+returns c = λ names h.
     let k : ℕ = c.args.number in
     let name : PointName = Border c.args.seg.now k in
     let at = c.known_point-at.result in

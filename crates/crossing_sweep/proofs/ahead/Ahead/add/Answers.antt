@@ -2,6 +2,7 @@ use Rattle.std.proofs.Common.{◌≡◌, ◌-◌, List, take, drop, length, subs
 use Rattle.std.specs.Prelude.{All, AllPairs, Any, Result, Ok, Err, OnOk}
 use Rattle.std.specs.declared.cmp.Ordering.TheVariants.{Less, Equal}
 use Rattle.std.proofs.lemmas.List.{take_rest}
+use Rattle.exact_point.specs.Place.{hpoint_cmp}
 use Rattle.crossing_sweep.specs.RankedPlace.{ranked_cmp}
 use Rattle.crossing_sweep.specs.declared.ranked_place.RankedPlace.{RankedPlace}
 use Rattle.crossing_sweep.proofs.TakeLemmas.{rest_ordered, add_known, add_new, add_apart}
