@@ -14,6 +14,7 @@ import argparse
 import pathlib
 import sys
 from collections.abc import Iterator
+from typing import Any, TypeAlias
 
 try:
     import numpy as np
@@ -27,16 +28,17 @@ except ImportError as fault:
 WEST, SOUTH, FACTOR = 480_000.0, 5_400_000.0, 1000
 PARCEL = 30_000  # millimetres, about, from side to side
 HEAD = np.dtype([("order", "u1"), ("kind", "<u4"), ("rings", "<u4"), ("points", "<u4")])
-Cells = list[np.ndarray]
+Numbers: TypeAlias = "np.ndarray[Any, Any]"
+Cells: TypeAlias = "list[Numbers]"
 
 
-def jittered(count: int, step: int, draw: np.random.Generator) -> np.ndarray:
+def jittered(count: int, step: int, draw: np.random.Generator) -> Numbers:
     """The corners of count by count cells, [column, row, axis]."""
     at = np.stack(np.meshgrid(np.arange(count + 1), np.arange(count + 1), indexing="ij"), axis=-1) * step
     return at + draw.integers(-step // 4, step // 4, at.shape)
 
 
-def between(a: np.ndarray, b: np.ndarray, part: np.ndarray) -> np.ndarray:
+def between(a: Numbers, b: Numbers, part: Numbers) -> Numbers:
     """Places on the lines from a to b, rounded."""
     return np.rint(a + (b - a) * part[..., None]).astype(np.int64)
 
@@ -57,7 +59,7 @@ def parcels(count: int, step: int, draw: np.random.Generator) -> Cells:
     return [whole[~split], np.concatenate([left, right])]
 
 
-def winding(a: np.ndarray, b: np.ndarray, parts: int, draw: np.random.Generator) -> np.ndarray:
+def winding(a: Numbers, b: Numbers, parts: int, draw: np.random.Generator) -> Numbers:
     """Corners from a towards b, a among them, off the line by up to a twentieth of it: [.., corner, axis]."""
     along = np.arange(parts) / parts
     across = np.stack([a[..., 1] - b[..., 1], b[..., 0] - a[..., 0]], axis=-1)
@@ -75,7 +77,7 @@ def zones(count: int, step: int, draw: np.random.Generator) -> Cells:
     return [np.concatenate([flat[:, :-1], steep[1:], closed[:, 1:], down[:-1]], axis=2).reshape(-1, 48, 2)]
 
 
-def turned_squares(count: int, long: int) -> np.ndarray:
+def turned_squares(count: int, long: int) -> Numbers:
     """Rectangles of one by so many squares, count by count of the squares: each corner is whole, and all are on lines."""
     along, across = np.array([24_001, 18_003]), np.array([-18_003, 24_001])  # 30 m, at a right angle
     column, row = (one.ravel()[:, None] for one in np.meshgrid(np.arange(0, count, long), np.arange(count)))

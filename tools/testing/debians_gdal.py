@@ -11,7 +11,7 @@ import resource
 import struct
 import sys
 import unittest
-from collections.abc import Iterator
+from collections.abc import Iterator, Sequence
 from fractions import Fraction
 from unittest import mock
 
@@ -26,7 +26,7 @@ RING = [(0, 0), (10, 0), (10, 10), (0, 10), (0, 0)]
 HOLE = [(2, 2), (2, 4), (4, 4), (4, 2), (2, 2)]
 
 
-def text_of(*rings: list[tuple[float, float]]) -> str:
+def text_of(*rings: Sequence[tuple[float, float]]) -> str:
     return "(" + ", ".join("(" + ", ".join(f"{x} {y}" for x, y in ring) + ")" for ring in rings) + ")"
 
 
