@@ -8,9 +8,13 @@ use Rattle.session_threads.specs.declared.port.Finished.{Finished}
 abbrev pub replies_of : Finished (Vec ℕ Global) → List ℕ
 replies_of finished = finished.writer.items
 
+-- the line with the number of a session
+abbrev pub script_line : ℕ → List ℕ
+script_line number = codes "# script " ++ (decimal number ++ 10 ∷ [])
+
 -- the replies of a session, after a line with its number where there are several
 abbrev pub session_text : Bool → ℕ → List ℕ → List ℕ
-session_text true number replies = codes "# script " ++ decimal number ++ 10 ∷ replies
+session_text true number replies = script_line number ++ replies
 session_text false number replies = replies
 
 -- the replies of one session after another, from a number on
