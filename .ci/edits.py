@@ -35,10 +35,6 @@ ASKED = (
     "commits_a_version_of_its_own",
 )
 
-# Those among them that may lack a control, or fall at a limit of the search, still: they are named, and the gate does not
-# fail for it.
-LACKING = ("book_lock/keep_job_dropped",)
-
 
 class Misfit(Exception):
     """An edit that does not fit the sources."""
