@@ -178,6 +178,7 @@ impl<J: BookName, R: Wait + Drop> Shared<J, R> {
         ensures err { IfErr result (λ e. (e.0 ≡ job) × (e.1 ≡ built)) }
         ensures refused { IfErr result (λ e. (e.2 ≡ no_memory) ⊎ (e.2 ≡ BookFault.Gone)) }
     {
+        // It is copied, as it has to come back where the lock's part fails: one in an `Arc` may have other owners.
         let Ok(shared) = SharedBuilt::copied(alloc, &built) else {
             return Err((job, built, NO_MEMORY));
         };
