@@ -21,7 +21,11 @@ impl HeldTile {
     fn is_of(&self, name: &Name, column: Column) -> bool
         ensures { result ≡ is_of name.now column self.now }
     {
-        self.name.bytes() == name.bytes() && self.column == column
+        // Most of those held are in other columns, and their names are not compared.
+        if self.column != column {
+            return false;
+        }
+        self.name.bytes() == name.bytes()
     }
 
     fn mark(&mut self, name: &Name, column: Column)
