@@ -35,11 +35,7 @@ impl std::marker::Model for SharedBuilt {
 
 impl SharedBuilt {
     /// A tile that is that of an input. It is moved.
-    pub(crate) fn of(
-        alloc: Global,
-        input: TileInput,
-        tile: Tile,
-    ) -> Result<SharedBuilt, AllocError>
+    pub(crate) fn of(alloc: Global, input: TileInput, tile: Tile) -> Result<SharedBuilt, AllocError>
         requires { IsTileAt pieces_max input (tile_of tile) }
         ensures input { IfOk result (λ built. built.0 ≡ input) }
         ensures tile { IfOk result (λ built. built.1 ≡ tile_of tile) }
