@@ -14,7 +14,7 @@ use crate::opening::open_book;
 use crate::outcome::{Left, PortsBack, PortsFault, Served, ServerFault};
 use crate::refusing::{only_now, refused, stopped};
 use crate::storing::keep_store;
-use crate::threads::{Work, Worked, run_threads};
+use crate::threads::{Work, run_threads};
 use disk_model::disk::Disk;
 use flush_core::flusher::Flusher;
 use overlay_engine::engine::Engine;
@@ -213,23 +213,19 @@ where
             store,
             seats,
         };
-        let Worked {
-            store,
-            sessions,
-            finished,
-        } = run_threads(rt, alloc, gate, &shared, &halt, work);
+        let worked = run_threads(rt, alloc, gate, &shared, &halt, work);
         // What was finished after the last commit is committed now that the workers have returned.
-        let store = keep_store(rt, alloc, &shared, store);
-        let made = made_by_all(rt, &sessions);
-        let closed = store.close(rt, alloc, shared, &sessions);
+        let store = keep_store(rt, alloc, &shared, worked.store);
+        let made = made_by_all(rt, &worked.sessions);
+        let closed = store.close(rt, alloc, shared, &worked.sessions);
         // Were its last number not the first one and so many more as the sessions made batches, which cannot come, it
         // would wait for ever.
         await_number(rt, number, made, &closed.version);
         if halt.is_set() {
-            return Err(stopped(alloc, answer, closed, sessions, finished));
+            return Err(stopped(alloc, answer, closed, worked.sessions, worked.finished));
         }
         Ok(Left {
-            sessions: finished,
+            sessions: worked.finished,
             closed,
         })
     }

@@ -45,8 +45,8 @@ returns-in-Err-clause-refused g c =
       ports = (ap (λ (ps : Vec (Port _ _) Global). given ps.items) c.in-Err.ensures.refused, c.refused.ensures.sessions);
     }
 
-pub run_threads-store-requires-after_bounds : goal.run_threads-store-requires-after_bounds
-run_threads-store-requires-after_bounds g c κs within =
+pub run_threads-worked-requires-after_bounds : goal.run_threads-worked-requires-after_bounds
+run_threads-worked-requires-after_bounds g c κs within =
     let self = c.args.self in
     let start = self.version.value in
     let ports = c.args.ports.items in
@@ -65,13 +65,13 @@ run_threads-store-requires-after_bounds g c κs within =
 pub keep_store-store-requires-clause-stored : goal.keep_store-store-requires-clause-stored
 keep_store-store-requires-clause-stored g c =
     let old = c.args.self.store in
-    let work = c.run_threads-store in
+    let work = c.run_threads-worked in
     holds_on g.D.Disk g.J.BookName.stored old work.result.store work.ensures.store.flushed
     (holds_first g.D.Disk g.J.BookName.stored c.args.self.version.value old c.requires.hosted.begun c.requires.meant)
 
 pub close-closed-requires-clause-sessions : goal.close-closed-requires-clause-sessions
 close-closed-requires-clause-sessions g c =
-    let left = c.run_threads-store.ensures.left in
+    let left = c.run_threads-worked.ensures.left in
     subst (All (λ (k : Known). k.book ≡ g.J.BookName.book)) (sym (c.deref-2.ensures.value ∙ left.sessions_are))
     (of_ended g.J.BookName.book (store_of g.J.BookName.stored (has_store c.args.self.shared)) g.R.Read.remaining g.W.ReplyWriter.contents c.in-Ok.seats.scripts.items left.ended left.each)
 
@@ -81,7 +81,7 @@ returns-then-is_set-clause-refused g c =
     let start = self.version.value in
     let ports = c.args.ports.items in
     let scripts = c.in-Ok.seats.scripts.items in
-    let work = c.run_threads-store in
+    let work = c.run_threads-worked in
     let left = work.ensures.left in
     let after = c.keep_store-store.result in
     let closed = c.close-closed in
@@ -122,7 +122,7 @@ returns-clause-left g c =
     let start = self.version.value in
     let ports = c.args.ports.items in
     let scripts = c.in-Ok.seats.scripts.items in
-    let work = c.run_threads-store in
+    let work = c.run_threads-worked in
     let left = work.ensures.left in
     let after = c.keep_store-store.result in
     let closed = c.close-closed in
