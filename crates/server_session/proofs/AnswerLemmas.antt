@@ -47,7 +47,8 @@ use Rattle.script_form.specs.declared.line_turn.LineTurn.TheVariants.{Waits, Alo
 use Rattle.server_session.specs.Answering.{Answers, AnswersAll, IsAnswerToAll, Submits, SubmitsAll}
 use Rattle.server_session.specs.Fault.{fault_told, lines_told}
 use Rattle.server_session.specs.Session.{IsSharedRun, Stays}
-use Rattle.server_session.specs.Turn.{TakesTurn}
+use Rattle.script_form.specs.declared.line_reply.LineReply.{LineReply}
+use Rattle.server_session.specs.Turn.{EndsTurn, TakesTurn}
 use Rattle.server_session.proofs.BatchFaults.{batch_told, numbered_reason, batch_reported}
 use Rattle.server_session.proofs.Runs.{run-none, run-one}
 use Rattle.server_session.proofs.Turns.{stays_self}
@@ -455,3 +456,16 @@ takes_whole stored was now old new line read reply taken answers = record {
             (run-one stored was now (together requests) a.made reply (record { goes_on = answers.stays.goes_on; answered = a.answered }) a.only);
       };
 }
+
+-- which turn a line ends
+pub ends_none : (me : Known) (old new : Option OpenBatch) (line : List ℕ) → TakesLine old (request_of line) new Waits → EndsTurn old line me me None
+ends_none me old new line taken = (refl, λ waiting there. (taken waiting there).ended)
+
+module _ (was now : Known) (old new : Option OpenBatch) (line : List ℕ) where
+  pub ends_alone : (asked : code.Request) (reply : LineReply) → TakesLine old (request_of line) new (Alone asked) → EndsTurn old line was now (Some reply)
+  ends_alone asked reply taken = λ waiting there. (alone (request asked), (taken waiting there).ended)
+
+  pub ends_whole : (read : Result Batch LinesFault) (reply : LineReply) → TakesLine old (request_of line) new (Whole read) → EndsTurn old line was now (Some reply)
+  ends_whole read reply taken = λ waiting there.
+      let (requests, ended, are) = (taken waiting there).ended in
+      (together requests, ended)

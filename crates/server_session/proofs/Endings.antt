@@ -152,7 +152,7 @@ ends-past_limit most stored was end input left output mid all count state now wa
       }
 
 -- the front of a front
-take_of_take : (a c m : ℕ) (xs : List ℕ) → m ≡ min c a → take a (take c xs) ≡ take m xs
+pub take_of_take : (a c m : ℕ) (xs : List ℕ) → m ≡ min c a → take a (take c xs) ≡ take m xs
 take_of_take a c m xs is =
     elim (cases_lt c a) as (λ _. take a (take c xs) ≡ take m xs) [
       | inl less ↦ take_all a (take c xs) (omega (arith, length-take c xs)) ∙ ap (λ n. take n xs) (omega arith)

@@ -44,10 +44,10 @@ turns_ended-behind taken bytes =
 turns_ended-nil : (taken : List ℕ) → turns_ended taken [] ≡ []
 turns_ended-nil taken = turns_ended-are taken [] [] (ap (λ bytes. turns_of (ended_lines bytes)) (append-nil taken) ∙ sym (append-nil (turns_of (ended_lines taken))))
 
-turns_ended-byte : (taken : List ℕ) (b : ℕ) → (b == 10) ≡ false → turns_ended taken (b ∷ []) ≡ []
+pub turns_ended-byte : (taken : List ℕ) (b : ℕ) → (b == 10) ≡ false → turns_ended taken (b ∷ []) ≡ []
 turns_ended-byte taken b other = turns_ended-are taken (b ∷ []) [] (ap turns_of (ended_lines-byte taken b other) ∙ sym (append-nil (turns_of (ended_lines taken))))
 
-turns_ended-feed : (taken : List ℕ) → turns_ended taken (10 ∷ []) ≡ ended_by (waiting_behind (ended_lines taken)) (request_of (without_cr (unended taken)))
+pub turns_ended-feed : (taken : List ℕ) → turns_ended taken (10 ∷ []) ≡ ended_by (waiting_behind (ended_lines taken)) (request_of (without_cr (unended taken)))
 turns_ended-feed taken =
     turns_ended-are taken (10 ∷ []) (ended_by (waiting_behind (ended_lines taken)) (request_of (without_cr (unended taken))))
     (ap turns_of (ended_lines-feed taken) ∙ turns_of-push (ended_lines taken) (without_cr (unended taken)))
@@ -61,14 +61,14 @@ turns_ended-join taken xs ys =
     ))
 
 -- those at the end of the script
-last_lines_on : (ended last : List (List ℕ)) → (more : List Turn) × (all_turns_of (ended ++ last) ≡ turns_of ended ++ more)
+pub last_lines_on : (ended last : List (List ℕ)) → (more : List Turn) × (all_turns_of (ended ++ last) ≡ turns_of ended ++ more)
 last_lines_on ended last = (
   turns_from (waiting_behind ended) (map request_of last) ++ cut_off_in (waiting_behind (ended ++ last)),
   ap (λ (ts : List Turn). ts ++ cut_off_in (waiting_behind (ended ++ last))) (turns_of-more ended last)
       ∙ append_assoc (turns_of ended) (turns_from (waiting_behind ended) (map request_of last)) (cut_off_in (waiting_behind (ended ++ last))),
 )
 
-turns_at_end-are : (taken : List ℕ) (turns : List Turn) → all_turns_of (whole_lines taken) ≡ turns_of (ended_lines taken) ++ turns → turns_at_end taken ≡ turns
+pub turns_at_end-are : (taken : List ℕ) (turns : List Turn) → all_turns_of (whole_lines taken) ≡ turns_of (ended_lines taken) ++ turns → turns_at_end taken ≡ turns
 turns_at_end-are taken turns is = behind_front (turns_of (ended_lines taken)) turns (all_turns_of (whole_lines taken)) is
 
 pub turns_at_end-behind : (taken : List ℕ) → all_turns_of (whole_lines taken) ≡ turns_of (ended_lines taken) ++ turns_at_end taken
@@ -76,7 +76,7 @@ turns_at_end-behind taken =
     let on = last_lines_on (ended_lines taken) (last_line (unended taken)) in
     on.1 ∙ ap (λ (ts : List Turn). turns_of (ended_lines taken) ++ ts) (sym (turns_at_end-are taken on.0 on.1))
 
-turns_at_end-empty : (taken : List ℕ) → unended taken ≡ [] → turns_at_end taken ≡ cut_off_in (waiting_behind (ended_lines taken))
+pub turns_at_end-empty : (taken : List ℕ) → unended taken ≡ [] → turns_at_end taken ≡ cut_off_in (waiting_behind (ended_lines taken))
 turns_at_end-empty taken none =
     turns_at_end-are taken (cut_off_in (waiting_behind (ended_lines taken)))
     (ap all_turns_of (ap (λ l. ended_lines taken ++ last_line l) none ∙ append-nil (ended_lines taken)))
@@ -85,7 +85,7 @@ last_line-is : (rest : List ℕ) → 0 < length rest → last_line rest ≡ rest
 last_line-is [] some = absurd (omega arith)
 last_line-is (b ∷ rest) some = refl
 
-turns_at_end-last : (taken : List ℕ) → 0 < length (unended taken) → turns_at_end taken
+pub turns_at_end-last : (taken : List ℕ) → 0 < length (unended taken) → turns_at_end taken
     ≡ ended_by (waiting_behind (ended_lines taken)) (request_of (unended taken)) ++ cut_off_in (waiting_after (waiting_behind (ended_lines taken)) (request_of (unended taken)))
 turns_at_end-last taken some =
     let lines = ended_lines taken in
@@ -210,7 +210,7 @@ cut_off_none : (waiting : Option Waiting) → IsOpen waiting None → cut_off_in
 cut_off_none None waits = refl
 cut_off_none (Some waiting) waits = absurd waits
 
-cut_off_run : (stored : BookStore) (me : Known) (waiting : Option Waiting) (open_batch : OpenBatch) → IsOpen waiting (Some open_batch)
+pub cut_off_run : (stored : BookStore) (me : Known) (waiting : Option Waiting) (open_batch : OpenBatch) → IsOpen waiting (Some open_batch)
     → IsSharedRun stored me (cut_off_in waiting) me (error_line CommandSyntax)
 cut_off_run stored me None open_batch waits = absurd waits
 cut_off_run stored me (Some waiting) open_batch waits =
@@ -248,10 +248,10 @@ take_of_some n [] some none = refl
 take_of_some zero (b ∷ rest) some none = absurd (omega arith)
 take_of_some (suc n) (b ∷ rest) some none = absurd (omega arith)
 
-no_rest : (state : SessionState) (taken : List ℕ) → HasTaken state taken → length state.line ≡ 0 → unended taken ≡ []
+pub no_rest : (state : SessionState) (taken : List ℕ) → HasTaken state taken → length state.line ≡ 0 → unended taken ≡ []
 no_rest state taken has none = take_of_some line_room (unended taken) some_room (sym (ap length has.line) ∙ none)
 
-some_rest : (state : SessionState) (taken : List ℕ) → HasTaken state taken → 0 < length state.line → 0 < length (unended taken)
+pub some_rest : (state : SessionState) (taken : List ℕ) → HasTaken state taken → 0 < length state.line → 0 < length (unended taken)
 some_rest state taken has some = omega (arith, ap length has.line, length-take line_room (unended taken))
 
 -- the script ends after a line feed

@@ -57,7 +57,7 @@ module _ (told more : History → Type 0) (there : Bool) (first : History) (weak
         all_told,
       )
 
-  run : (was : Known) (turns : List Turn) (now : Known) (replies : List ℕ) → BeginsWith (seen was) first → IsSharedRun (store_by told there) was turns now replies → IsSharedRun (store_by more there) was turns now replies
+  pub run : (was : Known) (turns : List Turn) (now : Known) (replies : List ℕ) → BeginsWith (seen was) first → IsSharedRun (store_by told there) was turns now replies → IsSharedRun (store_by more there) was turns now replies
   run was turns now replies on is = record { made = is.made; told = transcript was.session (seen was) turns (seen now) is.made replies on is.told; only = is.only }
 
   past_limit : (most : ℕ) (was now : Known) (taken line written : List ℕ) → BeginsWith (seen was) first → IsPastLimit most (store_by told there) was now taken line written → IsPastLimit most (store_by more there) was now taken line written

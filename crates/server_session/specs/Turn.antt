@@ -1,10 +1,13 @@
 -- What a line makes of a session.
-use Rattle.std.specs.Prelude.{ℕ, Bool, List, Option}
+use Rattle.std.specs.Prelude.{◌≡◌, ℕ, Bool, true, false, List, [], ◌∷◌, ◌++◌, Option, Some, None}
 use Rattle.book_history.specs.Known.{Known}
 use Rattle.script_form.specs.OpenBatch.{IsOpen}
 use Rattle.script_form.specs.Requests.{request_of}
-use Rattle.script_form.specs.Turns.{Waiting, waiting_after, ended_by}
+use Rattle.script_form.specs.LineReply.{reply_text}
+use Rattle.script_form.specs.Turns.{Turn, Waiting, waiting_after, ended_by, cut_off_in}
+use Rattle.script_form.specs.declared.line_reply.LineReply.{LineReply}
 use Rattle.script_form.specs.declared.open_batch.OpenBatch.{OpenBatch}
+use Rattle.server_session.specs.Replying.{IsThere, Place}
 use Rattle.server_session.specs.Session.{IsSharedRun, Stays}
 use Rattle.script_form.specs.Transcript.{BookStore}
 
@@ -18,3 +21,33 @@ pub record IsLineTaken (stored : BookStore) (was : Known) (waiting : Option Wait
 pub record TakesTurn (stored : BookStore) (was : Known) (open_before : Option OpenBatch) (line : List ℕ) (now : Known) (open_then : Option OpenBatch) (reply : List ℕ) : Type 0 where
   pub stays : Stays was now
   pub taken : (waiting : Option Waiting) → IsOpen waiting open_before → IsLineTaken stored was waiting line now open_then reply
+
+-- the bytes of a line's reply: none where it ends no turn
+abbrev pub told_text : Option LineReply → List ℕ
+told_text None = []
+told_text (Some reply) = reply_text reply
+
+-- whether a line ends a turn, where a batch waits or none does: one that ends none leaves the session as it was
+abbrev pub EndsTurn : Option OpenBatch → List ℕ → Known → Known → Option LineReply → Type 0
+EndsTurn open_before line was now None = (now ≡ was) × ((waiting : Option Waiting) → IsOpen waiting open_before → ended_by waiting (request_of line) ≡ [])
+EndsTurn open_before line was now (Some reply) =
+    (waiting : Option Waiting) → IsOpen waiting open_before → (turn : Turn) × (ended_by waiting (request_of line) ≡ turn ∷ [])
+
+-- the place of a session at a line: the turn that it ends, if it ends one, is the next
+pub record IsAtLine (me : Known) (open_before : Option OpenBatch) (line : List ℕ) (later : List Turn) (at : Place) : Type 0 where
+  pub there : IsThere me at
+  pub waiting : Option Waiting
+  pub is_open : IsOpen waiting open_before
+  pub left : at.left ≡ ended_by waiting (request_of line) ++ later
+
+-- the place of a session after a line
+pub record IsPastLine (me : Known) (later : List Turn) (at : Place) : Type 0 where
+  pub there : IsThere me at
+  pub left : at.left ≡ later
+
+-- the place of a session after the last line: the batch that waits, if one does, is all that is left
+pub record IsAtLast (me : Known) (open_before : Option OpenBatch) (at : Place) : Type 0 where
+  pub there : IsThere me at
+  pub waiting : Option Waiting
+  pub is_open : IsOpen waiting open_before
+  pub left : at.left ≡ cut_off_in waiting

@@ -9,9 +9,8 @@ ghost use Rattle.script_form.specs.Requests.{request, put_text, locate, grid, li
 ghost use Rattle.script_form.specs.Transcript.{asked_column};
 ghost use Rattle.server_session.specs.Stores.{no_store, store_of};
 ghost use Rattle.server_session.specs.Answering.{Answers, Submits, result_text};
-ghost use Rattle.server_session.specs.Replying.{IsReplySince};
 ghost use Rattle.server_session.specs.Session.{Stays};
-ghost use Rattle.server_session.specs.Turn.{TakesTurn};
+ghost use Rattle.server_session.specs.Turn.{EndsTurn, TakesTurn, told_text};
 ghost use Rattle.version_book.specs.Store.{has_store};
 
 use crate::answering_all::answer_batch;
@@ -35,7 +34,7 @@ use version_core::Answers;
 use versions::{Version, VersionFault};
 
 /// What a line makes of the book, of the session and of the batch that waits for lines, and the reply to the turn that
-/// it ends. A line that is too long may be handed in cut off after its first 65,537 bytes.
+/// it ends, if it ends one. A line that is too long may be handed in cut off after its first 65,537 bytes.
 pub fn answer<J: BookName, S: Wait + Drop, Q: Wait + Threads + Sync>(
     rt: &Q,
     alloc: Global,
@@ -43,16 +42,15 @@ pub fn answer<J: BookName, S: Wait + Drop, Q: Wait + Threads + Sync>(
     me: &mut Session,
     waiting: &mut Option<OpenBatch>,
     line: &[u8],
-) -> LineReply
+) -> Option<LineReply>
     requires { me.old.book ≡ J.book }
-    ensures takes { TakesTurn (store_of J.stored (has_store shared.now)) me.old waiting.old line.now me.new waiting.new (reply_text result) }
-    // So much is owed before it is written.
-    ensures right { IsReplySince (store_of J.stored (has_store shared.now)) me.old me.new (reply_text result) }
+    ensures takes { TakesTurn (store_of J.stored (has_store shared.now)) me.old waiting.old line.now me.new waiting.new (told_text result) }
+    ensures ends { EndsTurn waiting.old line.now me.old me.new result }
 {
     match take_line(alloc, waiting, line) {
-        LineTurn::Waits => LineReply::Nothing,
-        LineTurn::Alone(asked) => answer_alone(rt, alloc, shared, me, asked),
-        LineTurn::Whole(read) => answer_batch(rt, alloc, shared, me, read),
+        LineTurn::Waits => None,
+        LineTurn::Alone(asked) => Some(answer_alone(rt, alloc, shared, me, asked)),
+        LineTurn::Whole(read) => Some(answer_batch(rt, alloc, shared, me, read)),
     }
 }
 

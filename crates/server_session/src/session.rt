@@ -1,19 +1,19 @@
 //! A session of a book that threads share, from the bytes of a script to the bytes of its replies.
-ghost use Rattle.std.specs.Prelude.{◌≡◌, ◌<◌, ◌^◌, [], false, length, IfOk};
+ghost use Rattle.std.specs.Prelude.{◌≡◌, ◌<◌, ◌^◌, ◌⊎◌, [], false, length, IfOk, IfSome};
 ghost use Rattle.overlay_terms.specs.Histories.{BeginsWith, IsHistory};
 ghost use Rattle.book_history.specs.Known.{seen};
 ghost use Rattle.version_book.specs.Store.{has_store};
 ghost use Rattle.script_form.specs.Fault.{code_of};
 ghost use Rattle.script_form.specs.Replies.{error_line};
-ghost use Rattle.server_session.specs.Replying.{IsLastAt, MayReport};
+ghost use Rattle.server_session.specs.Replying.{IsAtStart, IsThere, MayReport};
 ghost use Rattle.server_session.specs.Stores.{store_of};
 ghost use Rattle.server_session.specs.Session.{IsSharedSession, IsSessionWithin, Stays};
-ghost use Rattle.server_session.specs.SessionState.{has_ended, HasTaken};
+ghost use Rattle.server_session.specs.SessionState.{has_ended, HasTaken, IsOnWay};
 ghost use Rattle.server_session.specs.Loop.{Finishes, EndsBy};
 
 use crate::reply_writer::ReplyWriter;
 use crate::session_state::SessionState;
-use script_form::{CommandFault, LineReply, SCRIPT_MAX, SessionEnd, read_chunk};
+use script_form::{CommandFault, SCRIPT_MAX, SessionEnd, read_chunk};
 use std::alloc::{AllocError, Global};
 use std::io::{Read, Write};
 use std::sync::Wait;
@@ -66,14 +66,13 @@ pub fn session_run_within<
     requires book { me.old.book ≡ J.book }
     requires countable { most < 2 ^ 63 }
     requires told { MayReport J.stored (has_store shared.now) me.old W.may_report }
-    requires last { IsLastAt (W.last writer.old) me.old }
+    requires own { IfSome (W.place writer.old) (IsAtStart (R.remaining reader.old) me.old) }
     ensures run { IsSessionWithin most (store_of J.stored (has_store shared.now)) result me.old me.new (R.remaining reader.old)
         (R.remaining reader.new) (W.contents writer.old) (W.contents writer.new) }
     ensures goes_on { BeginsWith (seen me.new) (seen me.old) }
     // Each version that it reports is one of a history.
     ensures history { IsHistory (seen me.new) }
     ensures same { (me.new.book ≡ me.old.book) × (me.new.session ≡ me.old.session) }
-    ensures last { IsLastAt (W.last writer.new) me.new }
 {
     match rooms(alloc) {
         Ok((mut state, mut chunk)) => {
@@ -127,10 +126,9 @@ fn run<J: BookName, S: Wait + Drop, Q: Wait + Threads + Sync, R: Read, W: ReplyW
     requires room { 0 < length chunk.old }
     requires countable { most < 2 ^ 63 }
     requires told { MayReport J.stored (has_store shared.now) me.old W.may_report }
-    requires last { IsLastAt (W.last writer.old) me.old }
+    requires own { IfSome (W.place writer.old) (IsAtStart (R.remaining reader.old) me.old) }
     ensures run { IsSessionWithin most (store_of J.stored (has_store shared.now)) result me.old me.new (R.remaining reader.old)
         (R.remaining reader.new) (W.contents writer.old) (W.contents writer.new) }
-    ensures last { IsLastAt (W.last writer.new) me.new }
     ensures stays { Stays me.old me.new }
 {
     let mut taken = 0;
@@ -162,10 +160,9 @@ fn finish<J: BookName, S: Wait + Drop, Q: Wait + Threads + Sync, W: ReplyWriter>
     requires book { me.old.book ≡ J.book }
     requires going { has_ended state.old ≡ false }
     requires told { MayReport J.stored (has_store shared.now) me.old W.may_report }
-    requires last { IsLastAt (W.last writer.old) me.old }
+    requires own { IfSome (W.place writer.old) (IsOnWay state.old me.old []) }
     ensures finishes { Finishes (store_of J.stored (has_store shared.now)) result state.old me.old me.new (W.contents writer.old)
         (W.contents writer.new) }
-    ensures last { IsLastAt (W.last writer.new) me.new }
     ensures stays { Stays me.old me.new }
 {
     match state.finish(rt, alloc, shared, me, writer) {
@@ -176,11 +173,11 @@ fn finish<J: BookName, S: Wait + Drop, Q: Wait + Threads + Sync, W: ReplyWriter>
 
 /// Writes the line of the fault that ends the session.
 fn end_by<W: ReplyWriter>(me: &Session, fault: CommandFault, writer: &mut W) -> SessionEnd
-    requires { IsLastAt (W.last writer.old) me.now }
+    requires fault { (fault ≡ CommandFault.Read) ⊎ (fault ≡ CommandFault.ReadLimit) }
+    requires own { IfSome (W.place writer.old) (IsThere me.now) }
     ensures ends { EndsBy result (code_of fault) (error_line fault) (W.contents writer.old) (W.contents writer.new) }
-    ensures last { IsLastAt (W.last writer.new) me.now }
 {
-    match writer.reply(me, &LineReply::Fault(fault)) {
+    match writer.end(me, fault) {
         Ok(()) => SessionEnd::Failed(fault.code()),
         Err(_) => SessionEnd::Failed(49),
     }

@@ -1,12 +1,14 @@
 //! A session on its way through its script.
-ghost use Rattle.std.specs.Prelude.{◌≡◌, Bool, ◌∷◌, ◌++◌, [], List, ℕ, false, true, is_err, IfOk, IfErr, OnOk, OnErr};
+ghost use Rattle.std.specs.Prelude.{◌≡◌, Bool, ◌∷◌, ◌++◌, [], List, ℕ, false, true, is_err, IfOk, IfErr, IfSome, OnOk, OnErr};
 ghost use Rattle.overlay_terms.specs.Histories.{IsHistory};
 ghost use Rattle.book_history.specs.Known.{seen};
 ghost use Rattle.version_book.specs.Store.{has_store};
-ghost use Rattle.server_session.specs.Replying.{IsLastAt, MayReport};
+ghost use Rattle.script_form.specs.Turns.{Turn};
+ghost use Rattle.server_session.specs.Replying.{KeepsPlace, MayReport};
 ghost use Rattle.server_session.specs.Stores.{store_of};
 ghost use Rattle.server_session.specs.Session.{Stays};
-ghost use Rattle.server_session.specs.SessionState.{has_ended, HasTaken, turns_ended, turns_at_end, AnswersTurns, AnswersInPart};
+ghost use Rattle.server_session.specs.SessionState.{has_ended, HasTaken, turns_ended, turns_at_end, AnswersTurns, AnswersInPart, AreNext, GoesPast, IsOnWay};
+ghost use Rattle.server_session.specs.Turn.{IsAtLast, IsAtLine, IsPastLine};
 ghost use Rattle.server_session.specs.Loop.{AnswersLine, EndsBatch};
 
 use crate::answering::answer;
@@ -62,7 +64,7 @@ impl SessionState {
         requires book { me.old.book ≡ J.book }
         requires going { has_ended self.old ≡ false }
         requires told { MayReport J.stored (has_store shared.now) me.old W.may_report }
-        requires last { IsLastAt (W.last writer.old) me.old }
+        requires own { AreNext (W.place writer.old) self.old me.old bytes.now }
         ensures takes { OnOk result ((taken : List ℕ) → HasTaken self.old taken → HasTaken self.new (taken ++ bytes.now)) }
         ensures answers { OnOk result ((taken : List ℕ) → HasTaken self.old taken
             → AnswersTurns (store_of J.stored (has_store shared.now)) me.old (turns_ended taken bytes.now) me.new (W.contents writer.old) (W.contents writer.new)) }
@@ -70,7 +72,7 @@ impl SessionState {
             → AnswersInPart (store_of J.stored (has_store shared.now)) me.old (turns_ended taken bytes.now) me.new (W.contents writer.old) (W.contents writer.new)) }
         ensures fault { IfErr result (λ fault. fault ≡ CommandFault.Write) }
         ensures ended { has_ended self.new ≡ is_err result }
-        ensures last { IsLastAt (W.last writer.new) me.new }
+        ensures own { OnOk result (GoesPast bytes.now (W.place writer.old) self.old me.old (W.place writer.new) self.new me.new) }
         ensures stays { Stays me.old me.new }
         // Each version that a reply reports is one of a history.
         ensures history { IsHistory (seen me.new) }
@@ -93,7 +95,7 @@ impl SessionState {
         requires book { me.old.book ≡ J.book }
         requires going { has_ended self.old ≡ false }
         requires told { MayReport J.stored (has_store shared.now) me.old W.may_report }
-        requires last { IsLastAt (W.last writer.old) me.old }
+        requires own { AreNext (W.place writer.old) self.old me.old bytes.now }
         ensures takes { OnOk result ((taken : List ℕ) → HasTaken self.old taken → HasTaken self.new (taken ++ bytes.now)) }
         ensures answers { OnOk result ((taken : List ℕ) → HasTaken self.old taken
             → AnswersTurns (store_of J.stored (has_store shared.now)) me.old (turns_ended taken bytes.now) me.new (W.contents writer.old) (W.contents writer.new)) }
@@ -101,7 +103,7 @@ impl SessionState {
             → AnswersInPart (store_of J.stored (has_store shared.now)) me.old (turns_ended taken bytes.now) me.new (W.contents writer.old) (W.contents writer.new)) }
         ensures fault { IfErr result (λ fault. fault ≡ CommandFault.Write) }
         ensures ended { has_ended self.new ≡ is_err result }
-        ensures last { IsLastAt (W.last writer.new) me.new }
+        ensures own { OnOk result (GoesPast bytes.now (W.place writer.old) self.old me.old (W.place writer.new) self.new me.new) }
         ensures stays { Stays me.old me.new }
     {
         for byte in bytes {
@@ -122,7 +124,7 @@ impl SessionState {
         requires book { me.old.book ≡ J.book }
         requires going { has_ended self.old ≡ false }
         requires told { MayReport J.stored (has_store shared.now) me.old W.may_report }
-        requires last { IsLastAt (W.last writer.old) me.old }
+        requires own { AreNext (W.place writer.old) self.old me.old (byte ∷ []) }
         ensures takes { OnOk result ((taken : List ℕ) → HasTaken self.old taken → HasTaken self.new (taken ++ byte ∷ [])) }
         ensures answers { OnOk result ((taken : List ℕ) → HasTaken self.old taken
             → AnswersTurns (store_of J.stored (has_store shared.now)) me.old (turns_ended taken (byte ∷ [])) me.new (W.contents writer.old) (W.contents writer.new)) }
@@ -130,7 +132,7 @@ impl SessionState {
             → AnswersInPart (store_of J.stored (has_store shared.now)) me.old (turns_ended taken (byte ∷ [])) me.new (W.contents writer.old) (W.contents writer.new)) }
         ensures fault { IfErr result (λ fault. fault ≡ CommandFault.Write) }
         ensures ended { has_ended self.new ≡ is_err result }
-        ensures last { IsLastAt (W.last writer.new) me.new }
+        ensures own { OnOk result (GoesPast (byte ∷ []) (W.place writer.old) self.old me.old (W.place writer.new) self.new me.new) }
         ensures stays { Stays me.old me.new }
     {
         if byte != b'\n' {
@@ -159,14 +161,13 @@ impl SessionState {
         requires book { me.old.book ≡ J.book }
         requires going { has_ended self.old ≡ false }
         requires told { MayReport J.stored (has_store shared.now) me.old W.may_report }
-        requires last { IsLastAt (W.last writer.old) me.old }
+        requires own { IfSome (W.place writer.old) (IsOnWay self.old me.old []) }
         ensures answers { OnOk result ((taken : List ℕ) → HasTaken self.old taken
             → AnswersTurns (store_of J.stored (has_store shared.now)) me.old (turns_at_end taken) me.new (W.contents writer.old) (W.contents writer.new)) }
         ensures stops { OnErr result ((taken : List ℕ) → HasTaken self.old taken
             → AnswersInPart (store_of J.stored (has_store shared.now)) me.old (turns_at_end taken) me.new (W.contents writer.old) (W.contents writer.new)) }
         ensures fault { IfErr result (λ fault. fault ≡ CommandFault.Write) }
         ensures ended { has_ended self.new ≡ true }
-        ensures last { IsLastAt (W.last writer.new) me.new }
         ensures stays { Stays me.old me.new }
         ensures history { IsHistory (seen me.new) }
     {
@@ -186,14 +187,13 @@ impl SessionState {
         requires book { me.old.book ≡ J.book }
         requires going { has_ended self.old ≡ false }
         requires told { MayReport J.stored (has_store shared.now) me.old W.may_report }
-        requires last { IsLastAt (W.last writer.old) me.old }
+        requires own { IfSome (W.place writer.old) (IsOnWay self.old me.old []) }
         ensures answers { OnOk result ((taken : List ℕ) → HasTaken self.old taken
             → AnswersTurns (store_of J.stored (has_store shared.now)) me.old (turns_at_end taken) me.new (W.contents writer.old) (W.contents writer.new)) }
         ensures stops { OnErr result ((taken : List ℕ) → HasTaken self.old taken
             → AnswersInPart (store_of J.stored (has_store shared.now)) me.old (turns_at_end taken) me.new (W.contents writer.old) (W.contents writer.new)) }
         ensures fault { IfErr result (λ fault. fault ≡ CommandFault.Write) }
         ensures ended { has_ended self.new ≡ true }
-        ensures last { IsLastAt (W.last writer.new) me.new }
         ensures stays { Stays me.old me.new }
     {
         self.ended = true;
@@ -219,14 +219,17 @@ fn answer_line<J: BookName, S: Wait + Drop, Q: Wait + Threads + Sync, W: ReplyWr
 ) -> Result<(), CommandFault>
     requires book { me.old.book ≡ J.book }
     requires told { MayReport J.stored (has_store shared.now) me.old W.may_report }
-    requires last { IsLastAt (W.last writer.old) me.old }
+    requires own { IfSome (W.place writer.old) (λ at. (later : List Turn) × IsAtLine me.old waiting.old line.now later at) }
     ensures answers { AnswersLine (store_of J.stored (has_store shared.now)) result me.old waiting.old line.now me.new waiting.new
         (W.contents writer.old) (W.contents writer.new) }
     ensures fault { IfErr result (λ fault. fault ≡ CommandFault.Write) }
-    ensures last { IsLastAt (W.last writer.new) me.new }
+    ensures own { KeepsPlace (W.place writer.old) (W.place writer.new)
+        (λ at at_then. (later : List Turn) → IsAtLine me.old waiting.old line.now later at → IsPastLine me.new later at_then) }
 {
-    let reply = answer(rt, alloc, shared, me, waiting, line);
-    writer.reply(me, &reply)
+    match answer(rt, alloc, shared, me, waiting, line) {
+        Some(reply) => writer.reply(me, &reply),
+        None => Ok(()),
+    }
 }
 
 /// After the last line: refuses a batch that waits.
@@ -235,10 +238,9 @@ fn end_batch<J: BookName, W: ReplyWriter>(
     waiting: &Option<OpenBatch>,
     writer: &mut W,
 ) -> Result<(), CommandFault>
-    requires last { IsLastAt (W.last writer.old) me.now }
+    requires own { IfSome (W.place writer.old) (IsAtLast me.now waiting.now) }
     ensures ends { (there : Bool) → EndsBatch (store_of J.stored there) result waiting.now (W.contents writer.old) (W.contents writer.new) }
     ensures fault { IfErr result (λ fault. fault ≡ CommandFault.Write) }
-    ensures last { IsLastAt (W.last writer.new) me.now }
 {
     if waiting.is_none() {
         return Ok(());

@@ -1,6 +1,6 @@
 //! Sessions in threads of their own, one for each reader.
-ghost use Rattle.std.specs.Prelude.{◌≡◌, ◌<◌, All, length, MatchResult};
-ghost use Rattle.server_session.specs.Replying.{IsLastAt, MayReport};
+ghost use Rattle.std.specs.Prelude.{◌≡◌, ◌<◌, All, length, IfSome, MatchResult};
+ghost use Rattle.server_session.specs.Replying.{IsAtStart, MayReport};
 ghost use Rattle.server_session.specs.Stores.{store_of};
 ghost use Rattle.session_threads.specs.Rooms.{HasRoom, IsReserved};
 ghost use Rattle.session_threads.specs.Running.{IsNotBegunOf, IsRunOf};
@@ -87,7 +87,7 @@ where
     W: ReplyWriter + Send + Drop + 's,
     requires scripts { All (λ script. script.session.book ≡ J.book) seats.scripts.items }
     requires told { All (λ script. MayReport J.stored (has_store shared.now) script.session W.may_report) seats.scripts.items }
-    requires last { All (λ script. IsLastAt (W.last script.port.writer) script.session) seats.scripts.items }
+    requires own { All (λ script. IfSome (W.place script.port.writer) (IsAtStart (R.remaining script.port.reader) script.session)) seats.scripts.items }
     requires room { HasRoom seats (length seats.scripts.items) }
     ensures { Leave (λ script ended. IsRunOf J.book (store_of J.stored (has_store shared.now)) R.remaining W.contents script ended) seats.scripts.items
         result.0.items result.1.items }
@@ -122,7 +122,7 @@ where
     W: ReplyWriter + Send + Drop + 's,
     requires book { script.session.book ≡ J.book }
     requires told { MayReport J.stored (has_store shared.now) script.session W.may_report }
-    requires last { IsLastAt (W.last script.port.writer) script.session }
+    requires own { IfSome (W.place script.port.writer) (IsAtStart (R.remaining script.port.reader) script.session) }
     ensures { MatchResult result
         (λ h. (h.promise.begun.value ≡ script) × (h.promise.stored ≡ has_store shared.now))
         (λ back. IsRunOf J.book (store_of J.stored (has_store shared.now)) R.remaining W.contents script back) }
@@ -140,7 +140,7 @@ where
         move || -> Ended<R, W>
             requires book { script.session.book ≡ J.book }
             requires told { MayReport J.stored (has_store shared.now) script.session W.may_report }
-            requires last { IsLastAt (W.last script.port.writer) script.session }
+            requires own { IfSome (W.place script.port.writer) (IsAtStart (R.remaining script.port.reader) script.session) }
             ensures { IsRunOf J.book (store_of J.stored (has_store shared.entry.now)) R.remaining W.contents script result }
         { begin_script(rt, alloc, shared, halt, script) },
     );
@@ -205,7 +205,7 @@ fn begin_script<J: BookName, S: Wait + Drop, Q: Threads + Wait + Sync, R: Read, 
 ) -> Ended<R, W>
     requires book { script.session.book ≡ J.book }
     requires told { MayReport J.stored (has_store shared.now) script.session W.may_report }
-    requires last { IsLastAt (W.last script.port.writer) script.session }
+    requires own { IfSome (W.place script.port.writer) (IsAtStart (R.remaining script.port.reader) script.session) }
     ensures { IsRunOf J.book (store_of J.stored (has_store shared.now)) R.remaining W.contents script result }
 {
     if halt.is_set() {
@@ -238,7 +238,7 @@ fn run_script<J: BookName, S: Wait + Drop, Q: Threads + Wait + Sync, R: Read, W:
 ) -> Ended<R, W>
     requires book { script.session.book ≡ J.book }
     requires told { MayReport J.stored (has_store shared.now) script.session W.may_report }
-    requires last { IsLastAt (W.last script.port.writer) script.session }
+    requires own { IfSome (W.place script.port.writer) (IsAtStart (R.remaining script.port.reader) script.session) }
     ensures { IsRunOf J.book (store_of J.stored (has_store shared.now)) R.remaining W.contents script result }
 {
     let Script { mut session, port } = script;

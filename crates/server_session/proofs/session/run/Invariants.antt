@@ -1,21 +1,21 @@
-use Rattle.std.proofs.Common.{◌≡◌, ◌+◌, ◌-◌, ◌≤◌, false, length}
+use Rattle.std.proofs.Common.{◌≡◌, ◌+◌, ◌-◌, ◌≤◌, IfSome, false, length}
 use Rattle.version_book.specs.Store.{has_store}
-use Rattle.server_session.specs.Replying.{IsLastAt}
 use Rattle.server_session.specs.Session.{Stays}
 use Rattle.server_session.specs.Stores.{store_of}
 use Rattle.server_session.specs.SessionState.{has_ended}
 use Rattle.server_session.proofs.Endings.{IsUnderWay}
+use Rattle.server_session.proofs.Places.{IsReading}
 use Rattle.server_session.proofs.session.run.Given as goal
 
--- so many bytes are taken of the script, and the turns are answered that those within the limit end; the last reply of the
--- writer was given at what the session knows
+-- so many bytes are taken of the script, and the turns are answered that those within the limit end; the writer's place is
+-- where the session is
 abbrev pub invariant-loop-taken : goal.invariant-loop-taken
 invariant-loop-taken g l = record {
   limited : l.taken ≤ l.most + 1;
   room : length l.chunk ≡ length l.initial.chunk;
   going : has_ended l.state ≡ false;
   stays : Stays l.initial.me l.me;
-  last : IsLastAt (g.W.ReplyWriter.last l.writer) l.me;
+  own : IfSome (g.W.ReplyWriter.place l.writer) (IsReading l.most l.taken (g.R.Read.remaining l.reader) l.state l.me);
   way : IsUnderWay l.most (store_of g.J.BookName.stored (has_store l.shared)) l.initial.me (g.R.Read.remaining l.initial.reader) (g.R.Read.remaining l.reader) (g.W.ReplyWriter.contents l.initial.writer) (g.W.ReplyWriter.contents l.writer) l.taken l.state l.me;
 }
 

@@ -1,11 +1,11 @@
-use Rattle.std.proofs.Common.{All, ◌≡◌, ◌++◌, MatchResult, Ok, Err, ap, sym, subst, arith, ◌∙◌}
+use Rattle.std.proofs.Common.{All, ◌≡◌, ◌++◌, IfSome, MatchResult, Ok, Err, ap, sym, subst, arith, ◌∙◌}
 use Rattle.std.specs.List.{AllZip}
 use Rattle.std.specs.Vec.{vec_len, vec_capacity}
 use Rattle.std.specs.Vec.Iter.{into_iter_items}
 use Rattle.overlay_terms.proofs.Lists.{in_middle}
 use Rattle.version_book.specs.Store.{has_store}
 use Rattle.session_threads.specs.Rooms.{IsReserved}
-use Rattle.server_session.specs.Replying.{IsLastAt, MayReport}
+use Rattle.server_session.specs.Replying.{IsAtStart, MayReport}
 use Rattle.server_session.specs.Stores.{store_of}
 use Rattle.session_threads.specs.declared.running.Script.{Script}
 use Rattle.session_threads.specs.Running.{IsRunOf}
@@ -28,13 +28,13 @@ start_session-requires-clause-told g c κs within =
     let may : Script _ _ → Type 0 = λ script. MayReport g.J.BookName.stored (has_store c.args.shared.now) script.session g.W.ReplyWriter.may_report in
     in_middle may at.yielded c.in-Some.script rest (subst (All may) (sym parts) c.requires.told)
 
-pub start_session-requires-clause-last : goal.start_session-requires-clause-last
-start_session-requires-clause-last g c κs within =
+pub start_session-requires-clause-own : goal.start_session-requires-clause-own
+start_session-requires-clause-own g c κs within =
     let at = c.loop-script in
     let rest = into_iter_items c.next.new.self in
     let parts = ap (λ ss. at.yielded ++ ss) (sym c.in-Some.ensures.steps.0) ∙ at.invariant.all ∙ c.into_iter-script-iterator.ensures.into_iter_gives.0 in
-    let so : Script _ _ → Type 0 = λ script. IsLastAt (g.W.ReplyWriter.last script.port.writer) script.session in
-    in_middle so at.yielded c.in-Some.script rest (subst (All so) (sym parts) c.requires.last)
+    let so : Script _ _ → Type 0 = λ script. IfSome (g.W.ReplyWriter.place script.port.writer) (IsAtStart (g.R.Read.remaining script.port.reader) script.session) in
+    in_middle so at.yielded c.in-Some.script rest (subst (All so) (sym parts) c.requires.own)
 
 pub push_reserved-requires : goal.push_reserved-requires
 push_reserved-requires g c =
