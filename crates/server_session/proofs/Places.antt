@@ -230,7 +230,7 @@ module _ (whole bytes rest : List ℕ) (b : ℕ) (is : bytes ≡ b ∷ rest) (pl
   pub byte_next : AreNext place first was whole → AreNext between state me (b ∷ [])
   byte_next next =
       let to : (at at_then : Place) → ((more : List ℕ) → IsOnWay first was (whole ++ more) at → IsOnWay state me (bytes ++ more) at_then)
-          → ((more : List ℕ) × IsOnWay first was (whole ++ more) at) → (more : List ℕ) × IsOnWay state me (b ∷ more) at_then =
+      → ((more : List ℕ) × IsOnWay first was (whole ++ more) at) → (more : List ℕ) × IsOnWay state me (b ∷ more) at_then =
       λ at at_then moved on. (rest ++ on.0, one_first at_then on.0 (moved on.0 on.1)) in
       keeps_to place between to moves next
 
@@ -238,7 +238,7 @@ module _ (whole bytes rest : List ℕ) (b : ℕ) (is : bytes ≡ b ∷ rest) (pl
   pub byte_past : (place_then : Option Place) (state_then : SessionState) (now : Known) → GoesPast (b ∷ []) between state me place_then state_then now → Moves whole rest place first was place_then state_then now
   byte_past place_then state_then now past =
       let to : (at mid at_then : Place) → ((more : List ℕ) → IsOnWay first was (whole ++ more) at → IsOnWay state me (bytes ++ more) mid) → ((more : List ℕ) → IsOnWay state me (b ∷ more) mid → IsOnWay state_then now more at_then)
-          → (more : List ℕ) → IsOnWay first was (whole ++ more) at → IsOnWay state_then now (rest ++ more) at_then =
+      → (more : List ℕ) → IsOnWay first was (whole ++ more) at → IsOnWay state_then now (rest ++ more) at_then =
       λ at mid at_then moved passed more on. passed (rest ++ more) (one_first mid more (moved more on)) in
       keeps_both place between place_then to moves past
 
