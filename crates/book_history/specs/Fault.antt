@@ -65,8 +65,7 @@ RefusesCommand version command =
 abbrev pub RefusesBatch : Version → Batch → BatchFault → Type 0
 RefusesBatch version batch = RefusedAllBy (batch_refusal_at version.number version.layers batch)
 
--- why a book refuses a command: its newest version does; or it closes, where it may; or it is behind, which each call
--- says by itself
+-- why a book refuses a command: its newest version does; or it closes, where it may; or it is behind (each call says when)
 abbrev pub IsCommandRefused : Bool → Version → Command → BookFault → Type 0
 IsCommandRefused closing version command (fault.Version refused) = RefusesCommand version command refused
 IsCommandRefused closing version command fault.Closing = IsTrue closing
@@ -78,8 +77,7 @@ IsCommandRefused closing version command (fault.Store refused) = ⊥
 abbrev pub whole : BookFault → BatchFault
 whole refused = Whole (code_of refused)
 
--- why a book refuses a batch: it is behind, which each call says by itself; or it closes, where it may; or its newest
--- version does
+-- why a book refuses a batch: it is behind (each call says when); or it closes, where it may; or its newest version does
 abbrev pub IsBatchRefused : Bool → Version → Batch → BatchFault → Type 0
 IsBatchRefused closing version batch refused =
     (refused ≡ whole fault.Gone) ⊎ ((IsTrue closing × (refused ≡ whole fault.Closing)) ⊎ RefusesBatch version batch refused)

@@ -13,8 +13,7 @@ use Rattle.book_history.specs.BookLogs.{BookLog}
 use Rattle.book_lock.specs.declared.refused.Refused.{Refused}
 use Rattle.book_lock.specs.declared.refused.Refused.TheVariants.{Gone, Closing, Version}
 
--- a session has looked: it has seen this log, which goes on from what it saw, and its batches there are those that
--- it made
+-- a session has looked: it has seen this log, which goes on from what it saw; its batches there are those that it made
 pub record HasLooked (was : Known) (log : List Entry) (now : Known) : Type 0 where
   pub longer : IsPrefix was.log log
   pub knows : now ≡ record { book = was.book; session = was.session; log = log; made = was.made }

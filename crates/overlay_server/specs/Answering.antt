@@ -13,8 +13,7 @@ fault_of (Err fault) = Some fault
 abbrev pub answer_in : BookAnswer → Option BookFault
 answer_in answer = answer.fault
 
--- the number under which a server reports why it did not run: that of the book's refusal, or 40 where the book was opened and
--- memory or a thread was refused
+-- the number by which a server says why it did not run: the book's refusal's, or 40 where memory or a thread was refused
 abbrev pub refusal_code : Option BookFault → ℕ
 refusal_code None = 40
 refusal_code (Some fault) = code_of fault

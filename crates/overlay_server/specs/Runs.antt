@@ -78,8 +78,7 @@ module _ {D : Type 0} (g : Ghosts D) (start : Start) where
   Runs m [] = Unit {0}
   Runs m (next ∷ more) = (CallsTo m next ⊎ (ClosesTo m next ⊎ CutTo m next)) × Runs next more
 
-  -- what was reported durable at one moment is so at a later one, of whatever run: its version is that of batches which begin
-  -- with the same ones
+  -- what was reported durable at one moment is so at a later one, of any run: its version is of batches that begin the same
   pub record StandsAt (old new : Moment D g) : Type 0 where
     pub running : IsRunning new
     pub durable : durable_at old ≤ durable_at new

@@ -41,15 +41,13 @@ first_log start = entry no_event start ∷ []
 
 -- ---- what is stored, and what may be reported durable
 
--- of which log which number is stored: what the first version's store held when it had been followed to that log; without
--- a store, nothing is
+-- which number of which log is stored: what the first version's store held, followed to that log; without a store, none
 abbrev pub IsStoredOf : {D : Type 0} (g : Ghosts D) → Version → Option (Flusher D g) → List Entry → ℕ → Type 0
 IsStoredOf g start None log number = ⊥
 IsStoredOf g start (Some old) log number =
     IsStoreOf g (history_of (first_log start)) old → IsStored g (history_of (first_log start)) old log number
 
--- a number that a history reports durable was stored: a store of the first version, followed to a beginning of this history,
--- held that number then, or a later one
+-- a number reported durable was stored: the first version's store, followed to a beginning of the history, held it or more
 pub record WasHeld {D : Type 0} (g : Ghosts D) (start : Version) (old : Flusher D g) (history : History) (number : ℕ) : Type 0 where
   pub log : List Entry
   pub before : BeginsWith history (history_of log)
@@ -75,9 +73,8 @@ pub record Part (W : Type 0) : Type 0 where
   pub given : Given
   pub finished : Finished W
 
--- a session was served: what it put after what its writer had are the replies to the lines that it was given, by histories
--- that it has seen then; the log has all of that, and of the session's batches just those that it made; `stored` is what is
--- known of the store
+-- a session was served: what it put after what its writer had are the replies to its lines, by histories that it has seen
+-- then; the log has all of that, and of its batches just those it made; `stored`: what is known of the store
 pub record IsServed {W : Type 0} (stored : BookStore) (contents : W → Option (List ℕ)) (log : List Entry) (part : Part W) : Type 0 where
   pub now : Known
   pub left : Option (List ℕ)

@@ -8,8 +8,7 @@ use Rattle.script_form.specs.Turns.{Turn, all_turns_of}
 use Rattle.server_session.specs.Session.{IsSharedRun, Stays}
 use Rattle.server_session.specs.Stores.{IsToldOf}
 
--- where a writer is in the script whose replies it takes: the turns that have none yet, what the session knew at its last
--- reply, and whether it has ended
+-- where a writer is in its script: the turns without a reply, what the session knew at its last one, and whether it ended
 pub record Place : Type 0 where
   pub left : List Turn
   pub last : Option Known
@@ -47,8 +46,7 @@ pub record IsAtStart (script : Option (List ℕ)) (me : Known) (at : Place) : Ty
   pub known : script ≡ Some bytes
   pub left : at.left ≡ all_turns_of (whole_lines bytes)
 
--- the reply to the next turn of the script, by the session of the reply before, from where that left it; of a history that
--- `may` allows alone the durable number is reported
+-- the reply to the next turn of the script, from where the last left the session; a durable number is of what `may` allows
 pub record IsNextReply (may : History → Type 0) (now : Known) (text : List ℕ) (at : Place) : Type 0 where
   pub was : Known
   pub there : IsThere was at

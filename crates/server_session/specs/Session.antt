@@ -34,8 +34,7 @@ pub record IsEnded (most : ℕ) (stored : BookStore) (was now : Known) (taken : 
   pub short : length taken ≤ most
   pub told : IsSharedRun stored was (all_turns_of (whole_lines taken)) now written
 
--- a byte too many came: the turns of the lines that were ended before it have their replies, and then this is written; a batch
--- that waits has none
+-- a byte too many came: the lines ended before it have replies, and then this is written; a batch that waits has none
 pub record IsPastLimit (most : ℕ) (stored : BookStore) (was now : Known) (taken line written : List ℕ) : Type 0 where
   pub one_more : length taken ≡ most + 1
   pub replies : List ℕ
@@ -55,8 +54,7 @@ pub record IsCutTurn (stored : BookStore) (was now : Known) (turn : Turn) (front
   pub told : IsSharedRun stored was (turn ∷ []) now reply
   pub cut : IsCutShort reply front
 
--- a write failed on the way through some turns: those before it have their replies whole, the one whose reply it was of has a
--- front of it, and no later one is run
+-- a write failed on the way through some turns: those before have their replies, its own a front of one; none later is run
 pub record IsCutOff (stored : BookStore) (was now : Known) (turns : List Turn) (written : List ℕ) : Type 0 where
   pub before : List Turn
   pub last : Turn
@@ -93,8 +91,7 @@ EndsSo most stored (Failed code) was now taken left written =
     ⊎ ((code ≡ 48) × IsReadFault most stored was now taken (error_line Read) written)
     ⊎ ((code ≡ 49) × IsWriteFault most stored was now taken left written) ⊎ ((code ≡ 40) × IsNotBegun was now taken written)
 
--- what was taken from the reader, what was appended to the writer, and how the session of a script of at most so many
--- bytes ended
+-- what was taken from the reader and put to the writer, and how the session of a script of at most so many bytes ended
 pub record IsSessionWithin (most : ℕ) (stored : BookStore) (end : SessionEnd) (was now : Known) (input left output all : Option (List ℕ)) : Type 0 where
   pub taken : List ℕ
   pub written : List ℕ

@@ -14,8 +14,7 @@ use Rattle.script_form.specs.Transcript.{BookStore}
 abbrev pub has_ended : SessionState → Bool
 has_ended state = state.ended
 
--- it has taken these bytes of its script: it keeps what comes after the last line feed, as far as that shows what the line is,
--- and the batch that waits
+-- it has taken these bytes: it keeps those after the last line feed, as far as they tell the line, and the batch that waits
 pub record HasTaken (state : SessionState) (taken : List ℕ) : Type 0 where
   pub line : state.line ≡ take line_room (unended taken)
   pub waits : IsOpen (waiting_behind (ended_lines taken)) state.waiting
@@ -40,8 +39,7 @@ pub record AnswersInPart (stored : BookStore) (was : Known) (turns : List Turn) 
   pub cut : IsCutOff stored was now turns written
   pub appended : Appends output all written
 
--- the place of a session that is on its way: these bytes of its script come next, and the turns without a reply are those that
--- had not ended before them
+-- a session is on its way: these bytes of its script come next; turns without a reply are those that had not ended before
 pub record IsOnWay (state : SessionState) (me : Known) (next : List ℕ) (at : Place) : Type 0 where
   pub there : IsThere me at
   pub taken : List ℕ

@@ -12,15 +12,13 @@ use Rattle.store_flushing.specs.Among.{IsFileIn}
 use Rattle.store_flushing.specs.Storing.{IsStoreOf, KeepsTold}
 use Rattle.store_flushing.specs.Since.{reported_in}
 
--- a store that stands for a version, of which no more is durable than is stored, is one of the history that begins with
--- it
+-- a store that stands for a version, of which no more is durable than stored, is one of the history that begins with it
 abbrev pub StoreBegins : {D : Type 0} → Ghosts D → Type 0
 StoreBegins {D = D} g =
     (version : Version) (f : Flusher D g) (x : Kept) → StoreStandsFor g f.commit x → IsImageOf version x.held
     → f.commit.root.version ≡ version.number → version.durable ≤ f.commit.root.version → IsStoreOf g (record { start = version; entries = [] }) f
 
--- every file that a crash may leave of a store of a history stands for one of its versions, no older than what is
--- stored
+-- each file that a crash may leave of a store of a history stands for a version of it, no older than what is stored
 abbrev pub StoreLeaves : {D : Type 0} → Ghosts D → Type 0
 StoreLeaves {D = D} g =
     (history : History) (f : Flusher D g) → IsStoreOf g history f → Leaves g f.commit.disk (IsFileIn history f.commit.root.version)
@@ -33,15 +31,13 @@ StoreIsKnown {D = D} g =
     → (newest history).durable ≤ f.commit.root.version
     → Leaves g f.commit.disk (IsFileIn history f.commit.root.version) → IsStoreOf g history f
 
--- at every moment of a keeper's call a crash leaves a version of the history that is no older than what is reported durable by
--- its end
+-- at each moment of a keeper's call a crash leaves a version no older than what the history reports durable by its end
 abbrev pub ToldIsLeft : {D : Type 0} → Ghosts D → Type 0
 ToldIsLeft {D = D} g =
     (was now : History) (old new : Flusher D g) → KeepsTold g was old now new
     → LeavesOnly g old.commit.disk new.commit.disk (IsFileIn now (newest now).durable)
 
--- the number that the newest version of a history has as durable is that of its start, or among those that were
--- reported in its entries
+-- the durable number of a history's newest version is that of its start, or among those reported in its entries
 abbrev pub DurableIsReported : Type 0
 DurableIsReported =
     (history : History) → IsHistory history

@@ -53,8 +53,7 @@ abbrev pub AllReported : {D : Type 0} {g : Ghosts D} → History → Flusher D g
 AllReported history f = (newest history).durable ≡ f.commit.root.version
 
 -- a run of the flusher: the history goes on, the store is one of it, what it stores it reports, and a crash at any
--- moment leaves a version of the history that is no older than what was stored as the run began; it fails by its device
--- alone
+-- moment leaves a version of it no older than what was stored as the run began; it fails by its device alone
 pub record Flushes {D : Type 0} (g : Ghosts D) (was : History) (old : Flusher D g) (now : History) (new : Flusher D g)
     : Type 0 where
   pub goes_on : BeginsWith now was
@@ -91,8 +90,7 @@ pub record IsFollowed {D : Type 0} (g : Ghosts D) (was : History) (old : Flusher
   pub no_less : old.commit.root.version ≤ new.commit.root.version
   pub moments : LeavesOnly g old.commit.disk new.commit.disk (IsFileIn now old.commit.root.version)
 
--- a number is stored of a log: some store to which the first one was followed, by that log, holds it. That it is the store of
--- the run itself is not said
+-- a number is stored of a log: a store to which the first one was followed by that log holds it (not said: the run's own)
 pub record IsStored {D : Type 0} (g : Ghosts D) (was : History) (old : Flusher D g) (log : List Entry) (number : ℕ) : Type 0 where
   pub store : Flusher D g
   pub followed : IsFollowed g was old (history_of log) store

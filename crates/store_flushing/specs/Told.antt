@@ -34,8 +34,7 @@ pub record StaysTold {D : Type 0} (g : Ghosts D) (history : History) (told : Lis
   pub stays : All (λ (t : Told). (g.moment old ≤ t.moment) × (t.moment ≤ g.moment last)
       × ((c : List ℕ) → g.left_since last t.moment c → IsFileIn history t.number c)) told
 
--- a history, its notes and its disk have become others: no note is struck out, and if all of them were true since an
--- earlier disk (`first`), they are so still
+-- a history, its notes and its disk are others now: no note is struck out; if all were true since `first`, they are still
 pub record TellsOn {D : Type 0} (g : Ghosts D) (was : History) (told : List Told) (old : D) (now : History) (more : List Told) (new : D) : Type 0 where
   pub goes_on : IsPrefix told more
   pub later : g.moment old ≤ g.moment new
