@@ -13,7 +13,6 @@ copy or a format calls.
 
 from __future__ import annotations
 
-import argparse
 import collections
 import pathlib
 import re
@@ -22,6 +21,7 @@ import tempfile
 from collections.abc import Iterable
 
 from bench import unproved
+from bench.counting import Words, checked
 
 WALKS = {
     "LOCATE": "server_session::answering::answer_locate",
@@ -107,6 +107,11 @@ class House:
                 seen.add(one)
                 yield from self.called(one, seen)
 
+    def lacking(self, roots: Iterable[str]) -> list[str]:
+        """Those of some functions that the module has not."""
+        names = set(map(own_name, self.functions))
+        return [root for root in roots if root not in names]
+
     def walk(self, root: str) -> tuple[int, int, int, int]:
         """Functions, crates, the longest chain and re-entries of the walk from a function."""
         counted: dict[str, set[str]] = collections.defaultdict(set)
@@ -165,27 +170,26 @@ define internal void @"low::two::count"(ptr %a0) #0 {
 def test() -> int:
     """Walks in a small module: a getter is left out, a closure is its function's, and one crate is entered again."""
     house = House(read(SMALL.splitlines()), ["low", "middle", "high"])
-    walked = house.walk("high::one::ask")
-    assert walked == (4, 3, 2, 1), walked
-    assert house.walk("low::two::sum") == (1, 1, 1, 0)
-    assert own_name("a::b::fn::c::any+FnMut::call_mut") == own_name("a::b::fn::c::any") == own_name("a::b::c::<#1>") == "a::b::c"
-    print("3 passed, 0 failed")
-    return 0
+    names = ("a::b::fn::c::any+FnMut::call_mut", "a::b::fn::c::any", "a::b::c::<#1>")
+    return checked([
+        ("a walk", house.walk("high::one::ask"), (4, 3, 2, 1)), ("a function alone", house.walk("low::two::sum"), (1, 1, 1, 0)),
+        ("lacking", house.lacking(["low::two::sum", "low::two::some"]), ["low::two::some"]), ("names", [own_name(name) for name in names], ["a::b::c"] * 3),
+    ])
 
 
 def main() -> int:
     """Counts each walk."""
-    parser = argparse.ArgumentParser(description=__doc__, formatter_class=argparse.RawDescriptionHelpFormatter)
+    parser = Words(__doc__, test)
     parser.add_argument("--tree", type=pathlib.Path, default=unproved.TOP, help="another tree of this repository")
-    parser.add_argument("--test", action="store_true", help="walk in a small module")
-    words = parser.parse_args()
-    if words.test:
-        return test()
+    words = parser.words()
     sys.setrecursionlimit(100_000)
     unproved.TOP = words.tree.resolve()
     with tempfile.TemporaryDirectory() as place:
         kept = unproved.module(unproved.TOP / "crates/overlayd/src", pathlib.Path(place))
         house = House(read(unproved.without_checks(kept).read_text(encoding="utf-8").splitlines()), unproved.crates())
+    lacking = house.lacking(WALKS.values())
+    if lacking:
+        sys.exit(f"walks: the tree has no {', '.join(lacking)}: let WALKS name what it has instead")
     for walk, root in WALKS.items():
         print(f"{walk}: {'{} functions, {} crates, depth {}, {} re-entries'.format(*house.walk(root))}")
     return 0

@@ -31,7 +31,7 @@ FIRST = [f"PUT A {SQUARE}", "DEFINE I = A", "WAIT I", "EDGES I 16", "SYNC", "GRI
 SECOND = [f"PUT B {OTHER}", "SYNC", "DEFINE J = A ^ B", "WAIT J", "VERIFY J 16", "DROP I", "SYNC"]
 BEFORE = [f"PUT A {SQUARE}", f"PUT B {OTHER}", "DEFINE I = A & B"]
 AFTER = ["LOCATE I 7 7", "EDGES I 16", f"PUT C {SQUARE}", "SYNC", "DROP I", "VERIFY I 16"]
-# Two layers over five columns, so that a WAIT takes strips, all of whose tiles have pieces; then a change in two of them.
+# Two layers over five columns: a WAIT takes a strip of 17, five of which have pieces. Then a change in two of these.
 LONG = "((-720000 0, -400000 9, -400000 -9, -720000 0))"
 STRIPS = [
     f"PUT A POLYGON {LONG}", "PUT B POLYGON ((-690000 9, -430000 -7, -430000 7, -690000 9))", "DEFINE I = A ^ B", "WAIT I",

@@ -1,19 +1,20 @@
 """Has two programs run the same scripts, and compares their replies byte for byte.
 
-python3 -m bench.trials.same_replies FIRST SECOND [--scripts N] [--after N] [--seed N] [--workers N].. [--keep FOLDER]
+python3 -m bench.trials.same_replies FIRST SECOND [--scripts N] [--after N] [--seed N] [--workers N]..
+                                        [--seconds N] [--keep FOLDER]
 python3 -m bench.trials.same_replies --test
 
 FIRST may be of another commit: `python3 bench/unproved.py --unchecked crates/overlayd/src FIRST` in a worktree of it. The
 scripts are those of examples/ and drawn ones of one session each: commands of all kinds, good and bad, batches, layers of
 one column, of several and of all, and points. EDGES and VERIFY come right after a WAIT for their layer, as it is chance
 whether a tile is built sooner. Each script is run by each number of workers without a store, with a new one, and over the
-store that the other program left. Status 1: replies, standard error or a status differ; such a script is kept.
+store that the other program left. Status 1: replies, standard error or a status differ, or a run does not end; such a script is kept.
 """
 
 from __future__ import annotations
 
 import argparse
-import os
+import itertools
 import pathlib
 import random
 import subprocess
@@ -22,12 +23,12 @@ from collections.abc import Callable, Iterator
 from typing import NamedTuple
 
 from bench import tile_texts
-from bench.counting import Kept, Words, checked
+from bench.counting import Kept, Words, absolute, checked
 from bench.measures import peers
 from bench.measures import tiles as families
 from bench.tile_texts import Draws, Layer, Point, closed
 from bench.trials import stress, tiles
-from tools.limits import BATCH_MAX, COLUMN_WIDTH, COLUMNS, COORDINATE_MAX, column_begin
+from tools.limits import BATCH_MAX, COLUMN_WIDTH, COLUMNS, COORDINATE_MAX, PIECES_MAX, column_begin
 
 EXAMPLES = pathlib.Path(__file__).resolve().parent.parent.parent / "examples"
 COMMANDS = 40
@@ -73,8 +74,8 @@ KINDS: list[Callable[[random.Random], Layer]] = [across, across, on_borders, of_
 
 
 def zigzag(draw: random.Random, upright: bool) -> Layer:
-    """A ring of 240 steps that goes to and fro over eight columns, or up and down."""
-    low, wide, steps = column_begin(12), 8 * COLUMN_WIDTH, 240
+    """A ring of 240 steps that goes to and fro over the eight columns of one strip, or up and down."""
+    low, wide, steps = column_begin(16), 8 * COLUMN_WIDTH, 240
     points = [(draw.randrange(9) + (i % 2) * (wide - 9), (2 * i + 1) * (wide // 2) // steps + draw.randrange(9)) for i in range(steps)]
     return [closed([(low + y, x) if upright else (low + x, y) for x, y in points])]
 
@@ -83,7 +84,7 @@ def crowded(draw: random.Random) -> list[str]:
     """Two layers of which a strip has more pieces than a tile may have, and a change in one of its columns."""
     small = tile_texts.text_of([closed([(low, low), (low + 9, low), (low, low + 9)]) for low in (0, 7)])
     layers = [f"PUT {name} {tile_texts.text_of(zigzag(draw, name == 'Y'))}" for name in "XY"]
-    asked = waited("Z", range(COLUMNS), [14, 16, 25])
+    asked = waited("Z", range(COLUMNS), [14, 16, 19, 25])
     return [*layers, f"PUT W {small}", "DEFINE Z = X ^ Y ^ W", *asked, "DROP Z", "DEFINE Z = (X ^ Y) - W", f"PUT W {small}", *asked]
 
 
@@ -171,23 +172,27 @@ def scripts(seed: int, first: int, count: int) -> Iterator[tuple[str, bytes]]:
 
 
 class Ran(NamedTuple):
-    """What a run left."""
+    """What a run left; the status None is of one that was killed, as it took too long."""
 
-    status: int
+    status: int | None
     output: bytes
     fault: bytes
 
 
 class Pair:
-    """Two programs, in a folder, and how many runs of both were alike."""
+    """Two programs in a folder, how long a run may take, and how many runs of both there were."""
 
-    def __init__(self, programs: list[str], folder: pathlib.Path) -> None:
-        self.programs, self.folder = programs, folder
+    def __init__(self, programs: list[str], folder: pathlib.Path, seconds: float) -> None:
+        self.programs, self.folder, self.seconds = programs, folder, seconds
         self.runs = self.replies = 0
 
     def ran(self, program: str, *words: str) -> Ran:
-        """A run of a program on the script."""
-        done = subprocess.run([program, *words, "script.txt"], stdin=subprocess.DEVNULL, capture_output=True, cwd=self.folder, check=False)
+        """A run of a program on the script, killed where it takes longer than it may."""
+        asked, quiet = [program, *words, "script.txt"], subprocess.DEVNULL
+        try:
+            done = subprocess.run(asked, stdin=quiet, capture_output=True, cwd=self.folder, check=False, timeout=self.seconds)
+        except subprocess.TimeoutExpired as late:
+            return Ran(None, late.stdout or b"", late.stderr or b"")
         return Ran(done.returncode, done.stdout, done.stderr)
 
     def of(self, workers: int, stores: list[str], *words: str) -> str | None:
@@ -198,6 +203,8 @@ class Pair:
         )
         self.runs += 1
         self.replies += first.output.count(b"\n")
+        if None in (first.status, second.status):
+            return f"not ended within {self.seconds} seconds: status {first.status}, {second.status}"
         return difference(first, second)
 
     def differences(self, script: bytes, workers: int) -> Iterator[str]:
@@ -220,9 +227,11 @@ class Pair:
 def difference(first: Ran, second: Ran) -> str | None:
     """Where two runs differ, None where they are alike."""
     if first.output != second.output:
-        lines, others = first.output.split(b"\n"), second.output.split(b"\n")
-        place = next((at for at, (a, b) in enumerate(zip(lines, others)) if a != b), min(len(lines), len(others)) - 1)
-        return f"line {place + 1} of the replies: {lines[place][:80]!r}, {others[place][:80]!r}"
+        lines, others = (one.output.splitlines(keepends=True) for one in (first, second))
+        place, line, other = next(
+            (at, line, other) for at, (line, other) in enumerate(itertools.zip_longest(lines, others, fillvalue=b"")) if line != other
+        )
+        return f"line {place + 1} of the replies: {line[:80]!r}, {other[:80]!r}"
     if first != second:
         return f"status {first.status}, {second.status}; standard error {first.fault[:80]!r}, {second.fault[:80]!r}"
     return None
@@ -230,7 +239,7 @@ def difference(first: Ran, second: Ran) -> str | None:
 
 def compare(words: argparse.Namespace, folder: pathlib.Path) -> int:
     """Compares all runs, and gives how many differ."""
-    pair, wrong, count = Pair([words.first, words.second], folder), 0, 0
+    pair, wrong, count = Pair([words.first, words.second], folder, words.seconds), 0, 0
     for name, text in scripts(words.seed, words.after, words.scripts):
         count += 1
         for workers in words.workers or WORKERS:
@@ -266,13 +275,43 @@ def early(lines: list[str]) -> list[str]:
     return wrong
 
 
-def stub_runs(folder: pathlib.Path, others: str) -> int:
-    """How many runs differ of a program that says its lines, and of the same with something else in its place."""
-    for name, text in (("one", STUB), ("two", STUB.replace("ok", others))):
+def stub_runs(folder: pathlib.Path, old: str, new: str, seconds: float = 60) -> int:
+    """How many runs differ of a program that says its lines, and of the same with something else in it."""
+    for name, text in (("one", STUB), ("two", STUB.replace(old, new))):
         folder.joinpath(name).write_text(text)
         folder.joinpath(name).chmod(0o755)
-    pair = Pair([str(folder / name) for name in ("one", "two")], folder)
+    pair = Pair([str(folder / name) for name in ("one", "two")], folder, seconds)
     return len(list(pair.differences(b"a\nb\n", 2)))
+
+
+def strips(segments: int) -> list[range]:
+    """The columns of each strip of a layer over so many segments that is pending everywhere, as `strip_parts` has them."""
+    wide = min(17, 4096 // segments)
+    return [range(first, min(first + wide, COLUMNS)) for first in range(0, COLUMNS, wide)]
+
+
+def turn(a: Point, b: Point, p: Point) -> int:
+    """Above 0 where a point is left of the way from one to another, below 0 where it is right."""
+    return (b[0] - a[0]) * (p[1] - a[1]) - (b[1] - a[1]) * (p[0] - a[0])
+
+
+def crossings(ring: list[Point], other: list[Point], columns: range) -> int:
+    """How often steps of two rings cross within some columns, each inside of both steps."""
+    low, high, count = column_begin(columns[0]), column_begin(columns[-1] + 1), 0
+    for a, b in itertools.pairwise(ring):
+        for c, d in itertools.pairwise(other):
+            from_c, from_d = turn(a, b, c), turn(a, b, d)
+            if from_c * from_d < 0 and turn(c, d, a) * turn(c, d, b) < 0:
+                x, whole = c[0] * from_d - d[0] * from_c, from_d - from_c
+                count += low * abs(whole) <= (x if whole > 0 else -x) < high * abs(whole)
+    return count
+
+
+def most_pieces() -> int:
+    """How many pieces the fullest strip of the crowded layer has at least: two for each crossing of its two rings."""
+    ring, other = (zigzag(random.Random(1), upright)[0] for upright in (False, True))
+    segments = len(ring) - 1 + len(other) - 1 + 6
+    return max(2 * crossings(ring, other, columns) for columns in strips(segments))
 
 
 def test() -> int:
@@ -286,24 +325,29 @@ def test() -> int:
         ("all words", needed - words, set()), ("early", [line for lines in drawn for line in early(lines)], []),
         ("a rest", [name for name, _ in scripts(1, 3, 5)], ["drawn 3", "drawn 4"]),
         ("steps", steps, [240, 240]), ("crowded", any("PUT X" in line for line in drawn[-1]), True),
+        ("a crossing", [crossings([(0, 0), (9, 9)], [(1, 8), (8, 1)], range(at, at + 1)) for at in (15, 16)], [0, 1]),
+        ("pieces", most_pieces() > PIECES_MAX, True),
         ("alike", difference(Ran(0, b"ok 1\n", b""), Ran(0, b"ok 1\n", b"")), None),
-        ("another line", difference(Ran(0, b"ok 1\nok 2\n", b""), Ran(0, b"ok 1\nok 3\n", b"")), "line 2 of the replies: b'ok 2', b'ok 3'"),
-        ("a line more", difference(Ran(0, b"ok 1\n", b""), Ran(0, b"ok 1\nok 2\n", b"")), "line 2 of the replies: b'', b'ok 2'"),
+        ("another line", difference(Ran(0, b"ok 1\nok 2\n", b""), Ran(0, b"ok 1\nok 3\n", b"")), "line 2 of the replies: b'ok 2\\n', b'ok 3\\n'"),
+        ("a line more", difference(Ran(0, b"ok 1\n", b""), Ran(0, b"ok 1\nok 2\n", b"")), "line 2 of the replies: b'', b'ok 2\\n'"),
+        ("a part more", difference(Ran(0, b"a", b""), Ran(0, b"a\nb", b"")), "line 1 of the replies: b'a', b'a\\n'"),
         ("another status", difference(Ran(0, b"", b""), Ran(1, b"", b"x")), "status 0, 1; standard error b'', b'x'"),
     ]
     kept = Kept(None, "same_replies")
-    checks += [("stubs", stub_runs(kept.folder, others), wanted) for others, wanted in (("ok", 0), ("no", 3))]
+    checks += [("stubs", stub_runs(kept.folder, "ok", others), wanted) for others, wanted in (("ok", 0), ("no", 3))]
+    checks += [("a late one", stub_runs(kept.folder, "while", "exec sleep 9; while", 0.5), 3)]
     kept.end()
     return checked(checks)
 
 
 def main() -> int:
     parser = Words(__doc__, test)
-    parser.add_argument("first", type=os.path.abspath)
-    parser.add_argument("second", type=os.path.abspath)
+    parser.add_argument("first", type=absolute)
+    parser.add_argument("second", type=absolute)
     parser.add_argument("--scripts", type=int, default=2000, help="how many are drawn (2000)")
     parser.add_argument("--after", type=int, default=0, help="goes on after the examples and so many drawn ones")
     parser.add_argument("--seed", type=int, default=1)
+    parser.add_argument("--seconds", type=float, default=600, help="how long a run may take (600)")
     parser.add_argument("--workers", type=int, action="append", help="by how many workers (1, 4 and 8)")
     parser.add_argument("--keep", metavar="FOLDER", help="keeps scripts that differ here")
     words = parser.words()
