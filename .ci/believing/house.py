@@ -168,16 +168,20 @@ class House:
         return None
 
     def imported(self, found: Import, file: File | None, seen: frozenset[File]) -> Key | None:
-        """What an imported name is; one of the tree's `proofs/` is no definition that the page can list."""
+        """What an imported name is; the page cannot list one of the tree's `proofs/`, nor one that is not there."""
+        place = ".".join(file or ("a contract",))
         if found.is_proof:
             if found.crate in self.crates:
-                place = ".".join(file or ("a contract",))
                 raise SystemExit(f"believe: {place} is reached, and names {found.name} of {found.crate}/proofs")
             return None
         if found.path.startswith("declared."):
             parts = [part for part in [*found.path.split("."), found.name] if (found.crate, part) in self.types]
             return ("", found.crate, parts[-1]) if parts else None
-        return self.resolve(self.home(found.crate, found.path), found.name, seen)
+        home = self.home(found.crate, found.path)
+        key = self.resolve(home, found.name, seen)
+        if not key and found.crate in self.crates and home not in seen:
+            raise SystemExit(f"believe: {place} is reached, and names {found.name} of {'.'.join(home)}, which has no such definition")
+        return key
 
     def named(self, text: str, file: File | None, names: dict[str, Import], aliases: dict[str, Import]) -> set[Key]:
         """What a text names, in a file or with these imports."""

@@ -58,6 +58,7 @@ use Rattle.low.specs.Numbers as numbers
 use Rattle.low.specs.declared.thing.Thing.{Thing}
 use Rattle.low.specs.declared.thing.Box.{Box}
 use Rattle.high.proofs.Lemmas.{Hidden}
+use Rattle.low.specs.Numbers.{Gone}
 
 -- goes up
 abbrev pub Goes : Thing → ℕ → Type 0
@@ -74,6 +75,9 @@ Opens b = b.thing ≡ b.thing
 
 abbrev pub Hides : ℕ → Type 0
 Hides n = Hidden n
+
+abbrev pub Lacks : ℕ → Type 0
+Lacks n = Gone n
 
 -- handed on
 pub record Handed (n : ℕ) : Type 0 where
@@ -128,7 +132,7 @@ pub enum Kind {
 """
 CALLING = """//! Calls.
 ghost use Rattle.std.specs.Prelude.{◌≡◌};
-ghost use Rattle.high.specs.Calls.{Goes, Turns, Rests, Opens, Hides, Gives, Takes, GoesLaw};
+ghost use Rattle.high.specs.Calls.{Goes, Turns, Rests, Opens, Hides, Lacks, Gives, Takes, GoesLaw};
 ghost use Rattle.above.specs.From.{Passed};
 use low::thing::{Kind as Sort, Store, Thing};
 use high::Passing;
@@ -136,6 +140,7 @@ use high::Passing;
 LIB = "//! All.\npub use low::thing::Thing as Passing;\n"
 BODIES = [("go", "thing: &Thing", "Goes thing.now result"), ("turn", "n: usize", "Turns result"), ("rest", "n: usize", "Rests result"),
           ("sort", "kind: Sort", "result ≡ result"), ("opens", "n: usize", "Opens result"), ("hide", "n: usize", "Hides result"),
+          ("lack", "n: usize", "Lacks result"),
           ("give", "n: usize", "Gives result"), ("take", "n: usize", "Takes result"), ("pass", "n: &Passing", "Passed result"),
           ("store", "store: &Store", "result ≡ result")]
 LINKS = (Link("high", "Calls", "Handed", ("give",), ("take",)),)
@@ -182,13 +187,14 @@ def reaches(top: pathlib.Path) -> int:
     for call in calls_of(*wanted):
         got = house.of_call(call).keys
         assert got == wanted[call.name], (call.name, got ^ wanted[call.name])
-    try:
-        house.of_call(calls_of("hide")[0])
-    except SystemExit as fault:
-        assert "high.Calls is reached, and names Hidden of high/proofs" in str(fault), fault
-    else:
-        raise AssertionError("a word of proofs/ is taken for a definition")
-    return len(wanted) + 1
+    for name, said in (("hide", "Hidden of high/proofs"), ("lack", "Gone of low.Numbers, which has no such definition")):
+        try:
+            house.of_call(calls_of(name)[0])
+        except SystemExit as fault:
+            assert f"high.Calls is reached, and names {said}" in str(fault), fault
+        else:
+            raise AssertionError(f"what `{name}` names is taken for a definition")
+    return len(wanted) + 2
 
 
 def hides(top: pathlib.Path) -> int:
