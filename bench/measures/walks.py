@@ -173,7 +173,8 @@ def test() -> int:
     names = ("a::b::fn::c::any+FnMut::call_mut", "a::b::fn::c::any", "a::b::c::<#1>")
     return checked([
         ("a walk", house.walk("high::one::ask"), (4, 3, 2, 1)), ("a function alone", house.walk("low::two::sum"), (1, 1, 1, 0)),
-        ("lacking", house.lacking(["low::two::sum", "low::two::some"]), ["low::two::some"]), ("names", [own_name(name) for name in names], ["a::b::c"] * 3),
+        ("lacking", house.lacking(["low::two::sum", "low::two::some"]), ["low::two::some"]),
+        ("names", [own_name(name) for name in names], ["a::b::c"] * 3),
     ])
 
 
