@@ -47,7 +47,7 @@ IsStoredOf g start None log number = ⊥
 IsStoredOf g start (Some old) log number =
     IsStoreOf g (history_of (first_log start)) old → IsStored g (history_of (first_log start)) old log number
 
--- a number reported durable was stored: the first version's store, followed to a beginning of the history, held it or more
+-- a number reported durable was stored: a store of the first version, followed to a beginning of the history, held no less
 pub record WasHeld {D : Type 0} (g : Ghosts D) (start : Version) (old : Flusher D g) (history : History) (number : ℕ) : Type 0 where
   pub log : List Entry
   pub before : BeginsWith history (history_of log)

@@ -34,7 +34,7 @@ pub record IsEnded (most : ℕ) (stored : BookStore) (was now : Known) (taken : 
   pub short : length taken ≤ most
   pub told : IsSharedRun stored was (all_turns_of (whole_lines taken)) now written
 
--- a byte too many came: the lines ended before it have replies, and then this is written; a batch that waits has none
+-- a byte too many came: the turns of lines ended before have replies, and then this is written; a waiting batch has none
 pub record IsPastLimit (most : ℕ) (stored : BookStore) (was now : Known) (taken line written : List ℕ) : Type 0 where
   pub one_more : length taken ≡ most + 1
   pub replies : List ℕ

@@ -42,7 +42,7 @@ module _ {D : Type 0} (g : Ghosts D) (history : History) where
   IsStoreAt Open f = Goes f
   IsStoreAt Finish f = Goes f
 
-  -- a store of this history: what is reported is stored; of what a crash leaves of it the law `StoreLeaves` speaks
+  -- a store of this history, on an honest disk: what is reported is stored, and its file is as `IsStoreAt` says
   pub record IsStoreOf (f : Flusher D g) : Type 0 where
     pub honest : g.is_honest f.commit.disk
     pub reported : (newest history).durable ≤ f.commit.root.version
