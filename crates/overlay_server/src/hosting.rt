@@ -46,6 +46,7 @@ fn host<J: BookName, S: Wait + Drop, D: Disk>(
     requires book { opened.1.book ≡ J.book }
     requires begun { opened.1.log ≡ first_log (start_of engine) }
     requires sessions { (0 < sessions) × (sessions ≤ 4) }
+    requires seats { sessions ≤ J.seats }
     ensures version { IfOk result (λ hosted. hosted.version.value ≡ start_of engine) }
     ensures flusher { IfOk result (λ hosted. flusher_in hosted.store ≡ flusher_of engine) }
     ensures hosted { IfOk result (IsHosted J.book sessions) }
@@ -109,6 +110,7 @@ where
     requires book { opened.1.book ≡ J.book }
     requires begun { opened.1.log ≡ first_log (start_of engine) }
     requires stored { (log : List Entry) (number : ℕ) → J.stored log number ↔ IsStoredOf D.Disk (start_of engine) (flusher_of engine) log number }
+    requires seats { J.seats ≡ length readers.items }
     requires readers { (0 < length readers.items) × (length readers.items ≤ 4) }
     ensures left { IfOk result (IsLeftFrom bytes_of D.Disk (start_of engine) (flusher_of engine) (given_by R.remaining readers.items)) }
     ensures refused { IfErr result (IsRefusedFrom D.Disk (start_of engine) (flusher_of engine) (given_by R.remaining readers.items)) }
@@ -144,6 +146,7 @@ where
     requires book { opened.1.book ≡ J.book }
     requires begun { opened.1.log ≡ first_log (start_of engine) }
     requires stored { (log : List Entry) (number : ℕ) → J.stored log number ↔ IsStoredOf D.Disk (start_of engine) (flusher_of engine) log number }
+    requires seats { J.seats ≡ length ports.items }
     requires ports { (0 < length ports.items) × (length ports.items ≤ 4) }
     requires told { (history : History) → IsHeldOf D.Disk (start_of engine) (flusher_of engine) history → W.may_report history }
     requires fresh { All (λ port. W.last port.writer ≡ None) ports.items }
