@@ -84,6 +84,9 @@ pub trait BookName {
 
     /// What to prove of a log and a number before that is reported; who opens the book picks it (`serve`: `IsStoredOf`).
     ghost stored: { List terms.Entry → ℕ → Type 0 };
+
+    /// How many sessions it may be begun for: who begins it for more cannot prove that it has them.
+    ghost seats: { ℕ };
 }
 
 impl BookName for Brand {
@@ -91,6 +94,8 @@ impl BookName for Brand {
 
     // Where a call picks nothing, nothing is stored.
     ghost stored = { λ log number. ⊥ };
+
+    ghost seats = { 4 };
 }
 
 /// The word of a history: how many entries follow the first. The type names the book, so who adds an entry by it proves

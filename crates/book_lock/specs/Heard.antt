@@ -8,7 +8,7 @@ use Rattle.book_history.specs.Codes.{entry_code}
 use Rattle.book_history.specs.Logs.{newest_in}
 use Rattle.book_lock.specs.Steps.{IsReportedIn}
 
--- which book it is of, the log that it has seen, and a count that no definition here uses
+-- which book it is of, the log that it has seen, and a count of which nothing is claimed
 pub record Heard : Type 0 where
   pub book : Book
   pub log : List Entry

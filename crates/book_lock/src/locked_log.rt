@@ -72,6 +72,7 @@ impl<J: BookName, R: Wait + Drop> LockedLog<J, R> {
         requires head { head ≡ head_of J.book }
         requires seen_log { (seen_log.book ≡ J.book) × (seen_log.log ≡ entry no_event version ∷ []) }
         requires sessions { (0 < sessions) × (sessions ≤ 4) }
+        requires seats { sessions ≤ J.seats }
         ensures log { IfOk result (λ r. r.0 ≡ seen_log.log) }
         ensures reporter { IfOk result (λ r. r.1 ≡ record { book = seen_log.book; log = seen_log.log; given = 0 }) }
         ensures sessions { IfOk result (λ r. r.2.items ≡ beginners seen_log sessions) }

@@ -14,7 +14,7 @@ use Rattle.overlay_engine.specs.Covers.{Covered, Covers}
 use Rattle.overlay_engine.specs.Steps.{Submits, SubmitsBatch, Takes, Finishes, Reports}
 use Rattle.overlay_engine.specs.Devices.{Devices}
 
--- what a step makes of the engine (of `Device`: left out)
+-- what a step makes of the engine, by its kind
 abbrev pub Acts : {D : Type 0} (g : Ghosts D) → Step → Engine D g → Reply → Engine D g → Type 0
 Acts g (Submit change) old reply new = Submits (command change) old reply new
 Acts g (SubmitAll batch) old reply new = SubmitsBatch batch old reply new

@@ -48,7 +48,7 @@ module _ {D : Type 0} (g : Ghosts D) where
     pub err : IfErr result
         (λ refused. (start : Start) (least : ℕ) (batches : List Batch)
         → Leaves g disk (Covered start least batches) → Refused g start disk refused least batches)
-    -- by the two above: a crash within a step leaves what was durable as it began; after the last step: `CoveredStays`, `ok`
+    -- so it is after a crash within a step: at least what was durable as it began; for one after the last step take `CoveredStays`, then `ok`
     pub crashed : (start : Start) (batches : List Batch) (run : List (Made D g)) → EachSurvives g start batches run
         → (crash : CrashesIn g run disk)
         → MatchResult result

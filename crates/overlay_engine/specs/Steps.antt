@@ -54,7 +54,7 @@ module _ {D : Type 0} {g : Ghosts D} where
     pub jobs : new.jobs.items ≡ old.jobs.items
     pub next_job : new.next_job ≡ old.next_job
 
-  -- an engine makes a command: it is accepted, and the version follows; it is refused for the first reason, or by 40
+  -- an engine makes a command: it is accepted, and the version follows; or it is refused by the first reason, where there is none by 40
   abbrev pub Submits : Command → Engine D g → Reply → Engine D g → Type 0
   Submits command old (Accepted number) new =
       FollowsCommand old.version command new.version × (number ≡ new.version.number) × (new ≡ record old { version = new.version })

@@ -15,7 +15,7 @@ use Rattle.overlay_server.specs.Serving.{first_log}
 abbrev pub first_session : Book → Version → Known
 first_session book start = record { book = book; session = 0; log = first_log start; made = [] }
 
--- a session was alone, as `lines_decide` asks it: its turns were answered so, and what was accepted meanwhile they made
+-- a session was alone, as `lines_decide` asks it: its turns were answered so, and made all that was accepted meanwhile
 pub record WasAlone (stored : BookStore) (was : Known) (turns : List Turn) (now : Known) (replies : List ℕ) : Type 0 where
   pub all : List Answered
   pub alone : AreAlone stored was.session (seen was) all

@@ -32,8 +32,7 @@ pub record StoppedPart : Type 0 where
   pub given : Given
   pub now : Known
 
--- it ran its script, or was not begun: its lines have replies by histories that it has seen then, which the log has all, and
--- of the session's batches just those that it made
+-- it ran its script, or was not begun: its lines have replies by histories of the log, and its batches are those it made
 pub record IsStopped (stored : BookStore) (log : List Entry) (part : StoppedPart) : Type 0 where
   pub end : SessionEnd
   pub left : Option (List ℕ)

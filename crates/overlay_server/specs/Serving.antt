@@ -47,7 +47,7 @@ IsStoredOf g start None log number = ⊥
 IsStoredOf g start (Some old) log number =
     IsStoreOf g (history_of (first_log start)) old → IsStored g (history_of (first_log start)) old log number
 
--- a number reported durable was stored: the first version's store, followed to a beginning of the history, held it or more
+-- a number reported durable was stored: a store of the first version, followed to a beginning of the history, held no less
 pub record WasHeld {D : Type 0} (g : Ghosts D) (start : Version) (old : Flusher D g) (history : History) (number : ℕ) : Type 0 where
   pub log : List Entry
   pub before : BeginsWith history (history_of log)
@@ -123,8 +123,7 @@ module _ {D : Type 0} (g : Ghosts D) where
 
 -- ---- the server
 
--- a server ran: from a version and its store to the end of its book, in which its sessions alone, numbered from 0 and one for
--- each of what was given, had commands accepted
+-- a server ran from a version and its store to its book's end; its sessions alone, one a port from 0, had commands accepted
 pub record IsLeftFrom {W D : Type 0} (contents : W → Option (List ℕ)) (g : Ghosts D) (start : Version) (store : Option (Flusher D g)) (all : List Given) (left : Left W D) : Type 0 where
   pub version : arc_value left.closed.version ≡ newest_in left.closed.seen_log.log
   pub log : IsLog left.closed.seen_log.log

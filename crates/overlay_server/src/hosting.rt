@@ -1,9 +1,9 @@
 //! The book of a server, from its opening to its end.
-ghost use Rattle.std.specs.Prelude.{◌≡◌, ◌<◌, ◌≤◌, ◌↔◌, ℕ, List, [], None, All, length, IfOk, IfErr};
+ghost use Rattle.std.specs.Prelude.{◌≡◌, ◌<◌, ◌≤◌, ◌↔◌, ℕ, List, [], All, length, IfOk, IfErr};
 ghost use Rattle.book_history.specs.Rules.{head_of};
 ghost use Rattle.overlay_terms.specs.Histories.{Entry, History};
 ghost use Rattle.store_flushing.specs.Stores.{flusher_in};
-ghost use Rattle.overlay_server.specs.Given.{Given, bytes_of, given_by, given_to};
+ghost use Rattle.overlay_server.specs.Given.{Given, IsBegun, bytes_of, given_by, given_to};
 ghost use Rattle.overlay_server.specs.Hosting.{IsHosted};
 ghost use Rattle.overlay_server.specs.Refusing.{IsRefusedFrom, IsRefusedOf};
 ghost use Rattle.overlay_server.specs.Serving.{IsHeldOf, IsLeftFrom, IsStoredOf, first_log, flusher_of, start_of};
@@ -46,6 +46,7 @@ fn host<J: BookName, S: Wait + Drop, D: Disk>(
     requires book { opened.1.book ≡ J.book }
     requires begun { opened.1.log ≡ first_log (start_of engine) }
     requires sessions { (0 < sessions) × (sessions ≤ 4) }
+    requires seats { sessions ≤ J.seats }
     ensures version { IfOk result (λ hosted. hosted.version.value ≡ start_of engine) }
     ensures flusher { IfOk result (λ hosted. flusher_in hosted.store ≡ flusher_of engine) }
     ensures hosted { IfOk result (IsHosted J.book sessions) }
@@ -109,6 +110,7 @@ where
     requires book { opened.1.book ≡ J.book }
     requires begun { opened.1.log ≡ first_log (start_of engine) }
     requires stored { (log : List Entry) (number : ℕ) → J.stored log number ↔ IsStoredOf D.Disk (start_of engine) (flusher_of engine) log number }
+    requires seats { J.seats ≡ length readers.items }
     requires readers { (0 < length readers.items) × (length readers.items ≤ 4) }
     ensures left { IfOk result (IsLeftFrom bytes_of D.Disk (start_of engine) (flusher_of engine) (given_by R.remaining readers.items)) }
     ensures refused { IfErr result (IsRefusedFrom D.Disk (start_of engine) (flusher_of engine) (given_by R.remaining readers.items)) }
@@ -144,9 +146,10 @@ where
     requires book { opened.1.book ≡ J.book }
     requires begun { opened.1.log ≡ first_log (start_of engine) }
     requires stored { (log : List Entry) (number : ℕ) → J.stored log number ↔ IsStoredOf D.Disk (start_of engine) (flusher_of engine) log number }
+    requires seats { J.seats ≡ length ports.items }
     requires ports { (0 < length ports.items) × (length ports.items ≤ 4) }
     requires told { (history : History) → IsHeldOf D.Disk (start_of engine) (flusher_of engine) history → W.may_report history }
-    requires fresh { All (λ port. W.last port.writer ≡ None) ports.items }
+    requires own { All (IsBegun R.remaining W.place) ports.items }
     ensures left { IfOk result (IsLeftFrom W.contents D.Disk (start_of engine) (flusher_of engine) (given_to R.remaining W.contents ports.items)) }
     ensures refused { IfErr result (IsRefusedOf R.remaining W.contents D.Disk (start_of engine) (flusher_of engine) (given_to R.remaining W.contents ports.items)) }
 {
@@ -182,7 +185,7 @@ where
         requires ports { 0 < length ports.items }
         requires hosted { IsHosted J.book (length ports.items) self }
         requires told { (history : History) → IsHeldOf D.Disk self.version.value (flusher_in self.store) history → W.may_report history }
-        requires fresh { All (λ port. W.last port.writer ≡ None) ports.items }
+        requires own { All (IsBegun R.remaining W.place) ports.items }
         requires meant { (log : List Entry) (number : ℕ) → J.stored log number ↔ IsStoredOf D.Disk self.version.value (flusher_in self.store) log number }
         ensures left { IfOk result (IsLeftFrom W.contents D.Disk self.version.value (flusher_in self.store) (given_to R.remaining W.contents ports.items)) }
         ensures refused { IfErr result (IsRefusedOf R.remaining W.contents D.Disk self.version.value (flusher_in self.store) (given_to R.remaining W.contents ports.items)) }

@@ -51,6 +51,7 @@ pub(crate) fn open_book<J: BookName, S: Wait + Drop>(
     requires head { head ≡ head_of J.book }
     requires seen_log { (seen_log.book ≡ J.book) × (seen_log.log ≡ entry no_event version ∷ []) }
     requires sessions { (0 < sessions) × (sessions ≤ 4) }
+    requires seats { sessions ≤ J.seats }
     ensures reporter { IfOk result.0 (λ r. r.1 ≡ record { book = seen_log.book; log = seen_log.log; given = 0 }) }
     ensures sessions { IfOk result.0 (λ r. r.2.items ≡ beginners seen_log sessions) }
     ensures store { IfOk result.0 (λ r. has_store r.0 ≡ store) }

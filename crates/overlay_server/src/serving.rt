@@ -1,7 +1,7 @@
 //! A server: from readers and an engine to what the sessions wrote, and what is left of the book and its store.
-ghost use Rattle.std.specs.Prelude.{◌≡◌, ◌<◌, ◌≤◌, None, All, is_some, length, IfOk, IfErr};
+ghost use Rattle.std.specs.Prelude.{◌≡◌, ◌<◌, ◌≤◌, All, is_some, length, IfOk, IfErr};
 ghost use Rattle.book_history.specs.Rules.{head_of};
-ghost use Rattle.overlay_server.specs.Given.{bytes_of, given_by, given_to};
+ghost use Rattle.overlay_server.specs.Given.{IsBegun, bytes_of, given_by, given_to};
 ghost use Rattle.overlay_server.specs.Refusing.{IsRefusedFrom, IsRefusedOf};
 ghost use Rattle.overlay_terms.specs.Histories.{History};
 ghost use Rattle.overlay_server.specs.Serving.{IsHeldOf, IsLeftFrom, first_log, flusher_of, start_of};
@@ -76,8 +76,9 @@ where
     // To the writers may be reported what the store holds, and nothing else: this says what counts as stored, also in a call
     // that never returns. Each writer of bytes meets it.
     requires told { (history : History) → IsHeldOf D.Disk (start_of engine) (flusher_of engine) history → W.may_report history }
-    // None of them keeps a reply of another session. Each writer of bytes meets it.
-    requires fresh { All (λ port. W.last port.writer ≡ None) ports.items }
+    // Each that keeps its place is at the start of its reader's script, for whichever session that has made nothing. Each
+    // writer of bytes meets it.
+    requires own { All (IsBegun R.remaining W.place) ports.items }
     ensures left { IfOk result (IsLeftFrom W.contents D.Disk (start_of engine) (flusher_of engine) (given_to R.remaining W.contents ports.items)) }
     ensures disk { IfOk result (λ left. is_some left.closed.disk ≡ is_some engine) }
     // Where it could not run, the ports come back as they were, or the writers, each with just what its session was answered.

@@ -46,7 +46,7 @@ pub record IsAtStart (script : Option (List ℕ)) (me : Known) (at : Place) : Ty
   pub known : script ≡ Some bytes
   pub left : at.left ≡ all_turns_of (whole_lines bytes)
 
--- the reply to the next turn of the script, from where the last left the session; a durable number is of what `may` allows
+-- the next turn has its reply, from where the last left the session, of a book with or without a store; `may`: durable of what
 pub record IsNextReply (may : History → Type 0) (now : Known) (text : List ℕ) (at : Place) : Type 0 where
   pub was : Known
   pub there : IsThere was at

@@ -26,15 +26,14 @@ pub record IsSharedRun (stored : BookStore) (was : Known) (turns : List Turn) (n
   pub told : IsTranscript stored was.session (seen was) turns (seen now) made replies
   pub only : now.made ≡ was.made ++ made
 
--- how a session ended, by what it had known and knows then, the bytes that it took, what the reader has left, and the
--- bytes that it wrote; `most` is the limit of the script's bytes
+-- how a session ended: what it had known and knows, `taken`, `left` to the reader, `written`; `most` is its limit of bytes
 -- its script ended: each line, or the batch that it is of, has its reply
 pub record IsEnded (most : ℕ) (stored : BookStore) (was now : Known) (taken : List ℕ) (left : Option (List ℕ)) (written : List ℕ) : Type 0 where
   pub all_taken : IsAtEnd left
   pub short : length taken ≤ most
   pub told : IsSharedRun stored was (all_turns_of (whole_lines taken)) now written
 
--- a byte too many came: the lines ended before it have replies, and then this is written; a batch that waits has none
+-- a byte too many came: the turns of lines ended before have replies, and then this is written; a waiting batch has none
 pub record IsPastLimit (most : ℕ) (stored : BookStore) (was now : Known) (taken line written : List ℕ) : Type 0 where
   pub one_more : length taken ≡ most + 1
   pub replies : List ℕ

@@ -11,8 +11,7 @@ use Rattle.server_session.specs.Replying.{IsThere, Place}
 use Rattle.server_session.specs.Session.{IsSharedRun, Stays}
 use Rattle.script_form.specs.Transcript.{BookStore}
 
--- a line is taken where a batch waits or none does: the turn that it ends is answered by this session of a book with or
--- without a store; and which batch waits then
+-- a line is taken, a batch waiting or not: the turn that it ends is answered by this session; and which batch waits then
 pub record IsLineTaken (stored : BookStore) (was : Known) (waiting : Option Waiting) (line : List ℕ) (now : Known) (open_then : Option OpenBatch) (reply : List ℕ) : Type 0 where
   pub waits : IsOpen (waiting_after waiting (request_of line)) open_then
   pub answered : IsSharedRun stored was (ended_by waiting (request_of line)) now reply

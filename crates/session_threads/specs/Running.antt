@@ -10,8 +10,7 @@ use Rattle.server_session.specs.Session.{IsSessionWithin}
 use Rattle.session_threads.specs.declared.running.Script.{Script}
 use Rattle.session_threads.specs.declared.running.Ended.{Ended}
 
--- a session of this book ran its script: what it appended to what its writer had are the replies, from what it had seen to
--- what it has seen then; `stored` says whether the book has a store
+-- a session of this book ran its script: what it put to its writer are the replies; `stored`: whether the book has a store
 pub record IsRunOf {R W : Type 0} (book : Book) (stored : BookStore) (remaining : R → Option (List ℕ)) (contents : W → Option (List ℕ)) (script : Script R W) (ended : Ended R W) : Type 0 where
   pub of : ended.session.book ≡ book
   pub same : ended.session.session ≡ script.session.session

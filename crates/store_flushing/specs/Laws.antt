@@ -23,22 +23,18 @@ abbrev pub StoreLeaves : {D : Type 0} → Ghosts D → Type 0
 StoreLeaves {D = D} g =
     (history : History) (f : Flusher D g) → IsStoreOf g history f → Leaves g f.commit.disk (IsFileIn history f.commit.root.version)
 
--- a store at rest on an honest disk is one of a history, where all that is reported is stored, and every file that a
--- crash may leave stands for one of its versions, no older than what is stored
+-- a store at rest on an honest disk is one of a history, if what is reported is stored, and each file left is no older
 abbrev pub StoreIsKnown : {D : Type 0} → Ghosts D → Type 0
-StoreIsKnown {D = D} g =
-    (history : History) (f : Flusher D g) → g.is_honest f.commit.disk → f.commit.phase ≡ Idle
+StoreIsKnown {D = D} g = (history : History) (f : Flusher D g) → g.is_honest f.commit.disk → f.commit.phase ≡ Idle
     → (newest history).durable ≤ f.commit.root.version
     → Leaves g f.commit.disk (IsFileIn history f.commit.root.version) → IsStoreOf g history f
 
 -- at each moment of a keeper's call a crash leaves a version no older than what the history reports durable by its end
 abbrev pub ToldIsLeft : {D : Type 0} → Ghosts D → Type 0
-ToldIsLeft {D = D} g =
-    (was now : History) (old new : Flusher D g) → KeepsTold g was old now new
+ToldIsLeft {D = D} g = (was now : History) (old new : Flusher D g) → KeepsTold g was old now new
     → LeavesOnly g old.commit.disk new.commit.disk (IsFileIn now (newest now).durable)
 
 -- the durable number of a history's newest version is that of its start, or among those reported in its entries
 abbrev pub DurableIsReported : Type 0
-DurableIsReported =
-    (history : History) → IsHistory history
+DurableIsReported = (history : History) → IsHistory history
     → ((newest history).durable ≡ history.start.durable) ⊎ Contains (reported_in history.entries) (newest history).durable

@@ -32,8 +32,7 @@ HasTilesOf old new = (name : Name) (k : ℕ) (tile : Tile) → tile_at new.tiles
 
 -- they are where none was kept since: a batch adds no tile, nor does a report
 abbrev pub TilesStay : Type 0
-TilesStay =
-    (version : Version) (entries : List Entry) → AllFollow version entries → kept_in entries ≡ []
+TilesStay = (version : Version) (entries : List Entry) → AllFollow version entries → kept_in entries ≡ []
     → HasTilesOf version (last_version version entries)
 
 -- the one report that is known of, where two versions differ in what is durable

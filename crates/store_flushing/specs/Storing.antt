@@ -42,7 +42,7 @@ module _ {D : Type 0} (g : Ghosts D) (history : History) where
   IsStoreAt Open f = Goes f
   IsStoreAt Finish f = Goes f
 
-  -- a store of this history: what is reported is stored; of what a crash leaves of it the law `StoreLeaves` speaks
+  -- a store of this history, on an honest disk: what is reported is stored, and its file is as `IsStoreAt` says
   pub record IsStoreOf (f : Flusher D g) : Type 0 where
     pub honest : g.is_honest f.commit.disk
     pub reported : (newest history).durable ≤ f.commit.root.version
@@ -64,8 +64,7 @@ pub record Flushes {D : Type 0} (g : Ghosts D) (was : History) (old : Flusher D 
   pub by_device : FailsByDevice g old.commit new.commit
 
 -- a call of a store's keeper: what the reporter has seen goes on and is a history, the store is one of it, and it fails by
--- its device alone. What is reported durable by the end of the call was stored as it began, and a crash at any moment of it
--- leaves a version of the history that is no older than that
+-- its device alone. What is reported by its end was stored as it began; a crash within it leaves no older version
 pub record KeepsTold {D : Type 0} (g : Ghosts D) (was : History) (old : Flusher D g) (now : History) (new : Flusher D g)
     : Type 0 where
   pub goes_on : BeginsWith now was
@@ -81,8 +80,7 @@ abbrev pub Keeps : {D : Type 0} (g : Ghosts D) → Heard → Flusher D g → Hea
 Keeps g was old now new =
     IsStoreOf g (history_of was.log) old → KeepsTold g (history_of was.log) old (history_of now.log) new
 
--- a store was followed: its history went on, it is one of it, it stores nothing older, and a crash at any moment since
--- leaves a version of the history that is no older than what was stored at first
+-- a store was followed: its history went on, it is one of it, stores nothing older, and a crash since left no older version
 pub record IsFollowed {D : Type 0} (g : Ghosts D) (was : History) (old : Flusher D g) (now : History) (new : Flusher D g)
     : Type 0 where
   pub goes_on : BeginsWith now was

@@ -27,8 +27,7 @@ told_then moment number = record { number = number; moment = moment }
 abbrev pub told_at : ℕ → List ℕ → List Told
 told_at moment numbers = map (told_then moment) numbers
 
--- the numbers that a history reports durable are those that were written down as they were reported, and a crash at the moment of
--- one, or at any later one, leaves a version of the history that is no older
+-- numbers that a history reports durable were written down then, and a crash at that moment or later leaves nothing older
 pub record StaysTold {D : Type 0} (g : Ghosts D) (history : History) (told : List Told) (old last : D) : Type 0 where
   pub each : reported_in history.entries ≡ map (λ (t : Told). t.number) told
   pub stays : All (λ (t : Told). (g.moment old ≤ t.moment) × (t.moment ≤ g.moment last)
@@ -42,7 +41,6 @@ pub record TellsOn {D : Type 0} (g : Ghosts D) (was : History) (told : List Told
 
 -- the same from a keeper to what its calls make of it, where its store is one of the history that its reporter has seen
 abbrev pub KeepsTelling : {D : Type 0} (g : Ghosts D) → Keeper D g → Keeper D g → Type 0
-KeepsTelling g old new =
-    IsStoreOf g (history_of old.reporter.log) old.flusher
+KeepsTelling g old new = IsStoreOf g (history_of old.reporter.log) old.flusher
     → TellsOn g (history_of old.reporter.log) (told_in old.told) old.flusher.commit.disk
     (history_of new.reporter.log) (told_in new.told) new.flusher.commit.disk

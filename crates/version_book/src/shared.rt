@@ -49,7 +49,8 @@ pub struct Shared<J: BookName, R: Wait + Drop> {
 }
 
 impl<J: BookName, R: Wait + Drop> Shared<J, R> {
-    /// A book over a log of one version, its reporter and its sessions. Each has seen just that.
+    /// A book over a log of one version, its reporter and its sessions. Each has seen just that. There is no other session:
+    /// the book's name says for how many it may be begun.
     pub fn start(
         rt: R,
         alloc: Global,
@@ -62,6 +63,7 @@ impl<J: BookName, R: Wait + Drop> Shared<J, R> {
         requires head { head ≡ head_of J.book }
         requires seen_log { (seen_log.book ≡ J.book) × (seen_log.log ≡ entry no_event version ∷ []) }
         requires sessions { (0 < sessions) × (sessions ≤ 4) }
+        requires seats { sessions ≤ J.seats }
         ensures reporter { IfOk result (λ r. r.1 ≡ record { book = seen_log.book; log = seen_log.log; given = 0 }) }
         ensures sessions { IfOk result (λ r. r.2.items ≡ beginners seen_log sessions) }
         ensures of_book { IfOk result (λ r. All (λ session. session.book ≡ J.book) r.2.items) }

@@ -1,5 +1,5 @@
 //! Books over the empty version, and rows of calls on them, for the tests.
-ghost use Rattle.std.specs.Prelude.{◌≡◌, ◌∷◌, [], IfSome};
+ghost use Rattle.std.specs.Prelude.{◌≡◌, ◌≤◌, ◌∷◌, [], IfSome};
 ghost use Rattle.version_book.specs.Logs.{entry, no_event};
 ghost use Rattle.version_book.specs.Rules.{head_of};
 
@@ -132,6 +132,7 @@ fn play_in<J: BookName + Send + Sync, R: Threads + Wait + Clock + Abort + Sync>(
     requires head { opened.0 ≡ head_of J.book }
     requires book { opened.1.book ≡ J.book }
     requires begun { opened.1.log ≡ entry no_event opened.2 ∷ [] }
+    requires seats { 2 ≤ J.seats }
     requires anything { (log : _) (number : _) → J.stored log number }
 {
     let (head, seen_log, version) = opened;

@@ -1,5 +1,5 @@
 //! A session over a book of its own, without workers and without a store.
-ghost use Rattle.std.specs.Prelude.{◌≡◌, ◌∷◌, []};
+ghost use Rattle.std.specs.Prelude.{◌≡◌, ◌≤◌, ◌∷◌, []};
 ghost use Rattle.book_history.specs.Logs.{entry, no_event};
 ghost use Rattle.book_history.specs.Rules.{head_of};
 
@@ -52,6 +52,7 @@ where
     requires head { history.0 ≡ head_of J.book }
     requires book { history.1.book ≡ J.book }
     requires begun { history.1.log ≡ entry no_event history.2 ∷ [] }
+    requires seats { 1 ≤ J.seats }
 {
     let (head, seen_log, version) = history;
     let started = Shared::<J, &Q>::start(rt, alloc, head, seen_log, version, false, 1);

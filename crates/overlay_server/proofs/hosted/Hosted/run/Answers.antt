@@ -19,7 +19,7 @@ use Rattle.overlay_server.specs.Given.{Given, given_to}
 use Rattle.overlay_server.specs.Serving.{first_log}
 use Rattle.overlay_server.proofs.Held.{runs_held}
 use Rattle.overlay_server.proofs.Refusals.{MayAnswer, refused_at_once}
-use Rattle.overlay_server.proofs.Reporting.{all_fresh, may_report_all}
+use Rattle.overlay_server.proofs.Reporting.{all_begun, may_report_all}
 use Rattle.overlay_server.proofs.Parts.{AreSeated, all_of_book, as_many, begin_there, of_ended}
 use Rattle.overlay_server.proofs.Stopping.{any_of, come_to, stopped_of}
 use Rattle.overlay_server.proofs.StoreParts.{holds_first, holds_on, kept_twice, stopped_at_once}
@@ -58,7 +58,7 @@ run_threads-worked-requires-after_bounds g c κs within =
       scripts = all_of_book g.J.BookName.book start ports seats.scripts.items seated;
       told = may_report_all g.D.Disk c.requires.hosted.now start g.J.BookName.stored (flusher_in self.store) (λ log number. (c.requires.meant log number).0)
           g.W.ReplyWriter.may_report c.requires.told _ c.requires.hosted.stored seats.scripts.items (begin_there g.J.BookName.book start ports seats.scripts.items seated);
-      fresh = all_fresh g.W.ReplyWriter.last seats.scripts.items ports c.in-Ok.ensures.ports c.requires.fresh;
+      own = all_begun g.R.Read.remaining g.W.ReplyWriter.place g.J.BookName.book start ports seats.scripts.items seated c.requires.own;
       room = subst (HasRoom seats) (sym (as_many g.J.BookName.book start ports seats.scripts.items seated)) c.in-Ok.ensures.room;
     }
 
