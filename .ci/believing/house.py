@@ -254,7 +254,7 @@ class House:
         if trait:
             said = re.sub(r"//.*", "", trait[0])
             for clause in [clause for title, clause in cut.clauses if title == name]:
-                said, count = re.subn(rf"\n *ensures {clause} \{{[^\n]*", "", said)
+                said, count = re.subn(rf"\n *(?:ensures|requires) {clause} \{{[^\n]*", "", said)
                 if not count:
                     raise SystemExit(f"believe: {name} has no clause {clause}")
             return self.named(said, None, names, aliases)

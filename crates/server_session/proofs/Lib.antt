@@ -6,5 +6,6 @@ pub mod BatchFaults
 pub mod AnswerLemmas
 pub mod Anywhere
 pub mod TileAnswers
+pub mod Replies
 pub mod Weaker
 pub mod Places

@@ -1,10 +1,15 @@
 -- What a session may write.
-use Rattle.std.specs.Prelude.{◌≡◌, ℕ, Bool, true, false, IsTrue, List, [], ◌∷◌, drop, Option, Some, None}
+use Rattle.std.specs.Prelude.{◌≡◌, ◌⊎◌, ℕ, Bool, true, false, IsTrue, List, [], ◌∷◌, drop, Option, Some, None}
+use Rattle.overlay_terms.specs.Batches.{Batch}
 use Rattle.overlay_terms.specs.Histories.{Entry, History, BeginsWith}
 use Rattle.book_history.specs.Known.{Known, seen}
+use Rattle.script_form.specs.declared.fault.CommandFault.{CommandFault}
 use Rattle.script_form.specs.Lines.{whole_lines}
-use Rattle.script_form.specs.Transcript.{store_by}
+use Rattle.script_form.specs.Replies.{error_line, refused_line}
+use Rattle.script_form.specs.Requests.{Request}
+use Rattle.script_form.specs.Transcript.{BookStore, store_by}
 use Rattle.script_form.specs.Turns.{Turn, all_turns_of}
+use Rattle.server_session.specs.Answering.{Answers, SubmitsAll}
 use Rattle.server_session.specs.Session.{IsSharedRun, Stays}
 use Rattle.server_session.specs.Stores.{IsToldOf}
 
@@ -56,6 +61,24 @@ pub record IsNextReply (may : History → Type 0) (now : Known) (text : List ℕ
   pub next : at.left ≡ turn ∷ later
   pub has_store : Bool
   pub answered : IsSharedRun (store_by may has_store) was (turn ∷ []) now text
+
+-- a fault, of a line alone or of one line of a batch
+abbrev pub IsFaultText : List ℕ → Type 0
+IsFaultText text = (fault : CommandFault) × ((text ≡ error_line fault) ⊎ ((place : ℕ) × (text ≡ refused_line place fault)))
+
+-- a fault for which the session made nothing
+pub record IsFaultSince (was now : Known) (text : List ℕ) : Type 0 where
+  pub fault : IsFaultText text
+  pub nothing_made : now.made ≡ was.made
+
+-- a reply of a session that knew `was` before: a fault, or the answer to a request or a batch, at what it knows now
+abbrev pub IsReplySince : BookStore → Known → Known → List ℕ → Type 0
+IsReplySince stored was now text =
+    IsFaultSince was now text ⊎ ((request : Request) × Answers stored was request now text) ⊎ ((commands : Batch) × SubmitsAll was commands now text)
+
+-- a reply, wherever in a script: also after the end of one whose bytes are not known; `may`: durable of what
+abbrev pub IsSomeReply : (History → Type 0) → Known → List ℕ → Type 0
+IsSomeReply may now text = (was : Known) × IsReplySince (store_by may true) was now text
 
 -- what was stored may be reported: by a book with a store, of each history that goes on from what a session has seen
 abbrev pub MayReport : (List Entry → ℕ → Type 0) → Bool → Known → (History → Type 0) → Type 0

@@ -1,5 +1,5 @@
 //! The answer to one line.
-ghost use Rattle.std.specs.Prelude.{◌≡◌, IfOk, IfErr};
+ghost use Rattle.std.specs.Prelude.{◌≡◌, IfOk, IfErr, IfSome};
 ghost use Rattle.std.specs.Arc.{arc_value};
 ghost use Rattle.overlay_terms.specs.Histories.{newest, IsHistory};
 ghost use Rattle.book_history.specs.Known.{seen};
@@ -9,6 +9,7 @@ ghost use Rattle.script_form.specs.Requests.{request, put_text, locate, grid, li
 ghost use Rattle.script_form.specs.Transcript.{asked_column};
 ghost use Rattle.server_session.specs.Stores.{no_store, store_of};
 ghost use Rattle.server_session.specs.Answering.{Answers, Submits, result_text};
+ghost use Rattle.server_session.specs.Replying.{IsReplySince};
 ghost use Rattle.server_session.specs.Session.{Stays};
 ghost use Rattle.server_session.specs.Turn.{EndsTurn, TakesTurn, told_text};
 ghost use Rattle.version_book.specs.Store.{has_store};
@@ -46,6 +47,8 @@ pub fn answer<J: BookName, S: Wait + Drop, Q: Wait + Threads + Sync>(
     requires { me.old.book ≡ J.book }
     ensures takes { TakesTurn (store_of J.stored (has_store shared.now)) me.old waiting.old line.now me.new waiting.new (told_text result) }
     ensures ends { EndsTurn waiting.old line.now me.old me.new result }
+    // So much is owed before it is written, wherever in a script.
+    ensures right { IfSome result (λ reply. IsReplySince (store_of J.stored (has_store shared.now)) me.old me.new (reply_text reply)) }
 {
     match take_line(alloc, waiting, line) {
         LineTurn::Waits => None,

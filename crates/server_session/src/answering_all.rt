@@ -3,6 +3,9 @@ ghost use Rattle.std.specs.Prelude.{◌≡◌};
 ghost use Rattle.script_form.specs.LineReply.{reply_text};
 ghost use Rattle.server_session.specs.Answering.{AnswersAll, SubmitsAll};
 ghost use Rattle.server_session.specs.Fault.{lines_told};
+ghost use Rattle.server_session.specs.Replying.{IsReplySince};
+ghost use Rattle.server_session.specs.Stores.{store_of};
+ghost use Rattle.version_book.specs.Store.{has_store};
 
 use crate::fault::numbered;
 use layer_book::batch::Batch;
@@ -23,7 +26,8 @@ pub(crate) fn answer_batch<J: BookName, S: Wait + Drop, Q: Wait>(
     read: Result<Batch, LinesFault>,
 ) -> LineReply
     requires { me.old.book ≡ J.book }
-    ensures { AnswersAll me.old read me.new (reply_text result) }
+    ensures answers { AnswersAll me.old read me.new (reply_text result) }
+    ensures right { IsReplySince (store_of J.stored (has_store shared.now)) me.old me.new (reply_text result) }
 {
     match read {
         Ok(batch) => submit_all(rt, alloc, shared, me, &batch),

@@ -3,7 +3,7 @@ ghost use Rattle.std.specs.Prelude.{◌≡◌, ◌⊎◌, None, IfErr, IfSome, o
 ghost use Rattle.script_form.specs.LineReply.{reply_text};
 ghost use Rattle.script_form.specs.Replies.{error_line};
 ghost use Rattle.script_form.specs.Writing.{Writes};
-ghost use Rattle.server_session.specs.Replying.{IsNextReply, IsThere, ended_at, replied_at};
+ghost use Rattle.server_session.specs.Replying.{IsNextReply, IsSomeReply, IsThere, ended_at, replied_at};
 
 use script_form::{CommandFault, LineReply, write_reply};
 use std::io::Write;
@@ -29,6 +29,7 @@ pub trait ReplyWriter {
     /// Writes the reply to the next turn, without taking memory.
     fn reply(&mut self, me: &Session, reply: &LineReply) -> Result<(), CommandFault>
         requires right { IfSome (place self.old) (IsNextReply may_report me.now (reply_text reply.now)) }
+        requires told { IsSomeReply may_report me.now (reply_text reply.now) }
         ensures place { place self.new ≡ option_map (replied_at me.now) (place self.old) }
         ensures writes { Writes result (contents self.old) (contents self.new) (reply_text reply.now) }
         ensures err { IfErr result (λ fault. fault ≡ CommandFault.Write) };

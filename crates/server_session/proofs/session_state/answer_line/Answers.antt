@@ -1,7 +1,10 @@
 use Rattle.std.proofs.Common.{[]}
 use Rattle.std.proofs.KnownBytes.{Appends-nil}
+use Rattle.book_history.specs.Known.{seen}
 use Rattle.version_book.specs.Store.{has_store}
+use Rattle.server_session.specs.Stores.{IsToldOf}
 use Rattle.server_session.proofs.Places.{next_reply, none_passes, reply_passes, some_then}
+use Rattle.server_session.proofs.Replies.{right_by_other}
 use Rattle.server_session.proofs.session_state.answer_line.Goals as goal
 
 pub reply-requires : goal.reply-requires
@@ -11,6 +14,11 @@ reply-requires g c =
       right =
           some_then _ (next_reply g.J.BookName.stored (has_store c.args.shared.now) g.W.ReplyWriter.may_report c.args.me.now c.answer.new.me c.args.waiting.now c.answer.new.waiting c.args.line.now c.in-Some.reply
           c.requires.told was.takes was.ends) c.requires.own;
+      told = (
+        c.args.me.now,
+        right_by_other (IsToldOf g.J.BookName.stored) g.W.ReplyWriter.may_report (has_store c.args.shared.now) c.answer.new.me
+            (λ one told. c.requires.told one (seen c.answer.new.me) was.takes.stays.goes_on told) c.args.me.now _ was.right,
+      );
     }
 
 pub returns-in-Some-clause-own : goal.returns-in-Some-clause-own

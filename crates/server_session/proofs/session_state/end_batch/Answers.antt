@@ -1,10 +1,17 @@
+use Rattle.script_form.specs.declared.fault.CommandFault.TheVariants.{CommandSyntax}
 use Rattle.server_session.specs.Stores.{store_of}
 use Rattle.server_session.proofs.Places.{cut_off_some, some_then}
+use Rattle.server_session.proofs.Replies.{fault_right}
 use Rattle.server_session.proofs.Steps.{ends_alone, ends_refused}
 use Rattle.server_session.proofs.session_state.end_batch.Goals as goal
 
 pub reply-requires : goal.reply-requires
-reply-requires g c = record { right = some_then _ (cut_off_some g.W.ReplyWriter.may_report c.args.me.now _ c.if-is_none.ensures) c.requires.own }
+reply-requires g c =
+    let me = c.args.me.now in
+    record {
+      right = some_then _ (cut_off_some g.W.ReplyWriter.may_report me _ c.if-is_none.ensures) c.requires.own;
+      told = (me, fault_right _ me CommandSyntax);
+    }
 
 pub returns-then-is_none-clause-ends : goal.returns-then-is_none-clause-ends
 returns-then-is_none-clause-ends g c there = ends_alone _ _ c.if-is_none.ensures (store_of g.J.BookName.stored there)
