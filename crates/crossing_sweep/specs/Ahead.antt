@@ -41,10 +41,11 @@ abbrev pub is_first_before : List (HPoint × PointName) → HPoint → Bool
 is_first_before [] at = false
 is_first_before (e ∷ es) at = is_lt (hpoint_cmp e.0 at)
 
--- the names that the known places on a segment may have: its own ends, and where the borders of a strip cut it, those between its columns too
+-- the names of the places where the borders of a strip's columns cut a segment
 abbrev pub cut_names : Segment → Span → List PointName
 cut_names s strip = map (λ (k : ℕ). Border s k) (range_with_len strip.first (strip.last + 2 - strip.first))
 
+-- the names that the known places on a segment may have: its own ends, and these
 abbrev pub known_names : Segment → Span → List PointName
 known_names s strip = Vertex s.left ∷ Vertex s.right ∷ cut_names s strip
 

@@ -22,7 +22,7 @@ mod values;
 mod wish;
 
 pub use node_name::{NodeName, name_of};
-pub use pass::{Crossed, cross, cross_strip, cross_strip_while, cross_while};
+pub use pass::{Crossed, cross, cross_strip_while, cross_while};
 pub use pass_input::PassInput;
 pub use row::Row;
 pub use strip::Strip;

@@ -92,22 +92,8 @@ pub fn cross_while<W: Wish>(
 }
 
 /// The boundary of a strip's input, found by one pass that stops after more than so many pieces in all. Where there are no
-/// more, the pieces that begin in one of its columns stand together, and are that column's tile.
-pub fn cross_strip(
-    alloc: Global,
-    input: &PassInput,
-    cap: usize,
-    listed: bool,
-) -> Result<Crossed, AllocError>
-    ensures { IfOk result (λ found. IsStripCrossed input.now cap listed found) }
-{
-    match cross_strip_while(alloc, input, cap, listed, &Always)? {
-        Some(found) => Ok(found),
-        None => unreachable!(),
-    }
-}
-
-/// The same as long as it is wanted: None says that the wish has ended, and the pass was left.
+/// more, the pieces that begin in one of its columns stand together, and are that column's tile. The pass goes on as long
+/// as it is wanted: None says that the wish has ended, and the pass was left.
 pub fn cross_strip_while<W: Wish>(
     alloc: Global,
     input: &PassInput,

@@ -91,7 +91,7 @@ source_of bases definitions name = first_of bases 0 where
   first_of [] k = among definitions 0
   first_of (b ∷ bs) k = if bytes_eq b name then base_bit k else first_of bs (k + 1)
 
--- the definitions in reach, each name replaced by its number; among orderly layers the layer itself is the last
+-- the definitions in reach, each name replaced by its number; of a derived layer among orderly ones its own is the last
 abbrev pub steps_in_reach : List Layer → Name → Steps
 steps_in_reach layers name =
     let bases = filter_map base_of (layers_in_reach layers name) in

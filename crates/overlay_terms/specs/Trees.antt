@@ -60,7 +60,7 @@ abbrev pub last_or : Bool → List Bool → Bool
 last_or b [] = b
 last_or b (x ∷ xs) = last_or x xs
 
--- what the last definition is, or the last base layer where nothing is defined (no tile has this)
+-- what the last definition is, or the last base layer where nothing is defined (a derived layer has a definition)
 abbrev pub steps_value : Steps → (ℕ → Bool) → Bool
 steps_value steps bits = last_or (bits (steps.bases - 1)) (definition_values bits steps.definitions)
 
