@@ -37,7 +37,7 @@ step_of a = record {
   forward = leads a.marked.seg a.proper.first;
 }
 
--- how high a slanted line passes over x = 0, and how far left a vertical one stands
+-- how high a slanted line passes over x = 0, and how far left a vertical one is
 offset_by : (l m a b : ℤ) → Forward a b → Ratio
 offset_by l m a b (inl h) = record { n = (a *ℤ m) -ℤ (b *ℤ l); d = a; positive = h }
 offset_by l m a b (inr h) = record { n = pos 0 -ℤ l; d = pos 1; positive = omega (arith, ints) }

@@ -90,7 +90,7 @@ fn offer_with(found: &mut Places, seg: &Seg, other: &Seg, column: Column) -> Res
     Ok(())
 }
 
-/// Adds the place that a name stands for, if it lies on the segment within the closed column.
+/// Adds the place of a name, if it lies on the segment within the closed column.
 fn offer(found: &mut Places, name: PointName, seg: &Seg, column: Column) -> Result<(), AllocError>
     ensures { OnOk result ((names : List PointName) → AreFound column seg.now names found.old.items → AreFound column seg.now (names ++ name ∷ []) found.new.items) }
 {

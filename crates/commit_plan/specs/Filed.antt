@@ -136,7 +136,7 @@ pub record Files (x y : Kept) (layers : List FiledLayer) (listing : Filed) : Typ
   pub lists : y.listing ≡ map listed_of layers
   pub apart : all_apart (y.root.catalog ∷ extents_listed (map listed_of layers)) ≡ true
 
--- where what is written is put, and the file still stands for x, it holds what the root of y names
+-- where what is written is put, and the file still holds x, it has what the root of y names
 abbrev pub FilingMakes : Type 0
 FilingMakes =
     (x y : Kept) (layers : List FiledLayer) (listing : Filed) (ws : List Write) (file : List ℕ) → Shut x file

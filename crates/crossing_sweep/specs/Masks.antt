@@ -1,4 +1,4 @@
--- What lies under the members of a status: each stands on what is up to the one below it.
+-- What lies under the members of a status: under each, what is up to the one below it.
 use Rattle.std.specs.Prelude.{◌≡◌, ℕ, ℤ, ◌+◌, ◌<◌, false, List, length, get_or, map}
 use Rattle.overlay_terms.specs.Plane.{Point, Segment}
 use Rattle.tile_laws.specs.JustRight.{under_bits, up_to_bits}

@@ -8,7 +8,7 @@ use Rattle.crossing_sweep.specs.declared.member.Member.{Member}
 use Rattle.crossing_sweep.specs.declared.node_name.NodeName.{NodeName}
 use Rattle.crossing_sweep.specs.declared.row.Row.{Row}
 
--- what stands for a name where there is none
+-- the name that is taken where there is none
 abbrev pub no_name : PointName
 no_name = Vertex (record { x = pos 0; y = pos 0 })
 

@@ -13,7 +13,7 @@ use Rattle.crossing_sweep.specs.Queue.{IsQueued}
 use Rattle.crossing_sweep.specs.Ahead.{points_of}
 use Rattle.crossing_sweep.specs.declared.search.Search.{Search}
 
--- two segments cross at a known place, after r and in the closed strip; its name stands for it
+-- two segments cross at a known place, after r and in the closed strip; it is the place of its name
 pub record IsFound (strip : Span) (r : Point) (a b : Segment) (e : HPoint × PointName) : Type 0 where
   pub crossing : IsCrossingOf a b (place e.0)
   pub after : point_cmp r (place e.0) ≡ Less

@@ -92,7 +92,7 @@ pub fn cross_while<W: Wish>(
 }
 
 /// The boundary of a strip's input, found by one pass that stops after more than so many pieces in all. Where there are no
-/// more, the pieces that begin in one of its columns stand together, and are that column's tile. The pass goes on as long
+/// more, the pieces that begin in one of its columns come together, and are that column's tile. The pass goes on as long
 /// as it is wanted: None says that the wish has ended, and the pass was left.
 pub fn cross_strip_while<W: Wish>(
     alloc: Global,

@@ -50,7 +50,7 @@ pub(crate) fn mask_over(members: &[Member]) -> u32
     }
 }
 
-/// Begins the pieces of a bundle at a place: each stands on what holds over the one below it.
+/// Begins the pieces of a bundle at a place: under each is what holds over the one below it.
 pub(crate) fn label(
     input: &PassInput,
     values: &[bool],

@@ -19,7 +19,7 @@ pub enum PointName {
 }
 
 impl PointName {
-    /// The place that the name stands for, if there is one.
+    /// The place of the name, if it has one.
     pub fn point(&self) -> Option<HPoint>
         ensures known { IsSome result ↔ HasPlace self.now }
         ensures place { IfSome result (λ z. IsPlaceOf self.now (place z)) }
@@ -33,7 +33,7 @@ impl PointName {
         }
     }
 
-    /// The place that the name stands for, of a name that stands for one.
+    /// The place of the name, of a name that has one.
     pub fn known_point(&self) -> HPoint
         requires { HasPlace self.now }
         ensures value { place result ≡ place_of self.now }

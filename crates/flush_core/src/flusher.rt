@@ -48,7 +48,7 @@ impl<D: Disk> Flusher<D> {
     /// Begins the commit of a version. It makes no device call, and a refusal changes nothing.
     pub fn begin(&mut self, alloc: Global, version: &Version) -> Result<(), StoreFault>
         requires { is_busy self.old.commit.phase ≡ false }
-        // From the content that the store stands for to just the version's number, layers and finished tiles.
+        // From the content that the store holds to just the version's number, layers and finished tiles.
         ensures begun { (x : Kept) → StoreStandsFor D.Disk self.old.commit x → OnOk result ((y : Kept) × IsCommitOf version.now y × RunsFrom D.Disk self.new.commit x y) }
         ensures stored { self.new.commit.root.version ≡ self.old.commit.root.version }
         // The root that it leads to has the version's number.
@@ -85,7 +85,7 @@ impl<D: Disk> Flusher<D> {
         // What the live root holds stays until Done, and the root that it leads to holds the version's tiles.
         ensures records { self.new.commit.live ≡ self.old.commit.live }
         ensures next_tiles { OnOk result ((live_content self.new.commit.next_live).tiles ≡ version.now.tiles) }
-        // From the content that the store stands for to just the version's number, layers and finished tiles.
+        // From the content that the store holds to just the version's number, layers and finished tiles.
         ensures begun { (x : Kept) → StoreStandsFor D.Disk self.old.commit x → OnOk result ((y : Kept) × IsCommitOf version.now y × RunsFrom D.Disk self.new.commit x y) }
         ensures stored { self.new.commit.root.version ≡ self.old.commit.root.version }
         // The root that it leads to has the version's number.

@@ -1,4 +1,4 @@
--- The faults of the layers: their numbers and texts, and those that stand for the refusals of commands.
+-- The faults of the layers: their numbers and texts, and which fault each refusal of a command is.
 use Rattle.std.specs.Prelude.{◌≡◌, ◌⊎◌, ℕ, List, Option, Some, None}
 use Rattle.fault_texts.specs.FaultTable.{text}
 use Rattle.overlay_terms.specs.Commands.{Refusal, unknown_layer, not_base, not_derived, later_layer, in_use, too_many_layers, version_limit}

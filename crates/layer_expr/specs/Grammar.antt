@@ -100,7 +100,7 @@ pub record IsGoodSoFar (tokens : List Token) : Type 0 where
   pub few : length tokens ≤ tokens_max
   pub names : All (λ token. IsTrue (is_name_short token)) tokens
 
--- the token at an index is the first at fault: it is one too many; it cannot stand there; it is too long a name. At the end of
+-- the token at an index is the first at fault: it is one too many; it cannot come there; it is too long a name. At the end of
 -- the tokens the expression is not whole, and the fault is reported at the length of the bytes
 abbrev pub IsFaultAt : List ℕ → ℕ → Option Token → ExprFault → Type 0
 IsFaultAt bytes i None fault = ¬ (IsSum (tokens_of bytes)) × (fault ≡ ExprSyntax (length bytes))

@@ -52,11 +52,11 @@ is_good open_bracket = true
 is_good close_bracket = true
 is_good stray = true
 
--- a reader after one more token of a kind, which can stand there and, if it is a name, is a name of a layer
+-- a reader after one more token of a kind, which can come there and, if it is a name, is a name of a layer
 abbrev pub IsNext : Kind → Reader → Reader → Type 0
 IsNext kind old new = (moved tree_making kind (state_of old) ≡ Some (state_of new)) × IsTrue (is_good kind)
 
--- memory ran out, or the token cannot stand there, or it could but is no name of a layer
+-- memory ran out, or the token cannot come there, or it could but is no name of a layer
 abbrev pub IsStepFault : Kind → ℕ → pure.ReaderState (Tree (List ℕ)) → ExprFault → Type 0
 IsStepFault kind at s fault =
     (fault ≡ OutOfMemory)

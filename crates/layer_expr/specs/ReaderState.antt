@@ -48,7 +48,7 @@ abbrev pub closed : {A : Type 0} → Making A → List (Frame A) → A → Optio
 closed m [] a = None
 closed m (frame left factor ∷ outer) a = Some (holds outer left (times m factor (m.of_brackets a)))
 
--- after one more token, if it can stand there
+-- after one more token, if it can come there
 abbrev pub moved : {A : Type 0} → Making A → Kind → ReaderState A → Option (ReaderState A)
 moved m (name n) (awaits outer left factor) = Some (holds outer left (times m factor (m.of_name n)))
 moved m (operator o) (awaits outer left factor) = None

@@ -32,7 +32,7 @@ base_names layers = filter_map base_name layers
 abbrev pub definitions_of : List Reached → List (Name × Tree Name)
 definitions_of layers = filter_map definition_of layers
 
--- the base layer or the definition that a name stands for, by its number
+-- the base layer or the definition that a name is of, by its number
 abbrev pub source_among : List Reached → Name → Source
 source_among layers name = source_of (base_names layers) (map (λ d. d.0) (definitions_of layers)) name
 
@@ -71,12 +71,12 @@ values_after next known bits ((name, Some expression) ∷ layers) =
 abbrev pub evaluated : List Reached → (ℕ → Bool) → Bool
 evaluated layers bits = last_or false (map (λ entry. entry.1) (values_after 0 [] bits layers))
 
--- whether a leaf stands for one of the base layers, or for a definition before an index
+-- whether a leaf is one of the base layers, or a definition before an index
 abbrev pub stands_before : ℕ → ℕ → Source → Bool
 stands_before bases place (base_bit k) = nat_lt k bases
 stands_before bases place (definition k) = nat_lt k place
 
--- whether each leaf of each definition stands for one of the base layers or for an earlier definition
+-- whether each leaf of each definition is one of the base layers or an earlier definition
 abbrev pub names_earlier : ℕ → ℕ → List (Tree Source) → Bool
 names_earlier bases place definitions =
     list_all (λ d. list_all (stands_before bases d.0) (leaves d.1)) (enumerate_from place definitions)

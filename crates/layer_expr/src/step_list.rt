@@ -202,7 +202,7 @@ pub(crate) fn is_numbered(
     }
 }
 
-/// What a name stands for among layers in reach.
+/// What a name is of among layers in reach: which base layer, or which definition.
 fn source_named(name: &Name, layers: &[(&Name, Option<&Expr>)]) -> Source
     requires { length layers.now ≤ layers_max }
     ensures { source result ≡ source_among (reached layers.now) name.now }

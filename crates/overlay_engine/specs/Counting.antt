@@ -60,7 +60,7 @@ module _ {D : Type 0} (g : Ghosts D) where
   abbrev pub CommitTells : Type 0
   CommitTells = (old : Engine D g) (run : List (Made D g)) (new : Engine D g) (whole : IsWholeCommit old run new) → whole.number ≡ old.version.number
 
-  -- and, where the store stood for something before it, it leaves that version, whichever tiles that has: the store rests with it, and every file that a crash may leave then stands for its number, its layers and its finished tiles
+  -- and, where the store held something before it, it leaves that version, whichever tiles that has: the store rests with it, and every file that a crash may leave then holds its number, its layers and its finished tiles
   abbrev pub CommitLeaves : Type 0
   CommitLeaves = (old : Engine D g) (run : List (Made D g)) (new : Engine D g) (x : Kept) → StoreStandsFor g old.flusher.commit x → EachCommits g run → IsWholeCommit old run new
       → RestsWith g new.flusher old.version × Leaves g new.flusher.commit.disk (IsFileOf old.version)

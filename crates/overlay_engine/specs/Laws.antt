@@ -26,7 +26,7 @@ module _ {D : Type 0} (g : Ghosts D) where
       (start : Start) (f : Flusher D g) (version : Version) (batches : List Batch)
       → Covers g start f version batches → Leaves g f.commit.disk (Covered start f.commit.root.version batches)
 
-  -- and it stands for something, where no commit is under way and no call has failed
+  -- and it holds something, where no commit is under way and no call has failed
   abbrev pub CoveredRests : Type 0
   CoveredRests =
       (start : Start) (f : Flusher D g) (version : Version) (batches : List Batch)
@@ -50,13 +50,13 @@ module _ {D : Type 0} (g : Ghosts D) where
       (start : Start) (disk : D) (f : Flusher D g) (x : Kept) (least : ℕ) (batches : List Batch)
       → Leaves g disk (Covered start least batches) → IsOpened disk f x → Recovers start f x least batches
 
-  -- while the file is opened a crash leaves what was there, or what stands for the same
+  -- while the file is opened a crash leaves the file that was there, or one that holds the same
   abbrev pub OpeningIsCovered : Type 0
   OpeningIsCovered =
       (start : Start) (disk : D) (least : ℕ) (batches : List Batch) → Leaves g disk (Covered start least batches) → g.may_leave disk (g.seen disk)
       → (c : List ℕ) → g.may_leave disk c ⊎ (reading c ≡ reading (g.seen disk)) → Covered start least batches c
 
-  -- a commit of a version begins: it leads from what the store stands for to that version, under its number
+  -- a commit of a version begins: it leads from what the store holds to that version, under its number
   pub record IsBegun (old new : Flusher D g) (version : Version) : Type 0 where
     pub began : new.commit.phase ≡ Close
     pub honest : g.is_honest old.commit.disk → g.is_honest new.commit.disk

@@ -22,7 +22,7 @@ module _ {D : Type 0} (g : Ghosts D) (start : Start) (disk : D) where
     pub durable : e.version.durable ≡ e.version.number
     pub covers : Covers g start e.flusher e.version (up_to start e.version.number batches)
     pub moments : LeavesOnly g disk e.flusher.commit.disk (Covered start least batches)
-    -- what might have been left before is left until the first sync has succeeded, which is the first device call, and from then on what stands for the same; after the reads there are two calls at most
+    -- what might have been left before is left until the first sync has succeeded, which is the first device call, and from then on a file that holds the same; after the reads there are two calls at most
     pub phases : InPhases g disk e.flusher.commit.disk
 
   -- a recovery is refused, by the fault `Device` or `OutOfMemory`, and what is left recovers as well

@@ -95,7 +95,7 @@ pub record AreServed {W : Type 0} (stored : BookStore) (contents : W → Option 
 -- ---- the store
 
 module _ {D : Type 0} (g : Ghosts D) where
-  -- what a run leaves of a store: a crash at any moment of it leaves a file that stands for a version of the log that the
+  -- what a run leaves of a store: a crash at any moment of it leaves a file that holds a version of the log that the
   -- run ended with, no older than what was stored at first, and from then on no older than what is stored; that is no
   -- older than what was reported durable; and just it, unless a device call failed, before the run or within it. What it
   -- reported durable was written down as it was reported, and from that moment on a crash leaves no older version

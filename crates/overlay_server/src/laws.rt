@@ -14,7 +14,7 @@ pub fn new_engines_are_stores<D: Disk>()
     ensures { NewEnginesAreStores D.Disk }
 {}
 
-/// What a server leaves recovers: a file that stands for a version of a history is one that a recovery takes, for the
+/// What a server leaves recovers: a file that holds a version of a history is one that a recovery takes, for the
 /// batches that were accepted in the history, where the tiles of its first version are right.
 pub fn files_are_covered()
     ensures { FilesAreCovered }

@@ -36,7 +36,7 @@ abbrev pub relabel : {A B : Type 0} → (A → B) → Tree A → Tree B
 relabel f (leaf a) = leaf (f a)
 relabel f (combine o l r) = combine o (relabel f l) (relabel f r)
 
--- what a leaf stands for: whether a base layer has the point (its bit), or an earlier definition, by its number
+-- what a leaf is: whether a base layer has the point (its bit), or an earlier definition, by its number
 pub data Source : Type 0 where
   base_bit : ℕ → Source
   definition : ℕ → Source

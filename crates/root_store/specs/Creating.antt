@@ -80,9 +80,9 @@ refusal_of_new file max_blocks =
     if not (length file == 0) then Some NotEmpty else if nat_lt max_blocks new_blocks then Some Full else None
 
 -- what is known of the calls after a refusal: the length alone was asked for, or the device failed in one of the five
-abbrev pub CallsBehind : StoreFault → ℕ → ℕ → Type 0
-CallsBehind Device old new = new ≤ old + 5
-CallsBehind fault old new = new ≡ old + 1
+abbrev pub CallsAfter : StoreFault → ℕ → ℕ → Type 0
+CallsAfter Device old new = new ≤ old + 5
+CallsAfter fault old new = new ≡ old + 1
 
 -- a fault says the reason, unless the device failed; memory is asked for only where there is none
 abbrev pub IsToldBy : StoreFault → Option StoreFault → Type 0

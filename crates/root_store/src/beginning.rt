@@ -76,7 +76,7 @@ impl<D: Disk> Commit<D> {
     /// Begins the commit of an image. It makes no device call, and a refusal changes nothing.
     pub fn begin(&mut self, alloc: Global, image: Image) -> Result<(), StoreFault>
         requires { is_busy self.old.phase ≡ false }
-        // From the content that the store stands for to that of the image.
+        // From the content that the store holds to that of the image.
         ensures begun { (x : Kept) → StoreStandsFor D.Disk self.old x
             → OnOk result ((y : Kept) × (y.held ≡ image_held image) × RunsFrom D.Disk self.new x y) }
         // On an honest disk, with no premise: from the content of the live root to just the image.
@@ -127,7 +127,7 @@ impl<D: Disk> Commit<D> {
         // What the live root holds stays until Done, and the root that it leads to holds the image's tiles.
         ensures records { self.new.live ≡ self.old.live }
         ensures next_tiles { OnOk result ((live_content self.new.next_live).tiles ≡ (image_held image).tiles) }
-        // From the content that the store stands for to that of the image.
+        // From the content that the store holds to that of the image.
         ensures begun { (x : Kept) → StoreStandsFor D.Disk self.old x
             → OnOk result ((y : Kept) × (y.held ≡ image_held image) × RunsFrom D.Disk self.new x y) }
         // On an honest disk, with no premise: from the content of the live root to just the image.

@@ -14,7 +14,7 @@ use Rattle.book_lock.specs.Heard.{Heard}
 use Rattle.store_flushing.specs.Among.{IsHeldIn, IsFileIn}
 
 module _ {D : Type 0} (g : Ghosts D) (history : History) where
-  -- no commit is under way: the file stands for the version that is stored
+  -- no commit is under way: the file holds the version that is stored
   pub record Rests (f : Flusher D g) : Type 0 where
     pub x : Kept
     pub held : IsHeldIn history x.held

@@ -69,7 +69,7 @@ pub fn close<J: BookName, R: Wait + Drop, D: Disk, W: Wait>(
     // All that is reported is stored, where it was for the reporter.
     ensures reported { IfSome flusher (λ f. (newest_in reporter.log).durable ≤ f.commit.root.version
         → All (λ entry. entry.version.durable ≤ result.stored) result.seen_log.log) }
-    // Every file that a crash may leave stands for a version of the log, where it stood for one of the reporter's.
+    // Every file that a crash may leave holds a version of the log, where it held one of the reporter's.
     ensures files { IfSome flusher (λ f. Leaves D.Disk f.commit.disk (IsFileIn (history_of reporter.log) f.commit.root.version)
         → IfSome result.disk (λ disk. Leaves D.Disk disk (IsFileIn (history_of result.seen_log.log) result.stored))) }
     // It is just the version that is stored, where no commit is under way and the device did not fail.

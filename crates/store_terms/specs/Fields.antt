@@ -1,4 +1,4 @@
--- Fields of records: what the bytes at the front of some bytes stand for, and how a value is spelled.
+-- Fields of records: the value that is read from the front of some bytes, and how a value is spelled.
 use Rattle.std.specs.Prelude.{◌≡◌, ℕ, zero, suc, ℤ, ◌^◌, ◌<◌, ◌==◌, nat_lt, Bool, true, ◌&&◌, List, [], ◌∷◌, ◌++◌, length, drop, slice_index, flat_map, Option, Some, None, if◌then◌else◌}
 use Rattle.std.specs.List.{list_all}
 use Rattle.std.specs.Int.{w32, cast_signed, cast_unsigned}

@@ -1,4 +1,4 @@
--- What a file stands for: a number, layers and finished tiles; or what is wrong with it.
+-- What a file holds: a number, layers and finished tiles; or what is wrong with it.
 use Rattle.std.specs.Prelude.{◌≡◌, ℕ, ◌+◌, ◌*◌, ◌%◌, ◌==◌, nat_lt, nat_le, Bool, not, ◌&&◌, ◌||◌, if◌then◌else◌, List, length, slice_index, Option, Some, None, Result, Ok, Err}
 use Rattle.overlay_terms.specs.Commands.{version_max}
 use Rattle.disk_model.specs.Disk.{part}
@@ -66,6 +66,6 @@ root_of file =
 abbrev pub reading : List ℕ → Result Held Damage
 reading file = root_of file >>= λ r. held_of file r
 
--- the file stands for a number, layers and finished tiles
+-- the file holds a number, layers and finished tiles
 abbrev pub StandsFor : Held → List ℕ → Type 0
 StandsFor held file = reading file ≡ Ok held

@@ -23,7 +23,7 @@ segment = sieved (λ s. is_lt (whole_cmp s.left s.right)) (made (λ p. record { 
 abbrev pub point_name : Field PointName
 point_name = made name_from name_parts (one_of_three whole_point (both segment segment) (both segment (number 1)))
 
--- whether a name stands for a place
+-- whether a name has a place
 abbrev pub has_place : PointName → Bool
 has_place (Vertex v) = true
 has_place (Cross a b) = not (is_parallel a b) && int_lt (pos 0) (crossing_place a b).w && is_on a (crossing_place a b) && is_on b (crossing_place a b)

@@ -13,7 +13,7 @@ use Rattle.sweep_line.specs.declared.status.StatusEntry.{StatusEntry}
 abbrev pub goes_on : Point → StatusEntry → Bool
 goes_on q e = lies_right q e.to
 
--- up to each x there stand at least as many right ends as pieces that end there
+-- up to each x there are at least as many right ends as pieces that end there
 abbrev pub HasEndsFor : List StatusEntry → List HPoint → Type 0
 HasEndsFor entries ends = (q : Point) → pos 0 <ℤ q.w → count_by (λ e. not (goes_on q e)) entries ≤ count_by (λ v. not (lies_right q v)) ends
 

@@ -23,7 +23,7 @@ pub record IsEntryOf (input : Input) (p : Elementary) (e : StatusEntry) : Type 0
   pub support : e.support ≡ p.support
   pub over : (k : ℕ) → k < layers_max → mask_bits e.over k ≡ over_bits input.marked (midpoint (place_of p.from) (place_of p.to)) k
 
--- from a place on one entry stands under another wherever both go on
+-- from a place on one entry is under another wherever both go on
 abbrev pub StandsUnder : Point → StatusEntry → StatusEntry → Type 0
 StandsUnder q a b =
     (z : Point) → pos 0 <ℤ z.w → (q.x *ℤ z.w) ≤ℤ (z.x *ℤ q.w) → goes_on z a ≡ true → goes_on z b ≡ true → is_under a.support b.support z ≡ true

@@ -135,7 +135,7 @@ fn ends_over(entry: &StatusEntry, at: &HPoint) -> bool
     x_cmp(&entry.to, at).is_eq()
 }
 
-/// Whether a piece of the status stands under one of the segment that begins at the point.
+/// Whether a piece of the status is under one of the segment that begins at the point.
 fn stands_under(entry: &StatusEntry, at: &HPoint, support: &Seg) -> bool
     ensures { result ≡ is_passed (place at.now) support.now entry.now }
 {

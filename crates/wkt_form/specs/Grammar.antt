@@ -126,7 +126,7 @@ pub record IsGoodSoFar (tokens : List Token) : Type 0 where
   pub begun : IsBegun tokens
   pub numbers : All (λ token. number_fault token ≡ None) tokens
 
--- the token at a position is the first at fault: it cannot stand there, or it is a number that is not whole or no coordinate;
+-- the token at a position is the first at fault: it cannot come there, or it is a number that is not whole or no coordinate;
 -- at the end of the tokens the text is not whole, and its length is the position
 abbrev pub IsFaultAt : List ℕ → ℕ → Option Token → WktFault → Type 0
 IsFaultAt bytes i None fault = ¬ (IsText (tokens_of bytes)) × (fault ≡ Syntax (length bytes))

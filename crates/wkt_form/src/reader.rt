@@ -60,7 +60,7 @@ impl Reader {
         Ok(())
     }
 
-    /// Adds what the token brings, which may stand here.
+    /// Adds what the token brings, which may come here.
     fn add(&mut self, alloc: Global, token: Token) -> Result<(), WktFault>
         ensures ok { OnOk result (with_symbol self.old token.at token.symbol ≡ Ok self.new) }
         ensures err { IfErr result (λ fault. (fault ≡ WktFault.OutOfMemory) ⊎ (with_symbol self.old token.at token.symbol ≡ Err fault)) }

@@ -104,7 +104,7 @@ fn check_pieces(rt: &impl Abort, alloc: Global, version: &Version) {
         Some(Tile::Pieces(pieces)) => assert!(rt; pieces.len() == 65_536),
         _ => panic!(rt; "no pieces"),
     }
-    let told = version.edges(alloc, &name, 16).expect(rt, "told");
+    let told = version.edges(alloc, &name, 16).expect(rt, "a text");
     assert!(rt; told.starts_with(b"edges 65536\n"));
     let verdict = version.verify(alloc, &name, 16).expect(rt, "compared");
     assert!(rt; verdict == Verdict::Same);
@@ -126,7 +126,7 @@ fn check_oversize(rt: &impl Abort, alloc: Global, version: &Version) {
     let name = name_of(rt, alloc, "X");
     assert!(rt; matches!(version.tile(&name, 16), Some(Tile::Oversize)));
     match version.edges(alloc, &name, 16) {
-        Ok(_) => panic!(rt; "told"),
+        Ok(_) => panic!(rt; "a text of too many pieces"),
         Err(fault) => assert!(rt; fault.code() == 22),
     }
     let verdict = version.verify(alloc, &name, 16).expect(rt, "compared");

@@ -28,7 +28,7 @@ const BATCHES: &[(&[Change], Reply)] = &[
 
 #[test]
 fn a_batch_makes_one_version_or_none(rt: HostRuntime) {
-    let mut edition = Edition::behind(&rt, rt.alloc(), &[]);
+    let mut edition = Edition::after_all(&rt, rt.alloc(), &[]);
     for (row, (changes, want)) in BATCHES.iter().enumerate() {
         let batch = batch(&rt, rt.alloc(), changes);
         match edition.submit_all(rt.alloc(), &batch) {
@@ -83,7 +83,7 @@ fn a_batch_touches_the_tiles_of_each_of_its_commands(rt: HostRuntime) {
     let first = behind_batch(
         &rt,
         rt.alloc(),
-        &Edition::behind(&rt, rt.alloc(), &[]),
+        &Edition::after_all(&rt, rt.alloc(), &[]),
         OVERLAP,
     );
     let edition = first.with_tile(&rt, rt.alloc(), "I", 16);
