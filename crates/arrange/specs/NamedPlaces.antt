@@ -1,7 +1,9 @@
 -- Places with their names, in the order of the places.
-use Rattle.std.specs.Prelude.{◌≡◌, ◌+◌, ◌++◌, ℕ, pos, ◌<ℤ◌, Bool, refl, IsTrue, List, [], ◌∷◌, flat_map, All, Any, Contains}
+use Rattle.std.specs.Prelude.{◌≡◌, ◌+◌, ◌++◌, ℕ, ◌<ℤ◌, [], ◌∷◌}
+use Rattle.std.specs.Prelude.{pos, Bool, refl, IsTrue, List, flat_map, All, Any, Contains}
 use Rattle.std.specs.List.{AllPairs}
-use Rattle.std.specs.Cmp.{IsTotalOrder, IsEquivalence, IsPartialEquivalence, IsPartialOrder, eq_by_cmp_equiv, partial_equiv_from_equiv, partial_order_from_agreeing_total}
+use Rattle.std.specs.Cmp.{IsTotalOrder, IsEquivalence, IsPartialEquivalence, IsPartialOrder}
+use Rattle.std.specs.Cmp.{eq_by_cmp_equiv, partial_equiv_from_equiv, partial_order_from_agreeing_total}
 use Rattle.std.specs.Ordering.{eq_by_cmp, as_partial_cmp}
 use Rattle.std.specs.declared.cmp.Ordering.{Ordering}
 use Rattle.std.specs.declared.cmp.Ordering.TheVariants.{Less}
@@ -63,7 +65,8 @@ pub record IsFound (k : ℕ) (s : Segment) (names : List PointName) (z : NamedPl
 -- all places of some names on a segment within the closed column
 pub record AreFound (k : ℕ) (s : Segment) (names : List PointName) (list : List NamedPlace) : Type 0 where
   pub sound : All (IsFound k s names) list
-  pub complete : (name : PointName) (p : Point) → Contains names name → pos 0 <ℤ p.w → IsPlaceOf name p → IsTrue (is_on s p)
+  pub complete : (name : PointName) (p : Point) → Contains names name → pos 0 <ℤ p.w → IsPlaceOf name p
+      → IsTrue (is_on s p)
       → IsTrue (is_in_closed_column k p) → Any (λ z. IsTrue (same_place p (spot z))) list
 
 -- places on a segment within the closed column, from left to right, each once; all nodes are among them

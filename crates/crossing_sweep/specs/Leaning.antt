@@ -1,4 +1,5 @@
--- The plane leaned to the right: to x, taken n times, y is added. Places in order then lie one right of the other, and no segment is vertical.
+-- The plane leaned to the right: to x, taken n times, y is added. Places in order then lie one right of the other, and
+-- no segment is vertical.
 use Rattle.std.specs.Prelude.{◌≡◌, ℤ, pos, neg_ℤ, ◌+ℤ◌, ◌-ℤ◌, ◌*ℤ◌, ◌<ℤ◌, ◌⊎◌, ◌^◌, ◌≤ℤ◌}
 use Rattle.std.specs.declared.cmp.Ordering.TheVariants.{Less}
 use Rattle.overlay_terms.specs.Plane.{WholePoint, Point, Segment, point_cmp, height_over}

@@ -9,12 +9,15 @@ use Rattle.crossing_sweep.specs.Queue.{IsStatusAt}
 
 -- under the lowest member of a status lies nothing, and under each other one what is up to the one below it
 pub record MasksGoUp (n : ℤ) (input : StripInput) (q : Point) (status : List Segment) : Type 0 where
-  pub lowest : (d : Segment) (k : ℕ) → 0 < length status → under_bits (lean_marked n input.marked) (lean_segment n (get_or status 0 d)) (lean n q) k ≡ false
+  pub lowest : (d : Segment) (k : ℕ) → 0 < length status
+      → under_bits (lean_marked n input.marked) (lean_segment n (get_or status 0 d)) (lean n q) k ≡ false
   pub next : (i : ℕ) (d : Segment) (k : ℕ) → i + 1 < length status
-      → under_bits (lean_marked n input.marked) (lean_segment n (get_or status (i + 1) d)) (lean n q) k ≡ up_to_bits (lean_marked n input.marked) (lean_segment n (get_or status i d)) (lean n q) k
+      → under_bits (lean_marked n input.marked) (lean_segment n (get_or status (i + 1) d)) (lean n q) k
+      ≡ up_to_bits (lean_marked n input.marked) (lean_segment n (get_or status i d)) (lean n q) k
 
 -- so the bits under each member are known from the one below it
 abbrev pub MasksStepUp : Type 0
 MasksStepUp =
-    (n : ℤ) (input : StripInput) (q : Point) (status : List Segment) → IsSteep n → IsStripInput input → IsStatusAt n (map (λ m. m.segment) input.marked) q status →
+    (n : ℤ) (input : StripInput) (q : Point) (status : List Segment) → IsSteep n → IsStripInput input
+    → IsStatusAt n (map (λ m. m.segment) input.marked) q status →
     MasksGoUp n input q status

@@ -42,7 +42,8 @@ state_of reader = within_state (outer_trees reader.outer.items) reader.within
 -- what waits after an operator, whatever is open round it
 abbrev pub IsBehind : Operation → Option Left → Node → Within → Type 0
 IsBehind o left operand within =
-    (outer : List (pure.Frame (Tree (List ℕ)))) → within_state outer within ≡ behind tree_making (operation o) outer (left_tree left) (tree operand)
+    (outer : List (pure.Frame (Tree (List ℕ))))
+    → within_state outer within ≡ behind tree_making (operation o) outer (left_tree left) (tree operand)
 
 -- whether a token that is a name is a name of a layer
 abbrev pub is_good : Kind → Bool

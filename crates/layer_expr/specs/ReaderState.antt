@@ -22,7 +22,8 @@ tree_making = record { of_name = leaf; of_brackets = λ t. t; of_join = combine 
 pub data Frame (A : Type 0) : Type 0 where
   frame : Option (Operation × A) → Option A → Frame A
 
--- the frames outside the open brackets, the innermost first, and what waits within: an operand comes next, or it was read
+-- the frames outside the open brackets, the innermost first, and what waits within: an
+-- operand comes next, or it was read
 pub data ReaderState (A : Type 0) : Type 0 where
   awaits : List (Frame A) → Option (Operation × A) → Option A → ReaderState A
   holds : List (Frame A) → Option (Operation × A) → A → ReaderState A

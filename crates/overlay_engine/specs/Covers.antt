@@ -78,7 +78,8 @@ module _ {D : Type 0} (g : Ghosts D) (start : Start) where
     pub stored : f.commit.root.version ≤ version.number
     pub store : In f.commit.phase f batches
 
-  -- a device call: the store covers the same version, and a crash at any moment of the call leaves one that is no older than what was reported as it began
+  -- a device call: the store covers the same version, and a crash at any moment of the call leaves one that is no older
+  -- than what was reported as it began
   pub record Moves (old new : Flusher D g) (version : Version) (batches : List Batch) : Type 0 where
     pub covers : Covers new version batches
     pub moments : LeavesOnly g old.commit.disk new.commit.disk (Covered start version.durable batches)

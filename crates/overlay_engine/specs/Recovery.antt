@@ -34,9 +34,11 @@ module _ {D : Type 0} (g : Ghosts D) (start : Start) (disk : D) where
     pub stops : Stops g disk (refused.fault ≡ Device) refused.disk
     pub cause : (refused.fault ≡ Device) ⊎ (refused.fault ≡ OutOfMemory)
 
--- where a point lies for a layer of a recovered version: what `locate` says of it is right for the layers after the commands
+-- where a point lies for a layer of a recovered version: what `locate` says of it is right
+-- for the layers after the commands
 abbrev pub RecoveredAnswers : {D : Type 0} → Ghosts D → Type 0
 RecoveredAnswers {D = D} g =
-    (start : Start) (disk : D) (e : Engine D g) (least : ℕ) (batches : List Batch) → Recovered g start disk e least batches
+    (start : Start) (disk : D) (e : Engine D g) (least : ℕ) (batches : List Batch)
+    → Recovered g start disk e least batches
     → (name : Name) (query : Point) (told : Place) → location told ≡ answer_at e.version.layers name query
     → location told ≡ answer_at (layers_from start (up_to start e.version.number batches)) name query

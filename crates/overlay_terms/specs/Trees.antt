@@ -1,5 +1,6 @@
 -- Expressions over layers, and lists of definitions that name one another by number.
-use Rattle.std.specs.Prelude.{ℕ, ◌-◌, Bool, false, not, ◌&&◌, ◌||◌, List, [], ◌∷◌, ◌++◌, fold, slice_get, unwrap_or, if◌then◌else◌, ◌==◌}
+use Rattle.std.specs.Prelude.{ℕ, ◌-◌, ◌&&◌, ◌||◌, [], ◌∷◌, ◌++◌, if◌then◌else◌, ◌==◌}
+use Rattle.std.specs.Prelude.{Bool, false, not, List, fold, slice_get, unwrap_or}
 use Rattle.std.specs.Int.{bit_at}
 
 -- the set operations of ISO 19125-1:2004, 6.1.2.4: Intersection, Union, Difference and SymDifference

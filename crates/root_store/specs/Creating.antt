@@ -1,5 +1,6 @@
 -- A new file.
-use Rattle.std.specs.Prelude.{false, ◌≡◌, ◌⊎◌, ℕ, ◌+◌, ◌*◌, ◌<◌, ◌≤◌, slice_index, List, [], ◌∷◌, length, ◌==◌, nat_lt, not, if◌then◌else◌, Option, Some, None}
+use Rattle.std.specs.Prelude.{◌≡◌, ◌⊎◌, ℕ, ◌+◌, ◌*◌, ◌<◌, ◌≤◌, [], ◌∷◌, ◌==◌, if◌then◌else◌}
+use Rattle.std.specs.Prelude.{false, slice_index, List, length, nat_lt, not, Option, Some, None}
 use Rattle.disk_model.specs.declared.disk.Disk.{Ghosts}
 use Rattle.disk_model.specs.Disk.{part, Holds, Torn}
 use Rattle.disk_model.specs.Moments.{Leaves, LeavesOnly}
@@ -8,7 +9,8 @@ use Rattle.store_terms.specs.Places.{block_size}
 use Rattle.store_terms.specs.Roots.{body_size, body_text}
 use Rattle.store_terms.specs.StandsFor.{gate, open_gate, body_at, slots_end}
 use Rattle.commit_plan.specs.declared.fault.StoreFault.{StoreFault}
-use Rattle.commit_plan.specs.declared.fault.StoreFault.TheVariants.{Device, Full, Damaged, NotEmpty, Failed, SequenceLimit, OutOfMemory}
+use Rattle.commit_plan.specs.declared.fault.StoreFault.TheVariants.{Device, Full, Damaged, NotEmpty, Failed}
+use Rattle.commit_plan.specs.declared.fault.StoreFault.TheVariants.{SequenceLimit, OutOfMemory}
 use Rattle.commit_plan.specs.Kept.{Kept, Rest}
 
 -- how many blocks a new store has: its slots, and one for its catalog

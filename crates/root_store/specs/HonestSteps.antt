@@ -1,5 +1,6 @@
 -- What the steps of making and opening a store promise, where the disk is honest.
-use Rattle.std.specs.Prelude.{◌≡◌, ◌≢◌, ℕ, ◌+◌, ◌≤◌, Bool, List, length, None, Result, IfOk, IfErr, OnOk, IsErrOf, MatchResult}
+use Rattle.std.specs.Prelude.{◌≡◌, ◌≢◌, ℕ, ◌+◌, ◌≤◌}
+use Rattle.std.specs.Prelude.{Bool, List, length, None, Result, IfOk, IfErr, OnOk, IsErrOf, MatchResult}
 use Rattle.disk_model.specs.declared.disk.Disk.{Ghosts}
 use Rattle.disk_model.specs.declared.fault.DiskFault.{DiskFault}
 use Rattle.disk_model.specs.Disk.{Torn, Only, Fewer, Elapses, Failed, CountsFailure}
@@ -16,7 +17,8 @@ use Rattle.commit_plan.specs.declared.loaded.Loaded.{Loaded}
 use Rattle.commit_plan.specs.Kept.{Kept, other, Rest, Shut}
 use Rattle.commit_plan.specs.Loaded.{held_in}
 use Rattle.root_store.specs.Healing.{Heals}
-use Rattle.root_store.specs.Opening.{IsRead, Loads, Untouched, OpeningWrites, HasRoot, IsSettled, InPhases, Stops, IsCompleted, Completes}
+use Rattle.root_store.specs.Opening.{IsRead, Loads, Untouched, OpeningWrites, HasRoot}
+use Rattle.root_store.specs.Opening.{IsSettled, InPhases, Stops, IsCompleted, Completes}
 use Rattle.root_store.specs.Creating.{nothing_kept, IsNewFile, MadeInPhases, refusal_of_new, IsToldBy, CallsAfter}
 
 module _ {D : Type 0} (g : Ghosts D) where

@@ -11,7 +11,8 @@ use Rattle.commit_plan.specs.Kept.{Kept}
 use Rattle.root_store.specs.declared.commit.Commit.{Commit}
 use Rattle.root_store.specs.declared.open_fault.OpenFault.{OpenFault}
 use Rattle.root_store.specs.Running.{StoreStandsFor}
-use Rattle.root_store.specs.Opening.{Opened, Untouched, OpeningWrites, HasRoot, Tells, FailedBy, InPhases, Stops, IsCompleted, Completes}
+use Rattle.root_store.specs.Opening.{Opened, Untouched, OpeningWrites, HasRoot, Tells}
+use Rattle.root_store.specs.Opening.{FailedBy, InPhases, Stops, IsCompleted, Completes}
 use Rattle.root_store.specs.Creating.{nothing_kept, IsNewFile, MadeInPhases, refusal_of_new, IsToldBy, CallsAfter}
 
 module _ {D : Type 0} (g : Ghosts D) where
@@ -23,7 +24,8 @@ module _ {D : Type 0} (g : Ghosts D) where
     -- the store holds just that, and a crash at any moment of the call leaves what it might have left before, or
     -- a file that holds the same
     pub ok : IfOk result
-        (λ x. (k : Kept) × (k.held ≡ image_held x.1) × StoreStandsFor g x.0 k × LeavesOnly g disk x.0.disk (Opened g disk))
+        (λ x. (k : Kept) × (k.held ≡ image_held x.1) × StoreStandsFor g x.0 k
+        × LeavesOnly g disk x.0.disk (Opened g disk))
     -- so it does where the file is refused, and after the call
     pub err : IfErr result
         (λ refused. g.is_honest refused.disk × Leaves g refused.disk (Opened g disk)

@@ -1,5 +1,6 @@
 //! A store, and a commit of it, one device call a step.
-ghost use Rattle.std.specs.Prelude.{◌≡◌, ◌↔◌, ℕ, ◌+◌, ◌<◌, true, length, drop, slice_get, vec_capacity, IfSome, IfOk, OnOk, OnErr, IsErrOf, IfErr};
+ghost use Rattle.std.specs.Prelude.{◌≡◌, ◌↔◌, ℕ, ◌+◌, ◌<◌, true, length, drop, slice_get};
+ghost use Rattle.std.specs.Prelude.{vec_capacity, IfSome, IfOk, OnOk, OnErr, IsErrOf, IfErr};
 ghost use Rattle.disk_model.specs.Disk.{Failed, CountsCall};
 ghost use Rattle.commit_plan.specs.Kept.{Kept};
 ghost use Rattle.root_store.specs.Content.{Keeps};

@@ -1,5 +1,6 @@
 -- How a finished tile is spelled: its column, and its pieces by the names of their ends, or that they are too many.
-use Rattle.std.specs.Prelude.{◌≡◌, ℕ, pos, ◌==◌, nat_lt, int_lt, Bool, true, not, ◌&&◌, ◌⊎◌, List, map, Option, Some, None, if◌then◌else◌}
+use Rattle.std.specs.Prelude.{◌≡◌, ℕ, ◌==◌, ◌&&◌, ◌⊎◌, if◌then◌else◌}
+use Rattle.std.specs.Prelude.{pos, nat_lt, int_lt, Bool, true, not, List, map, Option, Some, None}
 use Rattle.std.proofs.Common.{inl, inr}
 use Rattle.std.specs.Ordering.{is_lt}
 use Rattle.overlay_terms.specs.Plane.{Segment, whole_cmp, point_cmp, is_on}

@@ -1,5 +1,5 @@
--- What a reader has read so far, and what one more token makes of it. Only private functions of the reader cite this: what a
--- text is, and by what it is refused, the grammar says alone.
+-- What a reader has read so far, and what one more token makes of it. Only private functions of the reader cite this:
+-- what a text is, and by what it is refused, the grammar says alone.
 use Rattle.std.specs.Prelude.{ℕ, ℤ, pos, Bool, true, false, List, [], ◌∷◌, ◌++◌, Option, Some, None, Result, Ok, Err}
 use Rattle.overlay_terms.specs.Plane.{WholePoint}
 use Rattle.wkt_form.specs.declared.fault.WktFault.{WktFault}
@@ -62,7 +62,8 @@ state_after r token = by_next (next_state r.state r.several token.symbol) where
 
 -- what one more token makes of it: that it cannot come there is found first, then what is wrong with it as a number
 abbrev pub with_token : Reading → code.Token → Result Reading WktFault
-with_token r token = state_after r token >>= λ state. with_symbol r token.at token.symbol >>= λ more. Ok (record more { state = state })
+with_token r token =
+    state_after r token >>= λ state. with_symbol r token.at token.symbol >>= λ more. Ok (record more { state = state })
 
 abbrev pub with_tokens : Reading → List code.Token → Result Reading WktFault
 with_tokens r [] = Ok r

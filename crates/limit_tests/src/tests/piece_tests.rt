@@ -1,9 +1,9 @@
 //! A tile of as many pieces as are kept: built, committed, opened again and compared; and one of a piece more.
 //!
 //! In one column rectangles that lie are crossed by all that stand. The two long sides of a lying one are cut at both
-//! sides of each standing one, the two at its ends by none, and the other way round. Where just one of the two layers is,
-//! all of that is boundary: N lying and M standing ones have N * (2 * (2 * M + 1) + 2) + M * (2 * (2 * N + 1) + 2) pieces.
-//! 49 and 165 have 32,536 and 33,000, together 65,536. A corner that is cut off adds one.
+//! sides of each standing one, the two at its ends by none, and the other way round. Where just one of the two layers
+//! is, all of that is boundary: N lying and M standing ones have N * (2 * (2 * M + 1) + 2) + M * (2 * (2 * N + 1) + 2)
+//! pieces. 49 and 165 have 32,536 and 33,000, together 65,536. A corner that is cut off adds one.
 use crate::tests::testing::{define, name_of, put};
 use disk_model::mem_disk::MemDisk;
 use overlay_engine::step::{Reply, Step};

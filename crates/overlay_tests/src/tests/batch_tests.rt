@@ -70,8 +70,8 @@ fn a_batch_has_one_to_64_commands(rt: HostRuntime) {
     }
 }
 
-/// Batches on two squares and where both are, with one tile built, and how many tiles are pending then: of I all but the
-/// one that is kept and the 33 of J, or all of I.
+/// Batches on two squares and where both are, with one tile built, and how many tiles are pending then: of I all but
+/// the one that is kept and the 33 of J, or all of I.
 const TOUCHING: &[(&[Change], usize)] = &[
     (&[Change::Put("C", SQUARE), Change::Define("J", "C")], 65),
     (&[Change::Remove("I"), Change::Define("I", "A & B")], 33),
