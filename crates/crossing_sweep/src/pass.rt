@@ -13,8 +13,9 @@ use crate::member::Member;
 use crate::node_name::NodeName;
 use crate::pass_input::PassInput;
 use crate::progress::Progress;
-use crate::row::{Row, sort};
+use crate::row::Row;
 use crate::search::Search;
+use crate::sorting::sort;
 use crate::starts::starts;
 use crate::values::first_values;
 use crate::wish::{Always, Wish, is_portion};
@@ -112,10 +113,12 @@ pub fn cross_strip_while<W: Wish>(
     ensures left { IfOk result (λ o. IsNone o → W.ended wish.now) }
 {
     let pass = Pass::new(alloc, input, listed)?;
-    match pass.run_while(alloc, cap, wish)? {
-        Some(pass) => Ok(Some(pass.into_crossed())),
-        None => Ok(None),
-    }
+    let done = pass.run_while(alloc, cap, wish)?;
+    let Some(pass) = done else {
+        return Ok(None);
+    };
+    let found = pass.into_crossed(alloc)?;
+    Ok(Some(found))
 }
 
 impl<'a> Pass<'a> {
@@ -179,24 +182,24 @@ impl<'a> Pass<'a> {
     }
 
     /// What it has found, where it has come to the end, or has more rows than a cap.
-    fn into_crossed(self) -> Crossed
-        ensures { (cap : ℕ) → (self.entry.ahead ≡ 0) ⊎ (cap < self.entry.rows) → self.entry.settled ≤ cap
-            → IsStripCrossed self.entry.input cap self.entry.listed result }
+    fn into_crossed(self, alloc: Global) -> Result<Crossed, AllocError>
+        ensures { IfOk result (λ found. (cap : ℕ) → (self.entry.ahead ≡ 0) ⊎ (cap < self.entry.rows) → self.entry.settled ≤ cap → IsStripCrossed self.entry.input cap self.entry.listed found) }
     {
+        let mut progress = self.progress;
+        sort(alloc, &mut progress.rows, progress.nodes)?;
         let Progress {
             search,
-            mut rows,
+            rows,
             nodes,
             names,
             ..
-        } = self.progress;
-        sort(&mut rows);
-        Crossed {
+        } = progress;
+        Ok(Crossed {
             rows,
             nodes,
             names,
             tests: search.tests,
-        }
+        })
     }
 }
 

@@ -1,7 +1,6 @@
 //! Rows of a pass: the pieces of the boundary, made where they end, and what the members carry up to there.
 ghost use Rattle.std.specs.Prelude.{◌≡◌, ◌++◌, true, map, OnOk};
-ghost use Rattle.crossing_sweep.specs.Rows.{mask_over as highest_mask, row_to as row_of_member};
-ghost use Rattle.crossing_sweep.specs.Rows.{rows_of, AreBegun, AreSorted, HasValue, IsBegun};
+ghost use Rattle.crossing_sweep.specs.Rows.{mask_over as highest_mask, row_to as row_of_member, rows_of, AreBegun, HasValue, IsBegun};
 ghost use Rattle.crossing_sweep.specs.Values.{AreValues};
 
 use crate::member::Member;
@@ -93,11 +92,4 @@ fn begin_over(
     member.over = over;
     member.differs = value ^ next;
     next
-}
-
-/// Puts rows in the order of the numbers of their ends.
-pub(crate) fn sort(rows: &mut Vec<Row>)
-    ensures { AreSorted rows.old.items rows.new.items }
-{
-    rows.sort_unstable_by_key(|row| (row.first, row.last));
 }
