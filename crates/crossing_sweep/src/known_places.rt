@@ -37,7 +37,7 @@ fn places_in_order(alloc: Global, input: &PassInput) -> Result<Vec<RankedPlace>,
     for m in input.marked() {
         offer_own(&mut places, &m.seg, input.strip())?;
     }
-    // A place is large: what is moved to and fro is where it stands.
+    // A place is large: what is moved to and fro is where it is kept.
     let mut order = references(alloc, &places)?;
     order.sort_unstable();
     order.dedup();
@@ -155,7 +155,7 @@ fn is_end_within(strip: Strip, vertex: Pt) -> bool
     (strip.border() <= x) & (x <= strip.end())
 }
 
-/// Adds the place that a name stands for, if it lies in the closed strip.
+/// Adds the place of a name, if it lies in the closed strip.
 fn offer(places: &mut Vec<RankedPlace>, name: PointName, strip: Strip) -> Result<(), AllocError>
     ensures { OnOk result ((names : List PointName) → AreOffered strip names (map ranked_entry places.old.items) → AreOffered strip (names ++ name ∷ []) (map ranked_entry places.new.items)) }
 {

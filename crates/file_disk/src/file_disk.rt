@@ -11,8 +11,8 @@ use std::os::unix::fs::FileExt;
 use std::rt::Files;
 use std::{fs, io};
 
-/// A plain file, which is open, and whose lock is held, as long as the disk is there. That it is honest is claimed nowhere:
-/// what it does is shown by tests.
+/// A plain file, which is open, and whose lock is held, as long as the disk is there. That it is honest is claimed
+/// nowhere: what it does is shown by tests.
 #[derive(Debug, Drop)]
 pub struct FileDisk {
     file: File,
@@ -35,10 +35,10 @@ enum Access {
 const FIRST_OWN: RawFd = 3;
 
 impl FileDisk {
-    /// The file at a path. Where it is absent it is made if `make` says so, and else that is an error, as is a folder, a
-    /// device and whatever the system refuses. Of a link, also of one that leads to no file yet, it is the file that the
-    /// link leads to. No byte of a file that is there is changed or cut off. No other program has it until it is closed:
-    /// that another has it is an error. The error's kind is `OutOfMemory` where memory was refused.
+    /// The file at a path. Where it is absent it is made if `make` says so, and else that is an error, as is a folder,
+    /// a device and whatever the system refuses. Of a link, also of one that leads to no file yet, it is the file that
+    /// the link leads to. No byte of a file that is there is changed or cut off. No other program has it until it is
+    /// closed: that another has it is an error. The error's kind is `OutOfMemory` where memory was refused.
     pub fn at<R: Files<File = File> + AllocGlobal>(
         rt: &R,
         path: &str,

@@ -1,4 +1,5 @@
-//! A server that could not run: why, the disk that comes back, and what is left of a book of which no session was begun.
+//! A server that could not run: why, the disk that comes back, and what is left of a book
+//! of which no session was begun.
 ghost use Rattle.std.specs.Prelude.{◌≡◌, [], None, Some, MatchBool, MatchOption};
 ghost use Rattle.std.specs.List.{list_any};
 ghost use Rattle.session_threads.specs.Running.{was_begun};
@@ -18,8 +19,8 @@ use store_flushing::keeper::told_log::ToldLog;
 use version_book::seen_log::SeenLog;
 use version_book::session::Session;
 
-/// No memory, no thread, or no places, by what the book answered, before any session was begun: the disk comes back, and
-/// the book's history is this one.
+/// No memory, no thread, or no places, by what the book answered, before any session was begun: the disk comes back,
+/// and the book's history is this one.
 pub fn refused<D: Disk>(
     alloc: Global,
     answer: BookAnswer,
@@ -44,8 +45,8 @@ pub fn refused<D: Disk>(
     }
 }
 
-/// A thread was refused: the disk comes back, what the book has come to, and what the sessions leave. The sessions come back
-/// themselves where one of them was begun.
+/// A thread was refused: the disk comes back, what the book has come to, and what the sessions leave. The sessions come
+/// back themselves where one of them was begun.
 pub fn stopped<R, W, D: Drop>(
     alloc: Global,
     answer: BookAnswer,

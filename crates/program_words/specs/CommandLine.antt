@@ -34,7 +34,7 @@ command_line =
     with_rule (with_rule (with_rule (with_rule (with_rule (new_app (codes "overlayd"))
     (option (codes "store"))) (flag (codes "create"))) (option (codes "workers"))) (option (codes "max-blocks"))) (others (codes "script"))
 
--- whether a text is `true`, which stands for a flag that is given
+-- whether a text is `true`, as that of a flag that is given
 abbrev pub is_set : Option Text → Bool
 is_set None = false
 is_set (Some text) = bytes_eq text (codes "true")

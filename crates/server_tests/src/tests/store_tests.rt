@@ -62,8 +62,8 @@ fn a_layer_is_there_when_the_store_is_opened_again(rt: HostRuntime) -> Result<()
     Ok(())
 }
 
-// Caught: `end_commit_reports_nothing` (in store_flushing/src/flusher_loop.rt the number that a commit has reached is not
-// reported): SYNC sleeps for ever.
+// Caught: `end_commit_reports_nothing` (in store_flushing/src/flusher_loop.rt the number that a commit has reached is
+// not reported): SYNC sleeps for ever.
 #[test]
 fn a_sync_ends_with_a_durable_version(rt: HostRuntime) -> Result<(), Fail> {
     let alloc = rt.alloc();
