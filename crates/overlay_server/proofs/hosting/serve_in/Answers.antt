@@ -4,7 +4,7 @@ use Rattle.store_flushing.specs.Stores.{flusher_in}
 use Rattle.overlay_server.specs.Given.{given_to}
 use Rattle.overlay_server.specs.Hosting.{IsHosted}
 use Rattle.overlay_server.specs.Refusing.{IsRefusedOf}
-use Rattle.overlay_server.specs.Serving.{IsHeldOf, IsLeftFrom, flusher_of, start_of}
+use Rattle.overlay_server.specs.Serving.{IsHeldOf, IsLeftFrom}
 use Rattle.overlay_server.proofs.StoreParts.{CountsAs}
 use Rattle.overlay_server.proofs.hosting.serve_in.Goals as goal
 
@@ -17,14 +17,14 @@ pub run-requires-clause-meant : goal.run-requires-clause-meant
 run-requires-clause-meant g c κs within =
     let hosted = c.in-Ok in
     subst (λ v. CountsAs g.D.Disk g.J.BookName.stored v (flusher_in hosted.hosted.store)) (sym hosted.ensures.version)
-    (subst (CountsAs g.D.Disk g.J.BookName.stored (start_of c.args.engine)) (sym hosted.ensures.flusher) c.requires.stored)
+    (subst (CountsAs g.D.Disk g.J.BookName.stored c.args.version) (sym hosted.ensures.flusher) c.requires.stored)
 
 pub run-requires-clause-told : goal.run-requires-clause-told
 run-requires-clause-told g c κs within =
     let hosted = c.in-Ok in
     let may = g.W.ReplyWriter.may_report in
     subst (λ v. (history : History) → IsHeldOf g.D.Disk v (flusher_in hosted.hosted.store) history → may history) (sym hosted.ensures.version)
-    (subst (λ f. (history : History) → IsHeldOf g.D.Disk (start_of c.args.engine) f history → may history) (sym hosted.ensures.flusher) c.requires.told)
+    (subst (λ f. (history : History) → IsHeldOf g.D.Disk c.args.version f history → may history) (sym hosted.ensures.flusher) c.requires.told)
 
 pub returns-in-Err-clause-refused : goal.returns-in-Err-clause-refused
 returns-in-Err-clause-refused g c =
@@ -33,18 +33,20 @@ returns-in-Err-clause-refused g c =
 
 pub returns-in-Ok-clause-left : goal.returns-in-Ok-clause-left
 returns-in-Ok-clause-left g c =
-    let engine = c.args.engine in
+    let version = c.args.version in
+    let flusher = c.args.store.flusher in
     let hosted = c.in-Ok in
     let all = given_to g.R.Read.remaining g.W.ReplyWriter.contents c.args.ports.items in
-    subst (λ v. IfOk c.run.result (IsLeftFrom g.W.ReplyWriter.contents g.D.Disk v (flusher_of engine) all)) hosted.ensures.version
+    subst (λ v. IfOk c.run.result (IsLeftFrom g.W.ReplyWriter.contents g.D.Disk v flusher all)) hosted.ensures.version
     (subst (λ f. IfOk c.run.result (IsLeftFrom g.W.ReplyWriter.contents g.D.Disk hosted.hosted.version.value f all)) hosted.ensures.flusher c.run.ensures.left)
 
 pub returns-in-Ok-clause-refused : goal.returns-in-Ok-clause-refused
 returns-in-Ok-clause-refused g c =
-    let engine = c.args.engine in
+    let version = c.args.version in
+    let flusher = c.args.store.flusher in
     let hosted = c.in-Ok in
     let remaining = g.R.Read.remaining in
     let contents = g.W.ReplyWriter.contents in
     let all = given_to remaining contents c.args.ports.items in
-    subst (λ v. IfErr c.run.result (IsRefusedOf remaining contents g.D.Disk v (flusher_of engine) all)) hosted.ensures.version
+    subst (λ v. IfErr c.run.result (IsRefusedOf remaining contents g.D.Disk v flusher all)) hosted.ensures.version
     (subst (λ f. IfErr c.run.result (IsRefusedOf remaining contents g.D.Disk hosted.hosted.version.value f all)) hosted.ensures.flusher c.run.ensures.refused)

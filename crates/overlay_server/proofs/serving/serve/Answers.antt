@@ -1,8 +1,7 @@
+use Rattle.std.proofs.Common.{◌≡◌, ◌∙◌, Option, ap, is_some, refl, sym, subst}
 use Rattle.overlay_server.specs.Given.{bytes_of, given_by}
-use Rattle.overlay_server.specs.Serving.{start_of}
-use Rattle.overlay_server.proofs.Disks.{left_disk}
+use Rattle.overlay_server.specs.Refusing.{IsRefusedFrom}
+use Rattle.overlay_server.specs.Serving.{IsLeftFrom, first_log, flusher_of, start_of}
+use Rattle.overlay_server.proofs.Disks.{disk_back, disk_left, of_engine}
 use Rattle.overlay_server.proofs.serving.serve.Goals as goal
 
-pub returns-clause-disk : goal.returns-clause-disk
-returns-clause-disk g c =
-    left_disk g.D.Disk (start_of c.args.engine) c.args.engine bytes_of (given_by g.R.Read.remaining c.args.readers.items) c.listen_in.result c.listen_in.ensures.left
