@@ -19,7 +19,7 @@ pub fn handed<J: BookName, D: Disk>(
 ) -> (Version, Opened<J, D>, Option<Key<D>>)
     ensures version { result.0 ≡ start_of engine }
     ensures flusher { result.1.flusher ≡ flusher_of engine }
-    ensures key { is_some result.2 ≡ is_some (flusher_of engine) }
+    ensures key { is_some result.2 ≡ is_some result.1.flusher }
 {
     match engine {
         Some(engine) => {

@@ -1,9 +1,13 @@
 //! The book of a server, from its opening to its end.
-ghost use Rattle.std.specs.Prelude.{◌≡◌, ◌<◌, ◌≤◌, ◌↔◌, ℕ, List, [], All, length, IfOk, IfErr};
+ghost use Rattle.std.specs.Prelude.{◌≡◌, ◌<◌, ◌≤◌, ◌↔◌, ℕ, List, [], All, is_some, length, IfOk, IfErr, IfSome};
+ghost use Rattle.std.specs.List.{AllZip};
 ghost use Rattle.book_history.specs.Rules.{head_of};
+ghost use Rattle.book_lock.specs.Steps.{beginners};
 ghost use Rattle.overlay_terms.specs.Histories.{Entry, History};
+ghost use Rattle.server_session.specs.Replying.{IsAtStart};
 ghost use Rattle.store_flushing.specs.Stores.{flusher_in};
-ghost use Rattle.overlay_server.specs.Given.{Given, IsBegun, bytes_of, given_by, given_to};
+ghost use Rattle.version_book.specs.Store.{has_store};
+ghost use Rattle.overlay_server.specs.Given.{Given, bytes_of, given_by, given_to};
 ghost use Rattle.overlay_server.specs.Hosting.{IsHosted};
 ghost use Rattle.overlay_server.specs.Refusing.{IsRefusedFrom, IsRefusedOf};
 ghost use Rattle.overlay_server.specs.Serving.{IsHeldOf, IsLeftFrom, IsStoredOf, first_log};
@@ -136,7 +140,9 @@ where
     requires seats { J.seats ≡ length ports.items }
     requires ports { (0 < length ports.items) × (length ports.items ≤ 4) }
     requires told { (history : History) → IsHeldOf D.Disk version store.flusher history → W.may_report history }
-    requires own { All (IsBegun R.remaining W.place) ports.items }
+    // Each writer goes on from the session of its place in this book alone: no other answers it, also where this never returns.
+    requires from { AllZip (λ port me. W.from port.writer (is_some store.flusher) me) ports.items (beginners opened.1 (length ports.items)) }
+    requires own { All (λ port. IfSome (W.left port.writer) (IsAtStart (R.remaining port.reader))) ports.items }
     ensures left { IfOk result (IsLeftFrom W.contents D.Disk version store.flusher (given_to R.remaining W.contents ports.items)) }
     ensures refused { IfErr result (IsRefusedOf R.remaining W.contents D.Disk version store.flusher (given_to R.remaining W.contents ports.items)) }
 {
@@ -172,7 +178,8 @@ where
         requires ports { 0 < length ports.items }
         requires hosted { IsHosted J.book (length ports.items) self }
         requires told { (history : History) → IsHeldOf D.Disk self.version.value (flusher_in self.store) history → W.may_report history }
-        requires own { All (IsBegun R.remaining W.place) ports.items }
+        requires from { AllZip (λ port me. W.from port.writer (has_store self.shared) me) ports.items self.sessions.items }
+        requires own { All (λ port. IfSome (W.left port.writer) (IsAtStart (R.remaining port.reader))) ports.items }
         requires meant { (log : List Entry) (number : ℕ) → J.stored log number ↔ IsStoredOf D.Disk self.version.value (flusher_in self.store) log number }
         ensures left { IfOk result (IsLeftFrom W.contents D.Disk self.version.value (flusher_in self.store) (given_to R.remaining W.contents ports.items)) }
         ensures refused { IfErr result (IsRefusedOf R.remaining W.contents D.Disk self.version.value (flusher_in self.store) (given_to R.remaining W.contents ports.items)) }

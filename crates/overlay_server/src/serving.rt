@@ -1,7 +1,9 @@
 //! A server: from readers and an engine to what the sessions wrote, and what is left of the book and its store.
-ghost use Rattle.std.specs.Prelude.{◌≡◌, ◌<◌, ◌≤◌, All, is_some, length, IfOk, IfErr};
+ghost use Rattle.std.specs.Prelude.{◌≡◌, ◌<◌, ◌≤◌, [], All, is_some, length, IfOk, IfErr, IfSome};
+ghost use Rattle.book_history.specs.Known.{Known};
 ghost use Rattle.book_history.specs.Rules.{head_of};
-ghost use Rattle.overlay_server.specs.Given.{IsBegun, bytes_of, given_by, given_to};
+ghost use Rattle.server_session.specs.Replying.{IsAtStart};
+ghost use Rattle.overlay_server.specs.Given.{bytes_of, given_by, given_to};
 ghost use Rattle.overlay_server.specs.Refusing.{IsRefusedFrom, IsRefusedOf};
 ghost use Rattle.overlay_terms.specs.Histories.{History};
 ghost use Rattle.overlay_server.specs.Serving.{IsHeldOf, IsLeftFrom, first_log, flusher_of, start_of};
@@ -90,9 +92,10 @@ where
     // To the writers may be reported what the store holds, and nothing else: this says what counts as stored, also in a call
     // that never returns. Each writer of bytes meets it.
     requires told { (history : History) → IsHeldOf D.Disk (start_of engine) (flusher_of engine) history → W.may_report history }
-    // Each that keeps its place is at the start of its reader's script, for whichever session that has made nothing. Each
-    // writer of bytes meets it.
-    requires own { All (IsBegun R.remaining W.place) ports.items }
+    // Each begins with whichever session that has made nothing, of a book with a store just where there is an engine, and has
+    // all of its reader's script left, if it keeps that. Each writer of bytes meets it.
+    requires from { All (λ port. (me : Known) → me.made ≡ [] → W.from port.writer (is_some engine) me) ports.items }
+    requires own { All (λ port. IfSome (W.left port.writer) (IsAtStart (R.remaining port.reader))) ports.items }
     ensures left { IfOk result (IsLeftFrom W.contents D.Disk (start_of engine) (flusher_of engine) (given_to R.remaining W.contents ports.items)) }
     ensures disk { IfOk result (λ left. is_some left.closed.disk ≡ is_some engine) }
     // Where it could not run, the ports come back as they were, or the writers, each with just what its session was answered.

@@ -87,7 +87,8 @@ where
     W: ReplyWriter + Send + Drop + 's,
     requires scripts { All (λ script. script.session.book ≡ J.book) seats.scripts.items }
     requires told { All (λ script. MayReport J.stored (has_store shared.now) script.session W.may_report) seats.scripts.items }
-    requires own { All (λ script. IfSome (W.place script.port.writer) (IsAtStart (R.remaining script.port.reader) script.session)) seats.scripts.items }
+    requires from { All (λ script. W.from script.port.writer (has_store shared.now) script.session) seats.scripts.items }
+    requires own { All (λ script. IfSome (W.left script.port.writer) (IsAtStart (R.remaining script.port.reader))) seats.scripts.items }
     requires room { HasRoom seats (length seats.scripts.items) }
     ensures { Leave (λ script ended. IsRunOf J.book (store_of J.stored (has_store shared.now)) R.remaining W.contents script ended) seats.scripts.items
         result.0.items result.1.items }
@@ -122,7 +123,8 @@ where
     W: ReplyWriter + Send + Drop + 's,
     requires book { script.session.book ≡ J.book }
     requires told { MayReport J.stored (has_store shared.now) script.session W.may_report }
-    requires own { IfSome (W.place script.port.writer) (IsAtStart (R.remaining script.port.reader) script.session) }
+    requires from { W.from script.port.writer (has_store shared.now) script.session }
+    requires own { IfSome (W.left script.port.writer) (IsAtStart (R.remaining script.port.reader)) }
     ensures { MatchResult result
         (λ h. (h.promise.begun.value ≡ script) × (h.promise.stored ≡ has_store shared.now))
         (λ back. IsRunOf J.book (store_of J.stored (has_store shared.now)) R.remaining W.contents script back) }
@@ -140,7 +142,8 @@ where
         move || -> Ended<R, W>
             requires book { script.session.book ≡ J.book }
             requires told { MayReport J.stored (has_store shared.now) script.session W.may_report }
-            requires own { IfSome (W.place script.port.writer) (IsAtStart (R.remaining script.port.reader) script.session) }
+            requires from { W.from script.port.writer (has_store shared.now) script.session }
+            requires own { IfSome (W.left script.port.writer) (IsAtStart (R.remaining script.port.reader)) }
             ensures { IsRunOf J.book (store_of J.stored (has_store shared.entry.now)) R.remaining W.contents script result }
         { begin_script(rt, alloc, shared, halt, script) },
     );
@@ -205,7 +208,8 @@ fn begin_script<J: BookName, S: Wait + Drop, Q: Threads + Wait + Sync, R: Read, 
 ) -> Ended<R, W>
     requires book { script.session.book ≡ J.book }
     requires told { MayReport J.stored (has_store shared.now) script.session W.may_report }
-    requires own { IfSome (W.place script.port.writer) (IsAtStart (R.remaining script.port.reader) script.session) }
+    requires from { W.from script.port.writer (has_store shared.now) script.session }
+    requires own { IfSome (W.left script.port.writer) (IsAtStart (R.remaining script.port.reader)) }
     ensures { IsRunOf J.book (store_of J.stored (has_store shared.now)) R.remaining W.contents script result }
 {
     if halt.is_set() {
@@ -238,7 +242,8 @@ fn run_script<J: BookName, S: Wait + Drop, Q: Threads + Wait + Sync, R: Read, W:
 ) -> Ended<R, W>
     requires book { script.session.book ≡ J.book }
     requires told { MayReport J.stored (has_store shared.now) script.session W.may_report }
-    requires own { IfSome (W.place script.port.writer) (IsAtStart (R.remaining script.port.reader) script.session) }
+    requires from { W.from script.port.writer (has_store shared.now) script.session }
+    requires own { IfSome (W.left script.port.writer) (IsAtStart (R.remaining script.port.reader)) }
     ensures { IsRunOf J.book (store_of J.stored (has_store shared.now)) R.remaining W.contents script result }
 {
     let Script { mut session, port } = script;

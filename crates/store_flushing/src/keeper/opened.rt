@@ -35,7 +35,7 @@ impl<J: BookName, D: Disk> Opened<J, D> {
     /// Hands a store over, and keeps the key of its disk.
     pub fn of(flusher: Option<Flusher<D>>) -> (Opened<J, D>, Option<Key<D>>)
         ensures flusher { result.0.flusher ≡ flusher }
-        ensures key { is_some result.1 ≡ is_some flusher }
+        ensures key { is_some result.1 ≡ is_some result.0.flusher }
     {
         let key = if flusher.is_some() {
             Some(Key { of: PhantomData })

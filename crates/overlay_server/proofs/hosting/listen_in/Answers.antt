@@ -1,10 +1,12 @@
-use Rattle.std.proofs.Common.{rules, ◌≡◌, ◌∙◌, length, subst, sym}
+use Rattle.std.proofs.Common.{rules, ◌≡◌, ◌∙◌, ap, length, subst, sym}
+use Rattle.book_lock.proofs.Beginning.{count_of}
 use Rattle.store_flushing.specs.Stores.{flusher_in}
 use Rattle.overlay_server.specs.Given.{bytes_of, given_by, given_to}
 use Rattle.overlay_server.specs.Hosting.{IsHosted}
 use Rattle.overlay_server.specs.Refusing.{IsRefusedFrom}
 use Rattle.overlay_server.specs.Serving.{IsLeftFrom}
 use Rattle.overlay_server.proofs.Refusals.{passed_on}
+use Rattle.overlay_server.proofs.Reporting.{beside_any}
 use Rattle.overlay_server.proofs.StoreParts.{CountsAs}
 use Rattle.overlay_server.proofs.hosting.listen_in.Goals as goal
 
@@ -18,6 +20,14 @@ pub run-requires-clause-hosted : goal.run-requires-clause-hosted
 run-requires-clause-hosted g c κs within =
     let count : c.len.result ≡ length c.args.readers.items = search rules in
     subst (λ n. IsHosted g.J.BookName.book n c.in_ok-hosted.hosted) (count ∙ sym c.in-Some.ensures.count) c.in_ok-hosted.ensures.hosted
+
+-- lists of bytes go on from anywhere
+pub run-requires-clause-from : goal.run-requires-clause-from
+run-requires-clause-from g c κs within =
+    let ports = c.in-Some.ports.items in
+    let count : c.len.result ≡ length c.args.readers.items = search rules in
+    let sessions = c.in_ok-hosted.ensures.hosted.sessions in
+    beside_any ports c.in_ok-hosted.hosted.sessions.items (λ port me. tt) (c.in-Some.ensures.count ∙ sym count ∙ sym (ap length sessions ∙ count_of _ c.len.result))
 
 pub run-requires-clause-meant : goal.run-requires-clause-meant
 run-requires-clause-meant g c κs within =
