@@ -8,6 +8,7 @@ ghost use Rattle.overlay_server.specs.Refusing.{IsRefusedFrom, IsRefusedOf};
 ghost use Rattle.overlay_terms.specs.Histories.{History};
 ghost use Rattle.overlay_server.specs.Serving.{IsHeldOf, IsLeftFrom, first_log, flusher_of, start_of};
 
+use crate::handing::{handed, returned, returned_fault};
 use crate::hosting::{listen_in, serve_in};
 use crate::outcome::{Left, PortsFault, ServeOptions, Served, ServerFault};
 use disk_model::disk::Disk;
@@ -55,7 +56,20 @@ where
     ensures refused { IfErr result (IsRefusedFrom D.Disk (start_of engine) (flusher_of engine) (given_by R.remaining readers.items)) }
 {
     let opened = history_of(alloc, &engine);
-    listen_in::<Brand, D, R, G, Q>(rt, alloc, options.workers, gate, opened, engine, readers)
+    let (version, store, key) = handed(alloc, engine);
+    match listen_in::<Brand, D, R, G, Q>(
+        rt,
+        alloc,
+        options.workers,
+        gate,
+        opened,
+        version,
+        store,
+        readers,
+    ) {
+        Ok(served) => Ok(returned(key, served)),
+        Err(fault) => Err(returned_fault(key, fault)),
+    }
 }
 
 /// The same where the replies of each session go to the writer beside its reader: each reply is written before more of the
@@ -88,7 +102,23 @@ where
     ensures refused { IfErr result (IsRefusedOf R.remaining W.contents D.Disk (start_of engine) (flusher_of engine) (given_to R.remaining W.contents ports.items)) }
 {
     let opened = history_of(alloc, &engine);
-    serve_in::<Brand, D, R, W, G, Q>(rt, alloc, options.workers, gate, opened, engine, ports)
+    let (version, store, key) = handed(alloc, engine);
+    match serve_in::<Brand, D, R, W, G, Q>(
+        rt,
+        alloc,
+        options.workers,
+        gate,
+        opened,
+        version,
+        store,
+        ports,
+    ) {
+        Ok(left) => Ok(returned(key, left)),
+        Err(refused) => Err(PortsFault {
+            fault: returned_fault(key, refused.fault),
+            back: refused.back,
+        }),
+    }
 }
 
 /// The history of an engine's version, or of no command where there is none, before its book is opened.

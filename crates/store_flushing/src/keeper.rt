@@ -33,6 +33,7 @@ use version_book::shared::Shared;
 use versions::Version;
 
 mod flushing;
+pub mod opened;
 pub mod store;
 pub mod told_log;
 mod version_mark;

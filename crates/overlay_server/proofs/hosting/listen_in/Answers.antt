@@ -4,7 +4,7 @@ use Rattle.store_flushing.specs.Stores.{flusher_in}
 use Rattle.overlay_server.specs.Given.{bytes_of, given_by, given_to}
 use Rattle.overlay_server.specs.Hosting.{IsHosted}
 use Rattle.overlay_server.specs.Refusing.{IsRefusedFrom}
-use Rattle.overlay_server.specs.Serving.{IsLeftFrom, flusher_of, start_of}
+use Rattle.overlay_server.specs.Serving.{IsLeftFrom}
 use Rattle.overlay_server.proofs.Refusals.{passed_on}
 use Rattle.overlay_server.proofs.Reporting.{beside_any}
 use Rattle.overlay_server.proofs.StoreParts.{CountsAs}
@@ -13,7 +13,7 @@ use Rattle.overlay_server.proofs.hosting.listen_in.Goals as goal
 pub returns-in_err-hosted-clause-refused : goal.returns-in_err-hosted-clause-refused
 returns-in_err-hosted-clause-refused g c =
     let all = given_by g.R.Read.remaining c.args.readers.items in
-    passed_on (IsRefusedFrom g.D.Disk (start_of c.args.engine) (flusher_of c.args.engine) all) c.from_residual.result c.in_err-hosted.field-0.0 c.from_residual.ensures.1
+    passed_on (IsRefusedFrom g.D.Disk c.args.version c.args.store.flusher all) c.from_residual.result c.in_err-hosted.field-0.0 c.from_residual.ensures.1
     (c.in_err-hosted.ensures.refused all)
 
 pub run-requires-clause-hosted : goal.run-requires-clause-hosted
@@ -33,32 +33,35 @@ pub run-requires-clause-meant : goal.run-requires-clause-meant
 run-requires-clause-meant g c κs within =
     let hosted = c.in_ok-hosted in
     subst (λ v. CountsAs g.D.Disk g.J.BookName.stored v (flusher_in hosted.hosted.store)) (sym hosted.ensures.version)
-    (subst (CountsAs g.D.Disk g.J.BookName.stored (start_of c.args.engine)) (sym hosted.ensures.flusher) c.requires.stored)
+    (subst (CountsAs g.D.Disk g.J.BookName.stored c.args.version) (sym hosted.ensures.flusher) c.requires.stored)
 
 pub returns-in-Ok-clause-left : goal.returns-in-Ok-clause-left
 returns-in-Ok-clause-left g c =
-    let engine = c.args.engine in
+    let version = c.args.version in
+    let flusher = c.args.store.flusher in
     let hosted = c.in_ok-hosted in
     let left = c.in-Ok.left in
     let all = given_to g.R.Read.remaining bytes_of c.in-Some.ports.items in
-    subst (λ given. IsLeftFrom bytes_of g.D.Disk (start_of engine) (flusher_of engine) given left) c.in-Some.ensures.given
-    (subst (λ v. IsLeftFrom bytes_of g.D.Disk v (flusher_of engine) all left) hosted.ensures.version
+    subst (λ given. IsLeftFrom bytes_of g.D.Disk version flusher given left) c.in-Some.ensures.given
+    (subst (λ v. IsLeftFrom bytes_of g.D.Disk v flusher all left) hosted.ensures.version
     (subst (λ f. IsLeftFrom bytes_of g.D.Disk hosted.hosted.version.value f all left) hosted.ensures.flusher c.in-Ok.ensures.left))
 
 pub returns-in-Err-clause-refused : goal.returns-in-Err-clause-refused
 returns-in-Err-clause-refused g c =
-    let engine = c.args.engine in
+    let version = c.args.version in
+    let flusher = c.args.store.flusher in
     let hosted = c.in_ok-hosted in
     let fault = c.in-Err.refused.fault in
     let all = given_to g.R.Read.remaining bytes_of c.in-Some.ports.items in
-    subst (λ given. IsRefusedFrom g.D.Disk (start_of engine) (flusher_of engine) given fault) c.in-Some.ensures.given
-    (subst (λ v. IsRefusedFrom g.D.Disk v (flusher_of engine) all fault) hosted.ensures.version
+    subst (λ given. IsRefusedFrom g.D.Disk version flusher given fault) c.in-Some.ensures.given
+    (subst (λ v. IsRefusedFrom g.D.Disk v flusher all fault) hosted.ensures.version
     (subst (λ f. IsRefusedFrom g.D.Disk hosted.hosted.version.value f all fault) hosted.ensures.flusher c.in-Err.ensures.refused.fault))
 
 pub returns-in_default-clause-refused : goal.returns-in_default-clause-refused
 returns-in_default-clause-refused g c =
-    let engine = c.args.engine in
+    let version = c.args.version in
+    let flusher = c.args.store.flusher in
     let hosted = c.in_ok-hosted in
     let all = given_by g.R.Read.remaining c.args.readers.items in
-    subst (λ v. IsRefusedFrom g.D.Disk v (flusher_of engine) all c.unserved.result) hosted.ensures.version
+    subst (λ v. IsRefusedFrom g.D.Disk v flusher all c.unserved.result) hosted.ensures.version
     (subst (λ f. IsRefusedFrom g.D.Disk hosted.hosted.version.value f all c.unserved.result) hosted.ensures.flusher (c.unserved.ensures all))

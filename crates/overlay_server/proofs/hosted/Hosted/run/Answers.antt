@@ -41,8 +41,8 @@ returns-in-Err-clause-refused g c =
           refused_at_once g.D.Disk self.version.value (flusher_in self.store) (given c.args.ports.items) fault self.answer
           (record { code = c.refused.ensures.code; same = c.refused.ensures.answer; may = subst MayAnswer (sym c.requires.hosted.answer) tt })
           (ap (λ (l : BookLog). l.log) c.refused.ensures.seen_log ∙ c.requires.hosted.first) c.refused.ensures.told c.refused.ensures.sessions
-          (stopped_at_once g.D.Disk self.version.value (flusher_in self.store) fault.disk c.refused.ensures.now
-          (subst (λ o. MatchOption o (fault.disk ≡ None) (λ f. fault.disk ≡ Some f.commit.disk)) c.into_flusher.ensures c.refused.ensures.disk));
+          (stopped_at_once g.D.Disk self.version.value (flusher_in self.store) fault.disk c.requires.hosted.now
+          (subst (λ o. MatchOption (flusher_in self.store) (o ≡ None) (λ f. o ≡ Some f.commit.disk)) (sym c.refused.ensures.disk) c.into_disk.ensures));
       ports = (ap (λ (ps : Vec (Port _ _) Global). given ps.items) c.in-Err.ensures.refused, c.refused.ensures.sessions);
     }
 
