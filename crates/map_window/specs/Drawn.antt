@@ -1,5 +1,7 @@
--- What is drawn of a map: tests of its points, rings clamped into a frame, and rings without the points that nothing of is seen.
-use Rattle.std.specs.Prelude.{ℤ, ◌-ℤ◌, int_lt, int_le, Bool, true, ◌&&◌, ◌||◌, List, [], ◌∷◌, ◌++◌, fold, filter_map, Option, Some, None, if◌then◌else◌}
+-- What is drawn of a map: tests of its points, rings clamped into a frame, and rings without the
+-- points that nothing of is seen.
+use Rattle.std.specs.Prelude.{ℤ, ◌-ℤ◌, ◌&&◌, ◌||◌, [], ◌∷◌, ◌++◌, if◌then◌else◌}
+use Rattle.std.specs.Prelude.{int_lt, int_le, Bool, true, List, fold, filter_map, Option, Some, None}
 use Rattle.overlay_terms.specs.Plane.{WholePoint, is_coordinate}
 use Rattle.map_window.specs.Window.{Box, whole_moved}
 
@@ -66,7 +68,13 @@ placed frame o a = whole_moved o (into frame a)
 
 -- a box seen from an origin
 abbrev pub box_moved : WholePoint → Box → Box
-box_moved o box = record { low_x = box.low_x -ℤ o.x; high_x = box.high_x -ℤ o.x; low_y = box.low_y -ℤ o.y; high_y = box.high_y -ℤ o.y }
+box_moved o box =
+    record {
+      low_x = box.low_x -ℤ o.x;
+      high_x = box.high_x -ℤ o.x;
+      low_y = box.low_y -ℤ o.y;
+      high_y = box.high_y -ℤ o.y;
+    }
 
 -- a line with its last two points apart
 pub record Line : Type 0 where

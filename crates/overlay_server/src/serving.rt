@@ -46,12 +46,12 @@ where
     G: Gate + Sync,
     Q: Threads + Wait + Sync,
     requires readers { (0 < length readers.items) × (length readers.items ≤ 4) }
-    // Each reader has its replies; what is left of book and store stands for the log that has all that was seen.
+    // Each reader has its replies; what is left of book and store is of the log that has all that was seen.
     ensures left { IfOk result (IsLeftFrom bytes_of D.Disk (start_of engine) (flusher_of engine) (given_by R.remaining readers.items)) }
     // A disk comes back just where there was an engine.
     ensures disk { IfOk result (λ left. is_some left.closed.disk ≡ is_some engine) }
     // The number is that of what the book answered as it was to be opened, and 40 where it was opened. The disk comes back,
-    // and a crash at any moment left a file that stands for a version of the history that comes with it. In that history
+    // and a crash at any moment left a file that holds a version of the history that comes with it. In that history
     // the readers' sessions alone had commands accepted, those of their scripts, and none where no session was begun.
     ensures refused { IfErr result (IsRefusedFrom D.Disk (start_of engine) (flusher_of engine) (given_by R.remaining readers.items)) }
 {

@@ -17,7 +17,8 @@ use version_book::strip_job::StripJob;
 /// Builds tiles until the book closes. Where none are handed out for want of memory (40), it sleeps a moment and asks
 /// again; where memory runs out later, it gives back those that are left.
 // It has no clause on what it built, as nothing of what lies under the lock can be said once that is given up. But each
-// strip is spent, as it is no value that may be dropped, and each of its tiles only with one that is built of its own input.
+// strip is spent, as it is no value that may be dropped, and each of its tiles only with one
+// that is built of its own input.
 pub fn worker_loop<J: BookName, R: Wait + Drop, G: Gate, W: Wait>(
     rt: &W,
     alloc: Global,
@@ -58,8 +59,8 @@ fn work<J: BookName, R: Wait + Drop, G: Gate, W: Wait>(
     }
 }
 
-/// Builds the tiles of a strip by one pass, and spends them until memory runs out. It says whether it left them, as none of
-/// them was wanted any more.
+/// Builds the tiles of a strip by one pass, and spends them until memory runs out. It says whether it left them, as
+/// none of them was wanted any more.
 fn finish_whole<J: BookName, R: Wait + Drop, W: Wait>(
     rt: &W,
     alloc: Global,
@@ -124,8 +125,8 @@ fn finish_each<J: BookName, R: Wait + Drop, W: Wait>(
     }
 }
 
-/// Builds the tiles of a strip one after another, each by a pass over its own column alone, and spends them, until memory
-/// runs out. It says whether it left some, as none of them was wanted any more.
+/// Builds the tiles of a strip one after another, each by a pass over its own column alone, and spends them, until
+/// memory runs out. It says whether it left some, as none of them was wanted any more.
 fn finish_apart<J: BookName, R: Wait + Drop, W: Wait>(
     rt: &W,
     alloc: Global,

@@ -33,8 +33,8 @@ pub mod waits;
 pub struct LockedBook<J: BookName, R: Wait + Drop> {
     log: LockedLog<J, R>,
     state: BookState,
-    /// Where the layer stood whose tile was handed out last, and the tile's column by its number: there the next one is looked for
-    /// first.
+    /// Where the layer was whose tile was handed out last, and the tile's column by its number: there the next one is
+    /// looked for first.
     near: (usize, u8),
     /// Memory for the next report: what is stored can be reported where there is none any more.
     room: Room,

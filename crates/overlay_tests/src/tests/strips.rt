@@ -24,8 +24,8 @@ fn take_strip<J: BookName, R: Wait + Drop, W: Wait + Abort>(
     shared.take_strip(rt, alloc).expect(rt, "memory")
 }
 
-/// Takes a strip of tiles, makes a call, and builds and finishes the tiles in order then. It returns how many there are and
-/// how many of them are kept.
+/// Takes a strip of tiles, makes a call, and builds and finishes the tiles in order then. It returns how many there are
+/// and how many of them are kept.
 pub fn build_late<J: BookName, R: Wait + Abort>(
     rt: &R,
     alloc: Global,
@@ -47,8 +47,8 @@ pub fn build_late<J: BookName, R: Wait + Abort>(
     spend(rt, alloc, shared, strip, usize::MAX, false)
 }
 
-/// Takes a strip of tiles, builds and finishes the first one, and gives the others back as if memory had run out, or lets
-/// them go. It returns how many tiles there are in all.
+/// Takes a strip of tiles, builds and finishes the first one, and gives the others back as if memory had run out, or
+/// lets them go. It returns how many tiles there are in all.
 pub fn give_back_strip<J: BookName, R: Wait + Drop, W: Wait + Abort>(
     rt: &W,
     alloc: Global,
@@ -61,8 +61,8 @@ pub fn give_back_strip<J: BookName, R: Wait + Drop, W: Wait + Abort>(
     count
 }
 
-/// Builds the tiles of a strip, finishes the first ones of them, and gives back what is left, or lets it go. It returns how
-/// many tiles there are and how many of them are kept.
+/// Builds the tiles of a strip, finishes the first ones of them, and gives back what is left, or lets it go. It returns
+/// how many tiles there are and how many of them are kept.
 fn spend<J: BookName, R: Wait + Drop, W: Wait + Abort>(
     rt: &W,
     alloc: Global,

@@ -56,7 +56,8 @@ impl<D: Disk> Store<D> {
         ensures reporter { HasHeard result.seen_log.log (reporter_of self) }
         ensures begun { 0 < length (reporter_of self).log }
         ensures sessions { All (λ session. HasAllOf result.seen_log.log session) sessions.now }
-        ensures durable { All (λ entry. entry.version.durable ≤ (newest_in result.seen_log.log).durable) result.seen_log.log }
+        ensures durable { All (λ entry. entry.version.durable
+            ≤ (newest_in result.seen_log.log).durable) result.seen_log.log }
         ensures store { MatchOption (flusher_in self) ((result.stored ≡ 0) × (result.disk ≡ None))
             (λ f. (result.stored ≡ f.commit.root.version) × (result.disk ≡ Some f.commit.disk)) }
         ensures told { told_in result.told ≡ told_by self }
