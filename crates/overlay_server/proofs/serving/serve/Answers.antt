@@ -1,4 +1,4 @@
-use Rattle.std.proofs.Common.{◌≡◌, ◌∙◌, ap, is_some, subst, sym}
+use Rattle.std.proofs.Common.{◌∙◌, ap, is_some, subst, sym}
 use Rattle.overlay_server.specs.Given.{bytes_of, given_by}
 use Rattle.overlay_server.specs.Refusing.{IsRefusedFrom}
 use Rattle.overlay_server.specs.Serving.{IsLeftFrom, first_log, flusher_of, start_of}

@@ -1,10 +1,10 @@
-use Rattle.std.proofs.Common.{◌≡◌, ◌∙◌, Bool, ap, is_some, length, refl, subst, sym}
+use Rattle.std.proofs.Common.{◌∙◌, Bool, ap, is_some, length, refl, subst, sym}
 use Rattle.std.specs.List.{AllZip}
 use Rattle.book_lock.specs.Steps.{beginners}
 use Rattle.store_flushing.specs.Told.{told_in}
 use Rattle.overlay_terms.specs.Histories.{History}
 use Rattle.overlay_server.specs.Given.{given_to}
-use Rattle.overlay_server.specs.Refusing.{IsRefusedFrom, IsRefusedOf}
+use Rattle.overlay_server.specs.Refusing.{IsRefusedOf}
 use Rattle.overlay_server.specs.Serving.{IsHeldOf, IsLeftFrom, first_log, flusher_of, start_of}
 use Rattle.overlay_server.proofs.Disks.{disk_back, disk_left}
 use Rattle.overlay_server.proofs.Reporting.{has_engine, with_beginners}
