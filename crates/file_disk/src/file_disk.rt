@@ -185,6 +185,15 @@ fn has_nothing_to_sync(error: &io::Error) -> bool {
     }
 }
 
+/// Writes bytes at a place. Of a write of no bytes past the end a system makes nothing, while a disk's file then reaches up
+/// to the place, as of any other write: so it is made longer.
+fn written(file: &File, at: u64, bytes: &[u8]) -> io::Result<()> {
+    if bytes.is_empty() && file.metadata()?.len() < at {
+        return file.set_len(at);
+    }
+    file.write_all_at(bytes, at)
+}
+
 /// What the system answered, with each of its errors as the device's.
 fn told<T: Drop>(answer: io::Result<T>) -> Result<T, DiskFault> {
     match answer {
@@ -227,7 +236,7 @@ impl Disk for FileDisk {
 
     fn write_at(&mut self, at: usize, bytes: &[u8]) -> Result<(), DiskFault> {
         let answer = match self.access {
-            Access::Whole => told(self.file.write_all_at(bytes, at as u64)),
+            Access::Whole => told(written(&self.file, at as u64, bytes)),
             Access::Reading | Access::Failed => return Err(DiskFault::Device),
         };
         self.after(answer)
