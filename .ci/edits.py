@@ -1,9 +1,11 @@
-"""Edits of a crate's texts: wrong bodies, in must-fail/ and wrong-bodies/, and the controls beside them, in controls/.
+"""Edits of a crate's texts: wrong bodies, in must-fail/ and wrong-bodies/, and what stands beside them under their names,
+which must not be refused: controls, in controls/, and refutations, in refutations/.
 
-A control has the name of a wrong body, changes the same function, and leaves what it means as it was, in a shape like
-that of the wrong body. It must not be refused: a wrong body that falls at a proof that was written for the text as it is
-may fall by its shape alone, and its control shows it. An edit names a file of its crate, and pairs of lines: the old one
-stands once in what the earlier pairs have made.
+A control changes the same function as its wrong body, and leaves what it means as it was, in a shape like that of the
+wrong body: one that falls at a proof that was written for the text as it is may fall by its shape alone, and its control
+shows it. A refutation has all the pairs of its wrong body, and changes the clause at which that one falls into what it
+does instead, which contradicts the clause: the wrong body is proved to be wrong. An edit names a file of its crate, and
+pairs of lines: the old one stands once in what the earlier pairs have made.
 
 The file TRIED of wrong-bodies/ has the commit at which the edits of that folder were tried last, all of them.
 """
@@ -17,7 +19,8 @@ import re
 import subprocess
 
 TIERS = ("must-fail", "wrong-bodies")
-CONTROLS = "controls"
+CONTROLS, REFUTATIONS = "controls", "refutations"
+BESIDE = (CONTROLS, REFUTATIONS)
 TRIED = "TRIED"
 PARTS = ("src", "specs", "proofs")
 NAME = re.compile(r"[A-Za-z0-9_-][A-Za-z0-9_.-]*\.edit")
@@ -60,20 +63,20 @@ class Pair:
 
 @dataclasses.dataclass(frozen=True)
 class Edit:
-    """A wrong body, or a control beside one: its crate, its name, and its pairs of lines."""
+    """A wrong body, or what stands beside one, in a folder of its own: its crate, its name, and its pairs of lines."""
 
     crate: str
     name: str
     pairs: tuple[Pair, ...]
-    is_control: bool = False
+    beside: str = ""
 
     def __str__(self) -> str:
-        return f"{self.crate}/{CONTROLS}/{self.name}" if self.is_control else f"{self.crate}/{self.name}"
+        return "/".join(filter(None, (self.crate, self.beside, self.name)))
 
     @property
     def is_asked(self) -> bool:
         """Whether it is a wrong body that was asked for."""
-        return not self.is_control and any(f"_{self.name}".endswith(f"_{name}") for name in ASKED)
+        return not self.beside and any(f"_{self.name}".endswith(f"_{name}") for name in ASKED)
 
     def made(self, texts: dict[str, str]) -> dict[str, str]:
         """The texts that the edit makes of others."""
@@ -96,7 +99,8 @@ def read_edit(file: pathlib.Path) -> Edit:
             old = ""
     if old:
         pairs.append(Pair("", old, ""))
-    return Edit(file.parent.parent.name, file.stem, tuple(pairs), file.parent.name == CONTROLS)
+    folder = file.parent.name
+    return Edit(file.parent.parent.name, file.stem, tuple(pairs), folder if folder in BESIDE else "")
 
 
 def edits(top: pathlib.Path, names: list[str], tiers: tuple[str, ...]) -> list[Edit]:
@@ -105,20 +109,20 @@ def edits(top: pathlib.Path, names: list[str], tiers: tuple[str, ...]) -> list[E
     return [read_edit(file) for file in files]
 
 
-def controls(top: pathlib.Path, given: list[Edit]) -> list[Edit]:
-    """The controls that stand beside some edits, in their order."""
-    files = [top / "crates" / one.crate / CONTROLS / f"{one.name}.edit" for one in given]
+def beside(top: pathlib.Path, given: list[Edit], folder: str) -> list[Edit]:
+    """What stands beside some edits in a folder, in their order."""
+    files = [top / "crates" / one.crate / folder / f"{one.name}.edit" for one in given]
     return [read_edit(file) for file in files if file.exists()]
 
 
 def strangers(top: pathlib.Path, names: list[str]) -> list[pathlib.Path]:
-    """What stands in the folders of edits and is none to `rt must-fail`; edits in other folders; controls of nothing."""
+    """What stands in the folders of edits and is none to `rt must-fail`; edits in other folders; those beside nothing."""
     homes = [top / "crates" / name for name in names]
-    found = [file for home in homes for file in home.glob("*/*.edit") if file.parent.name not in (*TIERS, CONTROLS)]
-    for folder in [home / name for home in homes for name in (*TIERS, CONTROLS)]:
+    found = [file for home in homes for file in home.glob("*/*.edit") if file.parent.name not in (*TIERS, *BESIDE)]
+    for folder in [home / name for home in homes for name in (*TIERS, *BESIDE)]:
         for file in folder.glob("*"):
             is_edit = bool(NAME.fullmatch(file.name))
-            if folder.name == CONTROLS:
+            if folder.name in BESIDE:
                 is_edit = is_edit and any((folder.parent / tier / file.name).exists() for tier in TIERS)
             is_tried = folder.name == TIERS[1] and file.name == TRIED
             if not file.is_file() or not (is_edit or is_tried or file.suffix == ".md"):

@@ -1,7 +1,8 @@
 """What a check says of the functions of a crate: which are refused, and at which goal.
 
 A wrong body is refused for its meaning where a goal has no proof: a clause, an invariant, a condition of what is called.
-`At its written proof` stands where it was one that was written for the text as it is: whether the goal could be proved
+`Shown to be false` stands where the prover found and checked values at which the goal fails, so that no proof closes it;
+`at its written proof` where there was one that was written for the text as it is: whether the goal could be proved
 otherwise, that does not show; nor does `at a limit of the search`, where the prover gave up. Nothing is known of the
 contract where it only finds that a written proof names what the edit has taken away (`a name that is gone`), that an
 operation may go wrong, or that a loop may not end.
@@ -44,11 +45,15 @@ UNMEANT = (GONE_KIND, UNKNOWN_KIND, OPERATION_KIND, END_KIND)
 WRITTEN = ", at its written proof"
 WRITTEN_SEARCH = ", at a search that is written down"
 LIMIT = ", at a limit of the search"
-# The kinds of goals at which wrong bodies fall: what each says.
+SHOWN = ", shown to be false"
+# What the prover says of a goal that is open: that it found values at which it fails, or that it gave up.
+SAID = {"the facts known there allow values at which this goal is false": SHOWN, "gave up at one of its limits": LIMIT}
+# The kinds of goals at which wrong bodies fall: what each says, those first that say most.
+AT_FALSE = "at a goal that is shown to be false"
 AT_OPEN = "at an open goal"
 AT_WRITTEN = "at a written proof"
 AT_LIMIT = "at a limit of the search"
-MANNERS = (AT_OPEN, AT_WRITTEN, AT_LIMIT)
+MANNERS = (AT_FALSE, AT_OPEN, AT_WRITTEN, AT_LIMIT)
 # A written proof that is a search and nothing else: it says no more of the text than an open goal does.
 SEARCH = re.compile(r"[^\n=]+ =\s+(?:λ [\w ]+\. )?(?:search|grind|omega)\b(?!.* in )[^\n]*")
 
@@ -74,8 +79,8 @@ class Refusal:
 
     @property
     def rank(self) -> int:
-        """How little it says: least where it says nothing of the contract, most where no proof was written."""
-        return 3 if not self.is_meant else 2 if self.kind.endswith(LIMIT) else 1 if self.kind.endswith(WRITTEN) else 0
+        """How little it says: least where it says nothing of the contract, most where the goal is shown to be false."""
+        return MANNERS.index(manner_of(self.kind)) if self.is_meant else len(MANNERS)
 
 
 def kind_of(goal: str) -> str:
@@ -92,8 +97,9 @@ def kind_of(goal: str) -> str:
 
 
 def manner_of(kind: str) -> str:
-    """At which kind of goal a wrong body fell: of three."""
-    return AT_LIMIT if kind.endswith(LIMIT) else AT_WRITTEN if kind.endswith(WRITTEN) else AT_OPEN
+    """At which kind of goal a wrong body fell: of four."""
+    manners = {SHOWN: AT_FALSE, WRITTEN: AT_WRITTEN, LIMIT: AT_LIMIT}
+    return next((manner for end, manner in manners.items() if kind.endswith(end)), AT_OPEN)
 
 
 def place_of(function: str) -> pathlib.PurePath:
@@ -120,7 +126,8 @@ def of_line(said: str) -> Refusal | None:
     """What a goal that is open at a line of a source says."""
     asked = ASKED.search(said)
     if asked:
-        return Refusal(kind_of(asked["goal"]) + (LIMIT if "gave up at one of its limits" in said else ""), asked["goal"])
+        told = next((end for words, end in SAID.items() if words in said), "")
+        return Refusal(kind_of(asked["goal"]) + told, asked["goal"])
     return Refusal("an invariant", "?") if LENT.match(said) else None
 
 
