@@ -1,5 +1,5 @@
 -- Tiles that are finished one after another.
-use Rattle.std.proofs.Common.{◌≡◌, inl, ℕ, ◌+◌, ◌<◌, Bool, true, false, List, [], ◌∷◌, ◌++◌, length, take, get_or, refl, ap, sym, ◌∙◌, subst, arith, length-append}
+use Rattle.std.proofs.Common.{◌≡◌, inl, ℕ, ◌+◌, ◌<◌, ◌≤◌, ◌==◌, not, eq-eqb, ne_eqb, Bool, true, false, List, [], ◌∷◌, ◌++◌, length, take, get_or, refl, ap, sym, ◌∙◌, subst, arith, length-append}
 use Rattle.std.proofs.lemmas.List.{take_more}
 use Rattle.std.specs.List.{All}
 use mathlib.Core.List.{IsPrefix}
@@ -71,3 +71,22 @@ pub there : (name : Name) (tiles : List (Input × Tile)) (i : ℕ) (one : Input 
 there name tiles i one within is log now same all =
     subst (λ (ls : List Layer). one.0 ≡ input_of ls name one.0.column) (sym same)
     (subst (λ (b : Input × Tile). b.0 ≡ input_of (newest_in log).layers name b.0.column) (sym is) (all i one within))
+
+-- one tile alone: it is kept exactly where the log has another length then
+pub one_finished : (log after : List Entry) (name : Name) (one : Input × Tile) (count : ℕ) (tiles : List (Input × Tile)) (before behind : ℕ) → tiles ≡ one ∷ [] → count ≤ length tiles → (0 < length tiles → 0 < count) → AreFinishedIn log name (take count tiles) after
+    → before + 1 ≡ length log → behind + 1 ≡ length after → IsFinishedIn log name one.0 one.1 (not (behind == before)) after
+one_finished log after name one count tiles before behind alone few some finished was is =
+    let long : length tiles ≡ 1 = ap length alone in
+    let all : 1 ≡ count = let any = some (omega (arith, long)) in omega (arith, long, few, any) in
+    by_kind (subst (λ (ts : List (Input × Tile)). AreFinishedIn log name (take 1 ts) after) alone (subst (λ n. AreFinishedIn log name (take n tiles) after) (sym all) finished))
+  where
+    at : (is_kept : Bool) → IsFinishedIn log name one.0 one.1 is_kept after → IsFinishedIn log name one.0 one.1 (not (behind == before)) after
+    at true finished =
+        let far : behind ≡ before + 1 = omega (arith, was, is, ap length finished.2, length-append log (entry (kept name one.0.column one.1) (newest_in after) ∷ [])) in
+        subst (λ b. IsFinishedIn log name one.0 one.1 (not b) after) (sym (ne_eqb behind before (λ same. omega (arith, far, same)))) finished
+    at false finished =
+        let same : behind ≡ before = omega (arith, was, is, ap length finished.2) in
+        subst (λ b. IsFinishedIn log name one.0 one.1 (not b) after) (sym (eq-eqb behind before same)) finished
+
+    by_kind : AreFinishedIn log name (one ∷ []) after → IsFinishedIn log name one.0 one.1 (not (behind == before)) after
+    by_kind (is_kept, next, finished, same) = at is_kept (subst (λ l. IsFinishedIn log name one.0 one.1 is_kept l) (sym same) finished)

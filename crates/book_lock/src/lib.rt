@@ -3,7 +3,6 @@
 
 pub mod change;
 pub mod closed;
-mod keeping;
 pub mod locked_log;
 pub mod refused;
 pub mod reporter;

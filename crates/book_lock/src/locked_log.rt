@@ -1,36 +1,34 @@
 //! The log under the lock, which is what is published.
 ghost use Rattle.std.specs.Prelude.{ℕ, ◌≡◌, ◌+◌, ◌<◌, ◌≤◌, [], ◌∷◌, ◌++◌, ◌⊎◌, ◌↔◌, length, slice_index, IfOk, IfErr};
-ghost use Rattle.std.specs.Prelude.{IsTrue, List, All, false};
+ghost use Rattle.std.specs.Prelude.{IsTrue, All, false};
 ghost use Rattle.std.specs.Arc.{arc_value};
 ghost use mathlib.Core.List.{IsPrefix};
 ghost use Rattle.left_right.specs.Sides.{view};
 ghost use Rattle.overlay_terms.specs.Commands.{version_max};
-ghost use Rattle.overlay_terms.specs.Histories.{commands_of, Follows, Tile};
-ghost use Rattle.overlay_terms.specs.Layers.{Name};
-ghost use Rattle.overlay_terms.specs.Tiles.{input_of, Input};
+ghost use Rattle.overlay_terms.specs.Histories.{commands_of, Follows};
 ghost use Rattle.book_history.specs.Causes.{event_of, HasSeat};
 ghost use Rattle.book_history.specs.Fault.{no_memory};
 ghost use Rattle.book_history.specs.Logs.{entry, no_event, newest_in, IsLog};
 ghost use Rattle.book_history.specs.Rules.{head_of};
 ghost use Rattle.book_history.specs.Telling.{IsToldIn, MayTell};
 ghost use Rattle.book_lock.specs.Heard.{HasHeard};
-ghost use Rattle.book_lock.specs.Steps.{AreFinishedIn, HasLooked, IsFinishedIn, IsLevel, beginners};
+ghost use Rattle.book_lock.specs.Steps.{HasLooked, IsLevel, beginners};
 
 use crate::closed::ClosedBook;
 use crate::reporter::Reporter;
 use crate::session::Session;
-use crate::shared_version::{kept_version, shared};
+use crate::shared_version::shared;
 use book_history::entry::{Cause, counted};
 use book_history::fault::{BookFault, NO_MEMORY};
 use book_history::published::{Published, Publisher};
 use book_history::publisher::{first_publisher, new_place, put_out};
 use book_history::seen_log::{BookName, LogWord, SeenLog};
-use layer_expr::name::Name;
 use std::alloc::Global;
 use std::marker::Model;
 use std::sync::{Arc, Wait};
-use tile_build::SharedBuilt;
 use versions::Version;
+
+mod keeping;
 
 const MOST: u64 = 1 << 60;
 
@@ -197,54 +195,6 @@ impl<J: BookName, R: Wait + Drop> LockedLog<J, R> {
         put_out(&self.rt, &mut self.publisher, next);
         self.counts = counted(self.counts, cause);
         Ok(())
-    }
-
-    /// Goes on from a version by a built tile, where it is awaited: the tile's entry is added, and not published. Its input is
-    /// not compared where it is known to be the present one.
-    pub(crate) fn add_tile(
-        &self,
-        alloc: Global,
-        last: &mut Published,
-        name: &Name,
-        built: &SharedBuilt,
-        is_present: bool,
-    ) -> Result<bool, BookFault>
-        requires book { last.old.seen_log.book ≡ J.book }
-        requires present { IsTrue is_present
-            → built.now.0 ≡ input_of (newest_in last.old.seen_log.log).layers name.now built.now.0.column }
-        ensures book { last.new.seen_log.book ≡ J.book }
-        ensures finished { IfOk result (λ is_kept. IsFinishedIn last.old.seen_log.log
-            name.now built.now.0 built.now.1 is_kept last.new.seen_log.log) }
-        ensures err { IfErr result (λ fault. (last.new.seen_log ≡ last.old.seen_log)
-            × ((fault ≡ no_memory) ⊎ (fault ≡ BookFault.Gone))) }
-    {
-        let now: &Version = &last.version;
-        let column = built.input().column();
-        let Some(version) = kept_version(alloc, now, name, built, is_present)? else {
-            // Who builds a tile has it alone, so it cannot be there.
-            if now.shared_tile(name, column).is_some() {
-                return Err(BookFault::Gone);
-            }
-            return Ok(false);
-        };
-        let mut seen_log = last.seen_log.again();
-        let kept = Cause::Kept(name, &column, built.tile());
-        if seen_log.at() >= MOST || !seen_log.add(&self.head, kept, &version) {
-            return Err(BookFault::Gone);
-        }
-        *last = Published { version, seen_log };
-        Ok(true)
-    }
-
-    /// Publishes what follows by tiles that are kept.
-    pub(crate) fn publish(&mut self, next: Published)
-        requires book { next.seen_log.book ≡ J.book }
-        requires tiles { (name : Name) × (tiles : List (Input × Tile)) × AreFinishedIn self.old name tiles next.seen_log.log }
-        ensures { self.new ≡ next.seen_log.log }
-    {
-        // The log has a first entry: what is published goes on from that.
-        let _ = self.last();
-        put_out(&self.rt, &mut self.publisher, next);
     }
 
     /// The newest version and the log. It waits for the readers.

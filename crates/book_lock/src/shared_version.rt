@@ -25,7 +25,8 @@ pub(crate) fn shared(alloc: Global, version: Version) -> Result<Arc<Version, Glo
     }
 }
 
-/// The version with a built tile, where it is awaited. Its input is not compared where it is known to be the present one.
+/// The version with a built tile, where it is awaited. Its input is not compared where it is known to be the present
+/// one.
 pub(crate) fn kept_version(
     alloc: Global,
     now: &Version,

@@ -64,8 +64,8 @@ impl Version {
         }
     }
 
-    /// The same for a built tile that can be shared: the version has the tile itself, and nothing of it is copied. Its input
-    /// is not compared where it is known to be the present one.
+    /// The same for a built tile that can be shared: the version has the tile itself, and nothing of it is copied. Its
+    /// input is not compared where it is known to be the present one.
     pub fn finish_shared(
         &self,
         alloc: Global,

@@ -1,12 +1,14 @@
-use Rattle.std.proofs.Common.{◌≡◌, take, refl, inl, ap, sym, ◌∙◌, subst}
+use Rattle.std.proofs.Common.{◌≡◌, ◌<◌, ◌++◌, List, length, take, refl, inl, ap, sym, ◌∙◌, subst}
 use Rattle.std.specs.List.{All}
 use Rattle.std.proofs.lemmas.Result.{IfOk-from_err}
 use Rattle.overlay_terms.specs.Tiles.{Input, input_of}
-use Rattle.overlay_terms.specs.Histories.{Tile}
+use Rattle.overlay_terms.specs.Histories.{Tile, Entry, commands_of}
 use Rattle.book_history.specs.BookLogs.{BookLog}
 use Rattle.book_history.specs.Logs.{newest_in}
+use Rattle.book_history.specs.Telling.{IsToldIn}
 use Rattle.book_history.proofs.Gone.{passed}
 use Rattle.book_lock.specs.Steps.{AreFinishedIn}
+use Rattle.book_lock.proofs.Finishing.{begun, all_stay}
 use Rattle.book_lock.proofs.locked_log.LockedLog.keep_each.Goals as goal
 
 pub returns-in_default : goal.returns-in_default
@@ -30,26 +32,52 @@ returns-in_err-count g c =
       err = passed _ _ _ failed.1 (refl, c.in_err-count.ensures.err);
     }
 
-pub publish-requires : goal.publish-requires
-publish-requires g c =
+pub put_out-requires : goal.put_out-requires
+put_out-requires g c =
     let is = c.in-Ok.ensures.0 ∙ c.last.ensures.seen_log in
+    let old = c.args.self.now in
+    let tiles = take c.in_ok-count.count c.args.tiles.now in
+    let made = subst (λ (t : BookLog). AreFinishedIn t.log c.args.name.now tiles c.add_tiles.new.last.seen_log.log) is c.in_ok-count.ensures.finished in
+    let stays = all_stay g.J.BookName.stored old c.add_tiles.new.last.seen_log.log c.args.name.now tiles made in
+    let log = c.self.view_is in
     record {
-      book = c.in_ok-count.ensures.book;
-      tiles = (
-        c.args.name.now,
-        take c.in_ok-count.count c.args.tiles.now,
-        subst (λ (t : BookLog). AreFinishedIn t.log c.args.name.now (take c.in_ok-count.count c.args.tiles.now) c.add_tiles.new.last.seen_log.log) is c.in_ok-count.ensures.finished,
+      pending = c.self.invariant.2;
+      longer = (
+        subst (λ (l : List Entry). 0 < length l) (sym log) (begun old c.last.ensures.log),
+        c.self.invariant.1 ∙ sym c.in_ok-count.ensures.book,
+        (stays.longer.0, ap (λ (l : List Entry). l ++ stays.longer.0) log ∙ stays.longer.1),
       );
     }
+
+pub invariant_of-self : goal.invariant_of-self
+invariant_of-self g c =
+    let is = c.in-Ok.ensures.0 ∙ c.last.ensures.seen_log in
+    let old = c.args.self.now in
+    let stored = g.J.BookName.stored in
+    let tiles = take c.in_ok-count.count c.args.tiles.now in
+    let made = subst (λ (t : BookLog). AreFinishedIn t.log c.args.name.now tiles c.add_tiles.new.last.seen_log.log) is c.in_ok-count.ensures.finished in
+    let stays = all_stay stored old c.add_tiles.new.last.seen_log.log c.args.name.now tiles made in
+    let i = c.self.invariant in
+    let log = c.self.view_is in
+    let shown = c.put_out.ensures.shown in
+    let after = ap (λ (t : BookLog). t.log) shown in (
+      i.0,
+      ap (λ (t : BookLog). t.book) shown ∙ c.in_ok-count.ensures.book,
+      c.put_out.ensures.pending,
+      (λ k low. i.3 k low ∙ ap (λ (l : List Entry). length (commands_of k l)) log ∙ sym (stays.own k) ∙ sym (ap (λ (l : List Entry). length (commands_of k l)) after)),
+      subst (IsToldIn stored) (sym after) (stays.told (begun old c.last.ensures.log) (subst (IsToldIn stored) log i.4)),
+    )
 
 pub returns : goal.returns
 returns g c =
     let is = c.in-Ok.ensures.0 ∙ c.last.ensures.seen_log in
+    let tiles = take c.in_ok-count.count c.args.tiles.now in
     let made = c.in_ok-count.ensures in
+    let after = ap (λ (t : BookLog). t.log) c.put_out.ensures.shown in
     record {
       few = made.few;
       some = made.some;
-      finished = subst (AreFinishedIn c.args.self.now c.args.name.now (take c.in_ok-count.count c.args.tiles.now)) (sym c.publish.ensures)
-          (subst (λ (t : BookLog). AreFinishedIn t.log c.args.name.now (take c.in_ok-count.count c.args.tiles.now) c.add_tiles.new.last.seen_log.log) is made.finished);
+      finished = subst (AreFinishedIn c.args.self.now c.args.name.now tiles) (sym after)
+          (subst (λ (t : BookLog). AreFinishedIn t.log c.args.name.now tiles c.add_tiles.new.last.seen_log.log) is made.finished);
       err = tt;
     }
