@@ -44,15 +44,10 @@ is_held box a = (int_le box.low_x a.x && int_le a.x box.high_x) && (int_le box.l
 abbrev pub is_short : Box → Box → WholePoint → WholePoint → Bool
 is_short core frame a b = share_side core a b b || (is_held frame a && is_held frame b)
 
--- the same of all steps from a point on along a line
-abbrev pub are_short_from : Box → Box → WholePoint → List WholePoint → Bool
-are_short_from core frame a [] = true
-are_short_from core frame a (b ∷ rest) = is_short core frame a b && are_short_from core frame b rest
-
 -- whether each step of a ring may be drawn in
 abbrev pub are_short : Box → Box → List WholePoint → Bool
-are_short core frame [] = true
-are_short core frame (a ∷ rest) = are_short_from core frame a rest
+are_short core frame (a ∷ b ∷ rest) = is_short core frame a b && are_short core frame (b ∷ rest)
+are_short core frame points = true
 
 -- the number of a range next to a number
 abbrev pub clamped : ℤ → ℤ → ℤ → ℤ
