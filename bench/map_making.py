@@ -35,12 +35,14 @@ Cells: TypeAlias = "list[Numbers]"
 def jittered(count: int, step: int, draw: np.random.Generator) -> Numbers:
     """The corners of count by count cells, [column, row, axis]."""
     at = np.stack(np.meshgrid(np.arange(count + 1), np.arange(count + 1), indexing="ij"), axis=-1) * step
-    return at + draw.integers(-step // 4, step // 4, at.shape)
+    corners: Numbers = at + draw.integers(-step // 4, step // 4, at.shape)
+    return corners
 
 
 def between(a: Numbers, b: Numbers, part: Numbers) -> Numbers:
     """Places on the lines from a to b, rounded."""
-    return np.rint(a + (b - a) * part[..., None]).astype(np.int64)
+    places: Numbers = np.rint(a + (b - a) * part[..., None])
+    return places.astype(np.int64)
 
 
 def parcels(count: int, step: int, draw: np.random.Generator) -> Cells:
@@ -64,8 +66,8 @@ def winding(a: Numbers, b: Numbers, parts: int, draw: np.random.Generator) -> Nu
     along = np.arange(parts) / parts
     across = np.stack([a[..., 1] - b[..., 1], b[..., 0] - a[..., 0]], axis=-1)
     off = (draw.random((*a.shape[:-1], parts)) - 0.5) * 0.4 * along * (1 - along)
-    return np.rint(a[..., None, :] + (b - a)[..., None, :] * along[:, None] + across[..., None, :] * off[..., None]
-                   ).astype(np.int64)
+    corners: Numbers = a[..., None, :] + (b - a)[..., None, :] * along[:, None] + across[..., None, :] * off[..., None]
+    return np.rint(corners).astype(np.int64)
 
 
 def zones(count: int, step: int, draw: np.random.Generator) -> Cells:

@@ -13,6 +13,7 @@ import pathlib
 import subprocess
 import sys
 import tempfile
+from typing import Any
 
 TOP = pathlib.Path(__file__).resolve().parents[1]
 TOOL, MAPS = TOP / "tools" / "overlay_maps.py", TOP / "examples" / "maps"
@@ -24,14 +25,17 @@ def made(live: str, folder: pathlib.Path) -> None:
     """The pieces of both maps, and the overlaps and gaps of the parcels, as QGIS opens them."""
     parcels, zones = MAPS / "parcels.geojson", MAPS / "zones.geojson"
     words = ["--factor", "1000", "--a-id", "nr", "--program", live, "--jobs", "1", "--out", str(folder / "table.csv")]
-    run = lambda question, *more: subprocess.run([sys.executable, TOOL, question, *more, *words], check=True)  # noqa: E731
+
+    def run(question: str, *more: str | pathlib.Path) -> None:
+        subprocess.run([sys.executable, TOOL, question, *more, *words], check=True)
+
     run("overlay", parcels, zones, "--b-id", "kind", "--pieces", folder / "pieces.geojson")
     run("check", parcels, "--gaps", folder / "gaps.geojson")
     # What features of the parcels' own map have in common, as pieces of it with itself.
     run("overlay", parcels, parcels, "--b-id", "nr", "--pieces", folder / "own.geojson", "--no-audit")
 
 
-def layers_of(folder: pathlib.Path) -> list[object]:
+def layers_of(folder: pathlib.Path) -> list[Any]:
     """The layers from the top down."""
     from qgis.core import (QgsCategorizedSymbolRenderer, QgsFillSymbol, QgsPalLayerSettings, QgsRendererCategory,
                            QgsTextFormat, QgsVectorLayer, QgsVectorLayerSimpleLabeling, QgsSingleSymbolRenderer)

@@ -40,7 +40,7 @@ def found_program(names: tuple[str, ...]) -> str:
     """The first of the programs in crates/*/out, where the gate builds them, or at the top, as README does, or on the
     path."""
     built = [TOP / "crates" / name / "out" / name for name in names] + [TOP / name for name in names]
-    found = [str(file) for file in built if file.is_file()] + [file for file in map(shutil.which, names) if file]
+    found = [str(file) for file in built if file.is_file()] + [file for file in (shutil.which(name) for name in names) if file]
     if not found:
         raise Unusable(f"no program: {missing(names)}; {how_to_build(names[0])}say --program PATH")
     return found[0]

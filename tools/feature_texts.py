@@ -39,7 +39,8 @@ def shaped(polygons: list[Polygon], program: str) -> Shaped:
 def coordinates(given: Any, scale: Scale) -> str:
     """The coordinates of rings, polygons or lists of these as GeoJSON has them."""
     if isinstance(given, tuple):
-        return "[" + ", ".join(decimals(number, scale.digits) for number in scale.world(given)) + "]"
+        x, y, w = given
+        return "[" + ", ".join(decimals(number, scale.digits) for number in scale.world((x, y, w))) + "]"
     return "[" + ", ".join(coordinates(one, scale) for one in given) + "]"
 
 

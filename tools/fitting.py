@@ -34,7 +34,7 @@ class Box:
 
     def is_round_the_earth(self) -> bool:
         """Whether the numbers can be degrees at all, also those of a map that goes on beyond 180."""
-        return max(map(abs, (self.least[0], self.greatest[0]))) <= 360 and -90 <= self.least[1] and self.greatest[1] <= 90
+        return max(abs(self.least[0]), abs(self.greatest[0])) <= 360 and -90 <= self.least[1] and self.greatest[1] <= 90
 
 
 def box_of(shapes: Iterable[Shape]) -> Box | None:

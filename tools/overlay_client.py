@@ -595,13 +595,13 @@ class Features:
         if revision not in (None, old.revision()):
             raise ValueError(f"{identity}: it has changed since revision {revision}")
         given = self._given(geometry, old.properties if properties is None else properties, old.kind)
-        return self._change(table, self._changes.replaced(table, held, old.id, given))
+        return cast(MapFeature, self._change(table, self._changes.replaced(table, held, old.id, given)))
 
     def add(self, geometry: object, properties: Mapping[str, Any]) -> MapFeature:
         """A new feature, with an id of its own."""
         table, held, names = self._standing()
         given = self._given(geometry, properties, "Polygon")
-        return self._change(table, self._changes.added(table, held, names, given))
+        return cast(MapFeature, self._change(table, self._changes.added(table, held, names, given)))
 
     def remove(self, identity: int | str) -> None:
         table, held, _ = self._standing()

@@ -19,12 +19,12 @@ class Edge(NamedTuple):
 
     ring: int
     place: int
-    count: int
+    edges: int
     a: Point
     b: Point
 
     def goes_on_from(self, other: "Edge") -> bool:
-        return self.ring == other.ring and self.place == (other.place + 1) % self.count
+        return self.ring == other.ring and self.place == (other.place + 1) % self.edges
 
 
 def is_plain(polygons: list[Polygon]) -> bool:

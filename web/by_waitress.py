@@ -11,9 +11,9 @@ import socket
 from collections.abc import Callable
 from typing import Any
 
-import waitress  # type: ignore[import]
-from waitress.channel import HTTPChannel  # type: ignore[import]
-from waitress.task import ErrorTask  # type: ignore[import]
+import waitress
+from waitress.channel import HTTPChannel
+from waitress.task import ErrorTask
 
 from .front import HEADERS, Front, refusal
 from .serving import ANSWER_SECONDS, CONNECTIONS_MOST, LINE_MOST, QUIET_SECONDS, REQUEST_SECONDS, THREADS

@@ -40,7 +40,7 @@ class Joiner:
             link.send((pieces, scale))
             if not link.poll(seconds):
                 raise TimeoutError
-            found = link.recv()
+            found: list[shapes.Feature] | Exception = link.recv()
         except (EOFError, ConnectionError) as fault:
             self.end()
             raise Busy("the process that joined it has been killed, as for its memory: ask again") from fault

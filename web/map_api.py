@@ -47,7 +47,8 @@ class MapApi:
         question, told = self._question(request)
         with self.store.view() as view:
             if self.maps and name == self.maps.name:
-                return json_answer({**told, "features": self._features(view, question)})
+                told["features"] = self._features(view, question)
+                return json_answer(told)
             told["place"] = view.locate([name], question)[name]
         return json_answer(told)
 

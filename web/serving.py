@@ -14,7 +14,7 @@ import socketserver
 import threading
 import time
 from http import HTTPStatus
-from typing import Any
+from typing import Any, cast
 from wsgiref import simple_server
 
 from .front import CHANGES_MOST, HEADERS, SLOW_MOST, Front, refusal
@@ -154,7 +154,7 @@ class Handler(simple_server.WSGIRequestHandler):
         elif self.raw_requestline and self.parse_request():
             body = self._body()
             with self.server.answering:
-                run = simple_server.ServerHandler(
+                run: Any = simple_server.ServerHandler(
                     io.BytesIO(body), self.wfile, self.get_stderr(), self.get_environ(), multithread=True
                 )
                 run.request_handler = self
@@ -179,7 +179,7 @@ class Handler(simple_server.WSGIRequestHandler):
         if is_length(length) and int(length) > BODY_MOST:
             self.connection.shutdown(socket.SHUT_WR)
             left = PASSED_OVER_MOST
-            while left > 0 and (more := self.rfile.read1(1 << 16)):
+            while left > 0 and (more := cast(io.BufferedReader, self.rfile).read1(1 << 16)):
                 left -= len(more)
 
     def send_error(self, code: int, message: str | None = None, explain: str | None = None) -> None:

@@ -163,7 +163,8 @@ class Stress:
     def _judge(self) -> None:
         made, revisions = {put.place: put for put in self.puts}, dict[str, int]()
         ended = sorted(put.ended for put in self.puts)
-        newest = [0, *itertools.accumulate((put.version for put in sorted(self.puts, key=lambda put: put.ended)), max)]
+        versions = [put.version for put in sorted(self.puts, key=lambda put: put.ended)]
+        newest = [0, *itertools.accumulate(versions, lambda most, one: max(most, one))]
         for one in self.seen:
             if len(one.places) > 1:
                 self.faults.append(f"{one.kind}: of several versions: {sorted(one.places)}")

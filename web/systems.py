@@ -71,7 +71,8 @@ def by_pyproj(crs: str) -> Projection | None:
         found = first
         for _ in range(REFINED):
             again = transform(*transform(*found), direction=back)
-            found = tuple([place + (wanted - got) for place, wanted, got in zip(*axis)] for axis in zip(found, first, again))
+            xs, ys = ([place + (wanted - got) for place, wanted, got in zip(*axis)] for axis in zip(found, first, again))
+            found = xs, ys
         return found
 
     return Projection(transform, inverse, axes[:1] in (["north"], ["south"]))

@@ -18,7 +18,7 @@ import subprocess
 import sys
 import tempfile
 import time
-from collections.abc import Iterator
+from collections.abc import Callable, Iterator
 from typing import Any, NamedTuple
 
 from bench import TOP
@@ -63,7 +63,7 @@ def by_geopandas(parcels: Any, zones: Any) -> Iterator[tuple[str, str, float]]:
     yield from zip(made.parcel, made.zone, made.area)
 
 
-READERS = {"shapely": by_shapely, "shapely, whole": by_whole_shapely, "geopandas": by_geopandas}
+READERS: dict[str, Callable[[Any, Any], Iterator[Any]]] = {"shapely": by_shapely, "shapely, whole": by_whole_shapely, "geopandas": by_geopandas}
 
 
 def peer(name: str, folder: pathlib.Path, table: pathlib.Path) -> None:
@@ -150,9 +150,9 @@ def boxes_that_meet(folder: pathlib.Path) -> int:
 
     from tools.maps import gdal_maps, numpy_pairs, numpy_planning
 
-    boxes = [numpy_planning.boxes_of(gdal_maps.read(str(folder / f"{kind}.gpkg"), Fraction(1000), None, None, False).whole)
-             for kind in ("parcels", "zones")]
-    return len(numpy_pairs.pairs(*boxes))
+    parcels, zones = (numpy_planning.boxes_of(gdal_maps.read(str(folder / f"{kind}.gpkg"), Fraction(1000), None, None, False).whole)
+                      for kind in ("parcels", "zones"))
+    return len(numpy_pairs.pairs(parcels, zones))
 
 
 def main() -> int:

@@ -28,7 +28,7 @@ from tools.limits import COLUMNS, COORDINATE_MAX
 
 HERE = pathlib.Path(__file__).resolve().parent
 COMPILE = "g++ -std=c++17 -O2 -DNDEBUG -w".split()
-LIBRARIES = {"cgal": ["-lgmp", "-lmpfr"], "clipper": ["-lpolyclipping"], "boost": [], "geos": ["-lgeos"]}
+LIBRARIES: dict[str, list[str]] = {"cgal": ["-lgmp", "-lmpfr"], "clipper": ["-lpolyclipping"], "boost": [], "geos": ["-lgeos"]}
 TITLES = {"cgal": "CGAL", "clipper": "Clipper", "boost": "Boost"}
 SIMPLE = {"star", "sliver", "comb"}
 LAYERS, POINTS, ROUNDS = 20, 100000, 5
@@ -39,7 +39,7 @@ def peers(folder: pathlib.Path) -> dict[str, pathlib.Path]:
     built: dict[str, pathlib.Path] = {}
     for name, libraries in LIBRARIES.items():
         program = folder / name
-        words = [*COMPILE, "-o", program, HERE / "peers" / f"{name}.cc", *libraries]
+        words: list[str | pathlib.Path] = [*COMPILE, "-o", program, HERE / "peers" / f"{name}.cc", *libraries]
         if subprocess.run(words, stderr=subprocess.DEVNULL, check=False).returncode == 0:
             built[name] = program
         else:

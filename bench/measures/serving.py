@@ -22,6 +22,7 @@ import subprocess
 import sys
 import tempfile
 import time
+from collections.abc import Callable, Iterable, Sequence
 
 from bench.counting import Words, absolute
 from bench.processor_time import processor
@@ -192,7 +193,7 @@ def measure(words: argparse.Namespace, folder: pathlib.Path) -> int:
     part = 10 if words.quick else 1
     print(f"{os.cpu_count()} processors.\n\n| What | Measured | Beside |\n|---|---|---|", flush=True)
     steps = 256 if words.quick else 1024
-    parts = [
+    parts: list[Callable[[], Iterable[Sequence[str]]]] = [
         lambda: commits(runs, 200 // part), lambda: replies(runs, 40000 // part), lambda: waits(runs, steps),
         lambda: locates(runs, 20000 // part), lambda: grids(runs, 40 // part),
     ]

@@ -154,7 +154,7 @@ def files(program: pathlib.Path, folder: pathlib.Path) -> None:
     base, small = zigzag(2048), zigzag(4)
     tile = {c: tile_record(c, 60000, whole_piece) for c in range(16)}
     oversize = {c: bytes([1, c]) for c in range(COLUMNS)}
-    kinds = {
+    kinds: dict[str, list[Layer]] = {
         "one layer of 4 steps": [(b"A", small, None)],
         "32 layers of 2,048 steps": [(b"A%d" % i, base, None) for i in range(32)],
         f"a derived layer with {COLUMNS} oversize tiles": [(b"A", small, None), (b"I", b"A", oversize)],
@@ -166,7 +166,7 @@ def files(program: pathlib.Path, folder: pathlib.Path) -> None:
     for name, layers in kinds.items():
         path.write_bytes(store(layers))
         size = path.stat().st_size
-        words = [program, "change", empty, "1", path]
+        words: list[str | pathlib.Path] = [program, "change", empty, "1", path]
         calls, written = subprocess.run(words, stdout=subprocess.PIPE, check=True, text=True).stdout.split()
         times = max(1, min(20000, 200000000 // size))
         opening, committing = each(program, "open", path, times), each(program, "commit", path, times)
@@ -182,11 +182,11 @@ def changes(program: pathlib.Path, folder: pathlib.Path) -> None:
     base, other, small = zigzag(2048), zigzag(2047), zigzag(4)
     tile = {c: tile_record(c, 100, short_piece) for c in range(COLUMNS)}
     shorter = {**tile, 8: tile_record(8, 99, whole_piece)}
-    layers = [(b"A%d" % i, base, None) for i in range(32)]
-    tiled = [(b"A", small, None)] + [(b"I%d" % i, b"A", tile) for i in range(DERIVED)]
+    layers: list[Layer] = [(b"A%d" % i, base, None) for i in range(32)]
+    tiled: list[Layer] = [(b"A", small, None)] + [(b"I%d" % i, b"A", tile) for i in range(DERIVED)]
     one, two = folder / "one", folder / "two"
     tiles = f"{DERIVED * COLUMNS} tiles of 100 pieces"
-    kinds = {
+    kinds: dict[str, tuple[list[Layer], list[Layer]]] = {
         "32 layers of 2,048 steps, one of them changed": (layers, layers[:8] + [(b"A8", other, None)] + layers[9:]),
         f"{tiles}, one of them changed": (tiled, tiled[:8] + [(b"I7", b"A", shorter)] + tiled[9:]),
         f"{tiles}, nothing but the number": (tiled, tiled),
@@ -194,7 +194,7 @@ def changes(program: pathlib.Path, folder: pathlib.Path) -> None:
     for name, (before, after) in kinds.items():
         one.write_bytes(store(before))
         two.write_bytes(store(after))
-        words = [program, "change", one, "1", two]
+        words: list[str | pathlib.Path] = [program, "change", one, "1", two]
         calls, written = subprocess.run(words, stdout=subprocess.PIPE, check=True, text=True).stdout.split()
         print(f"{name}: a commit makes {calls} device calls and writes {written} bytes")
 
@@ -204,7 +204,7 @@ def beginnings(program: pathlib.Path, folder: pathlib.Path) -> None:
     small, path = zigzag(4), folder / "tiled"
     tile = {c: tile_record(c, 100, short_piece) for c in range(COLUMNS)}
     path.write_bytes(store([(b"A", small, None)] + [(b"I%d" % i, b"A", tile) for i in range(DERIVED)]))
-    words = [program, "begin", path, "200"]
+    words: list[str | pathlib.Path] = [program, "begin", path, "200"]
     least = int(subprocess.run(words, stdout=subprocess.PIPE, check=True, text=True).stdout.split()[0])
     print(
         f"the beginning of a commit after a PUT, beside {DERIVED} layers with {DERIVED * COLUMNS} tiles of 100 pieces:"

@@ -100,7 +100,7 @@ def halved(layers: list[Layer]) -> list[Layer]:
 def run(program: pathlib.Path, word: str, path: pathlib.Path, cap: int, times: int) -> tuple[float, int, float]:
     """Processor time, size of the tile, and the most memory in MB."""
     start = processor()
-    words = [program, word, path, str(cap), str(times)]
+    words: list[str | pathlib.Path] = [program, word, path, str(cap), str(times)]
     size, _, peak, _ = subprocess.run(words, stdout=subprocess.PIPE, check=True, text=True).stdout.split()
     return processor() - start, int(size), int(peak) / 1024
 

@@ -49,6 +49,7 @@ Tree = Any
 Segment = tuple[int, ...]
 Point = tuple[fractions.Fraction, fractions.Fraction]
 Piece = tuple[Point, Point]
+Place = tuple[int | fractions.Fraction, int | fractions.Fraction]
 
 
 class Put(NamedTuple):
@@ -540,7 +541,7 @@ def count(test: Callable[..., bool], segments: Iterable[Segment], x: int, y: int
     return sum(test(segment, x, y, w) for segment in segments)
 
 
-def whole(point: Point) -> tuple[int, int, int]:
+def whole(point: Place) -> tuple[int, int, int]:
     """The whole numbers x, y and w of a pair of fractions, without a common divisor."""
     w = math.lcm(point[0].denominator, point[1].denominator)
     return (int(point[0] * w), int(point[1] * w), w)
@@ -722,7 +723,7 @@ class Meanings:
         return edge_lines(pieces)
 
 
-def edge_lines(pieces: list[Piece]) -> list[str]:
+def edge_lines(pieces: Sequence[tuple[Place, Place]]) -> list[str]:
     """The lines of a reply to EDGES, of a tile's pieces."""
     return [f"edges {len(pieces)}"] + [" ".join(f"{x} {y} {w}" for x, y, w in map(whole, p)) for p in pieces]
 

@@ -105,7 +105,7 @@ def answers(program: pathlib.Path, folder: pathlib.Path, data: bytes, cases: lis
 
 def cuts(program: pathlib.Path, folder: pathlib.Path, name: str, one: bytes) -> int:
     """A store whose catalog is its last block, cut to every length."""
-    cases = [(length, []) for length in range(len(one))]
+    cases: list[tuple[int, Changes]] = [(length, []) for length in range(len(one))]
     counts: collections.Counter[str] = collections.Counter()
     wrong = 0
     for (length, _), answer in zip(cases, answers(program, folder, one, cases)):

@@ -27,7 +27,7 @@ import sys
 import tempfile
 import urllib.error
 import urllib.request
-from collections.abc import Iterator
+from collections.abc import Callable, Iterator
 from dataclasses import dataclass, field
 from typing import Any
 
@@ -176,7 +176,7 @@ def beyond(one: Any, other: Any) -> float:
     known = {key_of(point) for point in corners_of(other)}
     line = other.boundary
     alone = [point for point in corners_of(one) if key_of(point) not in known]
-    return max([0.0, *(line.distance(geometry.Point(point)) for point in alone)])
+    return max([0.0, *(float(line.distance(geometry.Point(point))) for point in alone)])
 
 
 def furthest(one: Any, other: Any) -> float:
@@ -256,7 +256,7 @@ def collection_of(store: pathlib.Path) -> str:
 def copy_in_degrees(store: pathlib.Path, folder: pathlib.Path, program: str, key: str) -> Found:
     """What ogr2ogr makes of the store's features in the store's own system."""
     written, copy = folder / f"{store.stem}.own.geojson", folder / f"{store.stem}.degrees.gpkg"
-    words = ["--store", store, "--features", "--output", written, "--program", program]
+    words: list[str | pathlib.Path] = ["--store", store, "--features", "--output", written, "--program", program]
     ran(sys.executable, TOP / "tools/to_geojson.py", *words)
     copy.unlink(missing_ok=True)
     ran("ogr2ogr", "-f", "GPKG", "-t_srs", "OGC:CRS84", copy, written)
@@ -275,9 +275,12 @@ def try_map(tries: Tries, source: Source, folder: pathlib.Path, program: str) ->
     for store in stores:
         placed |= copy_in_degrees(store, place, program, source.key)
     with fronts_of(stores, program) as addresses:
-        for how, found_in in (("ogr2ogr", lambda at, of: by_ogr2ogr(at, of, place, source.key)),
-                              ("owslib", lambda at, of: by_owslib(at, of, source.key)),
-                              ("QGIS", lambda at, of: by_qgis(layer_of(at, of), source.key))):
+        clients: dict[str, Callable[[str, str], Found]] = {
+            "ogr2ogr": lambda at, of: by_ogr2ogr(at, of, place, source.key),
+            "owslib": lambda at, of: by_owslib(at, of, source.key),
+            "QGIS": lambda at, of: by_qgis(layer_of(at, of), source.key),
+        }
+        for how, found_in in clients.items():
             if how == "QGIS" and not qgis:
                 continue
             found: Found = {}
@@ -293,7 +296,7 @@ def try_map(tries: Tries, source: Source, folder: pathlib.Path, program: str) ->
 
 def wrong_boxes(address: str, collection: str, found: Found, key: str) -> list[tuple[float, ...]]:
     """The boxes among 100 drawn ones for which the front has other features than GEOS finds there."""
-    chance, wrong = random.Random(1), []
+    chance, wrong = random.Random(1), list[tuple[float, ...]]()
     west, south, east, north = geometry.GeometryCollection([one.shape for one in found.values()]).bounds
     for _ in range(100):
         x, y, part = chance.uniform(west, east), chance.uniform(south, north), chance.choice([0.0001, 0.01, 0.1, 0.5])

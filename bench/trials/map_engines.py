@@ -208,7 +208,7 @@ def scheduler(folder: pathlib.Path, user: str | None, protocol: str) -> Iterator
     quiet = {"stdout": subprocess.DEVNULL, "stderr": subprocess.DEVNULL, "cwd": place}
     with contextlib.ExitStack() as ends:
         def started(*words: str, **more: object) -> subprocess.Popen[bytes]:
-            run = subprocess.Popen(words, **quiet, **more)  # type: ignore[call-overload]
+            run: subprocess.Popen[bytes] = subprocess.Popen(words, **quiet, **more)  # type: ignore[call-overload]
             ends.callback(run.wait)
             ends.callback(run.kill)
             return run

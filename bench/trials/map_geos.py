@@ -163,8 +163,7 @@ def main(arguments: list[str]) -> int:
     first, second = (running.read_map(path, own, words, print).whole
                      for path, own in ((words.first, words.a_id), (words.second, words.b_id)))
     found = tables_areas(words, first, second)
-    boxes = [numpy_planning.boxes_of(whole) for whole in (first, second)]
-    pairs = np.array(numpy_pairs.pairs(*boxes)).tolist()
+    pairs = np.array(numpy_pairs.pairs(numpy_planning.boxes_of(first), numpy_planning.boxes_of(second))).tolist()
     print(f"{len(pairs)} pairs of boxes, {len(found)} overlap")
     factor, wrong = float(words.factor), 0
     for name, is_moved in (("whole numbers", True), ("the maps' unit", False)):

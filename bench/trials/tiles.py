@@ -30,10 +30,10 @@ HERE = pathlib.Path(__file__).resolve().parent
 
 def points_of_a_grid(draws: Draws, width: int | None = None) -> list[Layer]:
     """Rings between the points of a small grid."""
-    width = width or draws.among([1, 2, 3, 4, 6])
+    most = width or draws.among([1, 2, 3, 4, 6])
 
     def ring() -> list[Point]:
-        return closed([(draws.below(width + 1), draws.below(width + 1)) for _ in range(3 + draws.below(4))])
+        return closed([(draws.below(most + 1), draws.below(most + 1)) for _ in range(3 + draws.below(4))])
 
     return [[ring() for _ in range(1 + draws.below(2))] for _ in range(2)]
 

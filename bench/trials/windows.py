@@ -123,8 +123,9 @@ def wrong(source: random.Random, part: windows.Part, text: object) -> int:
 def cut_short(program: pathlib.Path) -> list[tuple[int, str]]:
     """The status and the fault of a run whose input ends too soon, and of one with a word."""
     whole = windows.input_bytes([REFUSED[3][0]])
+    asked: list[tuple[list[str], bytes]] = [([], whole[:-1]), ([], b""), (["--help"], whole)]
     runs = [subprocess.run([program, *words], input=text, stdout=subprocess.PIPE, stderr=subprocess.PIPE, check=False)
-            for words, text in (([], whole[:-1]), ([], b""), (["--help"], whole))]
+            for words, text in asked]
     return [(run.returncode, run.stderr.decode()) for run in runs]
 
 

@@ -81,7 +81,9 @@ def factor_of(text: str) -> Fraction:
 factor_of.__name__ = "factor greater than 0"
 
 
-ASKED = {"pairs": questions.pairs, "overlay": overlays.overlay, "check": map_checks.check, "task": doing.do_tasks}
+ASKED: dict[str, Callable[[argparse.Namespace, TextIO, Callable[[str], None]], int]] = {
+    "pairs": questions.pairs, "overlay": overlays.overlay, "check": map_checks.check, "task": doing.do_tasks,
+}
 
 
 def main(arguments: list[str], output: TextIO | None = None, errors: TextIO | None = None) -> int:

@@ -24,6 +24,7 @@ oversize, a reply is of another form, or the output cannot be written.
 
 import argparse
 import functools
+import operator
 from collections.abc import Iterator
 from typing import Any, TextIO
 
@@ -69,7 +70,7 @@ def round_corner(boundary: Boundary, corner: int, arriving: list[int], leaving: 
 
     # By angle, clockwise: after each piece that arrives comes the one that leaves with the same inside.
     spokes = [(angle(piece), piece, False) for piece in arriving] + [(angle(piece), piece, True) for piece in leaving]
-    spokes.sort(key=lambda spoke: spoke[0], reverse=True)
+    spokes.sort(key=operator.itemgetter(0), reverse=True)
     pairs = list(zip(spokes, spokes[1:] + spokes[:1]))
     if any(one[2] == other[2] for one, other in pairs):
         raise sessions.Unusable("the sides of the pieces do not alternate round a node")

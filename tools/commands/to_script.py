@@ -128,7 +128,8 @@ def content(name: str, layer: str | None) -> str:
 
 def read_shapes(words: argparse.Namespace) -> tuple[list[Shape], set[str | None], Described]:
     """The shapes of all files, the names of their coordinates, and what files say of their features."""
-    shapes, systems, properties, described = [], dict[int, str | None](), dict[str, None](), Described()
+    shapes, systems, properties = list[Shape](), dict[int, str | None](), dict[str, None]()
+    described: Described = {}
     for number, name in enumerate(words.files):
         stem = words.name or ("L" if name == "-" else pathlib.Path(name).stem)
         source = map_reading.Source(number, name, stem, words.name_by)

@@ -14,7 +14,7 @@ import tempfile
 import time
 import uuid
 import zipfile
-from collections.abc import Iterable, Iterator
+from collections.abc import Callable, Iterable, Iterator
 from functools import partial
 from itertools import islice
 from typing import Any
@@ -170,6 +170,8 @@ class Hand:
             return []
         names = [f"overlay-maps-{self.run}-{number}" for number in some]
         self.names |= zip(names, some)
+        work: Callable[..., bytes | TaskFault | None]
+        given: list[list[Any]]
         if self.shared:
             work, given = partial(engines.done, self.work, self.folder), [some]
         else:
@@ -188,4 +190,5 @@ def _kept(folder: TaskFolder, number: int, status: str, came: Any) -> TaskFault 
     if isinstance(came, bytes):
         folder.keep(number, came)
         return None
-    return came
+    fault_of: TaskFault | None = came
+    return fault_of

@@ -172,7 +172,8 @@ def numbers_of(task: Task, job: int) -> tuple[int, tuple[int, ...]]:
 def row_of(task: Task, job: int, outlines: list[Outline]) -> Row:
     relation = OVERLAPS if task.kind == COMMON else ALONE_TOLD
     loops = [outline.loop for outline in outlines]
-    return Row(*numbers_of(task, job), boundaries.area_of(outlines), *shape_of(loops), relation)
+    (own, others), (perimeter, x, y) = numbers_of(task, job), shape_of(loops)
+    return Row(own, others, boundaries.area_of(outlines), perimeter, x, y, relation)
 
 
 def shape_of(loops: list[Loop]) -> tuple[float, int, int]:

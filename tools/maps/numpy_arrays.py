@@ -16,4 +16,5 @@ def of_array(given: object) -> Numbers:
 def spans(begins: Numbers, counts: Numbers) -> Numbers:
     """The numbers begins[0] up to begins[0] + counts[0], then those of begins[1], and so on."""
     ends = np.cumsum(counts)
-    return np.arange(int(counts.sum()), dtype=np.int64) + np.repeat(begins - (ends - counts), counts)
+    numbers: Numbers = np.arange(int(counts.sum()), dtype=np.int64) + np.repeat(begins - (ends - counts), counts)
+    return numbers

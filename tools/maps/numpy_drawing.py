@@ -10,7 +10,7 @@ import numpy as np
 from .drawing_in import LEFT, OVER, RIGHT, UNDER, Drawn, Plain
 from .numpy_arrays import Numbers, of_array, spans
 from .task_form import GAPS, Task
-from .whole_maps import Ring
+from .whole_maps import Ring, as_box
 
 POINTS_AT_ONCE = 400_000
 
@@ -86,7 +86,7 @@ class Points:
         """The half-planes off its job's core that each point lies in, as bits."""
         left, under, right, over = self.cores.T
         job = self.job
-        marks = (self.xs < left[job]) * np.int8(LEFT)
+        marks: Numbers = (self.xs < left[job]) * np.int8(LEFT)
         marks += (self.xs > right[job]) * np.int8(RIGHT)
         marks += (self.ys < under[job]) * np.int8(UNDER)
         marks += (self.ys > over[job]) * np.int8(OVER)
@@ -173,4 +173,4 @@ def drawn_jobs(flat: Flat, jobs: range) -> Iterator[Drawn]:
     for part, ring in points.rings():
         features[part].append(ring)
     for job, (core, frame, is_plain) in enumerate(zip(points.cores.tolist(), frames.tolist(), plain.tolist())):
-        yield Drawn(tuple(core), tuple(frame), features[begins[job] : begins[job + 1]], is_plain)
+        yield Drawn(as_box(core), as_box(frame), features[begins[job] : begins[job + 1]], is_plain)

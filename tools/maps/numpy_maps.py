@@ -27,7 +27,7 @@ def halves(number: Numbers) -> tuple[Numbers, Numbers]:
 
 def product_rest(a: Numbers, b: float, product: Numbers) -> Numbers:
     """What a product of doubles lacks of the exact one, itself a double."""
-    (a_high, a_low), (b_high, b_low) = halves(a), halves(np.float64(b))
+    (a_high, a_low), (b_high, b_low) = halves(a), halves(np.asarray(np.float64(b)))
     return ((a_high * b_high - product) + a_high * b_low + a_low * b_high) + a_low * b_low
 
 

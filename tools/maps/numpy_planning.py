@@ -9,7 +9,7 @@ from .cells import halved
 from .numpy_arrays import Numbers, of_array
 from .planning import CELL_POINTS, Job
 from .task_form import NOBODY
-from .whole_maps import NOWHERE, Box, WholeMap
+from .whole_maps import NOWHERE, Box, WholeMap, as_box
 
 AT_ONCE = 1 << 16  # pairs of which jobs are made
 FEATURES_AT_ONCE = 1 << 18  # of a map that are looked at together
@@ -40,10 +40,11 @@ def places(boxes: Numbers) -> Numbers:
     """Numbers for boxes that are near where boxes are."""
     if not len(boxes):
         return np.zeros(0, np.int64)
-    middles = (boxes[:, :2] + boxes[:, 2:]) // 2
+    middles: Numbers = (boxes[:, :2] + boxes[:, 2:]) // 2
     middles = middles - middles.min(axis=0)
     middles >>= max(0, int(middles.max()).bit_length() - planning.BITS)
-    return spread(middles[:, 0]) | spread(middles[:, 1]) << 1
+    found: Numbers = spread(middles[:, 0]) | spread(middles[:, 1]) << 1
+    return found
 
 
 def spread(given: Numbers) -> Numbers:
@@ -87,16 +88,16 @@ def jobs_of_pairs(a: Numbers, b: Numbers, pairs: Numbers, own_places: Numbers) -
     for at in range(0, len(pairs), AT_ONCE):
         i, j = pairs[at : at + AT_ONCE].T
         cores = np.concatenate([np.maximum(a[i, :2], b[j, :2]), np.minimum(a[i, 2:], b[j, 2:])], axis=1)
-        yield from (Job(tuple(core), own, (other,)) for core, own, other in zip(cores.tolist(), i.tolist(), j.tolist()))
+        yield from (Job(as_box(core), own, (other,)) for core, own, other in zip(cores.tolist(), i.tolist(), j.tolist()))
 
 
 def alone_jobs(a: Numbers, b: Numbers) -> Iterator[Job]:
     """A job for each feature of the first map that has a box, with all of the second that may have a part of it."""
     for part, pairs in by_parts(a, b, places(a)):
         live = part[(a[part, :2] < a[part, 2:]).all(axis=1)]
-        begins, ends = (np.searchsorted(pairs[:, 0], live, side).tolist() for side in ("left", "right"))
+        begins, ends = np.searchsorted(pairs[:, 0], live).tolist(), np.searchsorted(pairs[:, 0], live, "right").tolist()
         for own, begin, end in zip(live.tolist(), begins, ends):
-            yield Job(tuple(a[own].tolist()), own, tuple(pairs[begin:end, 1].tolist()))
+            yield Job(as_box(a[own].tolist()), own, tuple(pairs[begin:end, 1].tolist()))
 
 
 def frame_of(boxes: Numbers) -> Box:
@@ -104,7 +105,7 @@ def frame_of(boxes: Numbers) -> Box:
     real = boxes[(boxes[:, :2] <= boxes[:, 2:]).all(axis=1)]
     if not len(real):
         return planning.frame_of([])
-    return planning.frame_of([(*real[:, :2].min(axis=0).tolist(), *real[:, 2:].max(axis=0).tolist())])
+    return planning.frame_of([as_box([*real[:, :2].min(axis=0).tolist(), *real[:, 2:].max(axis=0).tolist()])])
 
 
 def gap_jobs(whole: WholeMap, boxes: Numbers) -> Iterator[Job]:

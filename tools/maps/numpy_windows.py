@@ -10,7 +10,7 @@ from .numpy_arrays import Numbers
 from .numpy_drawing import Flat, Points
 from .slots import CORE_MAX
 from .task_form import Task
-from .whole_maps import Ring
+from .whole_maps import Ring, as_box
 from .windows import ByWindows, Refused, drawn_of, layer_of, near, output_of
 
 HEAD_WORDS = 21  # of 32 bits: core, frame and origin of 64 bits, and how many rings follow
@@ -36,9 +36,9 @@ class ByNumpy(ByWindows):
         cores = points.cores.tolist()
         for job, core, frame, count, is_plain, is_one in zip(jobs, cores, frames.tolist(), counts, plain.tolist(),
                                                              is_asked.tolist()):
-            found = drawn_of(tuple(core), tuple(frame), list(islice(layers, count))) if is_one else None
+            found = drawn_of(as_box(core), as_box(frame), list(islice(layers, count))) if is_one else None
             if found is None:
-                found = near(next(wanted_of(task, range(job, job + 1))), tuple(frame), is_plain)
+                found = near(next(wanted_of(task, range(job, job + 1))), as_box(frame), is_plain)
             yield found
 
 
@@ -74,7 +74,8 @@ def write_heads(words: Numbers, points: Points, frames: Numbers, at: Numbers, ri
 
 def middles(frames: Numbers) -> Numbers:
     """From where places of frames are seen within the plane."""
-    return (frames[:, :2] + frames[:, 2:]) // 2
+    found: Numbers = (frames[:, :2] + frames[:, 2:]) // 2
+    return found
 
 
 def closed_points(points: Points, sizes: Numbers, closed: Numbers) -> Numbers:
@@ -95,8 +96,8 @@ def layers_of(output: bytes, origins: Numbers) -> Iterator[list[Ring] | None]:
     """The rings of each line of the program's output, back where they are of the map, or nothing where it says that a
     layer would have too many steps."""
     if b"error" in output:
-        for line, origin in zip(output.decode().splitlines(), origins.tolist()):
-            yield layer_of(Refused(line) if line.startswith("error ") else line, tuple(origin))
+        for text, (x, y) in zip(output.decode().splitlines(), origins.tolist()):
+            yield layer_of(Refused(text) if text.startswith("error ") else text, (x, y))
         return
     given = np.frombuffer(output, np.uint8)
     after_digit = (given[:-1] >= ord("0")) & (given[:-1] <= ord("9"))

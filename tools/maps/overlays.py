@@ -161,7 +161,7 @@ def counted_twice(side: Side, features: set[int], factor: Fraction, words: argpa
     for feature, other, _ in side.shared:
         if feature in features:
             near[feature].append(other)
-    groups = [(feature, *pair) for feature, others in near.items() for pair in overlapping(side, feature, others)]
+    groups: list[tuple[int, ...]] = [(feature, *pair) for feature, others in near.items() for pair in overlapping(side, feature, others)]
     rows, sign, found = list[Row](), 1, list[tuple[int, Row]]()
     crowded: set[int] = set()
     while groups:

@@ -12,7 +12,7 @@ except ImportError:
 
 from .drawing_in import Plain
 
-__all__ = ["drawing", "planning"]
+__all__ = ["ByNumpy", "ByWindows", "drawing", "planning"]
 
 
 def drawing(window: str | None) -> Plain:

@@ -8,6 +8,7 @@ import subprocess
 from collections import deque
 from collections.abc import Iterable, Iterator
 from dataclasses import dataclass
+from typing import BinaryIO, cast
 
 from .. import ending
 from ..overlay_client import OVERSIZE, Ended, Refused, Reply, Request, Session
@@ -54,7 +55,7 @@ class Program:
         except OSError as fault:
             raise ProgramRefused(ending.told(path, fault)) from fault
         assert self._child.stdin and self._child.stdout
-        self._session = Session(self._child.stdin, self._child.stdout)
+        self._session = Session(cast(BinaryIO, self._child.stdin), cast(BinaryIO, self._child.stdout))
         self._defined: dict[int, str] = {}
 
     def boundaries(self, asked: Iterable[Round]) -> Iterator[list[Piece] | None]:

@@ -8,7 +8,7 @@ import sys
 import tempfile
 import weakref
 from collections.abc import Sequence
-from typing import IO, overload
+from typing import IO, Any, overload
 
 from .whole_maps import WholeMap
 
@@ -128,4 +128,6 @@ def moved(begins: Sequence[int], by: int) -> bytes:
     """Places as bytes, without the first, each so much later."""
     import numpy
 
-    return (numpy.frombuffer(begins, numpy.int64)[1:] + by).tobytes()
+    whole: Any = begins
+    later: bytes = (numpy.frombuffer(whole, numpy.int64)[1:] + by).tobytes()
+    return later

@@ -23,7 +23,8 @@ class Units:
         while 10 ** (self.digits - 3) < factor**2:
             self.digits += 2
         scale = 10**self.digits / factor**2
-        self._top, self._bottom = scale.numerator, scale.denominator
+        self._top: int = scale.numerator
+        self._bottom: int = scale.denominator
 
     def scaled(self, area: Fraction) -> int:
         """An area in units of the last digit, the nearest one, halves to even."""

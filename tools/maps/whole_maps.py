@@ -21,6 +21,12 @@ NOWHERE: Box = (1, 1, 0, 0)
 FARTHEST = 2**52  # a coordinate is no greater than this either way, so that a double has it exactly
 
 
+def as_box(given: Sequence[int]) -> Box:
+    """Four numbers as a box."""
+    low_x, low_y, high_x, high_y = given
+    return low_x, low_y, high_x, high_y
+
+
 def numbers(given: Iterable[int] = ()) -> array[int]:
     """An array of 64-bit numbers; numpy reads it without a copy, by numpy.frombuffer(.., numpy.int64)."""
     return array("q", given)

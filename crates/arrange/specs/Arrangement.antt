@@ -1,5 +1,6 @@
 -- The nodes on a segment within a closed column, and the elementary pieces that begin in a column, in their order.
-use Rattle.std.specs.Prelude.{◌≡◌, ℕ, pos, ◌+◌, ◌<◌, ◌⊎◌, ◌%◌, ◌==◌, ◌&&◌, ◌*ℤ◌, ◌<ℤ◌, int_le, Bool, IsTrue, List, map, count_by, All, Any}
+use Rattle.std.specs.Prelude.{◌≡◌, ℕ, ◌+◌, ◌<◌, ◌⊎◌, ◌%◌, ◌==◌, ◌&&◌, ◌*ℤ◌, ◌<ℤ◌}
+use Rattle.std.specs.Prelude.{pos, int_le, Bool, IsTrue, List, map, count_by, All, Any}
 use Rattle.std.specs.List.{AllPairs}
 use Rattle.std.specs.declared.cmp.Ordering.TheVariants.{Less, Equal}
 use Rattle.overlay_terms.specs.Plane.{Point, Segment, point_cmp, same_place, is_on}
@@ -51,7 +52,8 @@ pub record IsElementary (input : Input) (e : Elementary) : Type 0 where
   pub to_on : IsTrue (is_on e.support (place_of e.to))
   pub piece : IsPiece (input_segments input) (place_of e.from) (place_of e.to)
   pub begins : IsTrue (is_in_column input.column (place_of e.from))
-  pub mask : (k : ℕ) → k < layers_max → mask_bits e.mask k ≡ on_bits input.marked (midpoint (place_of e.from) (place_of e.to)) k
+  pub mask : (k : ℕ) → k < layers_max
+      → mask_bits e.mask k ≡ on_bits input.marked (midpoint (place_of e.from) (place_of e.to)) k
 
 -- by the left end, then by direction, the vertical one last
 abbrev pub ComesBefore : Elementary → Elementary → Type 0

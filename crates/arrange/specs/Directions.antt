@@ -49,7 +49,8 @@ unfolding slope_cmp
 slope_cmp_total = then_total (on_total rank_of nat_cmp_total) (on_total slope_of ratio_cmp_total)
 
 -- one answer for two differences that are one
-shifted : (u v z : ℤ) → z ≡ u -ℤ v → (o : Ordering) → MatchOrdering o (v <ℤ u) (v ≡ u) (u <ℤ v) → MatchOrdering o (pos 0 <ℤ z) (pos 0 ≡ z) (z <ℤ (pos 0))
+shifted : (u v z : ℤ) → z ≡ u -ℤ v → (o : Ordering) → MatchOrdering o (v <ℤ u) (v ≡ u) (u <ℤ v)
+    → MatchOrdering o (pos 0 <ℤ z) (pos 0 ≡ z) (z <ℤ (pos 0))
 shifted u v z e Less h = omega (arith, ints)
 shifted u v z e Equal h = omega (arith, ints)
 shifted u v z e Greater h = omega (arith, ints)

@@ -1,5 +1,6 @@
 -- The ends of segments on one line, and what a pass along the line counts of them.
-use Rattle.std.specs.Prelude.{◌≡◌, ℕ, ◌<◌, ◌%◌, ◌==◌, not, true, false, nat_le, if◌then◌else◌, List, [], ◌∷◌, flat_map, count_by, Contains, Option, None}
+use Rattle.std.specs.Prelude.{◌≡◌, ℕ, ◌<◌, ◌%◌, ◌==◌, if◌then◌else◌, [], ◌∷◌}
+use Rattle.std.specs.Prelude.{not, true, false, nat_le, List, flat_map, count_by, Contains, Option, None}
 use Rattle.std.specs.Option.{option_map}
 use Rattle.std.specs.List.Sorted.{IsSortedByKey}
 use Rattle.std.specs.declared.cmp.Ordering.TheVariants.{Equal}

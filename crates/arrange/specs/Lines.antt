@@ -3,7 +3,9 @@ use Rattle.std.specs.Prelude.{◌≡◌, ℤ, pos, ◌-ℤ◌, ◌*ℤ◌, ◌<�
 use Rattle.std.proofs.Common.{inl, inr, arith, ap, sym, ◌∙◌, subst}
 use Rattle.std.proofs.lemmas.Int.{ints}
 use Rattle.std.proofs.Math.IntN.{*ℤ_comm, zero-*ℤ}
-use Rattle.std.specs.Cmp.{IsTotalOrder, IsEquivalence, IsPartialEquivalence, IsPartialOrder, eq_by_cmp_equiv, partial_equiv_from_equiv, partial_order_from_agreeing_total, int_ranks, int_ranked, int_cmp_is}
+use Rattle.std.specs.Cmp.{IsTotalOrder, IsEquivalence, IsPartialEquivalence, IsPartialOrder}
+use Rattle.std.specs.Cmp.{eq_by_cmp_equiv, partial_equiv_from_equiv}
+use Rattle.std.specs.Cmp.{partial_order_from_agreeing_total, int_ranks, int_ranked, int_cmp_is}
 use Rattle.std.specs.Ordering.{eq_by_cmp, as_partial_cmp, int_cmp, ordering_then, MatchOrdering}
 use Rattle.std.specs.declared.cmp.Ordering.{Ordering}
 use Rattle.std.specs.declared.cmp.Ordering.TheVariants.{Less, Equal, Greater}
@@ -37,7 +39,7 @@ step_of a = record {
   forward = leads a.marked.seg a.proper.first;
 }
 
--- how high a slanted line passes over x = 0, and how far left a vertical one stands
+-- how high a slanted line passes over x = 0, and how far left a vertical one is
 offset_by : (l m a b : ℤ) → Forward a b → Ratio
 offset_by l m a b (inl h) = record { n = (a *ℤ m) -ℤ (b *ℤ l); d = a; positive = h }
 offset_by l m a b (inr h) = record { n = pos 0 -ℤ l; d = pos 1; positive = omega (arith, ints) }
@@ -54,11 +56,14 @@ offset_total = then_total (on_total step_of step_cmp_total) (on_total offset_of 
 
 -- ---- both orders agree
 -- a height over a line, for one in its direction, by the heights of both over x = 0
-height_turned : (a b l m c d x y : ℤ) → c *ℤ ((a *ℤ (y -ℤ (m *ℤ pos 1))) -ℤ (b *ℤ (x -ℤ (l *ℤ pos 1)))) ≡ ((((c *ℤ y) -ℤ (d *ℤ x)) *ℤ a) -ℤ (((a *ℤ m) -ℤ (b *ℤ l)) *ℤ c)) -ℤ (((c *ℤ b) -ℤ (d *ℤ a)) *ℤ x)
+height_turned : (a b l m c d x y : ℤ)
+    → c *ℤ ((a *ℤ (y -ℤ (m *ℤ pos 1))) -ℤ (b *ℤ (x -ℤ (l *ℤ pos 1))))
+    ≡ ((((c *ℤ y) -ℤ (d *ℤ x)) *ℤ a) -ℤ (((a *ℤ m) -ℤ (b *ℤ l)) *ℤ c)) -ℤ (((c *ℤ b) -ℤ (d *ℤ a)) *ℤ x)
 height_turned a b l m c d x y = rw (split a, split b, split l, split m, split c, split d, split x, split y) (simp differences (same _ _ _ _ (omega arith)))
 
 -- a difference is at least 0 as its first number is at least the second
-shifted : (u v z : ℤ) → z ≡ u -ℤ v → (o : Ordering) → MatchOrdering o (v <ℤ u) (v ≡ u) (u <ℤ v) → MatchOrdering o (pos 0 <ℤ z) (pos 0 ≡ z) (z <ℤ (pos 0))
+shifted : (u v z : ℤ) → z ≡ u -ℤ v → (o : Ordering) → MatchOrdering o (v <ℤ u) (v ≡ u) (u <ℤ v)
+    → MatchOrdering o (pos 0 <ℤ z) (pos 0 ≡ z) (z <ℤ (pos 0))
 shifted u v z e Less h = omega (arith, ints)
 shifted u v z e Equal h = omega (arith, ints)
 shifted u v z e Greater h = omega (arith, ints)
@@ -115,7 +120,8 @@ module _ (l m a b x y c d : ℤ) (none : pos 0 ≡ (a *ℤ d) -ℤ (b *ℤ c)) w
       once : (u v : ℤ) → int_cmp u v ≡ int_cmp (u *ℤ pos 1) (v *ℤ pos 1)
       once u v = ap (λ z. int_cmp z v) (single u) ∙ ap (λ z. int_cmp (u *ℤ pos 1) z) (single v)
 
-agree : (l m a b x y c d : ℤ) (f : Forward a b) (g : Forward c d) (o : Ordering) → int_cmp (pos 0) ((a *ℤ d) -ℤ (b *ℤ c)) ≡ o
+agree : (l m a b x y c d : ℤ) (f : Forward a b) (g : Forward c d) (o : Ordering)
+    → int_cmp (pos 0) ((a *ℤ d) -ℤ (b *ℤ c)) ≡ o
     → ordering_then o (int_cmp (pos 0) ((a *ℤ (y -ℤ (m *ℤ pos 1))) -ℤ (b *ℤ (x -ℤ (l *ℤ pos 1))))) ≡ ordering_then o (ratio_cmp (offset_by l m a b f) (offset_by x y c d g))
 agree l m a b x y c d f g Less e = refl
 agree l m a b x y c d f g Equal e = by_offsets l m a b x y c d (int_ranked (pos 0) ((a *ℤ d) -ℤ (b *ℤ c)) Equal (sym e)) f g

@@ -1,7 +1,9 @@
 -- Places with their names, in the order of the places.
-use Rattle.std.specs.Prelude.{◌≡◌, ◌+◌, ◌++◌, ℕ, pos, ◌<ℤ◌, Bool, refl, IsTrue, List, [], ◌∷◌, flat_map, All, Any, Contains}
+use Rattle.std.specs.Prelude.{◌≡◌, ◌+◌, ◌++◌, ℕ, ◌<ℤ◌, [], ◌∷◌}
+use Rattle.std.specs.Prelude.{pos, Bool, refl, IsTrue, List, flat_map, All, Any, Contains}
 use Rattle.std.specs.List.{AllPairs}
-use Rattle.std.specs.Cmp.{IsTotalOrder, IsEquivalence, IsPartialEquivalence, IsPartialOrder, eq_by_cmp_equiv, partial_equiv_from_equiv, partial_order_from_agreeing_total}
+use Rattle.std.specs.Cmp.{IsTotalOrder, IsEquivalence, IsPartialEquivalence, IsPartialOrder}
+use Rattle.std.specs.Cmp.{eq_by_cmp_equiv, partial_equiv_from_equiv, partial_order_from_agreeing_total}
 use Rattle.std.specs.Ordering.{eq_by_cmp, as_partial_cmp}
 use Rattle.std.specs.declared.cmp.Ordering.{Ordering}
 use Rattle.std.specs.declared.cmp.Ordering.TheVariants.{Less}
@@ -51,7 +53,7 @@ names_with s t = Vertex t.left ∷ Vertex t.right ∷ Cross s t ∷ []
 abbrev pub names_along : Input → Segment → List PointName
 names_along input s = own_names s input.column ++ flat_map (names_with s) (input_segments input)
 
--- a place on a segment within the closed column that one of some names stands for
+-- the place of one of some names, on a segment and within the closed column
 pub record IsFound (k : ℕ) (s : Segment) (names : List PointName) (z : NamedPlace) : Type 0 where
   pub named : HasPlace z.name
   pub told : spot z ≡ place_of z.name
@@ -60,10 +62,11 @@ pub record IsFound (k : ℕ) (s : Segment) (names : List PointName) (z : NamedPl
   pub in_column : IsTrue (is_in_closed_column k (spot z))
   pub offered : Contains names z.name
 
--- all places on a segment within the closed column that some names stand for
+-- all places of some names on a segment within the closed column
 pub record AreFound (k : ℕ) (s : Segment) (names : List PointName) (list : List NamedPlace) : Type 0 where
   pub sound : All (IsFound k s names) list
-  pub complete : (name : PointName) (p : Point) → Contains names name → pos 0 <ℤ p.w → IsPlaceOf name p → IsTrue (is_on s p)
+  pub complete : (name : PointName) (p : Point) → Contains names name → pos 0 <ℤ p.w → IsPlaceOf name p
+      → IsTrue (is_on s p)
       → IsTrue (is_in_closed_column k p) → Any (λ z. IsTrue (same_place p (spot z))) list
 
 -- places on a segment within the closed column, from left to right, each once; all nodes are among them

@@ -1,6 +1,8 @@
 -- Pieces on their way into the list: each with the place of its left end, in the order of the list.
-use Rattle.std.specs.Prelude.{◌≡◌, ◌<◌, ◌+◌, ◌&&◌, ℕ, pos, ◌-ℤ◌, Bool, refl, IsTrue, List, get_or, length, All, Any, Contains}
-use Rattle.std.specs.Cmp.{IsTotalOrder, IsEquivalence, IsPartialEquivalence, IsPartialOrder, eq_by_cmp_equiv, partial_equiv_from_equiv, partial_order_from_agreeing_total}
+use Rattle.std.specs.Prelude.{◌≡◌, ◌<◌, ◌+◌, ◌&&◌, ℕ, ◌-ℤ◌}
+use Rattle.std.specs.Prelude.{pos, Bool, refl, IsTrue, List, get_or, length, All, Any, Contains}
+use Rattle.std.specs.Cmp.{IsTotalOrder, IsEquivalence, IsPartialEquivalence, IsPartialOrder}
+use Rattle.std.specs.Cmp.{eq_by_cmp_equiv, partial_equiv_from_equiv, partial_order_from_agreeing_total}
 use Rattle.std.specs.Ordering.{eq_by_cmp, as_partial_cmp, ordering_then, int_cmp}
 use Rattle.std.specs.declared.cmp.Ordering.{Ordering}
 use Rattle.std.specs.declared.cmp.Ordering.TheVariants.{Less}
@@ -73,7 +75,8 @@ has_ends p r e = same_place p (place_of e.from) && same_place r (place_of e.to)
 -- pieces that begin in the column, and all of these on some of the segments
 pub record HoldsPieces (input : Input) (supports : List Segment) (placed : List PlacedPiece) : Type 0 where
   pub sound : All (IsPlaced input) placed
-  pub complete : (p r : Point) (piece : IsPiece (input_segments input) p r) → Contains supports piece.support → IsTrue (is_in_column input.column p)
+  pub complete : (p r : Point) (piece : IsPiece (input_segments input) p r) → Contains supports piece.support
+      → IsTrue (is_in_column input.column p)
       → Any (λ h. IsTrue (has_ends p r h.piece)) placed
 
 -- neighbours among the places along a segment of the input
@@ -96,8 +99,10 @@ pub record HoldsOneMore (input : Input) (a b : NamedPlace) (before placed : List
   pub covered : IsTrue (is_in_column input.column (spot a)) → Any (RunsBetween a b) placed
 
 -- further pieces: those between the neighbours among the first places that begin in the column
-pub record HoldsNeighbours (input : Input) (places : List NamedPlace) (i : ℕ) (before placed : List PlacedPiece) : Type 0 where
+pub record HoldsNeighbours (input : Input) (places : List NamedPlace) (i : ℕ)
+    (before placed : List PlacedPiece) : Type 0 where
   pub sound : All (IsPlaced input) before → All (IsPlaced input) placed
   pub kept : (h : PlacedPiece) → Contains before h → Contains placed h
-  pub covered : (j : ℕ) (d : NamedPlace) → j + 1 < i → j + 1 < length places → IsTrue (is_in_column input.column (spot (get_or places j d)))
+  pub covered : (j : ℕ) (d : NamedPlace) → j + 1 < i → j + 1 < length places
+      → IsTrue (is_in_column input.column (spot (get_or places j d)))
       → Any (RunsBetween (get_or places j d) (get_or places (j + 1) d)) placed

@@ -27,7 +27,8 @@ pub record IsUnit (marked : List Marked) (s : Segment) : Type 0 where
   pub from_end : IsTrue (is_end_along marked s s.left)
   pub to_end : IsTrue (is_end_along marked s s.right)
   pub covered : IsTrue (list_any (λ m. covers m.segment s) marked)
-  pub none_between : (v : WholePoint) → IsTrue (is_end_along marked s v) → whole_cmp s.left v ≡ Less → whole_cmp v s.right ≡ Less → ⊥
+  pub none_between : (v : WholePoint) → IsTrue (is_end_along marked s v) → whole_cmp s.left v ≡ Less
+      → whole_cmp v s.right ≡ Less → ⊥
 
 -- which base layers have an odd number of segments over a stretch
 abbrev pub cover_bits : List Marked → Segment → ℕ → Bool

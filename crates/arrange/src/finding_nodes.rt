@@ -34,7 +34,8 @@ fn names_of_nodes(
     marked: &[MarkedSeg],
     places: &[NamedPlace],
 ) -> Result<Vec<PointName>, AllocError>
-    ensures { IfOk result (λ names. names.items ≡ map (λ z. z.name) (filter (λ z. is_node (map (λ m. m.seg) marked.now) (spot z)) places.now)) }
+    ensures { IfOk result (λ names. names.items
+        ≡ map (λ z. z.name) (filter (λ z. is_node (map (λ m. m.seg) marked.now) (spot z)) places.now)) }
 {
     places
         .iter()
@@ -65,7 +66,8 @@ pub(crate) fn places_along(
 
 /// Offers the ends of a segment and where the column's borders cut it.
 fn offer_own(found: &mut Places, seg: &Seg, column: Column) -> Result<(), AllocError>
-    ensures found { OnOk result (found.old.items ≡ [] → AreFound column seg.now (own_names seg.now column) found.new.items) }
+    ensures found { OnOk result (found.old.items ≡ []
+        → AreFound column seg.now (own_names seg.now column) found.new.items) }
     ensures ahead { whole_cmp seg.now.left seg.now.right ≡ Ordering.Less }
 {
     offer(found, PointName::Vertex(seg.left()), seg, column)?;
@@ -82,7 +84,8 @@ fn offer_own(found: &mut Places, seg: &Seg, column: Column) -> Result<(), AllocE
 
 /// Offers the ends of another segment and where it crosses the segment.
 fn offer_with(found: &mut Places, seg: &Seg, other: &Seg, column: Column) -> Result<(), AllocError>
-    ensures { OnOk result ((names : List PointName) → AreFound column seg.now names found.old.items → AreFound column seg.now (names ++ names_with seg.now other.now) found.new.items) }
+    ensures { OnOk result ((names : List PointName) → AreFound column seg.now names found.old.items
+        → AreFound column seg.now (names ++ names_with seg.now other.now) found.new.items) }
 {
     offer(found, PointName::Vertex(other.left()), seg, column)?;
     offer(found, PointName::Vertex(other.right()), seg, column)?;
@@ -90,9 +93,10 @@ fn offer_with(found: &mut Places, seg: &Seg, other: &Seg, column: Column) -> Res
     Ok(())
 }
 
-/// Adds the place that a name stands for, if it lies on the segment within the closed column.
+/// Adds the place of a name, if it lies on the segment within the closed column.
 fn offer(found: &mut Places, name: PointName, seg: &Seg, column: Column) -> Result<(), AllocError>
-    ensures { OnOk result ((names : List PointName) → AreFound column seg.now names found.old.items → AreFound column seg.now (names ++ name ∷ []) found.new.items) }
+    ensures { OnOk result ((names : List PointName) → AreFound column seg.now names found.old.items
+        → AreFound column seg.now (names ++ name ∷ []) found.new.items) }
 {
     if let Some(at) = name.point() {
         let is_on = on(seg, &at);

@@ -60,7 +60,8 @@ fn add_pieces_along(
     input: &TileInput,
 ) -> Result<(), AllocError>
     requires among { Contains (input_segments input.now) seg.now }
-    ensures { OnOk result (HoldsPieces input.now (map (λ m. m.seg) earlier.now) placed.old.items → HoldsPieces input.now (map (λ m. m.seg) earlier.now ++ seg.now ∷ []) placed.new.items) }
+    ensures { OnOk result (HoldsPieces input.now (map (λ m. m.seg) earlier.now) placed.old.items
+        → HoldsPieces input.now (map (λ m. m.seg) earlier.now ++ seg.now ∷ []) placed.new.items) }
 {
     if is_among(earlier, seg) {
         return Ok(());
@@ -80,7 +81,8 @@ fn add_along(
     requires valid { IsInput input.now }
     requires among { Contains (input_segments input.now) seg.now }
     requires along { AreAlong input.now seg.now places.now }
-    ensures { OnOk result ((supports : List Segment) → HoldsPieces input.now supports placed.old.items → HoldsPieces input.now (supports ++ seg.now ∷ []) placed.new.items) }
+    ensures { OnOk result ((supports : List Segment) → HoldsPieces input.now supports placed.old.items
+        → HoldsPieces input.now (supports ++ seg.now ∷ []) placed.new.items) }
 {
     for i in 1..places.len() {
         add_between(placed, seg, input, &places[i - 1], &places[i])?;

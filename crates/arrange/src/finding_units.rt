@@ -72,8 +72,10 @@ fn line_end(lines: &[LineSeg], start: usize) -> usize
     requires { start < length lines.now }
     ensures after { start < result }
     ensures within { result ≤ length lines.now }
-    ensures same { (k : ℕ) (d : LineSeg) → start ≤ k → k < result → line_cmp (get_or lines.now start d) (get_or lines.now k d) ≡ Equal }
-    ensures next { (d : LineSeg) → result < length lines.now → line_cmp (get_or lines.now start d) (get_or lines.now result d) ≡ Equal → ⊥ }
+    ensures same { (k : ℕ) (d : LineSeg) → start ≤ k → k < result
+        → line_cmp (get_or lines.now start d) (get_or lines.now k d) ≡ Equal }
+    ensures next { (d : LineSeg) → result < length lines.now
+        → line_cmp (get_or lines.now start d) (get_or lines.now result d) ≡ Equal → ⊥ }
 {
     for end in start + 1..lines.len() {
         if lines[start] != lines[end] {

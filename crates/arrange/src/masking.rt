@@ -11,7 +11,8 @@ use exact_point::{HPoint, on};
 /// A bit for each base layer that has an odd number of segments that hold both ends of a piece.
 pub(crate) fn mask_over(marked: &[MarkedSeg], from: &HPoint, to: &HPoint) -> u32
     requires { All (λ m. m.layer < layers_max) marked.now }
-    ensures { (k : ℕ) → k < layers_max → mask_bits result k ≡ holding_bits marked.now (place from.now) (place to.now) k }
+    ensures { (k : ℕ) → k < layers_max
+        → mask_bits result k ≡ holding_bits marked.now (place from.now) (place to.now) k }
 {
     let mut mask = 0u32;
     for m in marked {

@@ -26,7 +26,8 @@ pub(crate) fn is_node(marked: &[MarkedSeg], p: &HPoint) -> bool
 }
 
 fn is_end(marked: &[MarkedSeg], p: &HPoint) -> bool
-    ensures { result ≡ list_any (λ m. same_place (place p.now) (whole m.seg.left) || same_place (place p.now) (whole m.seg.right)) marked.now }
+    ensures { result ≡ list_any
+        (λ m. same_place (place p.now) (whole m.seg.left) || same_place (place p.now) (whole m.seg.right)) marked.now }
 {
     marked
         .iter()
@@ -35,7 +36,9 @@ fn is_end(marked: &[MarkedSeg], p: &HPoint) -> bool
 
 /// Whether two segments that are not parallel hold the point.
 fn is_crossing(marked: &[MarkedSeg], p: &HPoint) -> bool
-    ensures { result ≡ list_any (λ m. is_on m.seg (place p.now) && list_any (λ t. is_on t.seg (place p.now) && not (is_parallel m.seg t.seg)) marked.now) marked.now }
+    ensures { result ≡ list_any
+        (λ m. is_on m.seg (place p.now)
+        && list_any (λ t. is_on t.seg (place p.now) && not (is_parallel m.seg t.seg)) marked.now) marked.now }
 {
     marked
         .iter()

@@ -81,7 +81,9 @@ impl Model for TileInput {
 
     ghost view = { λ i. record { column = i.column; marked = map marked_of i.marked.items; steps = i.steps } };
 
-    ghost invariant = { λ i. IsInput (record { column = i.column; marked = map marked_of i.marked.items; steps = i.steps }) × (length (map marked_of i.marked.items) ≤ segments_max) };
+    ghost invariant = { λ i. IsInput
+        (record { column = i.column; marked = map marked_of i.marked.items; steps = i.steps })
+        × (length (map marked_of i.marked.items) ≤ segments_max) };
 }
 
 impl TileInput {
@@ -93,7 +95,12 @@ impl TileInput {
         steps: StepList,
     ) -> Result<TileInput, AllocError>
         requires { length bases.now ≡ steps.bases }
-        ensures { IfOk result (λ input. input ≡ record { column = column; marked = kept_in column (marked_segments (map (λ b. b.now) bases.now)); steps = steps }) }
+        ensures { IfOk result (λ input. input
+            ≡ record {
+              column = column;
+              marked = kept_in column (marked_segments (map (λ b. b.now) bases.now));
+              steps = steps;
+            }) }
     {
         prove!(column.number() < COLUMN_COUNT);
         let mut marked = Vec::new(alloc);
@@ -107,17 +114,22 @@ impl TileInput {
         })
     }
 
-    /// The input of a column whose segments are among some marked ones, as those of a wider strip: it takes those with a point
-    /// in the column.
+    /// The input of a column whose segments are among some marked ones, as those of a wider strip: it
+    /// takes those with a point in the column.
     pub fn of_marked(
         alloc: Global,
         column: Column,
         marked: &[MarkedSeg],
         steps: &StepList,
     ) -> Result<TileInput, AllocError>
-        requires valid { IsInput (record { column = column; marked = kept_in column (map marked_of marked.now); steps = steps.now }) }
+        requires valid { IsInput (record {
+          column = column;
+          marked = kept_in column (map marked_of marked.now);
+          steps = steps.now;
+        }) }
         requires few { length (map marked_of marked.now) ≤ segments_max }
-        ensures { IfOk result (λ input. input ≡ record { column = column; marked = kept_in column (map marked_of marked.now); steps = steps.now }) }
+        ensures { IfOk result (λ input. input
+            ≡ record { column = column; marked = kept_in column (map marked_of marked.now); steps = steps.now }) }
     {
         let marked = kept(alloc, column, marked)?;
         let steps = steps.try_copy(alloc)?;

@@ -59,13 +59,15 @@ no_memory = fault.Version (Layer NoMemory)
 -- why a version refuses a command: the refusal of the definitions, or memory ran out where there is none
 abbrev pub RefusesCommand : Version → Command → VersionFault → Type 0
 RefusesCommand version command =
-    RefusedBy (Layer NoMemory) (option_map version_fault.version_fault_of (refusal_at version.number version.layers command))
+    RefusedBy (Layer NoMemory)
+    (option_map version_fault.version_fault_of (refusal_at version.number version.layers command))
 
 -- why a version refuses a batch, in the same way
 abbrev pub RefusesBatch : Version → Batch → BatchFault → Type 0
 RefusesBatch version batch = RefusedAllBy (batch_refusal_at version.number version.layers batch)
 
--- why a book refuses a command: its newest version does; or it closes, where it may; or it is behind (each call says when)
+-- why a book refuses a command: its newest version does; or it closes, where it may; or it
+-- is behind (each call says when)
 abbrev pub IsCommandRefused : Bool → Version → Command → BookFault → Type 0
 IsCommandRefused closing version command (fault.Version refused) = RefusesCommand version command refused
 IsCommandRefused closing version command fault.Closing = IsTrue closing
@@ -77,7 +79,9 @@ IsCommandRefused closing version command (fault.Store refused) = ⊥
 abbrev pub whole : BookFault → BatchFault
 whole refused = Whole (code_of refused)
 
--- why a book refuses a batch: it is behind (each call says when); or it closes, where it may; or its newest version does
+-- why a book refuses a batch: it is behind (each call says when); or it closes, where it
+-- may; or its newest version does
 abbrev pub IsBatchRefused : Bool → Version → Batch → BatchFault → Type 0
 IsBatchRefused closing version batch refused =
-    (refused ≡ whole fault.Gone) ⊎ ((IsTrue closing × (refused ≡ whole fault.Closing)) ⊎ RefusesBatch version batch refused)
+    (refused ≡ whole fault.Gone)
+    ⊎ ((IsTrue closing × (refused ≡ whole fault.Closing)) ⊎ RefusesBatch version batch refused)

@@ -1,7 +1,8 @@
 -- A history as one log, whose first entry holds the version that the history begins with.
 use Rattle.std.specs.Prelude.{◌≡◌, ℕ, List, [], ◌∷◌, ◌++◌}
 use Rattle.overlay_terms.specs.Batches.{Batch}
-use Rattle.overlay_terms.specs.Histories.{Version, Event, accepted, durable_to, Entry, History, AllFollow, GoesOnBy, newest}
+use Rattle.overlay_terms.specs.Histories.{Version, Event, accepted, durable_to, Entry}
+use Rattle.overlay_terms.specs.Histories.{History, AllFollow, GoesOnBy, newest}
 use Rattle.overlay_terms.specs.Histories.{empty_version}
 
 -- what happened, and the version after it

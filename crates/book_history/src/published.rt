@@ -23,7 +23,8 @@ pub struct Published {
 
 impl Published {
     pub fn again(&self) -> Result<Published, AllocError>
-        ensures { IfOk result (λ p. (p.seen_log ≡ self.now.seen_log) × (arc_value p.version ≡ arc_value self.now.version)) }
+        ensures { IfOk result (λ p. (p.seen_log ≡ self.now.seen_log)
+            × (arc_value p.version ≡ arc_value self.now.version)) }
     {
         Ok(Published {
             version: Arc::try_clone(&self.version)?,

@@ -20,7 +20,8 @@ pub fn first_publisher<R: Wait>(
 ) -> Option<Publisher>
     requires begun { 0 < length first.seen_log.log }
     requires readers { (0 < readers) × (readers < 2 ^ 32) }
-    ensures { IfSome result (λ p. (p.desk.shown.value.seen_log ≡ first.seen_log) × (drop p.behind p.log.items ≡ []) × (view p.desk.place ≡ first.seen_log)) }
+    ensures { IfSome result (λ p. (p.desk.shown.value.seen_log ≡ first.seen_log) × (drop p.behind p.log.items ≡ [])
+        × (view p.desk.place ≡ first.seen_log)) }
 {
     let (Ok(second), Ok(next)) = (first.again(), first.again()) else {
         return None;
@@ -41,7 +42,8 @@ pub fn first_publisher<R: Wait>(
 /// A place that has seen what the publisher knows.
 pub fn new_place(publisher: &mut Publisher) -> Option<ReaderPlace>
     ensures kept { (publisher.new.desk.shown ≡ publisher.old.desk.shown) × (publisher.new.log ≡ publisher.old.log)
-        × (publisher.new.behind ≡ publisher.old.behind) × (view publisher.new.desk.place ≡ view publisher.old.desk.place) }
+        × (publisher.new.behind ≡ publisher.old.behind)
+        × (view publisher.new.desk.place ≡ view publisher.old.desk.place) }
     ensures given { IfSome result (λ r. view r.place ≡ view publisher.old.desk.place) }
 {
     let mut place = publisher.factory().reader().ok()?;

@@ -82,7 +82,8 @@ pub trait BookName {
 
     ghost book: { Book };
 
-    /// What to prove of a log and a number before that is reported; who opens the book picks it (`serve`: `IsStoredOf`).
+    /// What to prove of a log and a number before that is reported; who opens the
+    /// book picks it (`serve`: `IsStoredOf`).
     ghost stored: { List terms.Entry → ℕ → Type 0 };
 
     /// How many sessions it may be begun for: who begins it for more cannot prove that it has them.
@@ -99,7 +100,8 @@ impl BookName for Brand {
 }
 
 /// The word of a history: how many entries follow the first. The type names the book, so who adds an entry by it proves
-/// what the name of that book asks. `open` alone makes one, and a history has one: no other crate can add to it without.
+/// what the name of that book asks. `open` alone makes one, and a history has one: no
+/// other crate can add to it without.
 pub struct LogWord<J> {
     word: Word<Entry, u64, LogRule>,
     of: PhantomData<J>,
@@ -209,8 +211,13 @@ impl SeenLog {
         requires head { head.now ≡ head_of self.old.book }
         requires room { length self.old.log < version_max }
         requires follows { Follows (newest_in self.old.log) (event_of cause) version.now }
-        requires told { (version.now.durable ≡ (newest_in self.old.log).durable) ⊎ MayTell J.stored self.old.log version.now.durable }
-        ensures { MatchBool result (self.new ≡ record { book = self.old.book; log = self.old.log ++ entry (event_of cause.entry) version.now ∷ [] }) (self.new ≡ self.old) }
+        requires told { (version.now.durable ≡ (newest_in self.old.log).durable)
+            ⊎ MayTell J.stored self.old.log version.now.durable }
+        ensures { MatchBool result
+            (self.new ≡ record {
+              book = self.old.book;
+              log = self.old.log ++ entry (event_of cause.entry) version.now ∷ [];
+            }) (self.new ≡ self.old) }
     {
         let mut seen = self.seen.again();
         let ask = Ask { cause, version };

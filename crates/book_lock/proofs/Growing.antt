@@ -60,6 +60,28 @@ number_rises (x ∷ xs) ys long valid p =
     let whole : IsLog (x ∷ (xs ++ p.0)) = subst IsLog (sym p.1) valid in
     subst (λ l. (newest_in (x ∷ xs)).number ≤ (newest_in l).number) p.1 (front_rises x.version xs p.0 whole.1)
 
+-- where the number stays, the layers do
+step_stays : (v : Version) (x : Event) (w : Version) → Follows v x w → w.number ≡ v.number → w.layers ≡ v.layers
+step_stays v (accepted s c) w f same = absurd (omega (arith, f.number))
+step_stays v (kept m k t) w f same = f.layers
+step_stays v (durable_to n) w f same = f.layers
+
+front_stays : (v : Version) (xs es : List Entry) → AllFollow v (xs ++ es) → (last_version v (xs ++ es)).number ≡ (last_version v xs).number → (last_version v (xs ++ es)).layers ≡ (last_version v xs).layers
+front_stays v [] [] f same = refl
+front_stays v [] (e ∷ es) f same =
+    let a = step_rises v e.event e.version f.0 in
+    let b = front_rises e.version [] es f.1 in
+    let first : e.version.number ≡ v.number = omega arith in
+    front_stays e.version [] es f.1 (same ∙ sym first) ∙ step_stays v e.event e.version f.0 first
+front_stays v (x ∷ xs) es f same = front_stays x.version xs es f.1 same
+
+-- so two versions of a log with one number have the same layers
+pub layers_stay : (xs ys : List Entry) → 0 < length xs → IsLog ys → IsPrefix xs ys → (newest_in ys).number ≡ (newest_in xs).number → (newest_in ys).layers ≡ (newest_in xs).layers
+layers_stay [] ys long valid p same = absurd (omega arith)
+layers_stay (x ∷ xs) ys long valid p same =
+    let whole : IsLog (x ∷ (xs ++ p.0)) = subst IsLog (sym p.1) valid in
+    subst (λ l. (newest_in l).number ≡ (newest_in (x ∷ xs)).number → (newest_in l).layers ≡ (newest_in (x ∷ xs)).layers) p.1 (front_stays x.version xs p.0 whole.1) same
+
 -- a report does not shorten the log
 pub report_longer : (log after : List Entry) (n : ℕ) → IsReportedIn log n after → IsPrefix log after
 report_longer log after n (inl f) = (entry (durable_to n) (newest_in after) ∷ [], sym f.1)

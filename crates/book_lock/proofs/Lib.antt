@@ -1,4 +1,5 @@
 pub mod Beginning
+pub mod Finishing
 pub mod Growing
 pub mod Hearing
 pub mod SentLog

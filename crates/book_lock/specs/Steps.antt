@@ -51,6 +51,12 @@ IsFinishedIn log name input tile true after =
 IsFinishedIn log name input tile false after =
     ¬ (IsAwaited (newest_in log) name input) × (tile_at (newest_in log).tiles name input.column ≡ None) × (after ≡ log)
 
+-- built tiles are finished one after another
+abbrev pub AreFinishedIn : List Entry → Name → List (Input × Tile) → List Entry → Type 0
+AreFinishedIn log name [] after = after ≡ log
+AreFinishedIn log name (built ∷ more) after =
+    (is_kept : Bool) × (next : List Entry) × IsFinishedIn log name built.0 built.1 is_kept next × AreFinishedIn next name more after
+
 -- a report of a number adds its entry, or it changes nothing and so adds none
 abbrev pub IsReportedIn : List Entry → ℕ → List Entry → Type 0
 IsReportedIn log number after =

@@ -28,6 +28,8 @@ use std::marker::Model;
 use std::sync::{Arc, Wait};
 use versions::Version;
 
+mod keeping;
+
 const MOST: u64 = 1 << 60;
 
 /// What lies under the lock: the log that is published, and how many batches of each session it has.
@@ -189,11 +191,8 @@ impl<J: BookName, R: Wait + Drop> LockedLog<J, R> {
         if seen_log.at() >= MOST || !seen_log.add(&self.head, cause, &version) {
             return Err(BookFault::Gone);
         }
-        put_out(
-            &self.rt,
-            &mut self.publisher,
-            Published { version, seen_log },
-        );
+        let next = Published { version, seen_log };
+        put_out(&self.rt, &mut self.publisher, next);
         self.counts = counted(self.counts, cause);
         Ok(())
     }

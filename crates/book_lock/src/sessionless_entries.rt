@@ -1,48 +1,22 @@
-//! Entries that no session makes: a tile that is kept, a number that is durable.
+//! Entries of numbers that are durable.
 ghost use Rattle.std.specs.Prelude.{◌≡◌, ◌⊎◌, ◌<◌, length, Err, IfOk, IfErr};
 ghost use Rattle.book_history.specs.Fault.{no_memory};
 ghost use Rattle.book_history.specs.Logs.{newest_in, IsLog};
 ghost use Rattle.book_history.specs.Telling.{MayTell};
 ghost use Rattle.book_lock.specs.Heard.{HasHeard};
-ghost use Rattle.book_lock.specs.Steps.{IsFinishedIn, IsReportedIn};
+ghost use Rattle.book_lock.specs.Steps.{IsReportedIn};
 
 use crate::locked_log::LockedLog;
 use crate::reporter::Reporter;
 use crate::room::Room;
-use crate::shared_version::{kept_version, reported_version};
+use crate::shared_version::reported_version;
 use book_history::entry::Cause;
 use book_history::fault::BookFault;
 use book_history::seen_log::BookName;
-use layer_expr::name::Name;
 use std::alloc::Global;
 use std::sync::Wait;
-use tile_build::SharedBuilt;
-use versions::Version;
 
 impl<J: BookName, R: Wait + Drop> LockedLog<J, R> {
-    /// Keeps a built tile where it is awaited: the one entry that this adds, or nothing. The tile is shared, not copied.
-    pub fn keep(
-        &mut self,
-        alloc: Global,
-        name: &Name,
-        built: &SharedBuilt,
-    ) -> Result<bool, BookFault>
-        ensures kept { IfOk result (λ is_kept. IsFinishedIn self.old name.now built.now.0 built.now.1 is_kept self.new) }
-        ensures err { IfErr result (λ fault. (self.new ≡ self.old) × ((fault ≡ no_memory) ⊎ (fault ≡ BookFault.Gone))) }
-    {
-        let now: &Version = &self.last().version;
-        let column = built.input().column();
-        // Who builds a tile has it alone, so it cannot be there.
-        if now.shared_tile(name, column).is_some() {
-            return Err(BookFault::Gone);
-        }
-        let Some(version) = kept_version(alloc, now, name, built)? else {
-            return Ok(false);
-        };
-        self.add(Cause::Kept(name, &column, built.tile()), version)?;
-        Ok(true)
-    }
-
     /// Reports a number durable for the reporter of the book, who has seen each number that was: the one entry that this
     /// adds, or nothing. It answers the durable number then, and the reporter has seen it. The memory for the entry's version
     /// is what was taken ahead for it, where there was some.

@@ -8,7 +8,8 @@ use Rattle.root_reading.specs.RootRuns.{AreRunsOf}
 use Rattle.commit_plan.specs.declared.room.Room.{Room}
 use Rattle.commit_plan.specs.Filed.{Filed, lengths_of, extents_of_filed}
 
--- the records of a commit that have their places, in the order in which they are written: in a file of at most so many blocks, beside the runs that the live root takes
+-- the records of a commit that have their places, in the order in which they are written: in a file of at most so many
+-- blocks, beside the runs that the live root takes
 pub record Drafted : Type 0 where
   pub given : List runs.Extent
   pub limit : ℕ
@@ -27,7 +28,8 @@ abbrev pub sizes_in : Drafted → List ℕ
 sizes_in d = lengths_of d.filed
 
 -- records have these runs: each the lowest that is free beside what is taken and beside the records before it
-pub record HaveRuns (given : List runs.Extent) (limit : ℕ) (filed : List Filed) (places : List runs.Extent) : Type 0 where
+pub record HaveRuns (given : List runs.Extent) (limit : ℕ) (filed : List Filed)
+    (places : List runs.Extent) : Type 0 where
   pub planned : IsPlanned given limit (lengths_of filed) places
   pub runs : AreRunsOf (extents_of_filed filed) places
 
@@ -39,7 +41,8 @@ ArePlaced d = (places : List runs.Extent) × HaveRuns d.given d.limit d.filed pl
 abbrev pub HasNoRunFor : Drafted → List ℕ → Type 0
 HasNoRunFor d sizes = IsFull d.given d.limit (sizes_in d ++ sizes)
 
--- what the code of a draft keeps: its records lie in room that the live root's leaves, and are taken in a room of its own
+-- what the code of a draft keeps: its records lie in room that the live root's leaves, and
+-- are taken in a room of its own
 pub record IsDraft (live room : Room) (filed : List Filed) : Type 0 where
   pub limit : room.max_blocks ≡ live.max_blocks
   pub places : List runs.Extent

@@ -9,7 +9,8 @@ use Rattle.record_reading.specs.declared.fault.RecordFault.TheVariants as failed
 use Rattle.root_reading.specs.declared.load_fault.LoadFault.{LoadFault}
 use Rattle.root_reading.specs.declared.load_fault.LoadFault.TheVariants as loads
 use Rattle.commit_plan.specs.declared.fault.StoreFault.{StoreFault}
-use Rattle.commit_plan.specs.declared.fault.StoreFault.TheVariants.{Device, Full, Damaged, NotEmpty, Failed, SequenceLimit, OutOfMemory}
+use Rattle.commit_plan.specs.declared.fault.StoreFault.TheVariants.{Device, Full, Damaged, NotEmpty, Failed}
+use Rattle.commit_plan.specs.declared.fault.StoreFault.TheVariants.{SequenceLimit, OutOfMemory}
 
 -- a fault of extents, as one of a store
 abbrev pub fault_of_extents : ExtentFault → StoreFault

@@ -1,5 +1,6 @@
 -- Records with their places, as a commit writes them: the catalog, the extents and the writes come from one list.
-use Rattle.std.specs.Prelude.{◌≡◌, ℕ, ◌+◌, ◌-◌, ◌*◌, ◌^◌, ◌<◌, ◌≤◌, true, List, [], ◌∷◌, ◌++◌, length, take, map, flat_map, replicate, Option, Some, None}
+use Rattle.std.specs.Prelude.{◌≡◌, ℕ, ◌+◌, ◌-◌, ◌*◌, ◌^◌, ◌<◌, ◌≤◌, [], ◌∷◌, ◌++◌}
+use Rattle.std.specs.Prelude.{true, List, length, take, map, flat_map, replicate, Option, Some, None}
 use Rattle.std.proofs.Common.{inl, inr}
 use Rattle.std.specs.Option.{option_map}
 use Rattle.std.specs.List.{AllByRecursion}
@@ -24,7 +25,8 @@ pub record Filed : Type 0 where
   pub extent : RecordExtent
   pub bytes : List ℕ
 
--- what is known of a record that has its place: it lies after the slots, at a block of 32 bits, and its extent says how many bytes it has
+-- what is known of a record that has its place: it lies after the slots, at a block of 32 bits, and its
+-- extent says how many bytes it has
 pub record HasPlace (f : Filed) : Type 0 where
   pub behind : 2 ≤ f.extent.block
   pub low : f.extent.block < 2 ^ 32
@@ -136,7 +138,7 @@ pub record Files (x y : Kept) (layers : List FiledLayer) (listing : Filed) : Typ
   pub lists : y.listing ≡ map listed_of layers
   pub apart : all_apart (y.root.catalog ∷ extents_listed (map listed_of layers)) ≡ true
 
--- where what is written is put, and the file still stands for x, it holds what the root of y names
+-- where what is written is put, and the file still holds x, it has what the root of y names
 abbrev pub FilingMakes : Type 0
 FilingMakes =
     (x y : Kept) (layers : List FiledLayer) (listing : Filed) (ws : List Write) (file : List ℕ) → Shut x file

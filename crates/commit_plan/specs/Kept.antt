@@ -1,4 +1,4 @@
--- What a root names, and what a file has that stands for it, at rest and while a commit is under way.
+-- What a root names, and what is in a file that holds it, at rest and while a commit is under way.
 use Rattle.std.specs.Prelude.{◌≡◌, ◌≢◌, ◌⊎◌, ℕ, ◌+◌, ◌*◌, ◌%◌, ◌<◌, ◌≤◌, true, List, ◌∷◌, length, Ok}
 use Rattle.std.specs.List.{AllByRecursion}
 use Rattle.overlay_terms.specs.Commands.{version_max}
@@ -53,7 +53,7 @@ pub record Live (x : Kept) (file : List ℕ) : Type 0 where
   pub opened : gate file (own x.root) ≡ open_gate
   pub named : IsWholeAt (own x.root) x file
 
--- whatever the other gate holds, the file stands for x
+-- the file holds x, whatever the other gate is
 pub record Rest (x : Kept) (file : List ℕ) : Type 0 where
   pub live : Live x file
   pub harmless : Harmless (other x.root) x.root file
@@ -73,6 +73,6 @@ pub record Ready (x y : Kept) (file : List ℕ) : Type 0 where
   pub named : IsWholeAt (other x.root) y file
   pub after : y.root.sequence ≡ x.root.sequence + 1
 
--- the file stands for one of the two
+-- the file holds one of the two
 abbrev pub Either : Kept → Kept → List ℕ → Type 0
 Either x y file = StandsFor x.held file ⊎ StandsFor y.held file

@@ -13,7 +13,8 @@ use Rattle.commit_plan.specs.declared.write.Write.{Write}
 use Rattle.commit_plan.specs.declared.next.Next.{Next}
 use Rattle.commit_plan.specs.Kept.{Kept, extents_in}
 use Rattle.commit_plan.specs.Planning.{Plans}
-use Rattle.commit_plan.specs.Filed.{Filed, FiledLayer, lengths_of, extents_of_filed, listed_of, filed_of, SpellLayers, AreWritesOf}
+use Rattle.commit_plan.specs.Filed.{Filed, FiledLayer, lengths_of, extents_of_filed}
+use Rattle.commit_plan.specs.Filed.{listed_of, filed_of, SpellLayers, AreWritesOf}
 use Rattle.commit_plan.specs.Staying.{LiveContent, kept_content}
 use Rattle.commit_plan.specs.Live.{live_content}
 use Rattle.root_reading.specs.RootRuns.{AreRunsOf, IsMapOf}
@@ -29,8 +30,11 @@ pub record Spell (live : LiveContent) (layers : List FiledLayer) (listing : List
   pub small : x.number ≤ version_max
   pub listed : map listed_of layers ≡ listing
 
--- how the writes of a commit lie, whose records are to have these sizes, and whose root is of the present format: first each new record, layer by layer, in the lowest run that is free, in whole blocks of which the rest is zero; after them the catalog that lists them, likewise; and last the body of the root, where it is to be put
-pub record IsLaidOut (live : LiveContent) (given : List runs.Extent) (limit : ℕ) (held : Held) (sizes : List ℕ) (body : ℕ)
+-- how the writes of a commit lie, whose records are to have these sizes, and whose root is of the present format: first
+-- each new record, layer by layer, in the lowest run that is free, in whole blocks of which the rest is zero; after
+-- them the catalog that lists them, likewise; and last the body of the root, where it is to be put
+pub record IsLaidOut (live : LiveContent) (given : List runs.Extent) (limit : ℕ) (held : Held) (sizes : List ℕ)
+    (body : ℕ)
     (root : Root) (plan : List Write) : Type 0 where
   pub layers : List FiledLayer
   pub catalog : Filed

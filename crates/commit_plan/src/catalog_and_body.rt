@@ -1,5 +1,6 @@
 //! The writes of a commit after its records: the catalog and the body.
-ghost use Rattle.std.specs.Prelude.{◌≡◌, ◌⊎◌, ◌+◌, ◌^◌, ◌<◌, ◌++◌, ◌∷◌, [], ℕ, List, length, flat_map, All, IfOk, IfErr, IsErrOf};
+ghost use Rattle.std.specs.Prelude.{◌≡◌, ◌⊎◌, ◌+◌, ◌^◌, ◌<◌, ◌++◌, ◌∷◌, [], ℕ};
+ghost use Rattle.std.specs.Prelude.{List, length, flat_map, All, IfOk, IfErr, IsErrOf};
 ghost use Rattle.overlay_terms.specs.Column.{column_count};
 ghost use Rattle.extent_map.specs.Taken.{limit_of};
 ghost use Rattle.store_terms.specs.Listing.{entries_of, IsListable};
@@ -29,8 +30,8 @@ use std::alloc::Global;
 use store_terms::catalog::Listed;
 use store_terms::root::Root;
 
-/// Adds the catalog that lists the records of an image, and the body of the root that comes after one, where it is to be
-/// put.
+/// Adds the catalog that lists the records of an image, and the body of the root that comes
+/// after one, where it is to be put.
 pub(crate) fn completed(
     alloc: Global,
     mut draft: Draft<'_>,

@@ -26,7 +26,11 @@ impl<'a> Model for Draft<'a> {
 
     ghost Value = { Drafted };
 
-    ghost view = { λ d. record { given = taken_of d.live.now.map; limit = d.live.now.max_blocks; filed = d.records.items } };
+    ghost view = { λ d. record {
+      given = taken_of d.live.now.map;
+      limit = d.live.now.max_blocks;
+      filed = d.records.items;
+    } };
 
     ghost invariant = { λ d. IsDraft d.live.now d.room d.records.items };
 }
@@ -54,7 +58,8 @@ impl<'a> Draft<'a> {
     /// Puts a record in the lowest place that is free for it.
     pub(crate) fn file(&mut self, bytes: Vec<u8>) -> Result<RecordExtent, StoreFault>
         requires { length bytes.items < 2 ^ 32 }
-        ensures ok { IfOk result (λ e. self.new ≡ with_filed self.old (record { extent = e; bytes = bytes.items } ∷ [])) }
+        ensures ok { IfOk result (λ e. self.new
+            ≡ with_filed self.old (record { extent = e; bytes = bytes.items } ∷ [])) }
         ensures within { IfOk result (λ e. (e.block < 2 ^ 32) × (e.size < 2 ^ 32)) }
         ensures full { IsErrOf result StoreFault.Full → HasNoRunFor self.old (length bytes.items ∷ []) }
         ensures err { IfErr result (λ fault. (fault ≡ StoreFault.Full) ⊎ (fault ≡ StoreFault.OutOfMemory)) }

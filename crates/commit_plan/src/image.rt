@@ -77,7 +77,7 @@ impl Image {
         self.table.layers()
     }
 
-    /// The number, the layers and the finished tiles that the image stands for. They are copied.
+    /// The number, the layers and the finished tiles of the image. They are copied.
     pub fn into_parts(
         self,
         alloc: Global,

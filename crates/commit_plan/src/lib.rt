@@ -1,5 +1,5 @@
-//! Images, what a root holds and takes, and what a commit will write, and where: the records of an image in free blocks,
-//! their catalog, and the body of the next root.
+//! Images, what a root holds and takes, and what a commit will write, and where: the records of an image in free
+//! blocks, their catalog, and the body of the next root.
 #![tactic(auto)]
 
 mod catalog_and_body;

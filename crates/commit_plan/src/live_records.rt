@@ -11,7 +11,8 @@ ghost use Rattle.layer_tiles.specs.Filling.{finished_as};
 ghost use Rattle.overlay_terms.specs.Histories.{tile_at};
 ghost use Rattle.tile_build.specs.Tile.{tile_of};
 ghost use Rattle.commit_plan.specs.TakenRoom.{TakesRoom};
-ghost use Rattle.commit_plan.specs.Staying.{read_content, own_extent, tile_extent, records_named, if_near, layer_named, layer_stays, tile_record_stays, holds_tile, near_ones};
+ghost use Rattle.commit_plan.specs.Staying.{read_content, own_extent, tile_extent, records_named, if_near};
+ghost use Rattle.commit_plan.specs.Staying.{layer_named, layer_stays, tile_record_stays, holds_tile, near_ones};
 
 use crate::equality::{same_layer, same_tile};
 use crate::room::Room;
@@ -133,7 +134,8 @@ impl LiveRecords {
 
     /// The records that the root's catalog lists under a name.
     pub(crate) fn records(&self, name: &Name) -> Option<&Records>
-        ensures { option_map (λ records. records_of records.now) result ≡ records_named (live_content self.now).listing name.now }
+        ensures { option_map (λ records. records_of records.now) result
+            ≡ records_named (live_content self.now).listing name.now }
     {
         records_named(&self.listing, name)
     }
@@ -145,7 +147,8 @@ impl LiveRecords {
         layer: &Layer,
         records: Option<&Records>,
     ) -> Option<RecordExtent>
-        requires { option_map (λ records. records_of records.now) records ≡ records_named (live_content self.now).listing name.now }
+        requires { option_map (λ records. records_of records.now) records
+            ≡ records_named (live_content self.now).listing name.now }
         ensures { result
             ≡ layer_stays (live_content self.now) (layer_named name.now (content layer.now)) }
     {
@@ -188,7 +191,8 @@ impl LiveRecords {
         self.holds_tile(name, column, tile)
     }
 
-    /// Where the record of a layer and column's tile stays, if the root holds an equal one. The layer has these records.
+    /// Where the record of a layer and column's tile stays, if the root holds an
+    /// equal one. The layer has these records.
     pub(crate) fn tile_stays(
         &self,
         name: &Name,
@@ -197,8 +201,10 @@ impl LiveRecords {
         records: Option<&Records>,
         known: bool,
     ) -> Option<RecordExtent>
-        requires listed { option_map (λ records. records_of records.now) records ≡ records_named (live_content self.now).listing name.now }
-        requires known { IsTrue known → tile_at (live_content self.now).tiles name.now column ≡ Some (tile_of tile.now) }
+        requires listed { option_map (λ records. records_of records.now) records
+            ≡ records_named (live_content self.now).listing name.now }
+        requires known { IsTrue known
+            → tile_at (live_content self.now).tiles name.now column ≡ Some (tile_of tile.now) }
         ensures { result ≡ tile_record_stays (live_content self.now) (finished_as name.now column (tile_of tile.now)) }
     {
         if !self.is_equal(name, column, tile, known) {

@@ -48,14 +48,16 @@ pub fn drafted(
     // The table that comes next is the image's.
     ensures next_tiles { IfOk result (λ next. (live_content next.live).tiles ≡ tiles_in image.table.value) }
     ensures ok { (x : Kept) → x.root ≡ root → body ≡ body_at (other root) → live_content live.now ≡ kept_content x
-        → IsMapOf (extents_in x) (taken_of live.now.room.map) → IfOk result (λ next. NextHolds x (image_held image) next) }
+        → IsMapOf (extents_in x) (taken_of live.now.room.map)
+        → IfOk result (λ next. NextHolds x (image_held image) next) }
     // The new records, the catalog and the body, in this order; each record and the catalog in the lowest free run, in
     // whole blocks. A record stays where the live root has an equal one, and only there.
     ensures laid { IfOk result
         (λ next. IsLaidOut (live_content live.now) (taken_of live.now.room.map) live.now.room.max_blocks
         (image_held image) (sizes_of (live_content live.now) image) body next.root next.plan.items) }
     // One write for each new record, the catalog and the body.
-    ensures calls { IfOk result (λ next. length next.plan.items ≡ new_records (live_content live.now) (image_held image) + 2) }
+    ensures calls { IfOk result
+        (λ next. length next.plan.items ≡ new_records (live_content live.now) (image_held image) + 2) }
     ensures number { IfOk result (λ next. next.root.version ≡ image.number) }
     ensures room { IfOk result (λ _. HasRoom live.now image) }
     // The blocks that the file may have stay as many.

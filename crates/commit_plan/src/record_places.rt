@@ -1,5 +1,6 @@
 //! The records of an image, each put in its place.
-ghost use Rattle.std.specs.Prelude.{◌≡◌, ◌⊎◌, ◌^◌, ◌<◌, ◌++◌, ◌∷◌, ℕ, List, [], None, Some, false, length, replicate, All, IfOk, IfErr, IsErrOf, IsTrue};
+ghost use Rattle.std.specs.Prelude.{◌≡◌, ◌⊎◌, ◌^◌, ◌<◌, ◌++◌, ◌∷◌, ℕ, []};
+ghost use Rattle.std.specs.Prelude.{List, None, Some, false, length, replicate, All, IfOk, IfErr, IsErrOf, IsTrue};
 ghost use Rattle.std.specs.Option.{option_map};
 ghost use Rattle.overlay_terms.specs.Column.{column_count};
 ghost use Rattle.overlay_terms.specs.Commands.{is_derived};
@@ -15,7 +16,8 @@ ghost use Rattle.commit_plan.specs.Staying.{layer_named, records_named};
 ghost use Rattle.commit_plan.specs.Live.{live_content};
 ghost use Rattle.commit_plan.specs.Drafted.{HasNoRunFor, sizes_in};
 ghost use Rattle.commit_plan.specs.Sizes.{layer_sizes, own_record, own_sizes, row_sizes, sizes_of_layers, tile_sizes};
-ghost use Rattle.commit_plan.specs.RecordPlaces.{AreFormedIn, AreKnown, AreKnownIn, AreLayersFiled, AreTilesFiled, IsFiled, IsLayerFiled, IsSlotFiled};
+ghost use Rattle.commit_plan.specs.RecordPlaces.{AreFormedIn, AreKnown, AreKnownIn, AreLayersFiled};
+ghost use Rattle.commit_plan.specs.RecordPlaces.{AreTilesFiled, IsFiled, IsLayerFiled, IsSlotFiled};
 
 use crate::draft::Draft;
 use crate::fault::StoreFault;
@@ -63,10 +65,15 @@ fn file_own(
     layer: &Layer,
     records: Option<&Records>,
 ) -> Result<RecordExtent, StoreFault>
-    requires { option_map (λ records. records_of records.now) records ≡ records_named (live_content live.now).listing name.now }
-    ensures ok { IfOk result (λ e. IsFiled draft.old (SaysLayer (live_content live.now) (layer_named name.now (content layer.now))) e draft.new) }
-    ensures sizes { IfOk result (λ _. sizes_in draft.new ≡ sizes_in draft.old ++ own_sizes (live_content live.now) (layer_named name.now (content layer.now))) }
-    ensures full { IsErrOf result StoreFault.Full → HasNoRunFor draft.old (own_sizes (live_content live.now) (layer_named name.now (content layer.now))) }
+    requires { option_map (λ records. records_of records.now) records
+        ≡ records_named (live_content live.now).listing name.now }
+    ensures ok { IfOk result (λ e. IsFiled draft.old
+        (SaysLayer (live_content live.now) (layer_named name.now (content layer.now))) e draft.new) }
+    ensures sizes { IfOk result
+        (λ _. sizes_in draft.new ≡ sizes_in draft.old
+        ++ own_sizes (live_content live.now) (layer_named name.now (content layer.now))) }
+    ensures full { IsErrOf result StoreFault.Full
+        → HasNoRunFor draft.old (own_sizes (live_content live.now) (layer_named name.now (content layer.now))) }
     ensures err { IfErr result (λ fault. (fault ≡ StoreFault.Full) ⊎ (fault ≡ StoreFault.OutOfMemory)) }
 {
     if let Some(extent) = live.layer_stays(name, layer, records) {
@@ -87,12 +94,17 @@ fn file_tile(
     records: Option<&Records>,
     known: bool,
 ) -> Result<RecordExtent, StoreFault>
-    requires listed { option_map (λ records. records_of records.now) records ≡ records_named (live_content live.now).listing name.now }
+    requires listed { option_map (λ records. records_of records.now) records
+        ≡ records_named (live_content live.now).listing name.now }
     requires formed { IsTrue (is_formed (tile_of tile.now) column) }
     requires known { IsTrue known → tile_at (live_content live.now).tiles name.now column ≡ Some (tile_of tile.now) }
-    ensures ok { IfOk result (λ e. IsFiled draft.old (SaysTile (live_content live.now) (finished_as name.now column (tile_of tile.now))) e draft.new) }
-    ensures sizes { IfOk result (λ _. sizes_in draft.new ≡ sizes_in draft.old ++ tile_sizes (live_content live.now) name.now column (named_pieces tile.now)) }
-    ensures full { IsErrOf result StoreFault.Full → HasNoRunFor draft.old (tile_sizes (live_content live.now) name.now column (named_pieces tile.now)) }
+    ensures ok { IfOk result (λ e. IsFiled draft.old
+        (SaysTile (live_content live.now) (finished_as name.now column (tile_of tile.now))) e draft.new) }
+    ensures sizes { IfOk result
+        (λ _. sizes_in draft.new ≡ sizes_in draft.old
+        ++ tile_sizes (live_content live.now) name.now column (named_pieces tile.now)) }
+    ensures full { IsErrOf result StoreFault.Full
+        → HasNoRunFor draft.old (tile_sizes (live_content live.now) name.now column (named_pieces tile.now)) }
     ensures err { IfErr result (λ fault. (fault ≡ StoreFault.Full) ⊎ (fault ≡ StoreFault.OutOfMemory)) }
 {
     if let Some(extent) = live.tile_stays(name, column, tile, records, known) {
@@ -113,12 +125,21 @@ fn file_slot(
     records: Option<&Records>,
     known: bool,
 ) -> Result<Option<RecordExtent>, StoreFault>
-    requires listed { option_map (λ records. records_of records.now) records ≡ records_named (live_content live.now).listing name.now }
-    requires known { IsTrue known → (held : Named) → option_map (λ t. named_pieces t.now.value) tile ≡ Some held → tile_at (live_content live.now).tiles name.now column ≡ Some (by_places held) }
-    requires formed { (held : Named) → option_map (λ t. named_pieces t.now.value) tile ≡ Some held → IsTrue (is_formed (by_places held) column) }
-    ensures ok { IfOk result (λ e. IsSlotFiled (live_content live.now) draft.old name.now column (option_map (λ t. named_pieces t.now.value) tile.entry) e draft.new) }
-    ensures sizes { IfOk result (λ _. sizes_in draft.new ≡ sizes_in draft.old ++ row_sizes (live_content live.now) name.now column (option_map (λ t. named_pieces t.now.value) tile.entry ∷ [])) }
-    ensures full { IsErrOf result StoreFault.Full → HasNoRunFor draft.old (row_sizes (live_content live.now) name.now column (option_map (λ t. named_pieces t.now.value) tile.entry ∷ [])) }
+    requires listed { option_map (λ records. records_of records.now) records
+        ≡ records_named (live_content live.now).listing name.now }
+    requires known { IsTrue known → (held : Named) → option_map (λ t. named_pieces t.now.value) tile ≡ Some held
+        → tile_at (live_content live.now).tiles name.now column ≡ Some (by_places held) }
+    requires formed { (held : Named) → option_map (λ t. named_pieces t.now.value) tile ≡ Some held
+        → IsTrue (is_formed (by_places held) column) }
+    ensures ok { IfOk result (λ e. IsSlotFiled (live_content live.now) draft.old name.now column
+        (option_map (λ t. named_pieces t.now.value) tile.entry) e draft.new) }
+    ensures sizes { IfOk result
+        (λ _. sizes_in draft.new ≡ sizes_in draft.old
+        ++ row_sizes (live_content live.now) name.now column
+        (option_map (λ t. named_pieces t.now.value) tile.entry ∷ [])) }
+    ensures full { IsErrOf result StoreFault.Full
+        → HasNoRunFor draft.old (row_sizes (live_content live.now) name.now column
+        (option_map (λ t. named_pieces t.now.value) tile.entry ∷ [])) }
     ensures err { IfErr result (λ fault. (fault ≡ StoreFault.Full) ⊎ (fault ≡ StoreFault.OutOfMemory)) }
 {
     match tile {
@@ -140,14 +161,18 @@ fn file_tiles(
     records: Option<&Records>,
     known: bool,
 ) -> Result<Vec<Option<RecordExtent>>, StoreFault>
-    requires listed { option_map (λ records. records_of records.now) records ≡ records_named (live_content live.now).listing name.now }
+    requires listed { option_map (λ records. records_of records.now) records
+        ≡ records_named (live_content live.now).listing name.now }
     requires whole { length row.now ≡ column_count }
     requires known { IsTrue known → AreKnownIn (live_content live.now) name.now row.now }
     requires formed { AreFormedIn row.now }
-    ensures ok { IfOk result (λ v. AreTilesFiled (live_content live.now) draft.old name.now (row_tiles name.now 0 (places_in row.now)) v.items draft.new) }
+    ensures ok { IfOk result (λ v. AreTilesFiled (live_content live.now) draft.old name.now
+        (row_tiles name.now 0 (places_in row.now)) v.items draft.new) }
     ensures count { IfOk result (λ v. length v.items ≡ column_count) }
-    ensures sizes { IfOk result (λ _. sizes_in draft.new ≡ sizes_in draft.old ++ row_sizes (live_content live.now) name.now 0 row.now) }
-    ensures full { IsErrOf result StoreFault.Full → HasNoRunFor draft.old (row_sizes (live_content live.now) name.now 0 row.now) }
+    ensures sizes { IfOk result
+        (λ _. sizes_in draft.new ≡ sizes_in draft.old ++ row_sizes (live_content live.now) name.now 0 row.now) }
+    ensures full { IsErrOf result StoreFault.Full
+        → HasNoRunFor draft.old (row_sizes (live_content live.now) name.now 0 row.now) }
     ensures err { IfErr result (λ fault. (fault ≡ StoreFault.Full) ⊎ (fault ≡ StoreFault.OutOfMemory)) }
 {
     let mut entries = Vec::new(alloc);
@@ -176,11 +201,16 @@ fn file_layer(
     requires known { IsTrue known → AreKnownIn (live_content live.now) name.now row.now }
     requires formed { AreFormedIn row.now }
     requires bare { is_derived (content layer.now) ≡ false → row.now ≡ replicate column_count None }
-    ensures ok { IfOk result (λ l. IsLayerFiled (live_content live.now) draft.old (layer_named name.now (content layer.now))
+    ensures ok { IfOk result (λ l. IsLayerFiled (live_content live.now) draft.old
+        (layer_named name.now (content layer.now))
         (row_tiles name.now 0 (places_in row.now)) (entry_of l) draft.new) }
     ensures listable { IfOk result IsListable }
-    ensures sizes { IfOk result (λ _. sizes_in draft.new ≡ sizes_in draft.old ++ layer_sizes (live_content live.now) (layer_named name.now (content layer.now)) row.now) }
-    ensures full { IsErrOf result StoreFault.Full → HasNoRunFor draft.old (layer_sizes (live_content live.now) (layer_named name.now (content layer.now)) row.now) }
+    ensures sizes { IfOk result
+        (λ _. sizes_in draft.new ≡ sizes_in draft.old
+        ++ layer_sizes (live_content live.now) (layer_named name.now (content layer.now)) row.now) }
+    ensures full { IsErrOf result StoreFault.Full
+        → HasNoRunFor draft.old (layer_sizes (live_content live.now)
+        (layer_named name.now (content layer.now)) row.now) }
     ensures err { IfErr result (λ fault. (fault ≡ StoreFault.Full) ⊎ (fault ≡ StoreFault.OutOfMemory)) }
 {
     // It is a name by its type: that it can be listed rests on that.
@@ -211,11 +241,15 @@ pub(crate) fn file_layers(
     known: bool,
 ) -> Result<Vec<Listed>, StoreFault>
     requires { IsTrue known → AreKnown (live_content live.now) (tiles_in table.now) }
-    ensures ok { IfOk result (λ v. AreLayersFiled (live_content live.now) draft.old table.now.layers (tiles_in table.now) (entries_of v.items) draft.new) }
+    ensures ok { IfOk result (λ v. AreLayersFiled (live_content live.now) draft.old table.now.layers
+        (tiles_in table.now) (entries_of v.items) draft.new) }
     ensures listable { IfOk result (λ v. All IsListable v.items) }
     ensures count { IfOk result (λ v. length v.items ≡ length table.now.layers) }
-    ensures sizes { IfOk result (λ _. sizes_in draft.new ≡ sizes_in draft.old ++ sizes_of_layers (live_content live.now) table.now.layers table.now.rows) }
-    ensures full { IsErrOf result StoreFault.Full → HasNoRunFor draft.old (sizes_of_layers (live_content live.now) table.now.layers table.now.rows) }
+    ensures sizes { IfOk result
+        (λ _. sizes_in draft.new ≡ sizes_in draft.old
+        ++ sizes_of_layers (live_content live.now) table.now.layers table.now.rows) }
+    ensures full { IsErrOf result StoreFault.Full
+        → HasNoRunFor draft.old (sizes_of_layers (live_content live.now) table.now.layers table.now.rows) }
     ensures err { IfErr result (λ fault. (fault ≡ StoreFault.Full) ⊎ (fault ≡ StoreFault.OutOfMemory)) }
 {
     let mut listing = Vec::new(alloc);

@@ -1,100 +1,82 @@
 -- A place that is added to those found ahead.
-use Rattle.std.proofs.Common.{◌≡◌, Bool, inl, inr, ◌⊎◌, true, false, cond, List, [], ◌∷◌, refl, subst}
-use Rattle.std.specs.Prelude.{IsTrue, Any, Contains, is_some, Some}
-use Rattle.std.proofs.lemmas.Bool.{both_ways}
-use Rattle.std.specs.Ordering.{is_eq, match_ordering}
-use Rattle.std.specs.Map.{lookup}
-use Rattle.std.specs.BTreeMap.{is_at, insert_entry}
+use Rattle.std.proofs.Common.{◌≡◌, inl, inr, ◌⊎◌, List, [], ◌∷◌, map, refl, sym, subst}
+use Rattle.std.specs.Prelude.{IsTrue, Contains}
+use Rattle.std.specs.Ordering.{match_ordering}
+use Rattle.std.specs.BTreeSet.{insert_key}
 use Rattle.std.specs.declared.cmp.Ordering.{Ordering}
 use Rattle.std.specs.declared.cmp.Ordering.TheVariants.{Less, Equal, Greater}
 use Rattle.overlay_terms.specs.Plane.{same_place}
-use Rattle.overlay_terms.proofs.Lists.{any_from, any_contains, Contains-cons_cases, contains_first, contains_rest, none_in_empty}
+use Rattle.overlay_terms.proofs.Lists.{any_from, any_contains, Contains-cons_cases, contains_first, contains_rest}
 use Rattle.exact_point.specs.Place.{place, hpoint_cmp}
 use Rattle.exact_point.specs.declared.point.HPoint.{HPoint}
 use Rattle.exact_point.specs.declared.point_name.PointName.{PointName}
 use Rattle.exact_point.proofs.PlaceOrder.{same_from_equal, same_self}
 use Rattle.crossing_sweep.specs.Ahead.{HasAdded}
+use Rattle.crossing_sweep.specs.RankedPlace.{ranked_cmp, ranked_entry}
+use Rattle.crossing_sweep.specs.declared.ranked_place.RankedPlace.{RankedPlace}
 use Rattle.arrange.proofs.FoundLemmas.{place_positive}
 
-module _ (at : HPoint) (name : PointName) where
+module _ (x : RankedPlace) where
   abbrev IsHere : HPoint × PointName → Type 0
-  IsHere e = IsTrue (same_place (place at) (place e.0))
+  IsHere e = IsTrue (same_place (place x.at) (place e.0))
 
-  abbrev is_known : List (HPoint × PointName) → Bool
-  is_known es = is_some (lookup (is_at (hpoint_cmp at)) es)
+  -- some places, one of which is found
+  abbrev IsAdded : List RankedPlace → List RankedPlace → Type 0
+  IsAdded old new = HasAdded (map ranked_entry old) x.at x.name (map ranked_entry new)
 
-  abbrev added : List (HPoint × PointName) → List (HPoint × PointName)
-  added es = insert_entry hpoint_cmp es at name
-
-  -- ---- a place that is known
-  here_by : (e : HPoint × PointName) (es : List (HPoint × PointName)) (o : Ordering) → hpoint_cmp at e.0 ≡ o → (is_known es ≡ true → Any IsHere es)
-      → is_some (cond (is_eq o) (Some e.1) (lookup (is_at (hpoint_cmp at)) es)) ≡ true → Any IsHere (e ∷ es)
-  here_by e es Equal f more h = any_from IsHere (e ∷ es) e (contains_first e es) (same_from_equal (place at) (place e.0) (place_positive at) (place_positive e.0) f)
-  here_by e es Less f more h = let a = more h in any_from IsHere (e ∷ es) a.1 (contains_rest e es a.1 (any_contains IsHere es a)) a.4
-  here_by e es Greater f more h = let a = more h in any_from IsHere (e ∷ es) a.1 (contains_rest e es a.1 (any_contains IsHere es a)) a.4
-
-  here : (es : List (HPoint × PointName)) → is_known es ≡ true → Any IsHere es
-  here [] h = absurd (both_ways false refl h)
-  here (e ∷ es) h = here_by e es (hpoint_cmp at e.0) refl (here es) h
-
-  -- ---- a place that is new
-  kept_by : (x : HPoint × PointName) (xs : List (HPoint × PointName)) (e : HPoint × PointName) (o : Ordering) → is_some (cond (is_eq o) (Some x.1) (lookup (is_at (hpoint_cmp at)) xs)) ≡ false
-      → (is_known xs ≡ false → Contains xs e → Contains (added xs) e) → Contains (x ∷ xs) e → Contains (match_ordering o ((at, name) ∷ x ∷ xs) ((x.0, name) ∷ xs) (x ∷ added xs)) e
-  kept_by x xs e Less absent more c = contains_rest (at, name) (x ∷ xs) e c
-  kept_by x xs e Equal absent more c = absurd (both_ways true absent refl)
-  kept_by x xs e Greater absent more c = by (Contains-cons_cases x xs e c)
-    where
-      by : (x ≡ e) ⊎ Contains xs e → Contains (x ∷ added xs) e
-      by (inl f) = subst (λ z. Contains (x ∷ added xs) z) f (contains_first x (added xs))
-      by (inr h) = contains_rest x (added xs) e (more absent h)
-
-  kept : (es : List (HPoint × PointName)) (e : HPoint × PointName) → is_known es ≡ false → Contains es e → Contains (added es) e
-  kept [] e absent c = absurd (none_in_empty e c)
-  kept (x ∷ xs) e absent c = kept_by x xs e (hpoint_cmp at x.0) absent (kept xs e) c
-
-  there_by : (x : HPoint × PointName) (xs : List (HPoint × PointName)) (o : Ordering) → is_some (cond (is_eq o) (Some x.1) (lookup (is_at (hpoint_cmp at)) xs)) ≡ false
-      → (is_known xs ≡ false → Contains (added xs) (at, name)) → Contains (match_ordering o ((at, name) ∷ x ∷ xs) ((x.0, name) ∷ xs) (x ∷ added xs)) (at, name)
-  there_by x xs Less absent more = contains_first (at, name) (x ∷ xs)
-  there_by x xs Equal absent more = absurd (both_ways true absent refl)
-  there_by x xs Greater absent more = contains_rest x (added xs) (at, name) (more absent)
-
-  there : (es : List (HPoint × PointName)) → is_known es ≡ false → Contains (added es) (at, name)
-  there [] absent = contains_first (at, name) []
-  there (x ∷ xs) absent = there_by x xs (hpoint_cmp at x.0) absent (there xs)
-
-  only_by : (x : HPoint × PointName) (xs : List (HPoint × PointName)) (e : HPoint × PointName) (o : Ordering) → is_some (cond (is_eq o) (Some x.1) (lookup (is_at (hpoint_cmp at)) xs)) ≡ false
-      → (is_known xs ≡ false → Contains (added xs) e → Contains xs e ⊎ ((at, name) ≡ e)) → Contains (match_ordering o ((at, name) ∷ x ∷ xs) ((x.0, name) ∷ xs) (x ∷ added xs)) e → Contains (x ∷ xs) e ⊎ ((at, name) ≡ e)
-  only_by x xs e Less absent more c = by (Contains-cons_cases (at, name) (x ∷ xs) e c)
-    where
-      by : ((at, name) ≡ e) ⊎ Contains (x ∷ xs) e → Contains (x ∷ xs) e ⊎ ((at, name) ≡ e)
-      by (inl f) = inr f
-      by (inr h) = inl h
-  only_by x xs e Equal absent more c = absurd (both_ways true absent refl)
-  only_by x xs e Greater absent more c = by (Contains-cons_cases x (added xs) e c)
-    where
-      later : Contains xs e ⊎ ((at, name) ≡ e) → Contains (x ∷ xs) e ⊎ ((at, name) ≡ e)
-      later (inl h) = inl (contains_rest x xs e h)
-      later (inr f) = inr f
-
-      by : (x ≡ e) ⊎ Contains (added xs) e → Contains (x ∷ xs) e ⊎ ((at, name) ≡ e)
-      by (inl f) = inl (subst (λ z. Contains (x ∷ xs) z) f (contains_first x xs))
-      by (inr h) = later (more absent h)
-
-  only : (es : List (HPoint × PointName)) (e : HPoint × PointName) → is_known es ≡ false → Contains (added es) e → Contains es e ⊎ ((at, name) ≡ e)
-  only [] e absent c = by (Contains-cons_cases (at, name) [] e c)
-    where
-      by : ((at, name) ≡ e) ⊎ Contains [] e → Contains [] e ⊎ ((at, name) ≡ e)
-      by (inl f) = inr f
-      by (inr h) = inl h
-  only (x ∷ xs) e absent c = only_by x xs e (hpoint_cmp at x.0) absent (only xs e) c
-
-  -- ---- either way it has been added
-  pub known_added : (es : List (HPoint × PointName)) → is_known es ≡ true → HasAdded es at name es
-  known_added es h = record { kept = λ e c. c; there = here es h; only = λ e c. inl c }
-
-  pub new_added : (es : List (HPoint × PointName)) → is_known es ≡ false → HasAdded es at name (added es)
-  new_added es h = record {
-    kept = λ e. kept es e h;
-    there = any_from IsHere (added es) (at, name) (there es h) (same_self (place at));
-    only = λ e. only es e h;
+  -- it is put first
+  as_first : (ks : List RankedPlace) → IsAdded ks (x ∷ ks)
+  as_first ks = record {
+    kept = λ e c. contains_rest (ranked_entry x) (map ranked_entry ks) e c;
+    there = any_from IsHere (map ranked_entry (x ∷ ks)) (ranked_entry x) (contains_first (ranked_entry x) (map ranked_entry ks)) (same_self (place x.at));
+    only = λ e c. by e (Contains-cons_cases (ranked_entry x) (map ranked_entry ks) e c);
   }
+    where
+      by : (e : HPoint × PointName) → (ranked_entry x ≡ e) ⊎ Contains (map ranked_entry ks) e → Contains (map ranked_entry ks) e ⊎ (ranked_entry x ≡ e)
+      by e (inl f) = inr f
+      by e (inr c) = inl c
+
+  -- it is the first already
+  is_first : (k : RankedPlace) (ks : List RankedPlace) → ranked_cmp x k ≡ Equal → IsAdded (k ∷ ks) (k ∷ ks)
+  is_first k ks f = record {
+    kept = λ e c. c;
+    there =
+        any_from IsHere (map ranked_entry (k ∷ ks)) (ranked_entry k) (contains_first (ranked_entry k) (map ranked_entry ks))
+        (same_from_equal (place x.at) (place k.at) (place_positive x.at) (place_positive k.at) f);
+    only = λ e c. inl c;
+  }
+
+  -- it is put among those after the first
+  after_first : (k : RankedPlace) (ks new : List RankedPlace) → IsAdded ks new → IsAdded (k ∷ ks) (k ∷ new)
+  after_first k ks new added = record {
+    kept = λ e c. kept e (Contains-cons_cases (ranked_entry k) (map ranked_entry ks) e c);
+    there =
+        let a = added.there in
+        any_from IsHere (map ranked_entry (k ∷ new)) a.1 (contains_rest (ranked_entry k) (map ranked_entry new) a.1 (any_contains IsHere (map ranked_entry new) a)) a.4;
+    only = λ e c. only e (Contains-cons_cases (ranked_entry k) (map ranked_entry new) e c);
+  }
+    where
+      kept : (e : HPoint × PointName) → (ranked_entry k ≡ e) ⊎ Contains (map ranked_entry ks) e → Contains (map ranked_entry (k ∷ new)) e
+      kept e (inl f) = subst (λ z. Contains (map ranked_entry (k ∷ new)) z) f (contains_first (ranked_entry k) (map ranked_entry new))
+      kept e (inr c) = contains_rest (ranked_entry k) (map ranked_entry new) e (added.kept e c)
+
+      later : (e : HPoint × PointName) → Contains (map ranked_entry ks) e ⊎ (ranked_entry x ≡ e) → Contains (map ranked_entry (k ∷ ks)) e ⊎ (ranked_entry x ≡ e)
+      later e (inl c) = inl (contains_rest (ranked_entry k) (map ranked_entry ks) e c)
+      later e (inr f) = inr f
+
+      only : (e : HPoint × PointName) → (ranked_entry k ≡ e) ⊎ Contains (map ranked_entry new) e → Contains (map ranked_entry (k ∷ ks)) e ⊎ (ranked_entry x ≡ e)
+      only e (inl f) = inl (subst (λ z. Contains (map ranked_entry (k ∷ ks)) z) f (contains_first (ranked_entry k) (map ranked_entry ks)))
+      only e (inr c) = later e (added.only e c)
+
+  added_by : (k : RankedPlace) (ks : List RankedPlace) (o : Ordering) → ranked_cmp x k ≡ o → IsAdded ks (insert_key ranked_cmp ks x) → IsAdded (k ∷ ks) (match_ordering o (x ∷ k ∷ ks) (k ∷ ks) (k ∷ insert_key ranked_cmp ks x))
+  added_by k ks Less f more = as_first (k ∷ ks)
+  added_by k ks Equal f more = is_first k ks f
+  added_by k ks Greater f more = after_first k ks (insert_key ranked_cmp ks x) more
+
+  added : (ks : List RankedPlace) → IsAdded ks (insert_key ranked_cmp ks x)
+  added [] = as_first []
+  added (k ∷ ks) = added_by k ks (ranked_cmp x k) refl (added ks)
+
+  -- a set of places to which it is added
+  pub set_added : (ks new : List RankedPlace) → new ≡ insert_key ranked_cmp ks x → HasAdded (map ranked_entry ks) x.at x.name (map ranked_entry new)
+  set_added ks new f = subst (λ (l : List RankedPlace). IsAdded ks l) (sym f) (added ks)

@@ -18,12 +18,12 @@ use Rattle.exact_point.specs.Place.{place}
 use Rattle.exact_point.specs.PointName.{IsPlaceOf}
 use Rattle.exact_point.specs.declared.point.HPoint.{HPoint}
 use Rattle.exact_point.specs.declared.point_name.PointName.{PointName}
-use Rattle.exact_point.proofs.PlaceOrder.{same_through, same_self}
-use Rattle.arrange.proofs.SortedPlaces.{strict_pairs, same_spots}
+use Rattle.exact_point.proofs.PlaceOrder.{same_from_equal, same_through, same_self}
+use Rattle.arrange.proofs.SortedPlaces.{strict_pairs, equal_from_test}
 use Rattle.arrange.proofs.FoundLemmas.{place_positive}
 use Rattle.crossing_sweep.specs.StripInput.{is_in_closed_strip, Span}
 use Rattle.crossing_sweep.specs.Ahead.{HasAdded, IsOffered, AreOffered}
-use Rattle.crossing_sweep.specs.RankedPlace.{ranked_cmp, ranked_total, same_ranked, named_of, ranked_entry}
+use Rattle.crossing_sweep.specs.RankedPlace.{ranked_cmp, ranked_total, same_ranked, ranked_entry}
 use Rattle.crossing_sweep.specs.declared.ranked_place.RankedPlace.{RankedPlace}
 use Rattle.crossing_sweep.proofs.PassLemmas.{all_of}
 
@@ -74,7 +74,7 @@ module _ {T : Type 0} (now : T → RankedPlace) (strip : Span) (names : List Poi
           let b = Any-dedup (eq_by_cmp_equiv (on_total now ranked_total)) sorted z.0 (Contains-permutation places sorted z.0 moved z.1) in
           let kept : Contains (dedup (λ a b. same_ranked (now a) (now b)) sorted) b.1 = any_contains (λ y. same_ranked (now z.0) (now y) ≡ true) (dedup (λ a b. same_ranked (now a) (now b)) sorted) b in
           any_from (λ (e : HPoint × PointName). IsTrue (same_place p (place e.0))) (map (λ t. ranked_entry (now t)) (dedup (λ a b. same_ranked (now a) (now b)) sorted)) (ranked_entry (now b.1)) (contains_map (λ t. ranked_entry (now t)) (dedup (λ a b. same_ranked (now a) (now b)) sorted) b.1 kept)
-          (same_through p (place (now z.0).at) (place (now b.1).at) hp (place_positive (now z.0).at) (place_positive (now b.1).at) at (same_spots (named_of (now z.0)) (named_of (now b.1)) b.4))
+          (same_through p (place (now z.0).at) (place (now b.1).at) hp (place_positive (now z.0).at) (place_positive (now b.1).at) at (same_from_equal (place (now z.0).at) (place (now b.1).at) (place_positive (now z.0).at) (place_positive (now b.1).at) (equal_from_test (ranked_cmp (now z.0) (now b.1)) b.4)))
 
 -- they are the same entries
 pub same_entries : {T : Type 0} (now : T → RankedPlace) (list : List T) (places : List RankedPlace) → places ≡ map now list → map ranked_entry places ≡ map (λ t. ranked_entry (now t)) list

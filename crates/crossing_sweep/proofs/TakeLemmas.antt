@@ -1,13 +1,12 @@
 -- The first of the places that a sweep has found ahead: of those found since it began, or the next of those known at first.
-use Rattle.std.proofs.Common.{◌≡◌, ℕ, zero, suc, ◌+◌, ◌<◌, ◌≤◌, ◌↔◌, ◌⊎◌, inl, inr, Bool, true, false, List, [], ◌∷◌, get_or, length, take, drop, map, refl, ap, sym, subst, ◌∙◌, arith}
+use Rattle.std.proofs.Common.{◌≡◌, ℕ, zero, suc, ◌+◌, ◌-◌, ◌<◌, ◌≤◌, ◌↔◌, ◌⊎◌, inl, inr, Bool, true, false, List, [], ◌∷◌, get_or, slice_get, length, take, drop, map, refl, ap, sym, subst, ◌∙◌, arith}
 use Rattle.std.specs.Prelude.{All, AllPairs, Any, Contains, IsTrue, Option, Some, None, IfSome, IfNone, IsSome, IsNone, Result, Ok, Err, is_ok}
 use Rattle.std.specs.Ordering.{is_lt, is_gt, ordering_index, ordering_reverse}
 use Rattle.std.specs.BTreeMap.Range.{IsLtBy, IsLeBy}
-use Rattle.std.specs.Map.{keys_of}
 use Rattle.std.specs.List.Sorted.{IsBinarySearchResult, IsNonDecreasingBy, IsPartitionPoint, IsSearchInRange}
 use Rattle.std.specs.declared.cmp.Ordering.{Ordering}
 use Rattle.std.specs.declared.cmp.Ordering.TheVariants.{Less, Equal, Greater}
-use Rattle.std.proofs.lemmas.List.{drop_more, drop_all, take-append-drop, length-drop, length-map, get_or_default}
+use Rattle.std.proofs.lemmas.List.{drop_more, drop_all, take_rest, take-append-drop, length-drop, length-map, get_or_default}
 use Rattle.std.proofs.lemmas.List.Elements.{All-nil, All-contains, All-head, All-tail, All-map, All-weaker}
 use Rattle.overlay_terms.specs.Plane.{same_place}
 use Rattle.overlay_terms.proofs.Lists.{any_contains, contains_map, Contains-cons_cases}
@@ -47,23 +46,28 @@ after_before p q h = hpoint_cmp_total.antisymm q p ∙ ap ordering_reverse h
 pub rest_ordered : (known : List RankedPlace) (k : ℕ) → AllPairs (λ a b. ranked_cmp a b ≡ Less) known → AllPairs (λ a b. ranked_cmp a b ≡ Less) (drop k known)
 rest_ordered known k h = λ i j d l m. pairs_second (λ a b. ranked_cmp a b ≡ Less) (take k known) (drop k known) (rw (take-append-drop k known) h) i j d l m
 
+-- a slice of it is all of it
+pub rest_whole : (known ds : List RankedPlace) (taken : ℕ) → ds ≡ known → take (length ds - taken) (drop taken ds) ≡ drop taken known
+rest_whole known ds taken e = take_rest ds taken ∙ ap (λ (l : List RankedPlace). drop taken l) e
+
 -- the next of them comes before all others
 pub next_before : (k : RankedPlace) (ks : List RankedPlace) → AllPairs (λ a b. ranked_cmp a b ≡ Less) (k ∷ ks) → All (λ y. hpoint_cmp k.at y.0 ≡ Less) (map ranked_entry ks)
 next_before k ks h = All-map (λ (y : HPoint × PointName). hpoint_cmp k.at y.0 ≡ Less) ranked_entry ks (pairs_head (λ (a b : RankedPlace). ranked_cmp a b ≡ Less) k ks h)
 
 -- ---- the first of those found since
-below : (p : HPoint × PointName) (rest : List (HPoint × PointName)) → All (IsLtBy hpoint_cmp p.0) (keys_of rest) → All (λ y. hpoint_cmp p.0 y.0 ≡ Less) rest
-below p rest h = all_of (λ (y : HPoint × PointName). hpoint_cmp p.0 y.0 ≡ Less) rest (λ y c. All-contains (IsLtBy hpoint_cmp p.0) (keys_of rest) y.0 h (contains_map (λ (e : HPoint × PointName). e.0) rest y c))
+-- it comes before all others
+pub set_before : (k : RankedPlace) (ks : List RankedPlace) → All (IsLtBy ranked_cmp k) ks → All (λ y. hpoint_cmp k.at y.0 ≡ Less) (map ranked_entry ks)
+set_before k ks h = All-map (λ (y : HPoint × PointName). hpoint_cmp k.at y.0 ≡ Less) ranked_entry ks h
 
-pub popped : (o : Option (HPoint × PointName)) (es rest known : List (HPoint × PointName)) → IfSome o (λ p. es ≡ p ∷ rest) → IfSome o (λ p. All (IsLtBy hpoint_cmp p.0) (keys_of rest)) → IfSome o (λ p. All (λ y. hpoint_cmp p.0 y.0 ≡ Less) known)
+pub popped : (o : Option (HPoint × PointName)) (es rest known : List (HPoint × PointName)) → IfSome o (λ p. es ≡ p ∷ rest) → IfSome o (λ p. All (λ y. hpoint_cmp p.0 y.0 ≡ Less) rest) → IfSome o (λ p. All (λ y. hpoint_cmp p.0 y.0 ≡ Less) known)
     → IfSome o (λ p. put_all es known ≡ p ∷ put_all rest known)
 popped None es rest known e h k = h
-popped (Some p) es rest known e h k = ap (λ (l : List (HPoint × PointName)). put_all l known) e ∙ found_first p rest known (below p rest h) k
+popped (Some p) es rest known e h k = ap (λ (l : List (HPoint × PointName)). put_all l known) e ∙ found_first p rest known h k
 
-pub popped_least : (o : Option (HPoint × PointName)) (rest known : List (HPoint × PointName)) → IfSome o (λ p. All (IsLtBy hpoint_cmp p.0) (keys_of rest)) → IfSome o (λ p. All (λ y. hpoint_cmp p.0 y.0 ≡ Less) known)
+pub popped_least : (o : Option (HPoint × PointName)) (rest known : List (HPoint × PointName)) → IfSome o (λ p. All (λ y. hpoint_cmp p.0 y.0 ≡ Less) rest) → IfSome o (λ p. All (λ y. hpoint_cmp p.0 y.0 ≡ Less) known)
     → IfSome o (λ p. All (λ y. hpoint_cmp p.0 y.0 ≡ Less) (put_all rest known))
 popped_least None rest known h k = h
-popped_least (Some p) rest known h k = all_put (λ (y : HPoint × PointName). hpoint_cmp p.0 y.0 ≡ Less) rest known (below p rest h) k
+popped_least (Some p) rest known h k = all_put (λ (y : HPoint × PointName). hpoint_cmp p.0 y.0 ≡ Less) rest known h k
 
 -- it comes before the next of those known, so before all of these
 pub first_before : (o : Option (HPoint × PointName)) (es rest : List (HPoint × PointName)) (k : RankedPlace) (ks : List RankedPlace) → IfSome o (λ p. es ≡ p ∷ rest) → is_first_before es k.at ≡ true → AllPairs (λ a b. ranked_cmp a b ≡ Less) (k ∷ ks)
@@ -149,14 +153,28 @@ next_least es k ks h up =
     all_put (λ (y : HPoint × PointName). hpoint_cmp k.at y.0 ≡ Less) es (map ranked_entry ks)
     (All-weaker (λ (e : HPoint × PointName). hpoint_cmp e.0 k.at ≡ Greater) (λ (y : HPoint × PointName). hpoint_cmp k.at y.0 ≡ Less) (λ e g. after_before e.0 k.at g) es h) (next_before k ks up)
 
--- the first found is not before a place, so no other is
-pub none_before : (es : List (HPoint × PointName)) (e : HPoint × PointName) (at : HPoint) → All (IsLeBy hpoint_cmp e.0) (keys_of es) → is_lt (hpoint_cmp e.0 at) ≡ false → All (λ e. hpoint_cmp e.0 at ≡ Less → ⊥) es
-none_before es e at from h = all_of (λ (e : HPoint × PointName). hpoint_cmp e.0 at ≡ Less → ⊥) es (λ y c l. by y (All-contains (IsLeBy hpoint_cmp e.0) (keys_of es) y.0 from (contains_map (λ (e : HPoint × PointName). e.0) es y c)) l (hpoint_cmp e.0 y.0) refl)
+-- whether the first found is before a place
+pub first_told : (es : List RankedPlace) (e at : RankedPlace) → slice_get es 0 ≡ Some e → is_lt (ranked_cmp e at) ≡ is_first_before (map ranked_entry es) at.at
+first_told es e at f = ap told (sym f) ∙ by es
   where
-    by : (y : HPoint × PointName) → is_gt (hpoint_cmp e.0 y.0) ≡ false → hpoint_cmp y.0 at ≡ Less → (o : Ordering) → hpoint_cmp e.0 y.0 ≡ o → ⊥
-    by y g l Less q = not_less (hpoint_cmp e.0 at) h (hpoint_cmp_total.trans e.0 y.0 at q l)
-    by y g l Equal q = not_less (hpoint_cmp e.0 at) h (hpoint_cmp_total.congr e.0 y.0 at q ∙ l)
-    by y g l Greater q = not_greater (hpoint_cmp e.0 y.0) g q
+    told : Option RankedPlace → Bool
+    told None = false
+    told (Some z) = is_lt (ranked_cmp z at)
+
+    by : (es : List RankedPlace) → told (slice_get es 0) ≡ is_first_before (map ranked_entry es) at.at
+    by [] = refl
+    by (z ∷ zs) = refl
+
+-- the first found is not before a place, so no other is
+pub none_before : (es : List RankedPlace) (e at : RankedPlace) → All (IsLeBy ranked_cmp e) es → is_lt (ranked_cmp e at) ≡ false → All (λ y. hpoint_cmp y.0 at.at ≡ Less → ⊥) (map ranked_entry es)
+none_before es e at from h =
+    All-map (λ (y : HPoint × PointName). hpoint_cmp y.0 at.at ≡ Less → ⊥) ranked_entry es
+    (All-weaker (IsLeBy ranked_cmp e) (λ (y : RankedPlace). ranked_cmp y at ≡ Less → ⊥) (λ y g l. by y g l (ranked_cmp e y) refl) es from)
+  where
+    by : (y : RankedPlace) → is_gt (ranked_cmp e y) ≡ false → ranked_cmp y at ≡ Less → (o : Ordering) → ranked_cmp e y ≡ o → ⊥
+    by y g l Less q = not_less (ranked_cmp e at) h (ranked_total.trans e y at q l)
+    by y g l Equal q = not_less (ranked_cmp e at) h (ranked_total.congr e y at q ∙ l)
+    by y g l Greater q = not_greater (ranked_cmp e y) g q
 
 -- ---- a binary search
 less_or_most : (k i : ℕ) → (k < i) ⊎ (i ≤ k)

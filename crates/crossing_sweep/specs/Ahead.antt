@@ -55,7 +55,7 @@ pub record HasAdded (old : List (HPoint × PointName)) (at : HPoint) (name : Poi
   pub there : Any (λ e. IsTrue (same_place (place at) (place e.0))) new
   pub only : (e : HPoint × PointName) → Contains new e → Contains old e ⊎ ((at, name) ≡ e)
 
--- a place is known under one of some names, which stands for it, and it lies in the closed strip
+-- a place is known under one of some names, whose place it is, and it lies in the closed strip
 pub record IsOffered (strip : Span) (names : List PointName) (e : HPoint × PointName) : Type 0 where
   pub named : HasPlace e.1
   pub told : place e.0 ≡ place_of e.1
@@ -63,7 +63,7 @@ pub record IsOffered (strip : Span) (names : List PointName) (e : HPoint × Poin
   pub in_strip : IsTrue (is_in_closed_strip strip (place e.0))
   pub offered : Contains names e.1
 
--- the places in a closed strip for which some names stand
+-- the places of some names in a closed strip
 pub record AreOffered (strip : Span) (names : List PointName) (found : List (HPoint × PointName)) : Type 0 where
   pub sound : All (IsOffered strip names) found
   pub complete : (name : PointName) (p : Point) → Contains names name → pos 0 <ℤ p.w → IsPlaceOf name p → IsTrue (is_in_closed_strip strip p) → Any (λ e. IsTrue (same_place p (place e.0))) found

@@ -26,7 +26,8 @@ pub record IsClosedAt (at : HPoint) (begin : ℕ) (status after : List Member) (
   pub was : status ≡ under ++ bundle ++ over
   pub is : after ≡ status
   pub closed : more_rows ≡ rows ++ rows_of begin bundle
-  pub split : SidesFallAlong (place at) (segs_of status) → IsSplitAt (place at) (segs_of under) (segs_of bundle) (segs_of over)
+  pub split : SidesFallAlong (place at) (segs_of status)
+      → IsSplitAt (place at) (segs_of under) (segs_of bundle) (segs_of over)
 
 -- a member begins in the strip, and not on its right border
 abbrev pub begins_within : StripInput → List PointName → Member → Bool
@@ -36,9 +37,11 @@ begins_within input names m = is_in_strip input.strip (place_at (map place_of na
 abbrev pub PassesUnder : List (HPoint × PointName) → Member → Type 0
 PassesUnder ahead m = All (λ e. pos 0 <ℤ height_over m.unit.seg (place e.0)) ahead
 
--- a pass with some members, units to come, places found ahead, tests, rows and names: but for what passes under all places ahead its members are
--- those of a full status that begin in the strip. As long as a place ahead lies there, they are just these, and so are the units to come
-pub record IsAmid (input : StripInput) (search : Search) (status : List Member) (coming : List Start) (rows : List Row) (names : List PointName) : Type 0 where
+-- a pass with some members, units to come, places found ahead, tests, rows and names: but for what passes under all
+-- places ahead its members are those of a full status that begin in the strip. As long as a place ahead lies there,
+-- they are just these, and so are the units to come
+pub record IsAmid (input : StripInput) (search : Search) (status : List Member) (coming : List Start) (rows : List Row)
+    (names : List PointName) : Type 0 where
   pub full : List Member
   pub all_coming : List Start
   pub way : IsUnderWay input search.listed full all_coming search.ahead search.tests.items rows names
@@ -50,13 +53,16 @@ pub record IsAmid (input : StripInput) (search : Search) (status : List Member) 
   pub full_is : filter (begins_within input names) full ≡ some ++ kept
   pub gone_under : All (PassesUnder search.ahead) gone
   pub some_under : All (PassesUnder search.ahead) some
-  pub same_status : (z : HPoint × PointName) → Contains search.ahead z → is_in_strip input.strip (place z.0) ≡ true → status ≡ filter (begins_within input names) full
-  pub to_come : (z : HPoint × PointName) → Contains search.ahead z → is_in_strip input.strip (place z.0) ≡ true → all_coming ≡ coming
+  pub same_status : (z : HPoint × PointName) → Contains search.ahead z → is_in_strip input.strip (place z.0) ≡ true
+      → status ≡ filter (begins_within input names) full
+  pub to_come : (z : HPoint × PointName) → Contains search.ahead z → is_in_strip input.strip (place z.0) ≡ true
+      → all_coming ≡ coming
 
 -- so is the code's, which counts the units that have entered and the nodes, and keeps the names of some nodes alone
 pub record IsPassing (input : StripInput) (progress : Progress) : Type 0 where
   pub names : List PointName
-  pub amid : IsAmid input progress.search progress.status.items (drop progress.entered progress.starts.items) progress.rows.items names
+  pub amid : IsAmid input progress.search progress.status.items
+      (drop progress.entered progress.starts.items) progress.rows.items names
   pub known : progress.entered ≤ length progress.starts.items
   pub counted : progress.nodes ≡ length names
   pub kept : AreKept names progress.status.items progress.rows.items progress.names.items

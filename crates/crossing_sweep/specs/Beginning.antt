@@ -1,5 +1,7 @@
--- How a pass over a strip begins: below all of its left border, with no unit entered, and the ends and border places of the strip known.
-use Rattle.std.specs.Prelude.{◌≡◌, ℤ, pos, neg_ℤ, ◌≤◌, ◌<◌, [], ◌≤ℤ◌, ◌<ℤ◌, ◌*ℤ◌, ◌⊎◌, ◌||◌, true, IsTrue, List, All, AllPairs, Contains}
+-- How a pass over a strip begins: below all of its left border, with no unit entered, and the ends and
+-- border places of the strip known.
+use Rattle.std.specs.Prelude.{◌≡◌, ℤ, ◌≤◌, ◌<◌, [], ◌≤ℤ◌, ◌<ℤ◌, ◌*ℤ◌, ◌⊎◌, ◌||◌}
+use Rattle.std.specs.Prelude.{pos, neg_ℤ, true, IsTrue, List, All, AllPairs, Contains}
 use Rattle.std.specs.declared.cmp.Ordering.TheVariants.{Less}
 use Rattle.overlay_terms.specs.Plane.{Point, Segment, whole, point_cmp, same_place}
 use Rattle.overlay_terms.specs.Column.{column_count, border}
@@ -29,7 +31,8 @@ pub record IsMetBefore (strip : Span) (a b : Segment) : Type 0 where
 pub record AreMet (strip : Span) (units met : List Segment) : Type 0 where
   pub among : All (Contains units) met
   pub entries : All (λ u. (z : Point) × IsEntry strip u z) met
-  pub complete : (u : Segment) → Contains units u → IsUpTo strip (whole u.left) → border strip.first ≤ℤ u.right.x → Contains met u
+  pub complete : (u : Segment) → Contains units u → IsUpTo strip (whole u.left) → border strip.first ≤ℤ u.right.x
+      → Contains met u
   pub ordered : AllPairs (λ a b. begins_left strip a ≡ true → begins_left strip b ≡ true → IsMetBefore strip a b) met
 
 -- the places that are known before a pass: nodes of the closed strip, all ends and border places among them
@@ -38,10 +41,12 @@ pub record AreKnown (segments : List Segment) (strip : Span) (keys : List Point)
   pub nodes : All (λ z. IsTrue (is_node segments z)) keys
   pub from : All (λ z. (border strip.first *ℤ z.w) ≤ℤ z.x) keys
   pub up_to : All (IsUpTo strip) keys
-  pub fixed : (p : Point) → pos 0 <ℤ p.w → IsTrue (is_end segments p || is_on_border segments p) → (border strip.first *ℤ p.w) ≤ℤ p.x → IsUpTo strip p → IsQueued keys p
+  pub fixed : (p : Point) → pos 0 <ℤ p.w → IsTrue (is_end segments p || is_on_border segments p)
+      → (border strip.first *ℤ p.w) ≤ℤ p.x → IsUpTo strip p → IsQueued keys p
 
 -- so a pass can begin there
 abbrev pub PassBegins : Type 0
 PassBegins =
-    (n : ℤ) (segments units : List Segment) (strip : Span) (met : List Segment) (keys : List Point) → IsSteep n → All IsProper segments → AreStretches segments units → strip.first ≤ strip.last → strip.first < column_count →
+    (n : ℤ) (segments units : List Segment) (strip : Span) (met : List Segment) (keys : List Point) → IsSteep n
+    → All IsProper segments → AreStretches segments units → strip.first ≤ strip.last → strip.first < column_count →
     AreMet strip units met → AreKnown segments strip keys → HasCome n segments units strip (foot strip) [] met keys

@@ -1,4 +1,5 @@
--- At the left border of a strip: the stretches that pass over a place of it have not entered yet, and the next node is known all the same.
+-- At the left border of a strip: the stretches that pass over a place of it have not entered yet, and the
+-- next node is known all the same.
 use Rattle.std.specs.Prelude.{◌≡◌, ℤ, pos, ◌<◌, ◌++◌, ◌<ℤ◌, ◌*ℤ◌, List, All}
 use Rattle.overlay_terms.specs.Plane.{Point, Segment, height_over}
 use Rattle.overlay_terms.specs.Column.{column_count, border}
@@ -15,7 +16,8 @@ pub record IsWaiting (strip : Span) (q : Point) (u : Segment) : Type 0 where
   pub passes_over : height_over u q <ℤ pos 0
 
 -- a status of which the last members wait: the places found ahead are known from the others alone
-pub record HasEntered (n : ℤ) (segments : List Segment) (strip : Span) (q : Point) (entered waiting : List Segment) (keys : List Point) : Type 0 where
+pub record HasEntered (n : ℤ) (segments : List Segment) (strip : Span) (q : Point) (entered waiting : List Segment)
+    (keys : List Point) : Type 0 where
   pub few : strip.first < column_count
   pub status_at : IsStatusAt n segments q (entered ++ waiting)
   pub wait : All (IsWaiting strip q) waiting
@@ -24,11 +26,13 @@ pub record HasEntered (n : ℤ) (segments : List Segment) (strip : Span) (q : Po
 -- so the next node is among them, unless it lies right of the strip
 abbrev pub NextIsQueuedAtBorder : Type 0
 NextIsQueuedAtBorder =
-    (n : ℤ) (segments : List Segment) (strip : Span) (q r : Point) (entered waiting : List Segment) (keys : List Point) → IsSteep n → All IsProper segments →
+    (n : ℤ) (segments : List Segment) (strip : Span) (q r : Point) (entered waiting : List Segment) (keys : List Point)
+    → IsSteep n → All IsProper segments →
     HasEntered n segments strip q entered waiting keys → IsNextNode segments q r → IsUpTo strip r → IsQueued keys r
 
 -- and the first of them is the next node
 abbrev pub FirstIsNextAtBorder : Type 0
 FirstIsNextAtBorder =
-    (n : ℤ) (segments : List Segment) (strip : Span) (q r : Point) (entered waiting : List Segment) (keys : List Point) → IsSteep n → All IsProper segments →
+    (n : ℤ) (segments : List Segment) (strip : Span) (q r : Point) (entered waiting : List Segment) (keys : List Point)
+    → IsSteep n → All IsProper segments →
     HasEntered n segments strip q entered waiting keys → IsFirstOf segments strip q r keys → IsNextNode segments q r

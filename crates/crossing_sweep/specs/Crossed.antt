@@ -1,5 +1,7 @@
--- What one pass over a column finds: the tile or that it has too many pieces, the nodes, and the pairs of neighbours that it has tested.
-use Rattle.std.specs.Prelude.{◌≡◌, ℕ, pos, ◌+◌, ◌*◌, ◌<◌, ◌≤◌, ◌<ℤ◌, ◌*ℤ◌, ◌≤ℤ◌, [], true, false, Bool, IsTrue, List, map, length, All, AllPairs, Any}
+-- What one pass over a column finds: the tile or that it has too many pieces, the nodes, and the pairs of
+-- neighbours that it has tested.
+use Rattle.std.specs.Prelude.{◌≡◌, ℕ, ◌+◌, ◌*◌, ◌<◌, ◌≤◌, ◌<ℤ◌, ◌*ℤ◌, ◌≤ℤ◌, []}
+use Rattle.std.specs.Prelude.{pos, true, false, Bool, IsTrue, List, map, length, All, AllPairs, Any}
 use Rattle.std.specs.declared.cmp.Ordering.TheVariants.{Less}
 use Rattle.overlay_terms.specs.Plane.{Point, Segment, point_cmp, is_on}
 use Rattle.overlay_terms.specs.Column.{border}
@@ -66,9 +68,10 @@ pub record AreCounted (input : Input) (to_the_end : Type 0) (count : ℕ) : Type
   pub counted : count ≡ length places
   pub are_nodes : AreNodes input to_the_end places
 
--- the rows, the names that they need, the count of nodes and the tests of a pass that stops after more rows than a cap, so that no more of them than the
--- cap end before the last node; it lists its tests or not
-pub record HasFound (input : Input) (cap : ℕ) (listed : Bool) (rows : List Row) (names : List NodeName) (nodes : ℕ) (tests : List (Segment × Segment)) : Type 0 where
+-- the rows, the names that they need, the count of nodes and the tests of a pass that stops after more rows than a cap,
+-- so that no more of them than the cap end before the last node; it lists its tests or not
+pub record HasFound (input : Input) (cap : ℕ) (listed : Bool) (rows : List Row) (names : List NodeName) (nodes : ℕ)
+    (tests : List (Segment × Segment)) : Type 0 where
   pub spans : All (IsRowSpan names) rows
   pub numbered : AreNumbered names
   pub tile : length rows ≤ cap → IsTileOf input.marked input.steps input.column (map (named_ends names) rows)
@@ -87,4 +90,5 @@ pub record HasFound (input : Input) (cap : ℕ) (listed : Bool) (rows : List Row
 
 -- so has the code's
 abbrev pub IsCrossed : Input → ℕ → Bool → Crossed → Type 0
-IsCrossed input cap listed found = HasFound input cap listed found.rows.items found.names.items found.nodes found.tests.items
+IsCrossed input cap listed found =
+    HasFound input cap listed found.rows.items found.names.items found.nodes found.tests.items

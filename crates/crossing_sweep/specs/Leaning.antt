@@ -1,4 +1,5 @@
--- The plane leaned to the right: to x, taken n times, y is added. Places in order then lie one right of the other, and no segment is vertical.
+-- The plane leaned to the right: to x, taken n times, y is added. Places in order then lie one right of the other, and
+-- no segment is vertical.
 use Rattle.std.specs.Prelude.{◌≡◌, ℤ, pos, neg_ℤ, ◌+ℤ◌, ◌-ℤ◌, ◌*ℤ◌, ◌<ℤ◌, ◌⊎◌, ◌^◌, ◌≤ℤ◌}
 use Rattle.std.specs.declared.cmp.Ordering.TheVariants.{Less}
 use Rattle.overlay_terms.specs.Plane.{WholePoint, Point, Segment, point_cmp, height_over}
@@ -43,11 +44,11 @@ pub record IsSmall (p : Point) : Type 0 where
   pub low : neg_ℤ (pos 2097152 *ℤ p.w) ≤ℤ p.y
   pub high : p.y ≤ℤ (pos 2097152 *ℤ p.w)
 
--- b stands over a just after the place q: above it there, or level and turning up
+-- b is over a just after the place q: above it there, or level and turning up
 abbrev pub IsAfter : Segment → Segment → Point → Type 0
 IsAfter a b q = (pos 0 <ℤ gap a b q) ⊎ ((gap a b q ≡ pos 0) × (pos 0 <ℤ turn_of a b))
 
--- b stands over a just before the place q: above it there, or level and turning down
+-- b is over a just before the place q: above it there, or level and turning down
 abbrev pub IsBefore : Segment → Segment → Point → Type 0
 IsBefore a b q = (pos 0 <ℤ gap a b q) ⊎ ((gap a b q ≡ pos 0) × (turn_of a b <ℤ pos 0))
 

@@ -1,5 +1,6 @@
 -- The names of some of the nodes that a pass has come to, each with the number of its node among all.
-use Rattle.std.specs.Prelude.{◌≡◌, ℕ, pos, ◌<◌, ◌==◌, [], ◌∷◌, if◌then◌else◌, true, List, length, get_or, All, AllPairs, Contains}
+use Rattle.std.specs.Prelude.{◌≡◌, ℕ, ◌<◌, ◌==◌, [], ◌∷◌, if◌then◌else◌}
+use Rattle.std.specs.Prelude.{pos, true, List, length, get_or, All, AllPairs, Contains}
 use Rattle.overlay_terms.specs.Plane.{Point}
 use Rattle.exact_point.specs.PlaceOf.{place_of}
 use Rattle.exact_point.specs.declared.point_name.PointName.{PointName}
@@ -8,7 +9,7 @@ use Rattle.crossing_sweep.specs.declared.member.Member.{Member}
 use Rattle.crossing_sweep.specs.declared.node_name.NodeName.{NodeName}
 use Rattle.crossing_sweep.specs.declared.row.Row.{Row}
 
--- what stands for a name where there is none
+-- the name that is taken where there is none
 abbrev pub no_name : PointName
 no_name = Vertex (record { x = pos 0; y = pos 0 })
 
@@ -34,8 +35,10 @@ pub record IsNameAmong (all : List PointName) (node : NodeName) : Type 0 where
 abbrev pub AreNumbered : List NodeName → Type 0
 AreNumbered names = AllPairs (λ a b. a.number < b.number) names
 
--- some of all names of nodes in their order, among them those of the ends of each row, and of the node where a member begins that may make one
-pub record AreKept (all : List PointName) (status : List Member) (rows : List Row) (names : List NodeName) : Type 0 where
+-- some of all names of nodes in their order, among them those of the ends of each row, and of the node where a member
+-- begins that may make one
+pub record AreKept (all : List PointName) (status : List Member) (rows : List Row)
+    (names : List NodeName) : Type 0 where
   pub among : All (IsNameAmong all) names
   pub numbered : AreNumbered names
   pub row_ends : All (λ row. IsNamed names row.first × IsNamed names row.last) rows

@@ -4,7 +4,8 @@ use Rattle.std.specs.Coded.{Coded, code_by, coded×, coded_bool, coded_ℕ}
 use Rattle.overlay_terms.specs.Column.{column_count}
 use Rattle.crossing_sweep.specs.StripInput.{StripInput, strip_input_code}
 
--- the input, whether tests are listed, how many places are found ahead and rows made, and how many rows end before the last node
+-- the input, whether tests are listed, how many places are found ahead and rows made, and how
+-- many rows end before the last node
 pub record PassState : Type 0 where
   pub input : StripInput
   pub listed : Bool

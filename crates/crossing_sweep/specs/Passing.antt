@@ -1,5 +1,6 @@
 -- A pass over a strip from node to node: where it is, how it begins, goes on and ends.
-use Rattle.std.specs.Prelude.{◌≡◌, ℤ, pos, ◌<◌, ◌++◌, [], ◌∷◌, ◌≤ℤ◌, ◌<ℤ◌, ◌*ℤ◌, ◌⊎◌, int_lt, Bool, true, false, IsTrue, List, filter, All, AllPairs, Contains}
+use Rattle.std.specs.Prelude.{◌≡◌, ℤ, ◌<◌, ◌++◌, [], ◌∷◌, ◌≤ℤ◌, ◌<ℤ◌, ◌*ℤ◌, ◌⊎◌}
+use Rattle.std.specs.Prelude.{pos, int_lt, Bool, true, false, IsTrue, List, filter, All, AllPairs, Contains}
 use Rattle.std.specs.declared.cmp.Ordering.TheVariants.{Less}
 use Rattle.overlay_terms.specs.Plane.{Point, Segment, whole, point_cmp, same_place, is_on}
 use Rattle.overlay_terms.specs.Column.{column_count, border}
@@ -34,14 +35,17 @@ pub record IsAhead (segments : List Segment) (strip : Span) (q z : Point) : Type
   pub from : (border strip.first *ℤ z.w) ≤ℤ z.x
   pub up_to : IsUpTo strip z
 
--- a pass has come to a place: the units that have entered and those that wait are the status just after it; the other units of the
--- strip are still to come; and the places found ahead are nodes of the closed strip, all that have to be known by then
-pub record HasCome (n : ℤ) (segments units : List Segment) (strip : Span) (q : Point) (entered to_come : List Segment) (keys : List Point) : Type 0 where
+-- a pass has come to a place: the units that have entered and those that wait are the status just after it;
+-- the other units of the strip are still to come; and the places found ahead are nodes of the closed strip,
+-- all that have to be known by then
+pub record HasCome (n : ℤ) (segments units : List Segment) (strip : Span) (q : Point) (entered to_come : List Segment)
+    (keys : List Point) : Type 0 where
   pub few : strip.first < column_count
   pub full : IsFullStatus n segments units q (entered ++ waiting strip to_come)
   pub coming : All (IsToCome strip q) to_come
   pub among : All (Contains units) to_come
-  pub complete : (u : Segment) → Contains units u → point_cmp q (whole u.left) ≡ Less → IsUpTo strip (whole u.left) → Contains to_come u
+  pub complete : (u : Segment) → Contains units u → point_cmp q (whole u.left) ≡ Less → IsUpTo strip (whole u.left)
+      → Contains to_come u
   pub queue : IsQueue segments strip q entered keys
   pub ahead : All (IsAhead segments strip q) keys
 
@@ -52,9 +56,11 @@ pub record IsEntry (strip : Span) (u : Segment) (z : Point) : Type 0 where
   pub cut : begins_left strip u ≡ true → z.x ≡ border strip.first *ℤ z.w
   pub left : begins_left strip u ≡ false → IsTrue (same_place z (whole u.left))
 
--- one step of a pass, to the first of the places found ahead: of the entered units some pass under it, some hold it, some pass over it; of
--- those still to come the first ones enter there; and those that hold it and go on stay, in the order of their directions
-pub record IsStepTo (segments : List Segment) (strip : Span) (r : Point) (under bundle over entering stay rest : List Segment) (keys new : List Point) : Type 0 where
+-- one step of a pass, to the first of the places found ahead: of the entered units some pass under it, some hold it,
+-- some pass over it; of those still to come the first ones enter there; and those that hold it and go on stay, in the
+-- order of their directions
+pub record IsStepTo (segments : List Segment) (strip : Span) (r : Point)
+    (under bundle over entering stay rest : List Segment) (keys new : List Point) : Type 0 where
   pub split : IsSplitAt r under bundle over
   pub enter : All (λ u. (z : Point) × IsEntry strip u z × IsTrue (same_place z r)) entering
   pub remain : All (λ u. (z : Point) × IsEntry strip u z × (point_cmp r z ≡ Less)) rest
@@ -66,20 +72,25 @@ pub record IsStepTo (segments : List Segment) (strip : Span) (r : Point) (under 
   pub ahead : All (IsAhead segments strip r) new
 
 -- then the place is the next node, and the pass has come to it
-pub record IsTaken (n : ℤ) (segments units : List Segment) (strip : Span) (q r : Point) (entered rest : List Segment) (new : List Point) : Type 0 where
+pub record IsTaken (n : ℤ) (segments units : List Segment) (strip : Span) (q r : Point) (entered rest : List Segment)
+    (new : List Point) : Type 0 where
   pub next : IsNextNode segments q r
   pub come : HasCome n segments units strip r entered rest new
 
 abbrev pub PassGoesOn : Type 0
 PassGoesOn =
-    (n : ℤ) (segments units : List Segment) (strip : Span) (q r : Point) (under bundle over entering stay rest : List Segment) (keys new : List Point) → IsSteep n → All IsProper segments →
-    AreStretches segments units → HasCome n segments units strip q (under ++ bundle ++ over) (entering ++ rest) (r ∷ keys) →
+    (n : ℤ) (segments units : List Segment) (strip : Span) (q r : Point)
+    (under bundle over entering stay rest : List Segment) (keys new : List Point) → IsSteep n
+    → All IsProper segments →
+    AreStretches segments units
+    → HasCome n segments units strip q (under ++ bundle ++ over) (entering ++ rest) (r ∷ keys) →
     IsStepTo segments strip r under bundle over entering stay rest keys new →
     IsTaken n segments units strip q r (under ++ stay ++ over) rest new
 
 -- where no place is found ahead, no node of the closed strip comes any more
 abbrev pub PassEnds : Type 0
 PassEnds =
-    (n : ℤ) (segments units : List Segment) (strip : Span) (q : Point) (entered to_come : List Segment) → IsSteep n → All IsProper segments →
+    (n : ℤ) (segments units : List Segment) (strip : Span) (q : Point) (entered to_come : List Segment) → IsSteep n
+    → All IsProper segments →
     HasCome n segments units strip q entered to_come [] →
     (p : Point) → pos 0 <ℤ p.w → IsTrue (is_node segments p) → point_cmp q p ≡ Less → IsUpTo strip p → ⊥

@@ -1,5 +1,6 @@
 -- The status just after a place, and the places that a sweep has found ahead: the first of them is the next node.
-use Rattle.std.specs.Prelude.{◌≡◌, ℕ, ℤ, pos, ◌+◌, ◌<◌, ◌<ℤ◌, ◌≤ℤ◌, ◌*ℤ◌, ◌||◌, IsTrue, List, length, get_or, All, Any, Contains}
+use Rattle.std.specs.Prelude.{◌≡◌, ℕ, ℤ, ◌+◌, ◌<◌, ◌<ℤ◌, ◌≤ℤ◌, ◌*ℤ◌, ◌||◌}
+use Rattle.std.specs.Prelude.{pos, IsTrue, List, length, get_or, All, Any, Contains}
 use Rattle.std.specs.declared.cmp.Ordering.TheVariants.{Less}
 use Rattle.overlay_terms.specs.Plane.{Point, Segment, whole, point_cmp, same_place, height_over}
 use Rattle.overlay_terms.specs.Column.{border}
@@ -21,7 +22,8 @@ pub record GoesOn (u : Segment) (q : Point) : Type 0 where
   pub begun : point_cmp q (whole u.left) ≡ Less → ⊥
   pub lasting : point_cmp q (whole u.right) ≡ Less
 
--- the status just after a place: stretches that go on there and end at nodes, in order, and one along each segment that goes on
+-- the status just after a place: stretches that go on there and end at nodes, in order, and one
+-- along each segment that goes on
 pub record IsStatusAt (n : ℤ) (segments : List Segment) (q : Point) (status : List Segment) : Type 0 where
   pub small : IsSmall q
   pub stretches : All (IsStretchOf segments) status
@@ -38,18 +40,23 @@ IsUpTo strip p = p.x ≤ℤ (border (strip.last + 1) *ℤ p.w)
 abbrev pub IsQueued : List Point → Point → Type 0
 IsQueued keys p = Any (λ z. IsTrue (same_place p z)) keys
 
--- the places found ahead of a place: all ends and border places after it that are not right of the strip, and where neighbours
--- of the status cross
-pub record IsQueue (segments : List Segment) (strip : Span) (q : Point) (status : List Segment) (keys : List Point) : Type 0 where
-  pub fixed : (p : Point) → pos 0 <ℤ p.w → IsTrue (is_end segments p || is_on_border segments p) → point_cmp q p ≡ Less → IsUpTo strip p → IsQueued keys p
-  pub seams : (i : ℕ) (d : Segment) (p : Point) → i + 1 < length status → pos 0 <ℤ p.w → IsCrossingOf (get_or status i d) (get_or status (i + 1) d) p
+-- the places found ahead of a place: all ends and border places after it that are not right of the strip, and where
+-- neighbours of the status cross
+pub record IsQueue (segments : List Segment) (strip : Span) (q : Point) (status : List Segment)
+    (keys : List Point) : Type 0 where
+  pub fixed : (p : Point) → pos 0 <ℤ p.w → IsTrue (is_end segments p || is_on_border segments p) → point_cmp q p ≡ Less
+      → IsUpTo strip p → IsQueued keys p
+  pub seams : (i : ℕ) (d : Segment) (p : Point) → i + 1 < length status → pos 0 <ℤ p.w
+      → IsCrossingOf (get_or status i d) (get_or status (i + 1) d) p
       → point_cmp q p ≡ Less → IsUpTo strip p → IsQueued keys p
 
 -- so the next node is among them, unless it lies right of the strip
 abbrev pub NextIsQueued : Type 0
 NextIsQueued =
-    (n : ℤ) (segments : List Segment) (strip : Span) (q r : Point) (status : List Segment) (keys : List Point) → IsSteep n → All IsProper segments →
-    IsStatusAt n segments q status → IsQueue segments strip q status keys → IsNextNode segments q r → IsUpTo strip r → IsQueued keys r
+    (n : ℤ) (segments : List Segment) (strip : Span) (q r : Point) (status : List Segment) (keys : List Point)
+    → IsSteep n → All IsProper segments →
+    IsStatusAt n segments q status → IsQueue segments strip q status keys → IsNextNode segments q r → IsUpTo strip r
+    → IsQueued keys r
 
 -- a place that is a node after another, not right of the strip, and not after any of some places
 pub record IsFirstOf (segments : List Segment) (strip : Span) (q r : Point) (keys : List Point) : Type 0 where
@@ -63,5 +70,7 @@ pub record IsFirstOf (segments : List Segment) (strip : Span) (q r : Point) (key
 -- and the first of them is the next node
 abbrev pub FirstIsNext : Type 0
 FirstIsNext =
-    (n : ℤ) (segments : List Segment) (strip : Span) (q r : Point) (status : List Segment) (keys : List Point) → IsSteep n → All IsProper segments →
-    IsStatusAt n segments q status → IsQueue segments strip q status keys → IsFirstOf segments strip q r keys → IsNextNode segments q r
+    (n : ℤ) (segments : List Segment) (strip : Span) (q r : Point) (status : List Segment) (keys : List Point)
+    → IsSteep n → All IsProper segments →
+    IsStatusAt n segments q status → IsQueue segments strip q status keys → IsFirstOf segments strip q r keys
+    → IsNextNode segments q r

@@ -5,7 +5,6 @@ use Rattle.std.specs.Ordering.{eq_by_cmp, as_partial_cmp}
 use Rattle.std.specs.declared.cmp.Ordering.{Ordering}
 use Rattle.std.proofs.lemmas.Cmp.{on_total}
 use Rattle.exact_point.specs.Place.{hpoint_cmp, hpoint_cmp_total}
-use Rattle.arrange.specs.declared.named_place.NamedPlace.{NamedPlace}
 use Rattle.exact_point.specs.declared.point.HPoint.{HPoint}
 use Rattle.exact_point.specs.declared.point_name.PointName.{PointName}
 use Rattle.crossing_sweep.specs.declared.ranked_place.RankedPlace.{RankedPlace}
@@ -30,10 +29,6 @@ same_ranked_laws = partial_equiv_from_equiv same_ranked_equiv
 pub ranked_po : IsPartialOrder same_ranked (as_partial_cmp ranked_cmp)
 ranked_po = partial_order_from_agreeing_total ranked_cmp ranked_total (λ p q. refl) (λ p q. refl)
 
--- the place and its name alone
-abbrev pub named_of : RankedPlace → NamedPlace
-named_of z = record { name = z.name; at = z.at }
-
--- the same as an entry of those ahead
+-- the place and its name, as an entry of those ahead
 abbrev pub ranked_entry : RankedPlace → HPoint × PointName
 ranked_entry z = (z.at, z.name)

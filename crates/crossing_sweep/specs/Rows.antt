@@ -1,5 +1,8 @@
--- What a pass carries along from node to node, and the rows that it makes: the pieces of the boundary that it has come to the end of.
-use Rattle.std.specs.Prelude.{◌≡◌, ℕ, ℤ, pos, ◌+◌, ◌<◌, [], ◌∷◌, ◌≤ℤ◌, ◌<ℤ◌, ◌*ℤ◌, nat_lt, Bool, not, ◌&&◌, if◌then◌else◌, IsTrue, List, map, filter, count_by, length, get_or, All, AllPairs, Any, Contains}
+-- What a pass carries along from node to node, and the rows that it makes: the pieces of the boundary
+-- that it has come to the end of.
+use Rattle.std.specs.Prelude.{◌≡◌, ℕ, ℤ, pos, ◌+◌, ◌<◌, [], ◌∷◌, ◌≤ℤ◌, ◌<ℤ◌, ◌*ℤ◌, nat_lt}
+use Rattle.std.specs.Prelude.{Bool, not, ◌&&◌, if◌then◌else◌, IsTrue, List, map, filter}
+use Rattle.std.specs.Prelude.{count_by, length, get_or, All, AllPairs, Any, Contains}
 use Rattle.std.specs.Int.RustNames.{bit_xor}
 use Rattle.std.specs.List.Sorted.{IsPermutation, IsSortedByKey}
 use Rattle.std.specs.Ordering.{nat_cmp, ordering_then}
@@ -30,7 +33,8 @@ pub record ArePassed (segments : List Segment) (strip : Span) (q : Point) (passe
   pub from : All (λ z. (border strip.first *ℤ z.w) ≤ℤ z.x) passed
   pub within : All (IsUpTo strip) passed
   pub up_to : All (λ z. point_cmp q z ≡ Less → ⊥) passed
-  pub complete : (p : Point) → pos 0 <ℤ p.w → IsTrue (is_node segments p) → (border strip.first *ℤ p.w) ≤ℤ p.x → IsUpTo strip p → (point_cmp q p ≡ Less → ⊥) → IsQueued passed p
+  pub complete : (p : Point) → pos 0 <ℤ p.w → IsTrue (is_node segments p) → (border strip.first *ℤ p.w) ≤ℤ p.x
+      → IsUpTo strip p → (point_cmp q p ≡ Less → ⊥) → IsQueued passed p
 
 -- the place with a number among those passed
 abbrev pub place_at : List Point → ℕ → Point
@@ -55,11 +59,12 @@ up_to_unit n input u p = up_to_bits (lean_marked n input.marked) (lean_segment n
 
 -- whether the steps differ under a unit and over it just after a place
 abbrev pub sides_differ : ℤ → StripInput → Segment → Point → Bool
-sides_differ n input u p = is_one_of (steps_value input.steps (under_unit n input u p)) (steps_value input.steps (up_to_unit n input u p))
+sides_differ n input u p =
+    is_one_of (steps_value input.steps (under_unit n input u p)) (steps_value input.steps (up_to_unit n input u p))
 
--- what a member carries after a place q from the place p on its unit where it begins. In the strip, p is the last node on the unit, the
--- mask is what lies up to it just after p, and it differs where the steps do there; on the strip's right border it begins no piece
--- of the strip
+-- what a member carries after a place q from the place p on its unit where it begins. In the strip, p is the last node
+-- on the unit, the mask is what lies up to it just after p, and it differs where the steps do there; on the strip's
+-- right border it begins no piece of the strip
 pub record IsCarriedFrom (n : ℤ) (input : StripInput) (p q : Point) (m : Member) : Type 0 where
   pub on : IsTrue (is_on (seg_of m) p)
   pub last : IsTrue (is_in_strip input.strip p) → IsLastOn input (seg_of m) p q
@@ -82,9 +87,11 @@ pub record IsRow (input : StripInput) (passed : List Point) (row : Row) : Type 0
   pub to_known : row.last < length passed
   pub from_on : IsTrue (is_on row.support (place_at passed row.first))
   pub to_on : IsTrue (is_on row.support (place_at passed row.last))
-  pub boundary : IsStripBoundary input.marked input.steps input.strip (place_at passed row.first) (place_at passed row.last)
+  pub boundary : IsStripBoundary input.marked input.steps input.strip (place_at passed row.first)
+      (place_at passed row.last)
 
--- the rows of a pass that has come to a place: the pieces of the boundary in the strip that end there or before it, each once
+-- the rows of a pass that has come to a place: the pieces of the boundary in the strip that
+-- end there or before it, each once
 pub record AreRows (input : StripInput) (passed : List Point) (q : Point) (rows : List Row) : Type 0 where
   pub sound : All (IsRow input passed) rows
   pub once : AllPairs (λ a b. a.first ≡ b.first → a.last ≡ b.last → ⊥) rows
@@ -126,20 +133,23 @@ mask_over under (m ∷ ms) = mask_over m.over ms
 abbrev pub HasValue : Steps → ℕ → Bool → Type 0
 HasValue steps mask value = (bits : ℕ → Bool) → HasBits mask bits → value ≡ steps_value steps bits
 
--- a member begins at the node with a number, within the strip or not, over what a mask says: its own mask changes that, and it differs where the
--- steps do
+-- a member begins at the node with a number, within the strip or not, over what a mask says: its own mask changes that,
+-- and it differs where the steps do
 pub record IsBegun (steps : Steps) (under : ℕ) (begin : ℕ) (within : Bool) (m : Member) : Type 0 where
   pub begins : m.begin ≡ begin
   pub over : m.over ≡ bit_xor under m.unit.mask
-  pub differs : (low high : ℕ → Bool) → HasBits under low → HasBits m.over high → m.differs ≡ (within && is_one_of (steps_value steps low) (steps_value steps high))
+  pub differs : (low high : ℕ → Bool) → HasBits under low → HasBits m.over high
+      → m.differs ≡ (within && is_one_of (steps_value steps low) (steps_value steps high))
 
 -- so do all members of a bundle, each over the one below it
 abbrev pub AreBegun : Steps → ℕ → ℕ → Bool → List Member → Type 0
 AreBegun steps under begin within [] = Unit {0}
 AreBegun steps under begin within (m ∷ ms) = IsBegun steps under begin within m × AreBegun steps m.over begin within ms
 
--- at a node r after the places passed, the pieces of some members begin, each with its mask over those of the members under the node
-pub record BeginAt (input : StripInput) (units : List units.Unit) (r : Point) (passed : List Point) (under stay : List Member) (end : ℕ) : Type 0 where
+-- at a node r after the places passed, the pieces of some members begin, each with its mask over
+-- those of the members under the node
+pub record BeginAt (input : StripInput) (units : List units.Unit) (r : Point) (passed : List Point)
+    (under stay : List Member) (end : ℕ) : Type 0 where
   pub number : end ≡ length passed
   pub nodal : IsNodal r
   pub among : All (λ m. Contains units m.unit) stay
@@ -147,7 +157,8 @@ pub record BeginAt (input : StripInput) (units : List units.Unit) (r : Point) (p
 
 -- ---- the whole
 -- what a pass has when it has come to a place: the places passed, what the entered members carry, and the rows
-pub record Carries (n : ℤ) (input : StripInput) (q : Point) (passed : List Point) (entered : List Member) (rows : List Row) : Type 0 where
+pub record Carries (n : ℤ) (input : StripInput) (q : Point) (passed : List Point) (entered : List Member)
+    (rows : List Row) : Type 0 where
   pub passes : ArePassed (segments_in input) input.strip q passed
   pub members : All (IsCarried n input passed q) entered
   pub are_rows : AreRows input passed q rows

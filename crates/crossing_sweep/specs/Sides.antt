@@ -24,11 +24,14 @@ pub record IsPassed (strip : Span) (p r q : Point) : Type 0 where
   pub to : point_cmp q r ≡ Less
   pub within : IsTrue (is_in_strip strip q)
 
--- the sides of a piece that begins in the strip, upright or not, are what lies under its line and up to it just after each
--- place of the strip that it passes
+-- the sides of a piece that begins in the strip, upright or not, are what lies under its line and up to it just after
+-- each place of the strip that it passes
 abbrev pub SidesAreCarried : Type 0
 SidesAreCarried =
-    (n : ℤ) (input : StripInput) (p r q : Point) (piece : IsPiece (map (λ m. m.segment) input.marked) p r) (k : ℕ) → IsSteep n → IsStripInput input → IsNodal p → IsNodal r →
+    (n : ℤ) (input : StripInput) (p r q : Point) (piece : IsPiece (map (λ m. m.segment) input.marked) p r) (k : ℕ)
+    → IsSteep n → IsStripInput input → IsNodal p → IsNodal r →
     IsTrue (is_in_strip input.strip p) → IsPassed input.strip p r q →
-    (below_bits input.marked (midpoint p r) k ≡ under_bits (lean_marked n input.marked) (lean_segment n piece.support) (lean n q) k)
-    × (over_bits input.marked (midpoint p r) k ≡ up_to_bits (lean_marked n input.marked) (lean_segment n piece.support) (lean n q) k)
+    (below_bits input.marked (midpoint p r) k
+    ≡ under_bits (lean_marked n input.marked) (lean_segment n piece.support) (lean n q) k)
+    × (over_bits input.marked (midpoint p r) k
+    ≡ up_to_bits (lean_marked n input.marked) (lean_segment n piece.support) (lean n q) k)

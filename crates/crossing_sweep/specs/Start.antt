@@ -1,6 +1,7 @@
 -- Units with the places where a pass over a strip meets them first, in the order in which they are met.
 use Rattle.std.specs.Prelude.{◌≡◌, pos, ◌+◌, ◌-ℤ◌, ◌&&◌, int_le, Bool, refl, List, map, All, AllPairs, Contains}
-use Rattle.std.specs.Cmp.{IsTotalOrder, IsEquivalence, IsPartialEquivalence, IsPartialOrder, eq_by_cmp_equiv, partial_equiv_from_equiv, partial_order_from_agreeing_total}
+use Rattle.std.specs.Cmp.{IsTotalOrder, IsEquivalence, IsPartialEquivalence, IsPartialOrder}
+use Rattle.std.specs.Cmp.{eq_by_cmp_equiv, partial_equiv_from_equiv, partial_order_from_agreeing_total}
 use Rattle.std.specs.Ordering.{eq_by_cmp, as_partial_cmp, ordering_then, int_cmp}
 use Rattle.std.specs.declared.cmp.Ordering.{Ordering}
 use Rattle.std.specs.declared.cmp.Ordering.TheVariants.{Less}
@@ -50,7 +51,8 @@ start_po = partial_order_from_agreeing_total start_cmp start_total (λ p q. refl
 abbrev pub is_met : Span → Segment → Bool
 is_met strip s = int_le s.left.x (border (strip.last + 1)) && int_le (border strip.first) s.right.x
 
--- the units of an input with a place of its closed strip, each once and with the first of these, in the order of these places
+-- the units of an input with a place of its closed strip, each once and with the first of
+-- these, in the order of these places
 pub record AreStarts (input : StripInput) (starts : List Start) : Type 0 where
   pub units : List Unit
   pub are : AreUnits input.marked units

@@ -1,5 +1,6 @@
 -- What one pass over a strip finds: as over a column, and so the tile of each of its columns.
-use Rattle.std.specs.Prelude.{◌≡◌, ℕ, pos, ◌*◌, ◌≤◌, ◌<ℤ◌, ◌*ℤ◌, ◌≤ℤ◌, [], true, false, Bool, IsTrue, List, map, filter, length, All, AllPairs}
+use Rattle.std.specs.Prelude.{◌≡◌, ℕ, ◌*◌, ◌≤◌, ◌<ℤ◌, ◌*ℤ◌, ◌≤ℤ◌, []}
+use Rattle.std.specs.Prelude.{pos, true, false, Bool, IsTrue, List, map, filter, length, All, AllPairs}
 use Rattle.std.specs.declared.cmp.Ordering.TheVariants.{Less}
 use Rattle.overlay_terms.specs.Plane.{Point, Segment, point_cmp}
 use Rattle.overlay_terms.specs.Column.{border, is_in_column}
@@ -35,9 +36,10 @@ pub record AreStripNodes (input : StripInput) (to_the_end : Type 0) (places : Li
   pub nodes : All (IsNodeInStrip input) places
   pub all : to_the_end → (p : Point) → IsNodeInStrip input p → IsQueued places p
 
--- the rows, the names that they need, the count of nodes and the tests of a pass that stops after more rows than a cap, so that no more of them than the
--- cap end before the last node; it lists its tests or not
-pub record HasStripFound (input : StripInput) (cap : ℕ) (listed : Bool) (rows : List Row) (names : List NodeName) (nodes : ℕ) (tests : List (Segment × Segment)) : Type 0 where
+-- the rows, the names that they need, the count of nodes and the tests of a pass that stops after more rows than a cap,
+-- so that no more of them than the cap end before the last node; it lists its tests or not
+pub record HasStripFound (input : StripInput) (cap : ℕ) (listed : Bool) (rows : List Row) (names : List NodeName)
+    (nodes : ℕ) (tests : List (Segment × Segment)) : Type 0 where
   pub spans : All (IsRowSpan names) rows
   pub numbered : AreNumbered names
   pub are_some : AreStripSome input (map (named_ends names) rows)
@@ -56,10 +58,12 @@ pub record HasStripFound (input : StripInput) (cap : ℕ) (listed : Bool) (rows 
 
 -- so has the code's
 abbrev pub IsStripCrossed : StripInput → ℕ → Bool → Crossed → Type 0
-IsStripCrossed input cap listed found = HasStripFound input cap listed found.rows.items found.names.items found.nodes found.tests.items
+IsStripCrossed input cap listed found =
+    HasStripFound input cap listed found.rows.items found.names.items found.nodes found.tests.items
 
 -- the pieces of a column's tile are those of the strip's that begin there, in their order
 abbrev pub StripParts : Type 0
 StripParts =
-    (input : StripInput) (tile : List (Point × Point)) (k : ℕ) → IsStripInput input → IsStripTile input tile → input.strip.first ≤ k → k ≤ input.strip.last →
+    (input : StripInput) (tile : List (Point × Point)) (k : ℕ) → IsStripInput input → IsStripTile input tile
+    → input.strip.first ≤ k → k ≤ input.strip.last →
     IsTileOf (part input k).marked (part input k).steps (part input k).column (filter (λ a. is_in_column k a.0) tile)

@@ -1,5 +1,7 @@
--- What a pass over a strip of neighbouring columns is made of, and the pieces of the boundary that begin there. A column is a strip, too.
-use Rattle.std.specs.Prelude.{◌≡◌, ◌≢◌, ℕ, ◌+◌, ◌%◌, ◌<◌, ◌≤◌, ◌*ℤ◌, int_le, int_lt, ◌&&◌, Bool, IsTrue, refl, List, map, filter, All, AllPairs, Any}
+-- What a pass over a strip of neighbouring columns is made of, and the pieces of the boundary that begin there. A
+-- column is a strip, too.
+use Rattle.std.specs.Prelude.{◌≡◌, ◌≢◌, ℕ, ◌+◌, ◌%◌, ◌<◌, ◌≤◌, ◌*ℤ◌, ◌&&◌}
+use Rattle.std.specs.Prelude.{int_le, int_lt, Bool, IsTrue, refl, List, map, filter, All, AllPairs, Any}
 use Rattle.std.specs.Coded.{Coded, code_by, coded_list, coded×, coded_ℕ}
 use Rattle.std.specs.declared.cmp.Ordering.TheVariants.{Less}
 use Rattle.overlay_terms.specs.Plane.{WholePoint, Point, Segment, whole, same_place}
@@ -38,7 +40,8 @@ strip_input_code =
 
 -- the input of a tile, whose strip is one column
 abbrev pub strip_of : Input → StripInput
-strip_of input = record { strip = record { first = input.column; last = input.column }; marked = input.marked; steps = input.steps }
+strip_of input =
+    record { strip = record { first = input.column; last = input.column }; marked = input.marked; steps = input.steps }
 
 -- the input of the tile of one of its columns
 abbrev pub part : StripInput → ℕ → Input
@@ -48,7 +51,8 @@ part input k = record { column = k; marked = filter (λ m. touches k m.segment) 
 abbrev pub segments_in : StripInput → List Segment
 segments_in input = map (λ (m : Marked). m.segment) input.marked
 
--- proper segments of the base layers that the steps know; each whole point in the strip is an end of an even number of each layer's segments
+-- proper segments of the base layers that the steps know; each whole point in the strip is an end of an even
+-- number of each layer's segments
 pub record IsStripInput (input : StripInput) : Type 0 where
   pub in_order : input.strip.first ≤ input.strip.last
   pub known : input.strip.last < column_count
@@ -71,4 +75,5 @@ pub record AreStripSome (input : StripInput) (some : List (Point × Point)) : Ty
 -- all of them
 pub record IsStripTile (input : StripInput) (tile : List (Point × Point)) : Type 0 where
   pub are_some : AreStripSome input tile
-  pub complete : (p r : Point) → IsStripBoundary input.marked input.steps input.strip p r → Any (λ a. IsTrue (same_place p a.0 && same_place r a.1)) tile
+  pub complete : (p r : Point) → IsStripBoundary input.marked input.steps input.strip p r
+      → Any (λ a. IsTrue (same_place p a.0 && same_place r a.1)) tile

@@ -13,7 +13,7 @@ use Rattle.crossing_sweep.specs.Queue.{IsQueued}
 use Rattle.crossing_sweep.specs.Ahead.{points_of}
 use Rattle.crossing_sweep.specs.declared.search.Search.{Search}
 
--- two segments cross at a known place, after r and in the closed strip; its name stands for it
+-- two segments cross at a known place, after r and in the closed strip; it is the place of its name
 pub record IsFound (strip : Span) (r : Point) (a b : Segment) (e : HPoint × PointName) : Type 0 where
   pub crossing : IsCrossingOf a b (place e.0)
   pub after : point_cmp r (place e.0) ≡ Less
@@ -21,7 +21,8 @@ pub record IsFound (strip : Span) (r : Point) (a b : Segment) (e : HPoint × Poi
   pub named : HasPlace e.1
   pub told : place e.0 ≡ place_of e.1
 
--- two segments have been tested: what was known is known, where they cross after r in the closed strip is known, and nothing else has come
+-- two segments have been tested: what was known is known, where they cross after r in the closed strip is
+-- known, and nothing else has come
 pub record AreTested (strip : Span) (r : Point) (a b : Segment) (old new : List (HPoint × PointName)) : Type 0 where
   pub kept : (e : HPoint × PointName) → Contains old e → Contains new e
   pub found : (p : Point) → pos 0 <ℤ p.w → IsCrossingOf a b p → point_cmp r p ≡ Less → IsTrue (is_in_closed_strip strip p) → IsQueued (points_of new) p
@@ -36,13 +37,15 @@ pub record IsFoundIn (strip : Span) (r : Point) (status : List Segment) (listed 
   pub found : IsFound strip r lower upper e
   pub told : listed ≡ true → Contains tests (lower, upper)
 
--- the seams at which a step tests, of which the members under the node and those that stay there make two: none where it tests nothing
+-- the seams at which a step tests, of which the members under the node and those that stay there make
+-- two: none where it tests nothing
 abbrev pub seams_at : Bool → ℕ → ℕ → List ℕ
 seams_at true low high = low ∷ high ∷ []
 seams_at false low high = []
 
--- the neighbours at some seams of a status have been tested: at a seam the members under it end. What was known is known, where neighbours
--- at a seam cross after r in the closed strip is known, and nothing else has come; at most one test a seam is listed, of members, and none where no list is kept
+-- the neighbours at some seams of a status have been tested: at a seam the members under it end. What was known is
+-- known, where neighbours at a seam cross after r in the closed strip is known, and nothing else has come; at most one
+-- test a seam is listed, of members, and none where no list is kept
 pub record AreSeamsTested (strip : Span) (r : Point) (status : List Segment) (seams : List ℕ) (old new : Search) : Type 0 where
   pub listed : new.listed ≡ old.listed
   pub kept : (e : HPoint × PointName) → Contains old.ahead e → Contains new.ahead e

@@ -1,5 +1,5 @@
 //! The places that a sweep has found ahead, each with a name.
-ghost use Rattle.std.specs.Prelude.{◌≡◌, ◌⊎◌, true, false, [], ◌∷◌, All, AllPairs, Any, Contains, map, IfSome, IsNone, IsTrue, ◌↔◌, OnOk};
+ghost use Rattle.std.specs.Prelude.{◌≡◌, ◌⊎◌, true, false, [], ◌∷◌, All, AllPairs, Any, Contains, map, IfSome, IfNone, IsNone, IsTrue, ◌↔◌, OnOk};
 ghost use Rattle.std.specs.declared.cmp.Ordering.TheVariants.{Less, Equal};
 ghost use Rattle.overlay_terms.specs.Plane.{point_cmp};
 ghost use Rattle.exact_point.specs.Place.{place, hpoint_cmp};
@@ -12,16 +12,17 @@ use crate::rank::rank;
 use crate::ranked_place::RankedPlace;
 use exact_point::{HPoint, PointName};
 use std::alloc::{AllocError, Global};
-use std::collections::BTreeMap;
+use std::collections::BTreeSet;
 use std::marker::Model;
 
 /// Places in their order, each once, under one of its names. Known places are in one sorted list, the first `taken`
-/// of which are out; those found since are in a tree, and none of them is a known one still in the list.
+/// of which are out; those found since are in a tree, and none of them is a known one still in the list. All have their ranks, which tell
+/// the order of most.
 #[derive(Drop)]
 pub(crate) struct Ahead {
     known: Vec<RankedPlace>,
     taken: usize,
-    found: BTreeMap<HPoint, PointName>,
+    found: BTreeSet<RankedPlace>,
 }
 
 impl Model for Ahead {
@@ -33,9 +34,9 @@ impl Model for Ahead {
 
     ghost Value = { List (HPoint × PointName) };
 
-    ghost view = { λ a. put_all a.found.entries (map ranked_entry (drop a.taken a.known.items)) };
+    ghost view = { λ a. put_all (map ranked_entry a.found.keys) (map ranked_entry (drop a.taken a.known.items)) };
 
-    ghost invariant = { λ a. AreAhead a.known.items a.taken a.found.entries };
+    ghost invariant = { λ a. AreAhead a.known.items a.taken (map ranked_entry a.found.keys) };
 }
 
 impl Ahead {
@@ -47,7 +48,7 @@ impl Ahead {
         Ahead {
             known,
             taken: 0,
-            found: BTreeMap::new(alloc),
+            found: BTreeSet::new(alloc),
         }
     }
 
@@ -55,10 +56,15 @@ impl Ahead {
     pub(crate) fn add(&mut self, at: HPoint, name: PointName) -> Result<(), AllocError>
         ensures { OnOk result (HasAdded self.old at name self.new) }
     {
-        if is_among(&self.known[self.taken..], &at, &name) {
-            return Ok(());
+        let place = RankedPlace {
+            name,
+            rank: rank(&at),
+            at,
+        };
+        if !is_among(&self.known[self.taken..], &place) {
+            self.found.insert(place)?;
         }
-        add_found(&mut self.found, at, name)
+        Ok(())
     }
 
     /// Whether there is no place.
@@ -79,53 +85,46 @@ impl Ahead {
         ensures left { IsNone result → self.new ≡ [] }
     {
         if self.known.len() <= self.taken {
-            return self.found.pop_first();
+            return first_found(&mut self.found);
         }
         let next = self.known[self.taken];
-        if is_first_before(&self.found, &next.at) {
-            return self.found.pop_first();
+        if is_first_before(&self.found, &next) {
+            return first_found(&mut self.found);
         }
         self.taken += 1;
         Some((next.at, next.name))
     }
 }
 
-/// Adds a place to those found, unless it is there already.
-fn add_found(
-    found: &mut BTreeMap<HPoint, PointName>,
-    at: HPoint,
-    name: PointName,
-) -> Result<(), AllocError>
-    ensures added { OnOk result (HasAdded found.old.entries at name found.new.entries) }
-    ensures only { (e : HPoint × PointName) → Contains found.new.entries e → Contains found.old.entries e ⊎ ((at, name) ≡ e) }
+/// Takes out the first of some places, if there is one.
+fn first_found(found: &mut BTreeSet<RankedPlace>) -> Option<(HPoint, PointName)>
+    ensures removal { IfSome result (λ e. map ranked_entry found.old.keys ≡ e ∷ map ranked_entry found.new.keys) }
+    ensures least { IfSome result (λ e. All (λ other. hpoint_cmp e.0 other.0 ≡ Less) (map ranked_entry found.new.keys)) }
+    ensures unchanged { IfNone result (map ranked_entry found.new.keys ≡ map ranked_entry found.old.keys) }
+    ensures none { IsNone result → map ranked_entry found.old.keys ≡ [] }
 {
-    if !found.contains_key(&at) {
-        found.insert(at, name)?;
-    }
-    Ok(())
+    let Some(first) = found.pop_first() else {
+        return None;
+    };
+    Some((first.at, first.name))
 }
 
 /// Whether a place, under any name, is one of some places in order.
-fn is_among(known: &[RankedPlace], at: &HPoint, name: &PointName) -> bool
+fn is_among(known: &[RankedPlace], place: &RankedPlace) -> bool
     requires { AllPairs (λ a b. ranked_cmp a b ≡ Less) known.now }
-    ensures among { result ≡ true → Any (λ z. hpoint_cmp z.at at.now ≡ Equal) known.now }
-    ensures apart { result ≡ false → All (λ z. hpoint_cmp z.at at.now ≡ Equal → ⊥) known.now }
+    ensures among { result ≡ true → Any (λ z. ranked_cmp z place.now ≡ Equal) known.now }
+    ensures apart { result ≡ false → All (λ z. ranked_cmp z place.now ≡ Equal → ⊥) known.now }
 {
-    let place = RankedPlace {
-        name: *name,
-        rank: rank(at),
-        at: *at,
-    };
-    known.binary_search(&place).is_ok()
+    known.binary_search(place).is_ok()
 }
 
 /// Whether the first of some places, if there is one, comes before another.
-fn is_first_before(found: &BTreeMap<HPoint, PointName>, at: &HPoint) -> bool
-    ensures first { result ≡ is_first_before found.now.entries at.now }
-    ensures none { result ≡ false → All (λ e. hpoint_cmp e.0 at.now ≡ Less → ⊥) found.now.entries }
+fn is_first_before(found: &BTreeSet<RankedPlace>, place: &RankedPlace) -> bool
+    ensures first { result ≡ is_first_before (map ranked_entry found.now.keys) place.now.at }
+    ensures none { result ≡ false → All (λ e. hpoint_cmp e.0 place.now.at ≡ Less → ⊥) (map ranked_entry found.now.keys) }
 {
-    match found.first_key_value() {
-        Some((first, _)) => *first < *at,
+    match found.first() {
+        Some(first) => *first < *place,
         None => false,
     }
 }

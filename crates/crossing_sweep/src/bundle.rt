@@ -28,8 +28,10 @@ pub(crate) fn bundle_at(status: &[Member], at: &HPoint, hint: usize) -> (usize, 
 /// How many members of a status pass under a place.
 fn count_under(status: &[Member], at: &HPoint, hint: usize) -> usize
     ensures few { result ≤ length status.now }
-    ensures under { SidesFallAlong (place at.now) (segs_of status.now) → All (λ m. pos 0 <ℤ height_over m.unit.seg (place at.now)) (take result status.now) }
-    ensures not_under { SidesFallAlong (place at.now) (segs_of status.now) → All (λ m. height_over m.unit.seg (place at.now) ≤ℤ pos 0) (drop result status.now) }
+    ensures under { SidesFallAlong (place at.now) (segs_of status.now)
+        → All (λ m. pos 0 <ℤ height_over m.unit.seg (place at.now)) (take result status.now) }
+    ensures not_under { SidesFallAlong (place at.now) (segs_of status.now)
+        → All (λ m. height_over m.unit.seg (place at.now) ≤ℤ pos 0) (drop result status.now) }
 {
     let (low, high) = narrowed(status, at, hint.min(status.len()));
     low + status[low..high].partition_point(|member| is_under(member, at))
@@ -40,8 +42,10 @@ fn narrowed(status: &[Member], at: &HPoint, hint: usize) -> (usize, usize)
     requires { hint ≤ length status.now }
     ensures in_order { result.0 ≤ result.1 }
     ensures few { result.1 ≤ length status.now }
-    ensures under { SidesFallAlong (place at.now) (segs_of status.now) → All (λ m. pos 0 <ℤ height_over m.unit.seg (place at.now)) (take result.0 status.now) }
-    ensures not_under { SidesFallAlong (place at.now) (segs_of status.now) → All (λ m. height_over m.unit.seg (place at.now) ≤ℤ pos 0) (drop result.1 status.now) }
+    ensures under { SidesFallAlong (place at.now) (segs_of status.now)
+        → All (λ m. pos 0 <ℤ height_over m.unit.seg (place at.now)) (take result.0 status.now) }
+    ensures not_under { SidesFallAlong (place at.now) (segs_of status.now)
+        → All (λ m. height_over m.unit.seg (place at.now) ≤ℤ pos 0) (drop result.1 status.now) }
 {
     if hint > 0 && !is_under(&status[hint - 1], at) {
         return (0, hint - 1);

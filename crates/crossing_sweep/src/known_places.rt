@@ -14,7 +14,7 @@ use crate::pass_input::PassInput;
 use crate::rank::{rank, rank_over};
 use crate::ranked_place::RankedPlace;
 use crate::strip::Strip;
-use exact_point::PointName;
+use exact_point::{HPoint, PointName};
 use plane_base::{Column, Pt, Seg};
 use std::alloc::{AllocError, Global};
 
@@ -37,7 +37,7 @@ fn places_in_order(alloc: Global, input: &PassInput) -> Result<Vec<RankedPlace>,
     for m in input.marked() {
         offer_own(&mut places, &m.seg, input.strip())?;
     }
-    // A place is large: what is moved to and fro is where it stands.
+    // A place is large: what is moved to and fro is where it is kept.
     let mut order = references(alloc, &places)?;
     order.sort_unstable();
     order.dedup();
@@ -142,7 +142,13 @@ fn offer_end(places: &mut Vec<RankedPlace>, vertex: Pt, strip: Strip) -> Result<
     if !is_end_within(strip, vertex) {
         return Ok(());
     }
-    offer(places, PointName::Vertex(vertex), strip)
+    let at = HPoint::of(vertex);
+    places.push(RankedPlace {
+        name: PointName::Vertex(vertex),
+        rank: rank(&at),
+        at,
+    })?;
+    Ok(())
 }
 
 /// Whether a whole point lies from a strip's left border to its right border.
@@ -153,20 +159,4 @@ fn is_end_within(strip: Strip, vertex: Pt) -> bool
     let x = vertex.x();
     // Eager, so that one equation says all: neither side costs more than a comparison.
     (strip.border() <= x) & (x <= strip.end())
-}
-
-/// Adds the place that a name stands for, if it lies in the closed strip.
-fn offer(places: &mut Vec<RankedPlace>, name: PointName, strip: Strip) -> Result<(), AllocError>
-    ensures { OnOk result ((names : List PointName) → AreOffered strip names (map ranked_entry places.old.items) → AreOffered strip (names ++ name ∷ []) (map ranked_entry places.new.items)) }
-{
-    if let Some(at) = name.point() {
-        if strip.holds_closed(&at) {
-            places.push(RankedPlace {
-                name,
-                rank: rank(&at),
-                at,
-            })?;
-        }
-    }
-    Ok(())
 }

@@ -15,6 +15,7 @@ mod rank;
 mod ranked_place;
 mod row;
 mod search;
+mod sorting;
 mod start;
 mod starts;
 mod strip;

@@ -28,7 +28,9 @@ pub(crate) fn turned(
     at: &HPoint,
     begin: usize,
 ) -> Result<(), AllocError>
-    ensures moved { OnOk result (IsPermutation (filter (λ u. ends_after (place at.now) u.seg) (units_of bundle.now ++ map (λ s. s.unit) entering.now)) (units_of stay.new.items)) }
+    ensures moved { OnOk result
+        (IsPermutation (filter (λ u. ends_after (place at.now) u.seg)
+        (units_of bundle.now ++ map (λ s. s.unit) entering.now)) (units_of stay.new.items)) }
     ensures turned { OnOk result (AllPairs (λ a b. pos 0 ≤ℤ turn_of a b) (segs_of stay.new.items)) }
 {
     staying(stay, bundle, at)?;
@@ -64,7 +66,8 @@ fn enter(
     at: &HPoint,
     begin: usize,
 ) -> Result<(), AllocError>
-    ensures { OnOk result (units_of stay.new.items ≡ units_of stay.old.items ++ filter (λ u. ends_after (place at.now) u.seg) (map (λ s. s.unit) entering.now)) }
+    ensures { OnOk result (units_of stay.new.items
+        ≡ units_of stay.old.items ++ filter (λ u. ends_after (place at.now) u.seg) (map (λ s. s.unit) entering.now)) }
 {
     for start in entering {
         if ends_after(&start.unit.seg, at) {

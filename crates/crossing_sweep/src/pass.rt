@@ -1,5 +1,6 @@
 //! One pass over a strip of columns from node to node.
-ghost use Rattle.std.specs.Prelude.{◌≡◌, ◌<◌, ◌≤◌, ◌+◌, ℕ, ◌⊎◌, ◌++◌, [], ◌∷◌, true, false, length, All, IfOk, IfSome, IsNone, OnOk};
+ghost use Rattle.std.specs.Prelude.{◌≡◌, ◌<◌, ◌≤◌, ◌+◌, ℕ, ◌⊎◌, ◌++◌, [], ◌∷◌};
+ghost use Rattle.std.specs.Prelude.{true, false, length, All, IfOk, IfSome, IsNone, OnOk};
 ghost use Rattle.crossing_sweep.specs.Amid.{IsPassing};
 ghost use Rattle.crossing_sweep.specs.Crossed.{IsCrossed};
 ghost use Rattle.crossing_sweep.specs.StripCrossed.{IsStripCrossed};
@@ -12,8 +13,9 @@ use crate::member::Member;
 use crate::node_name::NodeName;
 use crate::pass_input::PassInput;
 use crate::progress::Progress;
-use crate::row::{Row, sort};
+use crate::row::Row;
 use crate::search::Search;
+use crate::sorting::sort;
 use crate::starts::starts;
 use crate::values::first_values;
 use crate::wish::{Always, Wish, is_portion};
@@ -55,7 +57,13 @@ impl<'a> Model for Pass<'a> {
 
     ghost use Rattle.crossing_sweep.specs.Amid.{IsPassing};
 
-    ghost view = { λ p. record { input = p.input.now; listed = p.progress.search.listed; ahead = length p.progress.search.ahead; rows = length p.progress.rows.items; settled = count_settled p.progress.nodes p.progress.rows.items } };
+    ghost view = { λ p. record {
+      input = p.input.now;
+      listed = p.progress.search.listed;
+      ahead = length p.progress.search.ahead;
+      rows = length p.progress.rows.items;
+      settled = count_settled p.progress.nodes p.progress.rows.items;
+    } };
 
     ghost invariant = { λ p. IsPassing p.input.now p.progress };
 }
@@ -91,9 +99,9 @@ pub fn cross_while<W: Wish>(
     Ok(found)
 }
 
-/// The boundary of a strip's input, found by one pass that stops after more than so many pieces in all. Where there are no
-/// more, the pieces that begin in one of its columns stand together, and are that column's tile. The pass goes on as long
-/// as it is wanted: None says that the wish has ended, and the pass was left.
+/// The boundary of a strip's input, found by one pass that stops after more than so many pieces in all. Where there are
+/// no more, the pieces that begin in one of its columns come together, and are that column's tile. The pass goes on as
+/// long as it is wanted: None says that the wish has ended, and the pass was left.
 pub fn cross_strip_while<W: Wish>(
     alloc: Global,
     input: &PassInput,
@@ -105,10 +113,12 @@ pub fn cross_strip_while<W: Wish>(
     ensures left { IfOk result (λ o. IsNone o → W.ended wish.now) }
 {
     let pass = Pass::new(alloc, input, listed)?;
-    match pass.run_while(alloc, cap, wish)? {
-        Some(pass) => Ok(Some(pass.into_crossed())),
-        None => Ok(None),
-    }
+    let done = pass.run_while(alloc, cap, wish)?;
+    let Some(pass) = done else {
+        return Ok(None);
+    };
+    let found = pass.into_crossed(alloc)?;
+    Ok(Some(found))
 }
 
 impl<'a> Pass<'a> {
@@ -142,8 +152,8 @@ impl<'a> Pass<'a> {
         Ok(Pass { input, progress })
     }
 
-    /// Goes from node to node to the end of the strip, or until there are more rows than a cap. After each portion of the
-    /// nodes the wish is asked: None says that it has ended, and the pass was left.
+    /// Goes from node to node to the end of the strip, or until there are more rows than a cap. After each portion of
+    /// the nodes the wish is asked: None says that it has ended, and the pass was left.
     fn run_while<W: Wish>(
         self,
         alloc: Global,
@@ -172,23 +182,24 @@ impl<'a> Pass<'a> {
     }
 
     /// What it has found, where it has come to the end, or has more rows than a cap.
-    fn into_crossed(self) -> Crossed
-        ensures { (cap : ℕ) → (self.entry.ahead ≡ 0) ⊎ (cap < self.entry.rows) → self.entry.settled ≤ cap → IsStripCrossed self.entry.input cap self.entry.listed result }
+    fn into_crossed(self, alloc: Global) -> Result<Crossed, AllocError>
+        ensures { IfOk result (λ found. (cap : ℕ) → (self.entry.ahead ≡ 0) ⊎ (cap < self.entry.rows) → self.entry.settled ≤ cap → IsStripCrossed self.entry.input cap self.entry.listed found) }
     {
+        let mut progress = self.progress;
+        sort(alloc, &mut progress.rows, progress.nodes)?;
         let Progress {
             search,
-            mut rows,
+            rows,
             nodes,
             names,
             ..
-        } = self.progress;
-        sort(&mut rows);
-        Crossed {
+        } = progress;
+        Ok(Crossed {
             rows,
             nodes,
             names,
             tests: search.tests,
-        }
+        })
     }
 }
 
@@ -214,8 +225,10 @@ fn go_on(
     requires known { AreValues input.now.steps values.now }
     ensures passing { OnOk result (IsPassing input.now progress.new) }
     ensures listed { OnOk result (progress.new.search.listed ≡ progress.old.search.listed) }
-    ensures more { OnOk result (¬ (length progress.old.search.ahead ≡ 0) → progress.new.nodes ≡ progress.old.nodes + 1) }
-    ensures settled { OnOk result (¬ (length progress.old.search.ahead ≡ 0) → count_settled progress.new.nodes progress.new.rows.items ≡ length progress.old.rows.items) }
+    ensures more { OnOk result (¬ (length progress.old.search.ahead ≡ 0)
+        → progress.new.nodes ≡ progress.old.nodes + 1) }
+    ensures settled { OnOk result (¬ (length progress.old.search.ahead ≡ 0)
+        → count_settled progress.new.nodes progress.new.rows.items ≡ length progress.old.rows.items) }
     ensures few { OnOk result (progress.new.nodes ≤ nodes_max input.now) }
 {
     let Some((at, name)) = progress.search.ahead.take_first() else {
@@ -232,7 +245,8 @@ fn go_on(
     Ok(())
 }
 
-/// Whether rows need the name of a node: there are more than before, or one of the members that begin there may make one.
+/// Whether rows need the name of a node: there are more than before, or one of the members
+/// that begin there may make one.
 fn is_needed(rows: usize, more: usize, begun: &[Member]) -> bool
     ensures few { result ≡ false → more ≤ rows }
     ensures none { result ≡ false → All (λ m. m.differs ≡ false) begun.now }
@@ -250,7 +264,8 @@ fn keep(
     name: PointName,
     needed: bool,
 ) -> Result<(), AllocError>
-    ensures kept { OnOk result (needed ≡ true → names.new.items ≡ names.old.items ++ record { number = number; name = name } ∷ []) }
+    ensures kept { OnOk result (needed ≡ true
+        → names.new.items ≡ names.old.items ++ record { number = number; name = name } ∷ []) }
     ensures same { OnOk result (needed ≡ false → names.new.items ≡ names.old.items) }
 {
     if needed {

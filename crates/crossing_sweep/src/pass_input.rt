@@ -30,7 +30,9 @@ impl<'a> Model for PassInput<'a> {
 
     ghost view = { λ i. record { strip = i.strip; marked = map marked_of i.marked.now; steps = i.steps.now } };
 
-    ghost invariant = { λ i. IsStripInput (record { strip = i.strip; marked = map marked_of i.marked.now; steps = i.steps.now }) × (length (map marked_of i.marked.now) ≤ segments_max) };
+    ghost invariant = { λ i. IsStripInput
+        (record { strip = i.strip; marked = map marked_of i.marked.now; steps = i.steps.now })
+        × (length (map marked_of i.marked.now) ≤ segments_max) };
 }
 
 impl<'a> PassInput<'a> {

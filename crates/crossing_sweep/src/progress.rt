@@ -56,11 +56,13 @@ impl Progress {
             self.old.search self.new.search self.old.rows.items self.new.rows.items) }
         ensures closed { OnOk result (is_in_strip input.now.strip (place at.now) ≡ false →
             IsClosedAt at.now begin self.old.status.items self.new.status.items self.old.rows.items self.new.rows.items) }
-        ensures searched { OnOk result (is_in_strip input.now.strip (place at.now) ≡ false → self.new.search ≡ self.old.search) }
+        ensures searched { OnOk result (is_in_strip input.now.strip (place at.now) ≡ false
+            → self.new.search ≡ self.old.search) }
         ensures names { self.new.names ≡ self.old.names }
         ensures nodes { self.new.nodes ≡ self.old.nodes }
         ensures begun { OnOk result (All (λ m. m.begin ≡ begin) stay.new.items) }
-        ensures members { OnOk result ((m : Member) → Contains self.new.status.items m → Contains self.old.status.items m ⊎ Contains stay.new.items m) }
+        ensures members { OnOk result ((m : Member) → Contains self.new.status.items m
+            → Contains self.old.status.items m ⊎ Contains stay.new.items m) }
     {
         let (low, high) = bundle_at(&self.status, at, self.hint);
         close(&mut self.rows, &self.status[low..high], begin)?;
@@ -87,8 +89,8 @@ impl Progress {
     }
 }
 
-/// Whether one member alone holds a node, none enters there, and that one goes on, as at most borders between the columns
-/// of a strip: all neighbours stay, and where they cross is known.
+/// Whether one member alone holds a node, none enters there, and that one goes on, as at most borders between the
+/// columns of a strip: all neighbours stay, and where they cross is known.
 fn is_alone(bundle: usize, entered: usize, staying: usize) -> bool
     ensures bundle { result ≡ true → bundle ≡ 1 }
     ensures entered { result ≡ true → entered ≡ 0 }

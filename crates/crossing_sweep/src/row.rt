@@ -1,6 +1,6 @@
 //! Rows of a pass: the pieces of the boundary, made where they end, and what the members carry up to there.
 ghost use Rattle.std.specs.Prelude.{◌≡◌, ◌++◌, true, map, OnOk};
-ghost use Rattle.crossing_sweep.specs.Rows.{mask_over as highest_mask, row_to as row_of_member, rows_of, AreBegun, AreSorted, HasValue, IsBegun};
+ghost use Rattle.crossing_sweep.specs.Rows.{mask_over as highest_mask, row_to as row_of_member, rows_of, AreBegun, HasValue, IsBegun};
 ghost use Rattle.crossing_sweep.specs.Values.{AreValues};
 
 use crate::member::Member;
@@ -50,7 +50,7 @@ pub(crate) fn mask_over(members: &[Member]) -> u32
     }
 }
 
-/// Begins the pieces of a bundle at a place: each stands on what holds over the one below it.
+/// Begins the pieces of a bundle at a place: under each is what holds over the one below it.
 pub(crate) fn label(
     input: &PassInput,
     values: &[bool],
@@ -92,11 +92,4 @@ fn begin_over(
     member.over = over;
     member.differs = value ^ next;
     next
-}
-
-/// Puts rows in the order of the numbers of their ends.
-pub(crate) fn sort(rows: &mut Vec<Row>)
-    ensures { AreSorted rows.old.items rows.new.items }
-{
-    rows.sort_unstable_by_key(|row| (row.first, row.last));
 }

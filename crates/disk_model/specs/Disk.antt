@@ -1,5 +1,6 @@
 -- What the calls of a disk do to its bytes, and what a crash may make of them.
-use Rattle.std.specs.Prelude.{◌≡◌, ◌⊎◌, ℕ, ◌+◌, ◌-◌, ◌^◌, ◌<◌, ◌≤◌, min, max, List, length, take, drop, slice_index, Result, MatchResult}
+use Rattle.std.specs.Prelude.{◌≡◌, ◌⊎◌, ℕ, ◌+◌, ◌-◌, ◌^◌, ◌<◌, ◌≤◌}
+use Rattle.std.specs.Prelude.{min, max, List, length, take, drop, slice_index, Result, MatchResult}
 
 -- the n bytes of a file from this offset on
 unfoldable pub part : List ℕ → ℕ → ℕ → List ℕ

@@ -1,5 +1,6 @@
 -- What the calls of a disk make of it, and what a crash may leave then.
-use Rattle.std.specs.Prelude.{◌≡◌, ◌⊎◌, ℕ, ◌+◌, ◌-◌, ◌<◌, ◌≤◌, List, [], ◌∷◌, ◌++◌, length, take, drop, replicate, slice_index}
+use Rattle.std.specs.Prelude.{◌≡◌, ◌⊎◌, ℕ, ◌+◌, ◌-◌, ◌<◌, ◌≤◌, [], ◌∷◌, ◌++◌}
+use Rattle.std.specs.Prelude.{List, length, take, drop, replicate, slice_index}
 use Rattle.disk_model.specs.declared.mem_disk.Call.{Call}
 use Rattle.disk_model.specs.declared.mem_disk.Call.TheVariants.{Length, Read, Write, Sync}
 
@@ -17,7 +18,8 @@ over file at bytes = take at (file ++ replicate (at - length file) 0) ++ (bytes 
 abbrev pub after : Call → State → State
 after Length s = s
 after (Read at n) s = s
-after (Write at bytes) s = record { seen = over s.seen at bytes.items; synced = s.synced; ranges = (at, length bytes.items) ∷ s.ranges }
+after (Write at bytes) s =
+    record { seen = over s.seen at bytes.items; synced = s.synced; ranges = (at, length bytes.items) ∷ s.ranges }
 after Sync s = record { seen = s.seen; synced = s.seen; ranges = [] }
 
 -- the state after these calls, the first of them first

@@ -33,7 +33,9 @@ pub trait Disk {
         ensures length { is_honest self.old → IfOk result (λ n. n ≡ length (seen self.old)) }
         ensures seen { is_honest self.old → seen self.new ≡ seen self.old }
         ensures crash { is_honest self.old → Fewer (may_leave self.old) (may_leave self.new) }
-        ensures time { is_honest self.old → Elapses (moment self.old) (moment self.new) (left_since self.old) (left_since self.new) (may_leave self.new) }
+        ensures time { is_honest self.old
+            → Elapses (moment self.old) (moment self.new) (left_since self.old) (left_since self.new)
+            (may_leave self.new) }
         ensures cause { is_honest self.old → CountsFailure result (faults self.old) (faults self.new) }
         ensures calls { is_honest self.old → CountsCall result (calls self.old) (calls self.new) };
 
@@ -44,17 +46,23 @@ pub trait Disk {
         ensures read { is_honest self.old → OnOk result (buf.new ≡ part (seen self.old) at (length buf.old)) }
         ensures seen { is_honest self.old → seen self.new ≡ seen self.old }
         ensures crash { is_honest self.old → Fewer (may_leave self.old) (may_leave self.new) }
-        ensures time { is_honest self.old → Elapses (moment self.old) (moment self.new) (left_since self.old) (left_since self.new) (may_leave self.new) }
+        ensures time { is_honest self.old
+            → Elapses (moment self.old) (moment self.new) (left_since self.old) (left_since self.new)
+            (may_leave self.new) }
         ensures cause { is_honest self.old → CountsFailure result (faults self.old) (faults self.new) }
         ensures calls { is_honest self.old → CountsCall result (calls self.old) (calls self.new) };
 
-    /// Writes over what is there, and past the end. Until a sync a crash may leave any bytes in the range, also where the write failed.
+    /// Writes over what is there, and past the end. Until a sync a crash may leave any bytes in the
+    /// range, also where the write failed.
     fn write_at(&mut self, at: usize, bytes: &[u8]) -> Result<(), DiskFault>
         ensures honest { is_honest self.new ↔ is_honest self.old }
         ensures written { is_honest self.old → OnOk result (Holds (seen self.new) at bytes.now) }
         ensures others { is_honest self.old → Torn at (length bytes.now) (seen self.old) (seen self.new) }
-        ensures crash { is_honest self.old → OneStepOn (Torn at (length bytes.now)) (may_leave self.old) (may_leave self.new) }
-        ensures time { is_honest self.old → Elapses (moment self.old) (moment self.new) (left_since self.old) (left_since self.new) (may_leave self.new) }
+        ensures crash { is_honest self.old
+            → OneStepOn (Torn at (length bytes.now)) (may_leave self.old) (may_leave self.new) }
+        ensures time { is_honest self.old
+            → Elapses (moment self.old) (moment self.new) (left_since self.old) (left_since self.new)
+            (may_leave self.new) }
         ensures cause { is_honest self.old → CountsFailure result (faults self.old) (faults self.new) }
         ensures calls { is_honest self.old → CountsCall result (calls self.old) (calls self.new) };
 
@@ -64,15 +72,19 @@ pub trait Disk {
         ensures durable { is_honest self.old → OnOk result (Only (seen self.old) (may_leave self.new)) }
         ensures seen { is_honest self.old → seen self.new ≡ seen self.old }
         ensures crash { is_honest self.old → Fewer (may_leave self.old) (may_leave self.new) }
-        ensures time { is_honest self.old → Elapses (moment self.old) (moment self.new) (left_since self.old) (left_since self.new) (may_leave self.new) }
+        ensures time { is_honest self.old
+            → Elapses (moment self.old) (moment self.new) (left_since self.old) (left_since self.new)
+            (may_leave self.new) }
         ensures cause { is_honest self.old → CountsFailure result (faults self.old) (faults self.new) }
         ensures calls { is_honest self.old → CountsCall result (calls self.old) (calls self.new) };
 
     /// This moment is one of those since an earlier one.
-    ghost counts_now: { (disk : Self) (t : ℕ) (c : List ℕ) → is_honest disk → t ≤ moment disk → may_leave disk c → left_since disk t c };
+    ghost counts_now: { (disk : Self) (t : ℕ) (c : List ℕ) → is_honest disk → t ≤ moment disk → may_leave disk c
+        → left_since disk t c };
 
     /// Since this moment there is no other.
-    ghost only_now: { (disk : Self) (c : List ℕ) → is_honest disk → left_since disk (moment disk) c → may_leave disk c };
+    ghost only_now: { (disk : Self) (c : List ℕ) → is_honest disk → left_since disk (moment disk) c
+        → may_leave disk c };
 
     /// What a read gives is among what a crash may leave.
     ghost seen_may_stay: { (disk : Self) → is_honest disk → may_leave disk (seen disk) };

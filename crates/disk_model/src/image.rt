@@ -30,7 +30,8 @@ struct Faces {
 impl Faces {
     /// A file whose bytes are all on the disk.
     fn new(alloc: Global, file: &[u8]) -> Result<Faces, AllocError>
-        ensures { IfOk result (λ faces. (faces.synced.items ≡ file.now) × (faces.seen.items ≡ file.now) × (faces.filled.items ≡ file.now)) }
+        ensures { IfOk result (λ faces. (faces.synced.items ≡ file.now) × (faces.seen.items ≡ file.now)
+            × (faces.filled.items ≡ file.now)) }
     {
         Ok(Faces {
             synced: file.to_vec(alloc)?,

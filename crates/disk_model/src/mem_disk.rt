@@ -50,10 +50,14 @@ impl MemDisk {
         })
     }
 
-    /// A new disk with what a crash after the first k calls may leave, and after all of them where k is greater: one file for each choice.
+    /// A new disk with what a crash after the first k calls may leave, and after all of them where k is
+    /// greater: one file for each choice.
     pub fn image(&self, k: usize, choice: Choice) -> Result<MemDisk, AllocError>
-        ensures bytes { IfOk result (λ disk. IsChosen (replay (start (first_of self.now)) (take k (calls_of self.now))) choice (bytes_of disk)) }
-        ensures left { IfOk result (λ disk. MayLeave (replay (start (first_of self.now)) (take k (calls_of self.now))) (bytes_of disk)) }
+        ensures bytes { IfOk result
+            (λ disk. IsChosen (replay (start (first_of self.now)) (take k (calls_of self.now))) choice
+            (bytes_of disk)) }
+        ensures left { IfOk result
+            (λ disk. MayLeave (replay (start (first_of self.now)) (take k (calls_of self.now))) (bytes_of disk)) }
         ensures first { IfOk result (λ disk. first_of disk ≡ bytes_of disk) }
         ensures calls { IfOk result (λ disk. calls_of disk ≡ []) }
         ensures failures { IfOk result (λ disk. failures_of disk ≡ 0) }

@@ -1,4 +1,4 @@
--- The place that a name stands for, as its exact coordinates.
+-- The place of a name, as its exact coordinates.
 use Rattle.std.specs.Prelude.{ℕ, ℤ, pos, ◌+ℤ◌, ◌-ℤ◌, ◌*ℤ◌, int_lt, if◌then◌else◌}
 use Rattle.overlay_terms.specs.Plane.{Point, Segment, whole}
 use Rattle.overlay_terms.specs.Column.{border}

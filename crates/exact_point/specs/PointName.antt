@@ -18,17 +18,17 @@ pub record IsCutOf (s : Segment) (column : ℕ) (p : Point) : Type 0 where
   pub on_segment : IsTrue (is_on s p)
   pub on_border : p.x ≡ border column *ℤ p.w
 
--- p is the place that a name stands for
+-- p is the place of a name
 abbrev pub IsPlaceOf : PointName → Point → Type 0
 IsPlaceOf (Vertex v) p = IsTrue (same_place (whole v) p)
 IsPlaceOf (Cross a b) p = IsCrossingOf a b p
 IsPlaceOf (Border s column) p = IsCutOf s column p
 
--- a name stands for z alone
+-- a name has no place but z
 abbrev pub IsOnlyPlaceOf : PointName → Point → Type 0
 IsOnlyPlaceOf name z = (p : Point) → pos 0 <ℤ p.w → IsPlaceOf name p → IsTrue (same_place z p)
 
--- a name stands for a place
+-- a name has a place
 abbrev pub HasPlace : PointName → Type 0
 HasPlace (Vertex v) = Unit {0}
 HasPlace (Cross a b) = (p : Point) × (pos 0 <ℤ p.w) × IsCrossingOf a b p

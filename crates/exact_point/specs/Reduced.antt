@@ -21,4 +21,5 @@ IsLowest p = (d : ℕ) → d ∣ unsigned_abs p.x → d ∣ unsigned_abs p.y →
 
 -- a place has one form in lowest terms
 abbrev pub LowestTermsAreOne : Type 0
-LowestTermsAreOne = (p r : Point) → pos 0 <ℤ p.w → pos 0 <ℤ r.w → IsLowest p → IsLowest r → IsTrue (same_place p r) → p ≡ r
+LowestTermsAreOne =
+    (p r : Point) → pos 0 <ℤ p.w → pos 0 <ℤ r.w → IsLowest p → IsLowest r → IsTrue (same_place p r) → p ≡ r

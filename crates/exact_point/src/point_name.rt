@@ -19,7 +19,7 @@ pub enum PointName {
 }
 
 impl PointName {
-    /// The place that the name stands for, if there is one.
+    /// The place of the name, if it has one.
     pub fn point(&self) -> Option<HPoint>
         ensures known { IsSome result ↔ HasPlace self.now }
         ensures place { IfSome result (λ z. IsPlaceOf self.now (place z)) }
@@ -33,7 +33,7 @@ impl PointName {
         }
     }
 
-    /// The place that the name stands for, of a name that stands for one.
+    /// The place of the name, of a name that has one.
     pub fn known_point(&self) -> HPoint
         requires { HasPlace self.now }
         ensures value { place result ≡ place_of self.now }
@@ -50,7 +50,8 @@ impl PointName {
 fn border_cut(seg: &Seg, number: u8) -> Option<HPoint>
     ensures known { IsSome result ↔ IsCutBy seg.now number }
     ensures place { IfSome result (λ z. IsCutOf seg.now number (place z)) }
-    ensures only { IfSome result (λ z. (p : Point) → pos 0 <ℤ p.w → IsCutOf seg.now number p → IsTrue (same_place (place z) p)) }
+    ensures only { IfSome result (λ z. (p : Point) → pos 0 <ℤ p.w → IsCutOf seg.now number p
+        → IsTrue (same_place (place z) p)) }
     ensures value { IfSome result (λ z. place z ≡ cut_place seg.now number) }
 {
     match Column::new(u64::from(number)) {
@@ -63,7 +64,8 @@ fn border_cut(seg: &Seg, number: u8) -> Option<HPoint>
 fn cut_of(seg: &Seg, column: Column) -> Option<HPoint>
     ensures known { IsSome result ↔ IsCutBy seg.now column }
     ensures place { IfSome result (λ z. IsCutOf seg.now column (place z)) }
-    ensures only { IfSome result (λ z. (p : Point) → pos 0 <ℤ p.w → IsCutOf seg.now column p → IsTrue (same_place (place z) p)) }
+    ensures only { IfSome result (λ z. (p : Point) → pos 0 <ℤ p.w → IsCutOf seg.now column p
+        → IsTrue (same_place (place z) p)) }
     ensures value { IfSome result (λ z. place z ≡ cut_place seg.now column) }
 {
     let border = column.border();

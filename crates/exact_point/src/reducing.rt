@@ -28,8 +28,8 @@ pub fn reduced(p: &HPoint) -> HPoint
     }
 }
 
-/// Where the vertical line over a whole x cuts a segment, in lowest terms. Only y and the denominator are divided: their
-/// divisors divide the third number, which is x times the denominator.
+/// Where the vertical line over a whole x cuts a segment, in lowest terms. Only y and the denominator are divided:
+/// their divisors divide the third number, which is x times the denominator.
 pub fn reduced_cut(seg: &Seg, x: i64) -> HPoint
     requires in_range { InRange x }
     requires after_left { seg.now.left.x <ℤ x }

@@ -40,4 +40,6 @@ pub record IsFull (taken : List Extent) (limit : ℕ) (lengths : List ℕ) : Typ
 
 -- where each length has found its run, none has found none
 abbrev pub PlannedIsNotFull : Type 0
-PlannedIsNotFull = (taken : List Extent) (limit : ℕ) (lengths : List ℕ) (runs : List Extent) → IsPlanned taken limit lengths runs → IsFull taken limit lengths → ⊥
+PlannedIsNotFull =
+    (taken : List Extent) (limit : ℕ) (lengths : List ℕ) (runs : List Extent) → IsPlanned taken limit lengths runs
+    → IsFull taken limit lengths → ⊥

@@ -1,5 +1,6 @@
 //! The blocks that are taken, and a place for each of some records among those that are free.
-ghost use Rattle.std.specs.Prelude.{◌≡◌, ◌≤◌, ◌+◌, ◌∷◌, List, length, take, drop, IsOk, IfOk, IfSome, IfNone, IfErr, IsErrOf, OnErr};
+ghost use Rattle.std.specs.Prelude.{◌≡◌, ◌≤◌, ◌+◌, ◌∷◌};
+ghost use Rattle.std.specs.Prelude.{List, length, take, drop, IsOk, IfOk, IfSome, IfNone, IfErr, IsErrOf, OnErr};
 ghost use Rattle.std.specs.List.{AllByRecursion};
 ghost use Rattle.extent_map.specs.Extents.{IsUnused, AreApart, AreAlike, Ascend, Ascend-prop, IsGap};
 ghost use Rattle.extent_map.specs.Blocks.{blocks};
@@ -60,7 +61,8 @@ fn put(taken: &mut Vec<Extent>, place: usize, extent: Extent) -> Result<(), Exte
     requires ascending { Ascend taken.old.items }
     requires gap { IsGap taken.old.items place extent.block extent.blocks }
     ensures ascending { IsOk result → Ascend taken.new.items }
-    ensures alike { (given : List Extent) → AreAlike given taken.old.items → IsOk result → AreAlike (extent ∷ given) taken.new.items }
+    ensures alike { (given : List Extent) → AreAlike given taken.old.items → IsOk result
+        → AreAlike (extent ∷ given) taken.new.items }
     ensures err { IfErr result (λ fault. fault ≡ ExtentFault.OutOfMemory) }
     ensures same { OnErr result (taken.new.items ≡ taken.old.items) }
 {
@@ -126,8 +128,10 @@ impl Extents {
     /// The lowest run that is free for so many bytes. It is taken from then on; a refusal changes nothing.
     pub fn place(&mut self, length: u32) -> Result<Extent, ExtentFault>
         ensures size { IfOk result (λ run. run.blocks ≡ blocks length) }
-        ensures fit { IfOk result (λ run. IsFirstFit (taken_of self.old) (limit_of self.old) (blocks length) run.block) }
-        ensures taken { (given : List Extent) → AreAlike given (taken_of self.old) → IfOk result (λ run. AreAlike (run ∷ given) (taken_of self.new)) }
+        ensures fit { IfOk result
+            (λ run. IsFirstFit (taken_of self.old) (limit_of self.old) (blocks length) run.block) }
+        ensures taken { (given : List Extent) → AreAlike given (taken_of self.old)
+            → IfOk result (λ run. AreAlike (run ∷ given) (taken_of self.new)) }
         ensures limit { limit_of self.new ≡ limit_of self.old }
         ensures full { IsErrOf result ExtentFault.Full → NoFit (taken_of self.old) (limit_of self.old) (blocks length) }
         ensures never { IsErrOf result ExtentFault.Overlap → ⊥ }

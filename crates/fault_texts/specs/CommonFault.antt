@@ -2,7 +2,9 @@
 use Rattle.std.specs.Prelude.{ℕ, List}
 use Rattle.fault_texts.specs.FaultTable.{text}
 use Rattle.fault_texts.specs.declared.common_fault.CommonFault.{CommonFault}
-use Rattle.fault_texts.specs.declared.common_fault.CommonFault.TheVariants.{Device, Full, StoreFailed, SequenceLimit, OutOfMemory, Closing, Gone, NoStore, Read, Write, Words}
+use Rattle.fault_texts.specs.declared.common_fault.CommonFault.TheVariants.{Device, Full, StoreFailed, SequenceLimit}
+use Rattle.fault_texts.specs.declared.common_fault.CommonFault.TheVariants.{OutOfMemory, Closing, Gone, NoStore}
+use Rattle.fault_texts.specs.declared.common_fault.CommonFault.TheVariants.{Read, Write, Words}
 
 -- the number under which a fault is printed
 abbrev pub code_of : CommonFault → ℕ

@@ -11,8 +11,8 @@ use std::os::unix::fs::FileExt;
 use std::rt::Files;
 use std::{fs, io};
 
-/// A plain file, which is open, and whose lock is held, as long as the disk is there. That it is honest is claimed nowhere:
-/// what it does is shown by tests.
+/// A plain file, which is open, and whose lock is held, as long as the disk is there. That it is honest is claimed
+/// nowhere: what it does is shown by tests.
 #[derive(Debug, Drop)]
 pub struct FileDisk {
     file: File,
@@ -35,10 +35,10 @@ enum Access {
 const FIRST_OWN: RawFd = 3;
 
 impl FileDisk {
-    /// The file at a path. Where it is absent it is made if `make` says so, and else that is an error, as is a folder, a
-    /// device and whatever the system refuses. Of a link, also of one that leads to no file yet, it is the file that the
-    /// link leads to. No byte of a file that is there is changed or cut off. No other program has it until it is closed:
-    /// that another has it is an error. The error's kind is `OutOfMemory` where memory was refused.
+    /// The file at a path. Where it is absent it is made if `make` says so, and else that is an error, as is a folder,
+    /// a device and whatever the system refuses. Of a link, also of one that leads to no file yet, it is the file that
+    /// the link leads to. No byte of a file that is there is changed or cut off. No other program has it until it is
+    /// closed: that another has it is an error. The error's kind is `OutOfMemory` where memory was refused.
     pub fn at<R: Files<File = File> + AllocGlobal>(
         rt: &R,
         path: &str,
@@ -185,6 +185,15 @@ fn has_nothing_to_sync(error: &io::Error) -> bool {
     }
 }
 
+/// Writes bytes at a place. Of a write of no bytes past the end a system makes nothing, while a disk's file then reaches up
+/// to the place, as of any other write: so it is made longer.
+fn written(file: &File, at: u64, bytes: &[u8]) -> io::Result<()> {
+    if bytes.is_empty() && file.metadata()?.len() < at {
+        return file.set_len(at);
+    }
+    file.write_all_at(bytes, at)
+}
+
 /// What the system answered, with each of its errors as the device's.
 fn told<T: Drop>(answer: io::Result<T>) -> Result<T, DiskFault> {
     match answer {
@@ -227,7 +236,7 @@ impl Disk for FileDisk {
 
     fn write_at(&mut self, at: usize, bytes: &[u8]) -> Result<(), DiskFault> {
         let answer = match self.access {
-            Access::Whole => told(self.file.write_all_at(bytes, at as u64)),
+            Access::Whole => told(written(&self.file, at as u64, bytes)),
             Access::Reading | Access::Failed => return Err(DiskFault::Device),
         };
         self.after(answer)

@@ -16,7 +16,7 @@ use Rattle.root_store.specs.declared.phase.Progress.{Progress}
 use Rattle.root_store.specs.declared.phase.Progress.TheVariants.{Done}
 use Rattle.flush_core.specs.Imaging.{version_held}
 
--- the number of the version that is stored after a step: only one that answers Done changes it, to the number that it gives
+-- the number of the version stored after a step: only one that answers Done changes it, to the number that it gives
 abbrev pub stored_after : Result Progress StoreFault → ℕ → ℕ
 stored_after (Ok (Done number)) old = number
 stored_after result old = old

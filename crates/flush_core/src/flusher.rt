@@ -6,7 +6,8 @@ ghost use Rattle.root_store.specs.Beginning.{IsReason};
 ghost use Rattle.commit_plan.specs.Kept.{Kept};
 ghost use Rattle.commit_plan.specs.Live.{live_content};
 ghost use Rattle.commit_plan.specs.RecordPlaces.{AreKnown};
-ghost use Rattle.root_store.specs.Running.{StoreStandsFor, RunsFrom, KeepsTo, Stepped, FailsByDevice, Counts, Turns, KeepsRoots, TurnsRecords, KeepsRecords, calls_left, is_busy, fault_in};
+ghost use Rattle.root_store.specs.Running.{StoreStandsFor, RunsFrom, KeepsTo, Stepped, FailsByDevice, Counts, Turns};
+ghost use Rattle.root_store.specs.Running.{KeepsRoots, TurnsRecords, KeepsRecords, calls_left, is_busy, fault_in};
 ghost use Rattle.flush_core.specs.Stored.{stored_after, IsCommitOf, HasRoomFor, HasNoRoomFor, calls_of};
 
 use crate::imaging::image_of;
@@ -48,8 +49,9 @@ impl<D: Disk> Flusher<D> {
     /// Begins the commit of a version. It makes no device call, and a refusal changes nothing.
     pub fn begin(&mut self, alloc: Global, version: &Version) -> Result<(), StoreFault>
         requires { is_busy self.old.commit.phase ≡ false }
-        // From the content that the store stands for to just the version's number, layers and finished tiles.
-        ensures begun { (x : Kept) → StoreStandsFor D.Disk self.old.commit x → OnOk result ((y : Kept) × IsCommitOf version.now y × RunsFrom D.Disk self.new.commit x y) }
+        // From the content that the store holds to just the version's number, layers and finished tiles.
+        ensures begun { (x : Kept) → StoreStandsFor D.Disk self.old.commit x
+            → OnOk result ((y : Kept) × IsCommitOf version.now y × RunsFrom D.Disk self.new.commit x y) }
         ensures stored { self.new.commit.root.version ≡ self.old.commit.root.version }
         // The root that it leads to has the version's number.
         ensures number { OnOk result (self.new.commit.next_root.version ≡ version.now.number) }
@@ -64,10 +66,14 @@ impl<D: Disk> Flusher<D> {
         ensures disk { self.new.commit.disk ≡ self.old.commit.disk }
         ensures err { OnErr result (self.new ≡ self.old) }
         ensures failed { self.old.commit.phase ≡ Phase.Failed → result ≡ Err StoreFault.Failed }
-        ensures limit { self.old.commit.phase ≡ Phase.Idle → sequence_max ≤ self.old.commit.root.sequence → result ≡ Err StoreFault.SequenceLimit }
-        // Where there is room for all its new records among the free blocks, by first fit; where there is none, that is the reason.
+        ensures limit { self.old.commit.phase ≡ Phase.Idle → sequence_max ≤ self.old.commit.root.sequence
+            → result ≡ Err StoreFault.SequenceLimit }
+        // Where there is room for all its new records among the free blocks, by first fit;
+        // where there is none, that is the reason.
         ensures room { OnOk result (HasRoomFor self.old.commit version.now) }
-        ensures errors { IfErr result (λ fault. IsReason self.old.commit.phase self.old.commit.root (HasNoRoomFor self.old.commit version.now) fault) }
+        ensures errors { IfErr result
+            (λ fault. IsReason self.old.commit.phase self.old.commit.root
+            (HasNoRoomFor self.old.commit version.now) fault) }
     {
         self.begin_known(alloc, version, false)
     }
@@ -85,8 +91,9 @@ impl<D: Disk> Flusher<D> {
         // What the live root holds stays until Done, and the root that it leads to holds the version's tiles.
         ensures records { self.new.commit.live ≡ self.old.commit.live }
         ensures next_tiles { OnOk result ((live_content self.new.commit.next_live).tiles ≡ version.now.tiles) }
-        // From the content that the store stands for to just the version's number, layers and finished tiles.
-        ensures begun { (x : Kept) → StoreStandsFor D.Disk self.old.commit x → OnOk result ((y : Kept) × IsCommitOf version.now y × RunsFrom D.Disk self.new.commit x y) }
+        // From the content that the store holds to just the version's number, layers and finished tiles.
+        ensures begun { (x : Kept) → StoreStandsFor D.Disk self.old.commit x
+            → OnOk result ((y : Kept) × IsCommitOf version.now y × RunsFrom D.Disk self.new.commit x y) }
         ensures stored { self.new.commit.root.version ≡ self.old.commit.root.version }
         // The root that it leads to has the version's number.
         ensures number { OnOk result (self.new.commit.next_root.version ≡ version.now.number) }
@@ -101,10 +108,14 @@ impl<D: Disk> Flusher<D> {
         ensures disk { self.new.commit.disk ≡ self.old.commit.disk }
         ensures err { OnErr result (self.new ≡ self.old) }
         ensures failed { self.old.commit.phase ≡ Phase.Failed → result ≡ Err StoreFault.Failed }
-        ensures limit { self.old.commit.phase ≡ Phase.Idle → sequence_max ≤ self.old.commit.root.sequence → result ≡ Err StoreFault.SequenceLimit }
-        // Where there is room for all its new records among the free blocks, by first fit; where there is none, that is the reason.
+        ensures limit { self.old.commit.phase ≡ Phase.Idle → sequence_max ≤ self.old.commit.root.sequence
+            → result ≡ Err StoreFault.SequenceLimit }
+        // Where there is room for all its new records among the free blocks, by first fit;
+        // where there is none, that is the reason.
         ensures room { OnOk result (HasRoomFor self.old.commit version.now) }
-        ensures errors { IfErr result (λ fault. IsReason self.old.commit.phase self.old.commit.root (HasNoRoomFor self.old.commit version.now) fault) }
+        ensures errors { IfErr result
+            (λ fault. IsReason self.old.commit.phase self.old.commit.root
+            (HasNoRoomFor self.old.commit version.now) fault) }
     {
         // Asked before memory is taken for the image.
         if let Some(fault) = self.commit.refusal() {
@@ -124,7 +135,8 @@ impl<D: Disk> Flusher<D> {
     /// Makes one device call; none where no commit is under way.
     pub fn step(&mut self) -> Result<Progress, StoreFault>
         // Where a commit from x to y is under way, a crash at any moment of the call leaves x or y.
-        ensures moves { (x y : Kept) → RunsFrom D.Disk self.old.commit x y → Stepped D.Disk self.old.commit self.new.commit result x y }
+        ensures moves { (x y : Kept) → RunsFrom D.Disk self.old.commit x y
+            → Stepped D.Disk self.old.commit self.new.commit result x y }
         // Done n: n is the number of the root that the commit leads to, and that root is live. Any other answer leaves
         // the live root and the next one.
         ensures roots { IfOk result (λ p. Turns p self.old.commit self.new.commit) }
@@ -139,10 +151,12 @@ impl<D: Disk> Flusher<D> {
         // One device call fewer is left, until Done.
         ensures counted { IfOk result (λ p. Counts p (calls_left self.old.commit) (calls_left self.new.commit)) }
         ensures idle { self.old.commit.phase ≡ Phase.Idle → (result ≡ Ok Progress.Idle) × (self.new ≡ self.old) }
-        ensures stuck { self.old.commit.phase ≡ Phase.Failed → (result ≡ Err StoreFault.Failed) × (self.new ≡ self.old) }
+        ensures stuck { self.old.commit.phase ≡ Phase.Failed
+            → (result ≡ Err StoreFault.Failed) × (self.new ≡ self.old) }
         ensures failed { OnErr result (self.new.commit.phase ≡ Phase.Failed) }
         ensures errors { IfErr result (λ fault. fault ≡ fault_in self.old.commit.phase) }
-        ensures cause { D.is_honest self.old.commit.disk → IsErrOf result StoreFault.Device → Failed (D.faults self.old.commit.disk) (D.faults self.new.commit.disk) }
+        ensures cause { D.is_honest self.old.commit.disk → IsErrOf result StoreFault.Device
+            → Failed (D.faults self.old.commit.disk) (D.faults self.new.commit.disk) }
         // One device call is made where a commit is under way; where none is, nothing changes.
         ensures calls { D.is_honest self.old.commit.disk → is_busy self.old.commit.phase ≡ true
             → CountsCall result (D.calls self.old.commit.disk) (D.calls self.new.commit.disk) }

@@ -1,4 +1,4 @@
--- The faults of batches: their numbers, how replies begin with them, and those that stand for the refusals of batches.
+-- The faults of batches: their numbers, how replies begin with them, and which fault each refusal of a batch is.
 use Rattle.std.specs.Prelude.{ℕ, List, ◌++◌, codes, decimal, Option}
 use Rattle.std.specs.Option.{option_map}
 use Rattle.overlay_terms.specs.Commands.{Refusal}

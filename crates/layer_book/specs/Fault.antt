@@ -1,9 +1,12 @@
--- The faults of the layers: their numbers and texts, and those that stand for the refusals of commands.
+-- The faults of the layers: their numbers and texts, and which fault each refusal of a command is.
 use Rattle.std.specs.Prelude.{◌≡◌, ◌⊎◌, ℕ, List, Option, Some, None}
 use Rattle.fault_texts.specs.FaultTable.{text}
-use Rattle.overlay_terms.specs.Commands.{Refusal, unknown_layer, not_base, not_derived, later_layer, in_use, too_many_layers, version_limit}
+use Rattle.overlay_terms.specs.Commands.{Refusal, unknown_layer, not_base, not_derived}
+use Rattle.overlay_terms.specs.Commands.{later_layer, in_use, too_many_layers, version_limit}
 use Rattle.layer_book.specs.declared.fault.LayerFault.{LayerFault}
-use Rattle.layer_book.specs.declared.fault.LayerFault.TheVariants.{UnknownLayer, NotBase, NotDerived, LaterLayer, InUse, TooManyLayers, VersionLimit, BatchSize, BadColumn, OutOfMemory}
+use Rattle.layer_book.specs.declared.fault.LayerFault.TheVariants.{UnknownLayer, NotBase, NotDerived, LaterLayer}
+use Rattle.layer_book.specs.declared.fault.LayerFault.TheVariants.{InUse, TooManyLayers, VersionLimit, BatchSize}
+use Rattle.layer_book.specs.declared.fault.LayerFault.TheVariants.{BadColumn, OutOfMemory}
 
 -- the number under which a fault is printed
 abbrev pub code_of : LayerFault → ℕ

@@ -1,5 +1,6 @@
 -- Layers of the code as layers of the definitions.
-use Rattle.std.specs.Prelude.{ℕ, not, List, [], ◌∷◌, map, filter, Option, Some, None, bytes_eq, if◌then◌else◌, All, IsTrue}
+use Rattle.std.specs.Prelude.{ℕ, [], ◌∷◌, if◌then◌else◌}
+use Rattle.std.specs.Prelude.{not, List, map, filter, Option, Some, None, bytes_eq, All, IsTrue}
 use Rattle.std.specs.List.{AllByRecursion}
 use Rattle.overlay_terms.specs.Plane.{WholePoint}
 use Rattle.overlay_terms.specs.Layers.{Content, base, derived}

@@ -1,5 +1,6 @@
 -- What is asked of each layer at a point, from the answers of the layers before it.
-use Rattle.std.specs.Prelude.{◌≡◌, ℕ, Bool, true, false, List, [], ◌∷◌, ◌++◌, map, fold, zip, slice_get, slice_set, unwrap_or, Some, if◌then◌else◌}
+use Rattle.std.specs.Prelude.{◌≡◌, ℕ, [], ◌∷◌, ◌++◌, if◌then◌else◌}
+use Rattle.std.specs.Prelude.{Bool, true, false, List, map, fold, zip, slice_get, slice_set, unwrap_or, Some}
 use Rattle.std.specs.List.{list_any, list_all}
 use Rattle.std.specs.Option.{option_map_or}
 use Rattle.overlay_terms.specs.Plane.{Point, segments_of}
@@ -40,7 +41,8 @@ if_wanted wanted content = if wanted then content else base []
 abbrev pub wanted_layers : List Bool → List Layer → List Layer
 wanted_layers [] layers = []
 wanted_layers (w ∷ ws) [] = []
-wanted_layers (w ∷ ws) (layer ∷ layers) = record { name = layer.name; content = if_wanted w layer.content } ∷ wanted_layers ws layers
+wanted_layers (w ∷ ws) (layer ∷ layers) =
+    record { name = layer.name; content = if_wanted w layer.content } ∷ wanted_layers ws layers
 
 -- what the layer at an index is made of
 abbrev pub content_at : List Layer → ℕ → Content

@@ -1,4 +1,4 @@
--- What a sketch of layers stands for.
+-- The layers that a sketch shows.
 use Rattle.std.specs.Prelude.{List, [], map}
 use Rattle.overlay_terms.specs.Layers.{base, derived, Layer}
 use Rattle.layer_book.specs.declared.sketch.Entry.{Entry}

@@ -15,7 +15,8 @@ touched_columns layers command name = map (is_touched layers command name) colum
 -- marks are those of each derived layer that reaches the name of a command
 abbrev pub AreOfAllOver : List Layer → Command → List Bool → Type 0
 AreOfAllOver layers command row =
-    (name : Name) → list_any (bytes_eq name) (derived_over layers (name_of command)) ≡ true → row ≡ touched_columns layers command name
+    (name : Name) → list_any (bytes_eq name) (derived_over layers (name_of command)) ≡ true
+    → row ≡ touched_columns layers command name
 
 -- in which columns a command touches the tiles of each layer
 abbrev pub touched_rows : List Layer → Command → List (List Bool)

@@ -1,7 +1,8 @@
 //! What a command makes of the layers.
 ghost use Rattle.std.specs.Prelude.{◌≡◌, None, IfOk, IfErr};
 ghost use Rattle.std.specs.Option.{option_map};
-ghost use Rattle.overlay_terms.specs.Commands.{refusal_of, stands, stands_as_base, stands_as_derived, index_of, applied};
+ghost use Rattle.overlay_terms.specs.Commands.{refusal_of, stands, stands_as_base};
+ghost use Rattle.overlay_terms.specs.Commands.{stands_as_derived, index_of, applied};
 ghost use Rattle.layer_book.specs.Command.{command};
 ghost use Rattle.layer_book.specs.Fault.{RefusedBy, fault_of};
 
@@ -19,7 +20,8 @@ impl Layers {
     pub fn apply(&self, alloc: Global, change: &Command) -> Result<Layers, LayerFault>
         ensures accepted { IfOk result (λ _. refusal_of self.now (command change.now) ≡ None) }
         ensures ok { IfOk result (λ layers. layers ≡ applied self.now (command change.now)) }
-        ensures refused { IfErr result (RefusedBy LayerFault.OutOfMemory (option_map fault_of (refusal_of self.now (command change.now)))) }
+        ensures refused { IfErr result
+            (RefusedBy LayerFault.OutOfMemory (option_map fault_of (refusal_of self.now (command change.now)))) }
         ensures memory_last { result ≡ Err LayerFault.OutOfMemory → refusal_of self.now (command change.now) ≡ None }
     {
         if let Some(fault) = self.refusal(change) {

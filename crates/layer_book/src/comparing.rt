@@ -13,7 +13,9 @@ use plane_base::{BaseLayer, COLUMN_COUNT, Column, Seg};
 /// In which columns as many base layers have other segments.
 pub(crate) fn changed_columns(new: &[&BaseLayer], old: &[&BaseLayer]) -> [bool; COLUMNS]
     requires { length new.now ≡ length old.now }
-    ensures { result ≡ map (λ k. not (pointwise same_marked (marked_in k (map (λ b. b.now) new.now)) (marked_in k (map (λ b. b.now) old.now)))) columns }
+    ensures { result ≡ map (λ k. not
+        (pointwise same_marked (marked_in k (map (λ b. b.now) new.now))
+        (marked_in k (map (λ b. b.now) old.now)))) columns }
 {
     let mut changed = [false; COLUMNS];
     for number in 0..COLUMN_COUNT {
@@ -26,7 +28,8 @@ pub(crate) fn changed_columns(new: &[&BaseLayer], old: &[&BaseLayer]) -> [bool; 
 
 /// In which columns two lists have other segments.
 pub(crate) fn differing_columns(new: &[Seg], old: &[Seg]) -> [bool; COLUMNS]
-    ensures { result ≡ map (λ k. not (pointwise same_segment (filter (touches k) new.now) (filter (touches k) old.now))) columns }
+    ensures { result ≡ map (λ k. not
+        (pointwise same_segment (filter (touches k) new.now) (filter (touches k) old.now))) columns }
 {
     let mut differing = [false; COLUMNS];
     for number in 0..COLUMN_COUNT {
@@ -40,7 +43,8 @@ pub(crate) fn differing_columns(new: &[Seg], old: &[Seg]) -> [bool; COLUMNS]
 /// Whether as many base layers have the same segments in a column, in the same order.
 fn are_same_in(column: Column, new: &[&BaseLayer], old: &[&BaseLayer]) -> bool
     requires { length new.now ≡ length old.now }
-    ensures { result ≡ pointwise same_marked (marked_in column (map (λ b. b.now) new.now)) (marked_in column (map (λ b. b.now) old.now)) }
+    ensures { result ≡ pointwise same_marked (marked_in column (map (λ b. b.now) new.now))
+        (marked_in column (map (λ b. b.now) old.now)) }
 {
     for i in 0..new.len() {
         if !is_same_in(column, new[i].segs(), old[i].segs()) {

@@ -23,8 +23,8 @@ pub enum Place {
 }
 
 impl Layers {
-    /// Where a point lies for a layer. It takes no memory, looks the name up once, finds what the layer reaches once, and
-    /// looks at each base layer in reach once.
+    /// Where a point lies for a layer. It takes no memory, looks the name up once, finds what the layer reaches once,
+    /// and looks at each base layer in reach once.
     pub fn direct(&self, name: &Name, query: &QueryPoint) -> Result<Place, LayerFault>
         ensures ok { IfOk result (λ place. location place ≡ answer_at self.now name.now query.now) }
         ensures known { IsOk result ↔ IsTrue (stands self.now name.now) }
@@ -55,8 +55,10 @@ impl Layers {
 
     /// The answers of the layer at an index, from what it reaches.
     fn seen(&self, index: usize, point: &HPoint) -> Seen
-        ensures inside { (name : Name) → StandsAt self.now index name → result.inside ≡ named false (answers IsInside self.now (place_of_point point.now)) name }
-        ensures edge { (name : Name) → StandsAt self.now index name → result.edge ≡ named false (answers IsEdge self.now (place_of_point point.now)) name }
+        ensures inside { (name : Name) → StandsAt self.now index name
+            → result.inside ≡ named false (answers IsInside self.now (place_of_point point.now)) name }
+        ensures edge { (name : Name) → StandsAt self.now index name
+            → result.edge ≡ named false (answers IsEdge self.now (place_of_point point.now)) name }
         ensures valid { IsBook self.now }
     {
         let wanted = self.reach_of(index);

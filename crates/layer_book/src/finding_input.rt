@@ -23,7 +23,8 @@ impl Layers {
     pub fn input(&self, alloc: Global, name: &Name, column: u8) -> Result<TileInput, LayerFault>
         ensures ok { IfOk result (λ input. input ≡ input_of self.now name.now column) }
         ensures accepted { IfOk result (λ _. tile_refusal self.now name.now (column_numbered column) ≡ None) }
-        ensures refused { IfErr result (RefusedBy LayerFault.OutOfMemory (tile_refusal self.now name.now (column_numbered column))) }
+        ensures refused { IfErr result
+            (RefusedBy LayerFault.OutOfMemory (tile_refusal self.now name.now (column_numbered column))) }
     {
         let column = self.tile_column(name, Column::new(u64::from(column)))?;
         Ok(self.input_in_reach(alloc, name, column)?)
@@ -71,7 +72,8 @@ impl Layers {
         name: &Name,
     ) -> Result<Vec<&'a BaseLayer>, AllocError>
         requires { stands self.now name.now ≡ true }
-        ensures { IfOk result (λ bases. map (λ b. b.now) bases.items ≡ map (λ b. b.1) (filter_map base_of (layers_in_reach self.now name.now))) }
+        ensures { IfOk result (λ bases. map (λ b. b.now) bases.items
+            ≡ map (λ b. b.1) (filter_map base_of (layers_in_reach self.now name.now))) }
     {
         let wanted = self.reach(name);
         let bases = self.wanted_bases(alloc, &wanted)?;

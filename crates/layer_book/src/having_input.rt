@@ -34,7 +34,8 @@ impl Layers {
 
     /// Whether marked segments are those of the wanted base layers that have a point in a column, in order.
     fn has_marked(&self, wanted: &[bool; MAX_LAYERS], column: Column, marked: &[MarkedSeg]) -> bool
-        ensures { result ≡ pointwise same_marked (map marked_of marked.now) (marked_in column (map (λ b. b.1) (filter_map base_of (marked_layers wanted.now self.now)))) }
+        ensures { result ≡ pointwise same_marked (map marked_of marked.now)
+            (marked_in column (map (λ b. b.1) (filter_map base_of (marked_layers wanted.now self.now)))) }
     {
         let mut next = 0;
         let mut number = 0;
@@ -55,7 +56,8 @@ impl Layers {
     }
 }
 
-/// Where the marked segments from an index on go beyond those of a base layer in a column: none where they are not those.
+/// Where the marked segments from an index on go beyond those of a base layer in a column:
+/// none where they are not those.
 fn end_of(
     segs: &[Seg],
     column: Column,
@@ -63,7 +65,8 @@ fn end_of(
     marked: &[MarkedSeg],
     from: usize,
 ) -> Option<usize>
-    ensures { option_map (λ end. map marked_of (drop end marked.now)) result ≡ past (marks_in column number segs.now) (map marked_of (drop from marked.now)) }
+    ensures { option_map (λ end. map marked_of (drop end marked.now)) result
+        ≡ past (marks_in column number segs.now) (map marked_of (drop from marked.now)) }
 {
     let mut next = from;
     for seg in segs {

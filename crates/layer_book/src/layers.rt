@@ -1,5 +1,6 @@
 //! Layers in order of creation.
-ghost use Rattle.std.specs.Prelude.{◌≡◌, ◌<◌, ◌↔◌, [], length, slice_get, is_some, bytes_eq, None, IfSome, IfOk, IsTrue};
+ghost use Rattle.std.specs.Prelude.{◌≡◌, ◌<◌, ◌↔◌, []};
+ghost use Rattle.std.specs.Prelude.{length, slice_get, is_some, bytes_eq, None, IfSome, IfOk, IsTrue};
 ghost use Rattle.std.specs.Option.{option_map};
 ghost use Rattle.overlay_terms.specs.Commands.{index_of, stands, with_content, refusal_of, refusal_of_remove};
 ghost use Rattle.layer_book.specs.Layer.{content, content_named, keeping, layers_of, others, IsBook};
@@ -59,7 +60,8 @@ impl Layers {
 
     /// The layer at an index, counted from 0, with its name.
     pub fn at(&self, index: usize) -> Option<(&Name, &Layer)>
-        ensures { option_map (λ entry. record { name = entry.0.now; content = content entry.1.now }) result ≡ slice_get self.now index }
+        ensures { option_map (λ entry. record { name = entry.0.now; content = content entry.1.now }) result
+            ≡ slice_get self.now index }
     {
         self.map.get_index(index)
     }
@@ -141,8 +143,8 @@ fn copied(map: &IndexMap<Name, Layer>) -> Result<IndexMap<Name, Layer>, AllocErr
     map.clone()
 }
 
-/// Whether a layer's own name is another. Names that differ mostly do in their lengths or their last bytes, and these are
-/// looked at first.
+/// Whether a layer's own name is another. Names that differ mostly do in their lengths or their last bytes,
+/// and these are looked at first.
 fn is_named(own: &Name, name: &Name) -> bool
     ensures { result ≡ bytes_eq own.now name.now }
 {

@@ -11,11 +11,12 @@ use layer_expr::MAX_LAYERS;
 use layer_expr::name::Name;
 
 impl Layers {
-    /// Which layers reach the one with a name, itself among them, by their indices. A layer names earlier ones alone, so
-    /// one pass from the first to the last finds them.
+    /// Which layers reach the one with a name, itself among them, by their indices. A layer names earlier ones alone,
+    /// so one pass from the first to the last finds them.
     pub(crate) fn layers_over(&self, name: &Name) -> [bool; MAX_LAYERS]
         ensures room { length result ≡ MAX_LAYERS }
-        ensures marks { (i : _) (layer : Named) → slice_get self.now i ≡ Some layer → at_index result i ≡ reaches_name self.now layer.name name.now }
+        ensures marks { (i : _) (layer : Named) → slice_get self.now i ≡ Some layer
+            → at_index result i ≡ reaches_name self.now layer.name name.now }
     {
         let mut over = [false; MAX_LAYERS];
         if !self.stands(name) {
@@ -30,7 +31,8 @@ impl Layers {
     /// Whether the layer at an index has the name, or names one that is known to reach it.
     fn reaches_at(&self, i: usize, name: &Name, known: &[bool]) -> bool
         requires { length known.now ≤ length self.now }
-        ensures { (layer : Named) → slice_get self.now i ≡ Some layer → result ≡ layer_reaches name.now (labelled self.now known.now) layer }
+        ensures { (layer : Named) → slice_get self.now i ≡ Some layer
+            → result ≡ layer_reaches name.now (labelled self.now known.now) layer }
     {
         match self.at(i) {
             Some((own, Layer::Base(_))) => own == name,

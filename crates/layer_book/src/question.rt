@@ -7,7 +7,8 @@ ghost use Rattle.exact_point.specs.Place.{place};
 ghost use Rattle.point_looks.specs.Spot.{point_of};
 ghost use Rattle.layer_expr.specs.Expr.{tree};
 ghost use Rattle.layer_book.specs.Layer.{content, IsBook};
-ghost use Rattle.layer_book.specs.Question.{IsInside, IsEdge, answers, at_index, content_answer, content_at, if_wanted, labelled, wanted_layers};
+ghost use Rattle.layer_book.specs.Question.{IsInside, IsEdge, answers, at_index, content_answer};
+ghost use Rattle.layer_book.specs.Question.{content_at, if_wanted, labelled, wanted_layers};
 
 use crate::layer::Layer;
 use crate::layers::Layers;
@@ -26,11 +27,13 @@ pub struct Known {
 }
 
 impl Layers {
-    /// The answers of each layer. One that is not wanted counts as a layer of no rings. Each wanted base layer is looked
-    /// at once, in its blocks of segments.
+    /// The answers of each layer. One that is not wanted counts as a layer of no rings. Each wanted base layer is
+    /// looked at once, in its blocks of segments.
     pub fn answers(&self, wanted: &[bool; MAX_LAYERS], point: &HPoint) -> Known
-        ensures inside { labelled self.now result.inside ≡ answers IsInside (wanted_layers wanted.now self.now) (place point.now) }
-        ensures edge { labelled self.now result.edge ≡ answers IsEdge (wanted_layers wanted.now self.now) (place point.now) }
+        ensures inside { labelled self.now result.inside
+            ≡ answers IsInside (wanted_layers wanted.now self.now) (place point.now) }
+        ensures edge { labelled self.now result.edge
+            ≡ answers IsEdge (wanted_layers wanted.now self.now) (place point.now) }
         ensures valid { IsBook self.now }
     {
         let spot = Spot::of(*point);
@@ -48,8 +51,12 @@ impl Layers {
     fn answer_at(&self, i: usize, wanted: bool, inside: &[bool], edge: &[bool], spot: &Spot) -> Seen
         requires insides { length inside.now ≤ length self.now }
         requires edges { length edge.now ≤ length self.now }
-        ensures inside { result.inside ≡ content_answer IsInside (point_of spot.now) (labelled self.now inside.now) (if_wanted wanted (content_at self.now i)) }
-        ensures edge { result.edge ≡ content_answer IsEdge (point_of spot.now) (labelled self.now edge.now) (if_wanted wanted (content_at self.now i)) }
+        ensures inside { result.inside
+            ≡ content_answer IsInside (point_of spot.now) (labelled self.now inside.now)
+            (if_wanted wanted (content_at self.now i)) }
+        ensures edge { result.edge
+            ≡ content_answer IsEdge (point_of spot.now) (labelled self.now edge.now)
+            (if_wanted wanted (content_at self.now i)) }
     {
         match self.at(i) {
             Some((_, layer)) if wanted => self.layer_answer(layer, inside, edge, spot),
@@ -60,8 +67,10 @@ impl Layers {
     fn layer_answer(&self, layer: &Layer, inside: &[bool], edge: &[bool], spot: &Spot) -> Seen
         requires insides { length inside.now ≤ length self.now }
         requires edges { length edge.now ≤ length self.now }
-        ensures inside { result.inside ≡ content_answer IsInside (point_of spot.now) (labelled self.now inside.now) (content layer.now) }
-        ensures edge { result.edge ≡ content_answer IsEdge (point_of spot.now) (labelled self.now edge.now) (content layer.now) }
+        ensures inside { result.inside
+            ≡ content_answer IsInside (point_of spot.now) (labelled self.now inside.now) (content layer.now) }
+        ensures edge { result.edge
+            ≡ content_answer IsEdge (point_of spot.now) (labelled self.now edge.now) (content layer.now) }
     {
         match layer {
             Layer::Base(rings) => look_at_blocks(rings.blocks(), spot),
@@ -73,7 +82,8 @@ impl Layers {
     }
 
     fn node_inside(&self, node: &Node, known: &[bool]) -> bool
-        ensures { result ≡ truth (λ used. unwrap_or (slice_get known.now (index_of self.now used)) false) (tree node.now) }
+        ensures { result ≡ truth (λ used. unwrap_or (slice_get known.now (index_of self.now used)) false)
+            (tree node.now) }
     {
         match node {
             Node::Leaf(used) => self.known_of(used, known),
@@ -92,7 +102,8 @@ impl Layers {
 
     /// Whether one of the names below a node has the answer true.
     pub(crate) fn node_edge(&self, node: &Node, known: &[bool]) -> bool
-        ensures { result ≡ list_any (λ used. unwrap_or (slice_get known.now (index_of self.now used)) false) (leaves (tree node.now)) }
+        ensures { result ≡ list_any (λ used. unwrap_or (slice_get known.now (index_of self.now used)) false)
+            (leaves (tree node.now)) }
     {
         match node {
             Node::Leaf(used) => self.known_of(used, known),

@@ -6,7 +6,8 @@ ghost use Rattle.overlay_terms.specs.Layers.{Name, layers_in_reach};
 ghost use Rattle.overlay_terms.specs.Orderly.{used_names};
 ghost use Rattle.layer_expr.specs.Expr.{tree};
 ghost use Rattle.layer_book.specs.Layer.{IsBook};
-ghost use Rattle.layer_book.specs.Question.{at_index, content_at, is_wanted, marked, marked_layers, NamesAreWanted, StandsAt};
+ghost use Rattle.layer_book.specs.Question.{at_index, content_at, is_wanted, marked};
+ghost use Rattle.layer_book.specs.Question.{marked_layers, NamesAreWanted, StandsAt};
 
 use crate::layer::Layer;
 use crate::layers::Layers;
@@ -34,7 +35,8 @@ impl Layers {
         ensures closed { NamesAreWanted self.now result }
         ensures room { length result ≡ MAX_LAYERS }
         // Nothing else is marked.
-        ensures exactly { (name : Name) → StandsAt self.now index name → marked_layers result self.now ≡ layers_in_reach self.now name }
+        ensures exactly { (name : Name) → StandsAt self.now index name
+            → marked_layers result self.now ≡ layers_in_reach self.now name }
         ensures valid { IsBook self.now }
     {
         let mut wanted = [false; MAX_LAYERS];
@@ -48,7 +50,8 @@ impl Layers {
     /// Marks what a layer names, if it is marked itself.
     fn mark_used(&self, i: usize, wanted: &mut [bool; MAX_LAYERS])
         requires { i < MAX_LAYERS }
-        ensures { wanted.new ≡ (if at_index wanted.old i then marked self.now wanted.old (used_names (content_at self.now i)) else wanted.old) }
+        ensures { wanted.new ≡ (if at_index wanted.old i
+            then marked self.now wanted.old (used_names (content_at self.now i)) else wanted.old) }
     {
         if !wanted[i] {
             return;

@@ -3,7 +3,10 @@ ghost use Rattle.std.specs.Prelude.{◌≡◌, false, ◌&&◌, not, map, None, 
 ghost use Rattle.std.specs.List.{list_any};
 ghost use Rattle.std.specs.Option.{option_map};
 ghost use Rattle.overlay_terms.specs.Trees.{leaves};
-ghost use Rattle.overlay_terms.specs.Commands.{applied, index_of, is_crowded, is_derived, refusal_of, refusal_of_define, refusal_of_put, refusal_of_remove, refusal_of_use, refusal_of_uses, stands, stands_as_base, stands_as_derived, uses, with_content};
+ghost use Rattle.overlay_terms.specs.Commands.{applied, index_of, is_crowded, is_derived, refusal_of};
+ghost use Rattle.overlay_terms.specs.Commands.{refusal_of_define, refusal_of_put, refusal_of_remove};
+ghost use Rattle.overlay_terms.specs.Commands.{refusal_of_use, refusal_of_uses, stands};
+ghost use Rattle.overlay_terms.specs.Commands.{stands_as_base, stands_as_derived, uses, with_content};
 ghost use Rattle.layer_expr.specs.Expr.{tree};
 ghost use Rattle.layer_book.specs.Command.{command};
 ghost use Rattle.layer_book.specs.Fault.{fault_of};
@@ -119,7 +122,9 @@ impl<'a> Sketch<'a> {
 
     /// The layers with an entry in the place of each that has its name.
     fn replaced(&self, name: &Name, entry: Entry<'a>) -> Sketch<'a>
-        ensures { sketched result ≡ map (λ layer. if bytes_eq layer.name name.now then entry_layer entry.entry else layer) (sketched self.now) }
+        ensures { sketched result
+            ≡ map (λ layer. if bytes_eq layer.name name.now then entry_layer entry.entry else layer)
+            (sketched self.now) }
     {
         let mut entries = ArrayVec::new();
         for old in self.entries.as_slice() {
@@ -181,7 +186,8 @@ impl<'a> Sketch<'a> {
 
     /// The first reason against the names below a node, from left to right.
     fn refusal_of_uses(&self, defined: &Name, node: &Node) -> Option<LayerFault>
-        ensures { result ≡ option_map fault_of (refusal_of_uses (sketched self.now) defined.now (leaves (tree node.now))) }
+        ensures { result ≡ option_map fault_of
+            (refusal_of_uses (sketched self.now) defined.now (leaves (tree node.now))) }
     {
         match node {
             Node::Leaf(used) => self.refusal_of_use(defined, used),
@@ -273,7 +279,9 @@ fn is_any_named(entries: &[Entry], name: &Name) -> bool
 }
 
 fn is_any_base(entries: &[Entry], name: &Name) -> bool
-    ensures { result ≡ list_any (λ entry. bytes_eq (entry_layer entry).name name.now && not (is_derived (entry_layer entry).content)) entries.now }
+    ensures { result ≡ list_any
+        (λ entry. bytes_eq (entry_layer entry).name name.now
+        && not (is_derived (entry_layer entry).content)) entries.now }
 {
     entries
         .iter()
@@ -281,7 +289,8 @@ fn is_any_base(entries: &[Entry], name: &Name) -> bool
 }
 
 fn is_any_derived(entries: &[Entry], name: &Name) -> bool
-    ensures { result ≡ list_any (λ entry. bytes_eq (entry_layer entry).name name.now && is_derived (entry_layer entry).content) entries.now }
+    ensures { result ≡ list_any
+        (λ entry. bytes_eq (entry_layer entry).name name.now && is_derived (entry_layer entry).content) entries.now }
 {
     entries
         .iter()

@@ -103,7 +103,8 @@ impl Layers {
     ) -> Result<[bool; COLUMNS], AllocError>
         requires before { stands_as_derived self.now name.now ≡ true }
         requires afterwards { stands_as_derived after.now name.now ≡ true }
-        ensures { IfOk result (λ row. row ≡ map (λ k. not (same_input (input_of after.now name.now k) (input_of self.now name.now k))) columns) }
+        ensures { IfOk result (λ row. row
+            ≡ map (λ k. not (same_input (input_of after.now name.now k) (input_of self.now name.now k))) columns) }
     {
         let old_steps = self.steps_in_reach(alloc, name)?;
         let new_steps = after.steps_in_reach(alloc, name)?;

@@ -19,7 +19,8 @@ impl Layers {
         alloc: Global,
         wanted: &[bool; MAX_LAYERS],
     ) -> Result<Vec<&'a BaseLayer>, AllocError>
-        ensures { IfOk result (λ bases. map (λ b. b.now) bases.items ≡ map (λ b. b.1) (filter_map base_of (marked_layers wanted.now self.now))) }
+        ensures { IfOk result (λ bases. map (λ b. b.now) bases.items
+            ≡ map (λ b. b.1) (filter_map base_of (marked_layers wanted.now self.now))) }
     {
         let mut bases = Vec::new(alloc);
         for i in 0..self.len() {
@@ -58,7 +59,8 @@ impl Layers {
 
 /// Adds a layer, if it is a base layer.
 fn add_base<'a>(bases: &mut Vec<&'a BaseLayer>, layer: &'a Layer) -> Result<(), AllocError>
-    ensures { OnOk result (map (λ b. b.now) bases.new.items ≡ map (λ b. b.now) bases.old.items ++ rings_in (content layer.now)) }
+    ensures { OnOk result (map (λ b. b.now) bases.new.items
+        ≡ map (λ b. b.now) bases.old.items ++ rings_in (content layer.now)) }
 {
     if let Layer::Base(rings) = layer {
         bases.push(rings)?;

@@ -1,6 +1,7 @@
 -- The grammar of expressions, by what is written: names, brackets, and operations that group to the left, `&` tighter
 -- than the others.
-use Rattle.std.specs.Prelude.{◌≡◌, ℕ, ◌+◌, ◌<◌, ◌≤◌, ◌⊎◌, Bool, false, true, not, IsTrue, ◌&&◌, List, [], ◌∷◌, ◌++◌, map, length, take, slice_get, All, Option, Some, None, nat_le}
+use Rattle.std.specs.Prelude.{◌≡◌, ℕ, ◌+◌, ◌<◌, ◌≤◌, ◌⊎◌, Bool, false, true, not, IsTrue, ◌&&◌, List, []}
+use Rattle.std.specs.Prelude.{◌∷◌, ◌++◌, map, length, take, slice_get, All, Option, Some, None, nat_le}
 use Rattle.overlay_terms.specs.Trees.{Operation, intersection, union, difference, sym_difference, Tree, leaf, combine}
 use Rattle.layer_expr.specs.declared.fault.ExprFault.{ExprFault}
 use Rattle.layer_expr.specs.declared.fault.ExprFault.TheVariants.{ExprSyntax, ExprTooLong, BadName}
@@ -22,8 +23,8 @@ abbrev pub is_intersection : Operation → Bool
 is_intersection intersection = true
 is_intersection other = false
 
--- atom := name | '(' sum ')'; product := atom ('&' atom)*; sum := product (('|' | '-' | '^') product)*. How loosely what is
--- written binds: an atom, a product of at least two atoms, a sum of at least two products
+-- atom := name | '(' sum ')'; product := atom ('&' atom)*; sum := product (('|' | '-' | '^') product)*. How loosely
+-- what is written binds: an atom, a product of at least two atoms, a sum of at least two products
 pub data Level : Type 0 where
   atom : Level
   product : Level
@@ -48,8 +49,8 @@ abbrev pub is_sum : Level → Bool
 is_sum sum = true
 is_sum other = false
 
--- whether what is written groups as the grammar says: the left operand of `&` is no sum and the right one an atom; the right
--- operand of another operator is no sum
+-- whether what is written groups as the grammar says: the left operand of `&` is no sum and the right one an atom; the
+-- right operand of another operator is no sum
 abbrev pub is_grouped : Written → Bool
 is_grouped (a_name n) = true
 is_grouped (in_brackets w) = is_grouped w
@@ -100,8 +101,8 @@ pub record IsGoodSoFar (tokens : List Token) : Type 0 where
   pub few : length tokens ≤ tokens_max
   pub names : All (λ token. IsTrue (is_name_short token)) tokens
 
--- the token at an index is the first at fault: it is one too many; it cannot stand there; it is too long a name. At the end of
--- the tokens the expression is not whole, and the fault is reported at the length of the bytes
+-- the token at an index is the first at fault: it is one too many; it cannot come there; it is too long a name. At the
+-- end of the tokens the expression is not whole, and the fault is reported at the length of the bytes
 abbrev pub IsFaultAt : List ℕ → ℕ → Option Token → ExprFault → Type 0
 IsFaultAt bytes i None fault = ¬ (IsSum (tokens_of bytes)) × (fault ≡ ExprSyntax (length bytes))
 IsFaultAt bytes i (Some token) fault =

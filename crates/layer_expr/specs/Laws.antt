@@ -17,7 +17,8 @@ ReadIsExpression = (bytes : List ℕ) (tree : Tree (List ℕ)) → ReadsAs bytes
 -- the text that is written has no more tokens than any other that reads as the same tree
 abbrev pub FewestTokens : Type 0
 FewestTokens =
-    (bytes : List ℕ) (tree : Tree (List ℕ)) → ReadsAs bytes tree → length (tokens_of (expression_text tree)) ≤ length (tokens_of bytes)
+    (bytes : List ℕ) (tree : Tree (List ℕ)) → ReadsAs bytes tree
+    → length (tokens_of (expression_text tree)) ≤ length (tokens_of bytes)
 
 -- a text has one tree
 abbrev pub OneTree : Type 0

@@ -42,7 +42,8 @@ state_of reader = within_state (outer_trees reader.outer.items) reader.within
 -- what waits after an operator, whatever is open round it
 abbrev pub IsBehind : Operation → Option Left → Node → Within → Type 0
 IsBehind o left operand within =
-    (outer : List (pure.Frame (Tree (List ℕ)))) → within_state outer within ≡ behind tree_making (operation o) outer (left_tree left) (tree operand)
+    (outer : List (pure.Frame (Tree (List ℕ))))
+    → within_state outer within ≡ behind tree_making (operation o) outer (left_tree left) (tree operand)
 
 -- whether a token that is a name is a name of a layer
 abbrev pub is_good : Kind → Bool
@@ -52,11 +53,11 @@ is_good open_bracket = true
 is_good close_bracket = true
 is_good stray = true
 
--- a reader after one more token of a kind, which can stand there and, if it is a name, is a name of a layer
+-- a reader after one more token of a kind, which can come there and, if it is a name, is a name of a layer
 abbrev pub IsNext : Kind → Reader → Reader → Type 0
 IsNext kind old new = (moved tree_making kind (state_of old) ≡ Some (state_of new)) × IsTrue (is_good kind)
 
--- memory ran out, or the token cannot stand there, or it could but is no name of a layer
+-- memory ran out, or the token cannot come there, or it could but is no name of a layer
 abbrev pub IsStepFault : Kind → ℕ → pure.ReaderState (Tree (List ℕ)) → ExprFault → Type 0
 IsStepFault kind at s fault =
     (fault ≡ OutOfMemory)

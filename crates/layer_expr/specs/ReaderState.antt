@@ -22,7 +22,8 @@ tree_making = record { of_name = leaf; of_brackets = λ t. t; of_join = combine 
 pub data Frame (A : Type 0) : Type 0 where
   frame : Option (Operation × A) → Option A → Frame A
 
--- the frames outside the open brackets, the innermost first, and what waits within: an operand comes next, or it was read
+-- the frames outside the open brackets, the innermost first, and what waits within: an
+-- operand comes next, or it was read
 pub data ReaderState (A : Type 0) : Type 0 where
   awaits : List (Frame A) → Option (Operation × A) → Option A → ReaderState A
   holds : List (Frame A) → Option (Operation × A) → A → ReaderState A
@@ -48,7 +49,7 @@ abbrev pub closed : {A : Type 0} → Making A → List (Frame A) → A → Optio
 closed m [] a = None
 closed m (frame left factor ∷ outer) a = Some (holds outer left (times m factor (m.of_brackets a)))
 
--- after one more token, if it can stand there
+-- after one more token, if it can come there
 abbrev pub moved : {A : Type 0} → Making A → Kind → ReaderState A → Option (ReaderState A)
 moved m (name n) (awaits outer left factor) = Some (holds outer left (times m factor (m.of_name n)))
 moved m (operator o) (awaits outer left factor) = None

@@ -1,10 +1,12 @@
--- The one text that is written for an expression: one space on each side of an operator, and brackets only where the tree
--- needs them.
+-- The one text that is written for an expression: one space on each side of an operator, and brackets
+-- only where the tree needs them.
 use Rattle.std.specs.Prelude.{ℕ, ◌≤◌, Bool, not, ◌&&◌, IsTrue, List, ◌++◌, length, codes, if◌then◌else◌}
 use Rattle.std.specs.List.{list_all}
-use Rattle.overlay_terms.specs.Trees.{Operation, intersection, union, difference, sym_difference, Tree, leaf, combine, leaves}
+use Rattle.overlay_terms.specs.Trees.{Operation, intersection, union, difference}
+use Rattle.overlay_terms.specs.Trees.{sym_difference, Tree, leaf, combine, leaves}
 use Rattle.layer_expr.specs.Name.{is_name}
-use Rattle.layer_expr.specs.Grammar.{Written, a_name, in_brackets, joined, Level, is_intersection, level_of, is_atom, is_sum, written_kinds, tokens_max}
+use Rattle.layer_expr.specs.Grammar.{Written, a_name, in_brackets, joined, Level, is_intersection}
+use Rattle.layer_expr.specs.Grammar.{level_of, is_atom, is_sum, written_kinds, tokens_max}
 
 -- what is written, in brackets where they are needed
 abbrev pub bracketed_if : Bool → Written → Written

@@ -1,9 +1,12 @@
 -- Layers in reach as steps: each name replaced by a number, and what the last layer is by Boolean evaluation.
-use Rattle.std.specs.Prelude.{◌≡◌, ℕ, ◌+◌, ◌≤◌, nat_lt, Bool, true, false, not, ◌&&◌, ◌||◌, ◌==◌, IsTrue, List, [], ◌∷◌, ◌++◌, map, length, Option, Some, None, is_some, option_copied}
+use Rattle.std.specs.Prelude.{◌≡◌, ℕ, ◌+◌, ◌≤◌, nat_lt, Bool, true, false, not, ◌&&◌, ◌||◌, ◌==◌, IsTrue}
+use Rattle.std.specs.Prelude.{List, [], ◌∷◌, ◌++◌, map, length, Option, Some, None, is_some, option_copied}
 use Rattle.std.specs.Borrow.{Bor}
 use Rattle.std.specs.List.{list_all, filter_map, enumerate_from}
-use Rattle.overlay_terms.specs.Trees.{Tree, truth, leaves, relabel, Source, base_bit, definition, Steps, steps_value, last_or}
-use Rattle.overlay_terms.specs.Layers.{layers_max, Name, Content, base, derived, Layer, named, source_of, base_of, derived_of, layers_in_reach, steps_in_reach}
+use Rattle.overlay_terms.specs.Trees.{Tree, truth, leaves, relabel, Source, base_bit}
+use Rattle.overlay_terms.specs.Trees.{definition, Steps, steps_value, last_or}
+use Rattle.overlay_terms.specs.Layers.{layers_max, Name, Content, base, derived, Layer, named}
+use Rattle.overlay_terms.specs.Layers.{source_of, base_of, derived_of, layers_in_reach, steps_in_reach}
 use Rattle.overlay_terms.specs.Orderly.{is_among}
 
 -- a layer in reach: its name, and its expression where it is derived
@@ -32,25 +35,31 @@ base_names layers = filter_map base_name layers
 abbrev pub definitions_of : List Reached → List (Name × Tree Name)
 definitions_of layers = filter_map definition_of layers
 
--- the base layer or the definition that a name stands for, by its number
+-- the base layer or the definition that a name is of, by its number
 abbrev pub source_among : List Reached → Name → Source
 source_among layers name = source_of (base_names layers) (map (λ d. d.0) (definitions_of layers)) name
 
--- the layers in reach as steps: how many base layers, and the expressions in order with each name replaced by its number
+-- the layers in reach as steps: how many base layers, and the expressions in order with
+-- each name replaced by its number
 abbrev pub numbered_steps : List Reached → Steps
 numbered_steps layers =
-    record { bases = length (base_names layers); definitions = map (λ d. relabel (source_among layers) d.1) (definitions_of layers) }
+    record {
+      bases = length (base_names layers);
+      definitions = map (λ d. relabel (source_among layers) d.1) (definitions_of layers);
+    }
 
 -- the names in a layer's expression
 abbrev pub names_in : Option (Tree Name) → List Name
 names_in None = []
 names_in (Some expression) = leaves expression
 
--- layers that come after layers of the given names: each has a name of its own, and its expression names only layers before it
+-- layers that come after layers of the given names: each has a name of its own, and its
+-- expression names only layers before it
 abbrev pub is_ordered_after : List Name → List Reached → Bool
 is_ordered_after known [] = true
 is_ordered_after known (layer ∷ layers) =
-    not (is_among known layer.0) && list_all (is_among known) (names_in layer.1) && is_ordered_after (known ++ layer.0 ∷ []) layers
+    not (is_among known layer.0) && list_all (is_among known) (names_in layer.1)
+    && is_ordered_after (known ++ layer.0 ∷ []) layers
 
 -- the names differ, and each expression names earlier layers alone
 abbrev pub IsOrdered : List Reached → Type 0
@@ -60,10 +69,12 @@ IsOrdered layers = IsTrue (is_ordered_after [] layers)
 abbrev pub ReachesAll : List Reached → Type 0
 ReachesAll layers = IsTrue (last_or false (map (λ layer. is_some layer.1) layers) || length layers == 1)
 
--- what each layer is, in order, after layers whose values are known: a base layer takes the next bit, and an expression is evaluated over the layers before it
+-- what each layer is, in order, after layers whose values are known: a base layer takes the next bit, and an expression
+-- is evaluated over the layers before it
 abbrev pub values_after : ℕ → List (Name × Bool) → (ℕ → Bool) → List Reached → List (Name × Bool)
 values_after next known bits [] = known
-values_after next known bits ((name, None) ∷ layers) = values_after (next + 1) (known ++ (name, bits next) ∷ []) bits layers
+values_after next known bits ((name, None) ∷ layers) =
+    values_after (next + 1) (known ++ (name, bits next) ∷ []) bits layers
 values_after next known bits ((name, Some expression) ∷ layers) =
     values_after next (known ++ (name, truth (named false known) expression) ∷ []) bits layers
 
@@ -71,12 +82,12 @@ values_after next known bits ((name, Some expression) ∷ layers) =
 abbrev pub evaluated : List Reached → (ℕ → Bool) → Bool
 evaluated layers bits = last_or false (map (λ entry. entry.1) (values_after 0 [] bits layers))
 
--- whether a leaf stands for one of the base layers, or for a definition before an index
+-- whether a leaf is one of the base layers, or a definition before an index
 abbrev pub stands_before : ℕ → ℕ → Source → Bool
 stands_before bases place (base_bit k) = nat_lt k bases
 stands_before bases place (definition k) = nat_lt k place
 
--- whether each leaf of each definition stands for one of the base layers or for an earlier definition
+-- whether each leaf of each definition is one of the base layers or an earlier definition
 abbrev pub names_earlier : ℕ → ℕ → List (Tree Source) → Bool
 names_earlier bases place definitions =
     list_all (λ d. list_all (stands_before bases d.0) (leaves d.1)) (enumerate_from place definitions)
@@ -97,7 +108,8 @@ reached_of layer = (layer.name, expression_of layer.content) where
 -- the steps of the layers that a layer reaches are its steps in reach
 abbrev pub NumberedAreInReach : Type 0
 NumberedAreInReach =
-    (layers : List Layer) (name : Name) → numbered_steps (map reached_of (layers_in_reach layers name)) ≡ steps_in_reach layers name
+    (layers : List Layer) (name : Name)
+    → numbered_steps (map reached_of (layers_in_reach layers name)) ≡ steps_in_reach layers name
 
 -- the same of any list of layers: base layers are counted, and definitions numbered
 abbrev pub NumberedByContent : Type 0

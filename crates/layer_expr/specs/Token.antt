@@ -28,8 +28,8 @@ sign_kind b =
     else (if b == 40 then open_bracket
     else (if b == 41 then close_bracket else stray)))))
 
--- the tokens of bytes that begin at an offset, where a name may still be going on: a name begins with a letter and is as
--- long as can be
+-- the tokens of bytes that begin at an offset, where a name may still be going on: a name begins with a
+-- letter and is as long as can be
 abbrev pub tokens_after : Bool → ℕ → List ℕ → List Token
 tokens_after in_name at [] = []
 tokens_after in_name at (b ∷ bs) =

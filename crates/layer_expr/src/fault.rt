@@ -12,7 +12,7 @@ use thiserror::Error;
 #[derive(Clone, Copy, Debug, PartialEq, Eq, Error)]
 #[error("{}", self.text())]
 pub enum ExprFault {
-    /// The offset of the token that cannot stand there, or the length of the text.
+    /// The offset of the token that cannot come there, or the length of the text.
     ExprSyntax(usize),
     ExprTooLong,
     BadName,

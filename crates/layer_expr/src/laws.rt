@@ -1,5 +1,6 @@
 //! Laws of reading and writing expressions.
-ghost use Rattle.layer_expr.specs.Laws.{WrittenReadsBack, ReadIsExpression, FewestTokens, OneTree, OneFault, NeverBoth, ReadOrRefused};
+ghost use Rattle.layer_expr.specs.Laws.{WrittenReadsBack, ReadIsExpression, FewestTokens};
+ghost use Rattle.layer_expr.specs.Laws.{OneTree, OneFault, NeverBoth, ReadOrRefused};
 
 /// What is written for an expression reads back as the same tree.
 pub fn written_reads_back()

@@ -1,5 +1,6 @@
 //! The tokens of an expression, found one after another.
-ghost use Rattle.std.specs.Prelude.{◌≡◌, ℕ, ◌+◌, ◌<◌, ◌≤◌, [], ◌∷◌, length, drop, false, IfNone, IfSome, slice_index, take_while};
+ghost use Rattle.std.specs.Prelude.{◌≡◌, ℕ, ◌+◌, ◌<◌, ◌≤◌, [], ◌∷◌};
+ghost use Rattle.std.specs.Prelude.{length, drop, false, IfNone, IfSome, slice_index, take_while};
 ghost use Rattle.overlay_terms.specs.Blank.{is_blank};
 ghost use Rattle.layer_expr.specs.Token.{sign_kind, tokens_after};
 ghost use Rattle.layer_expr.specs.Name.{is_name_byte};
@@ -37,8 +38,11 @@ pub struct Lexeme {
 pub fn next_lexeme(bytes: &[u8], from: usize) -> Option<Lexeme>
     requires { from ≤ length bytes.now }
     ensures none { IfNone result (tokens_after false from (drop from bytes.now) ≡ []) }
-    ensures some { IfSome result (λ lexeme. tokens_after false from (drop from bytes.now) ≡ token_in bytes.now lexeme ∷ tokens_after false lexeme.end (drop lexeme.end bytes.now)) }
-    ensures within { IfSome result (λ lexeme. (lexeme.at < lexeme.end) × (from < lexeme.end) × (lexeme.end ≤ length bytes.now)) }
+    ensures some { IfSome result
+        (λ lexeme. tokens_after false from (drop from bytes.now)
+        ≡ token_in bytes.now lexeme ∷ tokens_after false lexeme.end (drop lexeme.end bytes.now)) }
+    ensures within { IfSome result (λ lexeme. (lexeme.at < lexeme.end) × (from < lexeme.end)
+        × (lexeme.end ≤ length bytes.now)) }
 {
     let at = skip_blanks(bytes, from);
     if at == bytes.len() {

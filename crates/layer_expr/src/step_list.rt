@@ -1,5 +1,6 @@
 //! Layers in reach as a list of definitions, with numbers for names.
-ghost use Rattle.std.specs.Prelude.{◌≡◌, ℕ, Bool, false, ◌≤◌, ◌<◌, length, filter, position, is_none, is_some, not, bytes_eq, take_while, IfOk, IfSome, map};
+ghost use Rattle.std.specs.Prelude.{◌≡◌, ℕ, Bool, false, ◌≤◌, ◌<◌, length, filter, position};
+ghost use Rattle.std.specs.Prelude.{is_none, is_some, not, bytes_eq, take_while, IfOk, IfSome, map};
 ghost use Rattle.std.specs.Cmp.Lexicographic.{pointwise};
 ghost use Rattle.overlay_terms.specs.Layers.{layers_max};
 ghost use Rattle.overlay_terms.specs.SameInput.{same_definition, same_steps};
@@ -7,7 +8,8 @@ ghost use Rattle.overlay_terms.specs.Trees.{relabel, steps_value, mask_bits};
 ghost use Rattle.layer_expr.specs.Expr.{tree};
 ghost use Rattle.layer_expr.specs.SameSteps.{SameAreEqual};
 ghost use Rattle.layer_expr.specs.Steps.{source, step_tree};
-ghost use Rattle.layer_expr.specs.StepList.{reached, source_among, numbered_steps, evaluated, IsOrdered, ReachesAll, NumberedByContent, NumberedAreInReach, StepsEvaluate};
+ghost use Rattle.layer_expr.specs.StepList.{reached, source_among, numbered_steps, evaluated, IsOrdered};
+ghost use Rattle.layer_expr.specs.StepList.{ReachesAll, NumberedByContent, NumberedAreInReach, StepsEvaluate};
 
 use crate::expr::{Expr, Node};
 use crate::name::Name;
@@ -72,7 +74,8 @@ impl StepList {
         ensures value { result ≡ steps_value self.now (mask_bits mask) }
 
         // Only the bits of as many layers as there may be count.
-        ensures known { (bits : ℕ → Bool) → ((k : ℕ) → k < layers_max → mask_bits mask k ≡ bits k) → result ≡ steps_value self.now bits }
+        ensures known { (bits : ℕ → Bool) → ((k : ℕ) → k < layers_max → mask_bits mask k ≡ bits k)
+            → result ≡ steps_value self.now bits }
         ensures nothing { mask ≡ 0 → result ≡ false }
     {
         let last_base = self.bases.saturating_sub(1);
@@ -136,7 +139,8 @@ fn definitions_among(
     layers: &[(&Name, Option<&Expr>)],
 ) -> Result<Vec<StepNode>, AllocError>
     requires { length layers.now ≤ layers_max }
-    ensures { IfOk result (λ definitions. map step_tree definitions.items ≡ (numbered_steps (reached layers.now)).definitions) }
+    ensures { IfOk result (λ definitions. map step_tree definitions.items
+        ≡ (numbered_steps (reached layers.now)).definitions) }
 {
     let mut definitions = Vec::new(alloc);
     for layer in layers {
@@ -170,7 +174,8 @@ pub(crate) fn numbered(
 /// Whether definitions are the expressions among the layers, in order, with numbers for names.
 fn are_numbered(definitions: &[StepNode], layers: &[(&Name, Option<&Expr>)]) -> bool
     requires { length layers.now ≤ layers_max }
-    ensures { result ≡ pointwise same_definition (map step_tree definitions.now) (numbered_steps (reached layers.now)).definitions }
+    ensures { result ≡ pointwise same_definition (map step_tree definitions.now)
+        (numbered_steps (reached layers.now)).definitions }
 {
     let mut next = 0;
     for layer in layers {
@@ -191,7 +196,8 @@ pub(crate) fn is_numbered(
     layers: &[(&Name, Option<&Expr>)],
 ) -> bool
     requires { length layers.now ≤ layers_max }
-    ensures { result ≡ same_definition (step_tree definition.now) (relabel (source_among (reached layers.now)) (tree node.now)) }
+    ensures { result ≡ same_definition (step_tree definition.now)
+        (relabel (source_among (reached layers.now)) (tree node.now)) }
 {
     match (definition, node) {
         (StepNode::Leaf(source), Node::Leaf(name)) => *source == source_named(name, layers),
@@ -202,7 +208,7 @@ pub(crate) fn is_numbered(
     }
 }
 
-/// What a name stands for among layers in reach.
+/// What a name is of among layers in reach: which base layer, or which definition.
 fn source_named(name: &Name, layers: &[(&Name, Option<&Expr>)]) -> Source
     requires { length layers.now ≤ layers_max }
     ensures { source result ≡ source_among (reached layers.now) name.now }
@@ -230,7 +236,8 @@ fn base_number(name: &Name, layers: &[(&Name, Option<&Expr>)]) -> Option<usize>
 /// How many definitions come before the one with a name.
 fn definition_number(name: &Name, layers: &[(&Name, Option<&Expr>)]) -> usize
     ensures place { result
-        ≡ length (take_while (λ layer. not (bytes_eq layer.0.now name.now)) (filter (λ layer. is_some layer.1) layers.now)) }
+        ≡ length (take_while (λ layer. not (bytes_eq layer.0.now name.now))
+        (filter (λ layer. is_some layer.1) layers.now)) }
     ensures few { result ≤ length layers.now }
 {
     layers

@@ -15,7 +15,7 @@ pub struct BaseBit {
     pub ghost small: { number < layers_max },
 }
 
-/// What a leaf of a definition stands for.
+/// What a leaf of a definition is.
 #[derive(Clone, Copy, Debug, PartialEq, Eq)]
 pub enum Source {
     Base(BaseBit),

@@ -2,7 +2,8 @@
 ghost use Rattle.std.specs.Prelude.{◌≡◌, ◌++◌, Bool, not, IfOk, OnOk, if◌then◌else◌, ◌&&◌};
 ghost use Rattle.layer_expr.specs.Expr.{operation, tree};
 ghost use Rattle.layer_expr.specs.Grammar.{is_atom, is_intersection, is_sum, level_of};
-ghost use Rattle.layer_expr.specs.Spelling.{bracketed_if, canonical, expression_text, operation_text, written_text, left_needs_brackets, right_needs_brackets};
+ghost use Rattle.layer_expr.specs.Spelling.{bracketed_if, canonical, expression_text, operation_text};
+ghost use Rattle.layer_expr.specs.Spelling.{written_text, left_needs_brackets, right_needs_brackets};
 
 use crate::expr::{Expr, Node, Operation};
 use std::alloc::{AllocError, Global};
@@ -18,7 +19,8 @@ pub fn write_expr(alloc: Global, expression: &Expr) -> Result<Vec<u8>, AllocErro
 
 /// Writes an expression after a text, in brackets if it needs them there.
 fn write_node(node: &Node, in_brackets: bool, text: &mut Vec<u8>) -> Result<(), AllocError>
-    ensures { OnOk result (text.new.items ≡ text.old.items ++ written_text (bracketed_if in_brackets (canonical (tree node.now)))) }
+    ensures { OnOk result (text.new.items
+        ≡ text.old.items ++ written_text (bracketed_if in_brackets (canonical (tree node.now)))) }
 {
     if in_brackets {
         text.extend_from_slice(b"(")?;

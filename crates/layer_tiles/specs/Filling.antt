@@ -12,9 +12,11 @@ finished_as name column tile = record { name = name; column = column; tile = til
 
 -- each of some tiles is before that of a layer and column, whatever it is
 abbrev pub AreBefore : List Layer → List Finished → Name → ℕ → Type 0
-AreBefore layers tiles name column = All (λ f. IsTrue (is_tile_before layers f (finished_as name column oversize))) tiles
+AreBefore layers tiles name column =
+    All (λ f. IsTrue (is_tile_before layers f (finished_as name column oversize))) tiles
 
--- a tile that may come after some: of a derived layer and of a column that there is, of its form, and each of them before it
+-- a tile that may come after some: of a derived layer and of a column that there is, of its
+-- form, and each of them before it
 pub record IsNextTile (layers : List Layer) (tiles : List Finished) (f : Finished) : Type 0 where
   pub derived_layer : IsTrue (stands_as_derived layers f.name)
   pub known_column : f.column < column_count

@@ -1,5 +1,6 @@
 -- Finished tiles as a table: a row for each layer, with a slot for each column.
-use Rattle.std.specs.Prelude.{◌≡◌, refl, ℕ, ◌+◌, IsTrue, List, [], ◌∷◌, ◌++◌, map, set, Option, Some, None, length, if◌then◌else◌}
+use Rattle.std.specs.Prelude.{◌≡◌, ℕ, ◌+◌, [], ◌∷◌, ◌++◌, if◌then◌else◌}
+use Rattle.std.specs.Prelude.{refl, IsTrue, List, map, set, Option, Some, None, length}
 use Rattle.std.specs.List.{AllPairs}
 use Rattle.std.specs.Option.{option_map}
 use Rattle.std.specs.Arc.{arc_value}
@@ -101,7 +102,8 @@ tiles_in table = tiles_of table.layers (placed_rows table.rows)
 abbrev pub laid : Tabled → Laid
 laid table = laid_in table.layers (placed_rows table.rows)
 
--- layers as commands leave them, and tiles of derived layers among them, each of its form, in the order of layers and columns
+-- layers as commands leave them, and tiles of derived layers among them, each of its form, in
+-- the order of layers and columns
 pub record IsLaid (laid : Laid) : Type 0 where
   pub book : IsBook laid.layers
   pub fit : AreFitting laid.layers laid.tiles

@@ -15,4 +15,5 @@ AreDistinct tiles = AllPairs (λ a b. is_of b.name b.column a ≡ false) tiles
 
 -- each tile has its form
 abbrev pub AreFormed : List Finished → Type 0
-AreFormed tiles = (name : Name) (k : ℕ) (tile : terms.Tile) → tile_at tiles name k ≡ Some tile → IsTrue (is_formed tile k)
+AreFormed tiles =
+    (name : Name) (k : ℕ) (tile : terms.Tile) → tile_at tiles name k ≡ Some tile → IsTrue (is_formed tile k)

@@ -65,7 +65,8 @@ impl Table {
         requires formed { IsTrue (is_formed (tile_of tile) column) }
         requires behind { AreBefore self.now.layers (tiles_in self.now) name.now column }
         ensures layers { IfOk result (λ next. next.layers ≡ self.now.layers) }
-        ensures tiles { IfOk result (λ next. tiles_in next ≡ tiles_in self.now ++ finished_as name.now column (tile_of tile) ∷ []) }
+        ensures tiles { IfOk result
+            (λ next. tiles_in next ≡ tiles_in self.now ++ finished_as name.now column (tile_of tile) ∷ []) }
         ensures valid { IfOk result (λ next. IsLaid (laid next)) }
     {
         // A table's tiles are in order by its type: the clause rests on that.
@@ -85,8 +86,8 @@ impl Table {
         self.with_row(alloc, layers, bare)
     }
 
-    /// The finished tiles in order, each under the name of its layer and the number of its column, for one owner: all are
-    /// copied.
+    /// The finished tiles in order, each under the name of its layer and the number of its
+    /// column, for one owner: all are copied.
     pub fn all_tiles(&self, alloc: Global) -> Result<Vec<(Name, u8, Tile)>, AllocError>
         ensures { IfOk result (λ list. map finished_of list.items ≡ tiles_in self.now) }
     {
@@ -108,7 +109,8 @@ fn add_row(
     row: &TileRow,
 ) -> Result<(), AllocError>
     requires { length row.now ≡ column_count }
-    ensures { OnOk result (map finished_of list.new.items ≡ map finished_of list.old.items ++ row_tiles name.now 0 (places_in row.now)) }
+    ensures { OnOk result (map finished_of list.new.items
+        ≡ map finished_of list.old.items ++ row_tiles name.now 0 (places_in row.now)) }
 {
     for number in 0..COLUMNS {
         add_tile(alloc, list, name, row, number)?;
@@ -125,7 +127,8 @@ fn add_tile(
     number: usize,
 ) -> Result<(), AllocError>
     requires { number < column_count }
-    ensures { OnOk result (map finished_of list.new.items ≡ map finished_of list.old.items ++ row_tiles name.now number (get_or (places_in row.now) number None ∷ [])) }
+    ensures { OnOk result (map finished_of list.new.items
+        ≡ map finished_of list.old.items ++ row_tiles name.now number (get_or (places_in row.now) number None ∷ [])) }
 {
     let Some(tile) = row.tile_at(number) else {
         return Ok(());

@@ -1,5 +1,6 @@
 //! Layers with their finished tiles: a row for each layer.
-ghost use Rattle.std.specs.Prelude.{◌≡◌, ◌<◌, ◌&&◌, ◌==◌, true, false, None, Some, [], bytes_eq, get_or, length, map, replicate, set, slice_get, unwrap_or, IfOk, IfSome, IsTrue, if◌then◌else◌};
+ghost use Rattle.std.specs.Prelude.{◌≡◌, ◌<◌, ◌&&◌, ◌==◌, true, false, None, Some, [], bytes_eq, get_or, length};
+ghost use Rattle.std.specs.Prelude.{map, replicate, set, slice_get, unwrap_or, IfOk, IfSome, IsTrue, if◌then◌else◌};
 ghost use Rattle.std.specs.Option.{option_map};
 ghost use Rattle.overlay_terms.specs.Column.{column_count};
 ghost use Rattle.overlay_terms.specs.Layers.{Name};
@@ -70,7 +71,9 @@ impl Table {
     /// The row of the layer at an index, counted from 0.
     fn row(&self, place: usize) -> Option<&TileRow>
         ensures value { option_map (λ row. row.now) result ≡ slice_get self.now.rows place }
-        ensures places { option_map (λ row. places_in row.now) result ≡ option_map (λ (layer : terms.Layer). row_by (tile_at (tiles_in self.now) layer.name)) (slice_get self.now.layers place) }
+        ensures places { option_map (λ row. places_in row.now) result
+            ≡ option_map (λ (layer : terms.Layer). row_by (tile_at (tiles_in self.now) layer.name))
+            (slice_get self.now.layers place) }
     {
         match self.rows.get(place) {
             Some(row) => Some(row),
@@ -80,9 +83,11 @@ impl Table {
 
     /// The layer at an index, counted from 0, with its name and its row of tiles.
     pub fn at(&self, place: usize) -> Option<(&Name, &Layer, &TileRow)>
-        ensures layer { option_map (λ entry. record { name = entry.0.now; content = content entry.1.now }) result ≡ slice_get self.now.layers place }
+        ensures layer { option_map (λ entry. record { name = entry.0.now; content = content entry.1.now }) result
+            ≡ slice_get self.now.layers place }
         ensures row { option_map (λ entry. entry.2.now) result ≡ slice_get self.now.rows place }
-        ensures places { IfSome result (λ entry. places_in entry.2.now ≡ row_by (tile_at (tiles_in self.now) entry.0.now)) }
+        ensures places { IfSome result
+            (λ entry. places_in entry.2.now ≡ row_by (tile_at (tiles_in self.now) entry.0.now)) }
     {
         match self.row(place) {
             Some(row) => match self.layers().at(place) {
@@ -108,7 +113,8 @@ impl Table {
     pub fn after(&self, alloc: Global, change: &Command) -> Result<Table, AllocError>
         requires { refusal_of self.now.layers (command change.now) ≡ None }
         ensures layers { IfOk result (λ next. next.layers ≡ applied self.now.layers (command change.now)) }
-        ensures tiles { IfOk result (λ next. (name : Name) (k : _) → tile_at (tiles_in next) name k ≡ left_at (laid self.now) (command change.now) name k) }
+        ensures tiles { IfOk result (λ next. (name : Name) (k : _)
+            → tile_at (tiles_in next) name k ≡ left_at (laid self.now) (command change.now) name k) }
         ensures valid { IfOk result (λ table. IsLaid (laid table)) }
     {
         let layers = self.layers().applied(alloc, change)?;
@@ -130,7 +136,8 @@ impl Table {
     ) -> Result<Vec<TileRow>, AllocError>
         requires accepted { refusal_of self.now.layers (command change.now) ≡ None }
         requires made { after.now ≡ applied self.now.layers (command change.now) }
-        ensures { IfOk result (λ rows. placed_rows rows.items ≡ rows_by (left_at (laid self.now) (command change.now)) after.now) }
+        ensures { IfOk result (λ rows. placed_rows rows.items
+            ≡ rows_by (left_at (laid self.now) (command change.now)) after.now) }
     {
         let touched = self.layers().touched_rows(alloc, change, after)?;
         let marks = touched.as_slice();
@@ -145,8 +152,8 @@ impl Table {
         Ok(rows)
     }
 
-    /// The row of a layer without the tiles that are touched, where the marks of each layer say so. A new layer has none.
-    /// The layer is looked for at a place first, and a row without a tile is handed in.
+    /// The row of a layer without the tiles that are touched, where the marks of each layer say so. A new layer has
+    /// none. The layer is looked for at a place first, and a row without a tile is handed in.
     fn row_left(
         &self,
         alloc: Global,
@@ -156,7 +163,8 @@ impl Table {
         bare: &TileRow,
     ) -> Result<TileRow, AllocError>
         requires { bare.now ≡ replicate column_count None }
-        ensures { (change : commands.Command) → touched.now ≡ touched_rows self.now.layers change → IfOk result (λ row. places_in row ≡ row_by (left_at (laid self.now) change name.now)) }
+        ensures { (change : commands.Command) → touched.now ≡ touched_rows self.now.layers change
+            → IfOk result (λ row. places_in row ≡ row_by (left_at (laid self.now) change name.now)) }
     {
         let place = self.layers().index_near(near, name);
         let marks = marks_at(touched, place);
@@ -177,7 +185,10 @@ impl Table {
         requires derived_layer { stands_as_derived self.now.layers name.now ≡ true }
         requires formed { IsTrue (is_formed (tile_of tile.value) column) }
         ensures layers { IfOk result (λ next. next.layers ≡ self.now.layers) }
-        ensures tiles { IfOk result (λ next. (other : Name) (k : _) → tile_at (tiles_in next) other k ≡ (if bytes_eq name.now other && (column == k) then Some (tile_of tile.value) else tile_at (tiles_in self.now) other k)) }
+        ensures tiles { IfOk result (λ next. (other : Name) (k : _)
+            → tile_at (tiles_in next) other k
+            ≡ (if bytes_eq name.now other && (column == k) then Some (tile_of tile.value)
+            else tile_at (tiles_in self.now) other k)) }
         ensures valid { IfOk result (λ table. IsLaid (laid table)) }
     {
         let place = self.layers.index_of(name);
@@ -237,7 +248,8 @@ fn rows_with(
     tile: Arc<Tile>,
 ) -> Result<Vec<TileRow>, AllocError>
     requires { place < length rows.now }
-    ensures { IfOk result (λ with. with.items ≡ set rows.now place (set (get_or rows.now place []) column (Some (named_pieces tile.value)))) }
+    ensures { IfOk result (λ with. with.items
+        ≡ set rows.now place (set (get_or rows.now place []) column (Some (named_pieces tile.value)))) }
 {
     let mut with = shared_rows(alloc, rows)?;
     let row = rows[place].with(alloc, column, tile)?;

@@ -1,5 +1,6 @@
 //! Rows of finished tiles.
-ghost use Rattle.std.specs.Prelude.{◌≡◌, ◌<◌, ◌&&◌, None, Some, false, not, get_or, is_some, length, map, replicate, set, IfNone, IfOk, IfSome, IsTrue, if◌then◌else◌, List, Option};
+ghost use Rattle.std.specs.Prelude.{◌≡◌, ◌<◌, ◌&&◌, None, Some, false, not, get_or, is_some, length, map};
+ghost use Rattle.std.specs.Prelude.{replicate, set, IfNone, IfOk, IfSome, IsTrue, if◌then◌else◌, List, Option};
 ghost use Rattle.std.specs.List.{list_all};
 ghost use Rattle.std.specs.Option.{option_map};
 ghost use Rattle.overlay_terms.specs.Column.{column_count};
@@ -149,8 +150,8 @@ impl TileRow {
         }
     }
 
-    /// The row without the tiles of the columns that are marked. Where it has none of them it is shared; where it has no
-    /// others, a row without a tile is, which is handed in.
+    /// The row without the tiles of the columns that are marked. Where it has none of them it is shared; where it has
+    /// no others, a row without a tile is, which is handed in.
     pub(crate) fn without(
         &self,
         alloc: Global,
@@ -158,7 +159,8 @@ impl TileRow {
         bare: &TileRow,
     ) -> Result<TileRow, AllocError>
         requires { bare.now ≡ replicate column_count None }
-        ensures { IfOk result (λ row. row ≡ row_by (λ k. if get_or marks.now k false then None else get_or self.now k None)) }
+        ensures { IfOk result (λ row. row
+            ≡ row_by (λ k. if get_or marks.now k false then None else get_or self.now k None)) }
     {
         if self.is_left_whole(marks) {
             return self.share();
@@ -172,7 +174,8 @@ impl TileRow {
 
     /// Whether the row has no tile of the columns that are marked.
     fn is_left_whole(&self, marks: &[bool; COLUMNS]) -> bool
-        ensures { IsTrue result → (k : _) → k < column_count → (if get_or marks.now k false then None else get_or self.now k None) ≡ get_or self.now k None }
+        ensures { IsTrue result → (k : _) → k < column_count
+            → (if get_or marks.now k false then None else get_or self.now k None) ≡ get_or self.now k None }
     {
         if self.missing == COLUMNS {
             return true;
@@ -187,7 +190,8 @@ impl TileRow {
 
     /// Whether the row has no tile of the columns that are not marked.
     fn is_left_bare(&self, marks: &[bool; COLUMNS]) -> bool
-        ensures { IsTrue result → (k : _) → k < column_count → (if get_or marks.now k false then None else get_or self.now k None) ≡ None }
+        ensures { IsTrue result → (k : _) → k < column_count
+            → (if get_or marks.now k false then None else get_or self.now k None) ≡ None }
     {
         for number in 0..COLUMNS {
             if self.has_unmarked(marks, number) {
@@ -261,8 +265,10 @@ impl RowParts {
 
 /// The tile that was put into the column with a number last, if one was.
 fn late_at(late: &[LateTile], number: usize) -> Option<&Arc<Tile>>
-    ensures some { IfSome result (λ tile. (row : List (Option Named)) → length row ≡ column_count → get_or (put_all late.now row) number None ≡ Some (named_pieces tile.now.value)) }
-    ensures none { IfNone result ((row : List (Option Named)) → get_or (put_all late.now row) number None ≡ get_or row number None) }
+    ensures some { IfSome result (λ tile. (row : List (Option Named)) → length row ≡ column_count
+        → get_or (put_all late.now row) number None ≡ Some (named_pieces tile.now.value)) }
+    ensures none { IfNone result ((row : List (Option Named))
+        → get_or (put_all late.now row) number None ≡ get_or row number None) }
 {
     for one in late {
         if usize::from(one.column.number()) == number {
@@ -274,7 +280,8 @@ fn late_at(late: &[LateTile], number: usize) -> Option<&Arc<Tile>>
 
 /// The tile in the slot of the column with a number, if there is one.
 fn slot_at(slots: &[Slot], number: usize) -> Option<&Arc<Tile>>
-    ensures { option_map (λ tile. named_pieces tile.now.value) result ≡ get_or (map tile_in_slot slots.now) number None }
+    ensures { option_map (λ tile. named_pieces tile.now.value) result
+        ≡ get_or (map tile_in_slot slots.now) number None }
 {
     match slots.get(number) {
         Some(slot) => match &slot.tile {
@@ -292,7 +299,8 @@ fn with_late(
     column: Column,
     tile: Arc<Tile>,
 ) -> Result<Vec<LateTile>, AllocError>
-    ensures { IfOk result (λ with. (row : List (Option Named)) → put_all with.items row ≡ set (put_all late.now row) column (Some (named_pieces tile.value))) }
+    ensures { IfOk result (λ with. (row : List (Option Named))
+        → put_all with.items row ≡ set (put_all late.now row) column (Some (named_pieces tile.value))) }
 {
     let mut with = Vec::with_capacity(alloc, late.len() + 1)?;
     with.push(LateTile { column, tile })?;
@@ -320,7 +328,8 @@ fn left_in(
     marks: &[bool; COLUMNS],
 ) -> Result<Vec<Slot>, AllocError>
     requires { length (row_of parts.now) ≡ column_count }
-    ensures { IfOk result (λ left. map tile_in_slot left.items ≡ row_by (λ k. if get_or marks.now k false then None else get_or (row_of parts.now) k None)) }
+    ensures { IfOk result (λ left. map tile_in_slot left.items
+        ≡ row_by (λ k. if get_or marks.now k false then None else get_or (row_of parts.now) k None)) }
 {
     let mut left = Vec::with_capacity(alloc, COLUMNS)?;
     for i in 0..COLUMNS {
@@ -332,7 +341,8 @@ fn left_in(
 
 /// The slot of a tile, or an empty one where it is gone.
 fn slot_of(tile: Option<&Arc<Tile>>, is_gone: bool) -> Result<Slot, AllocError>
-    ensures { IfOk result (λ slot. tile_in_slot slot ≡ (if is_gone then None else option_map (λ kept. named_pieces kept.now.value) tile.entry)) }
+    ensures { IfOk result (λ slot. tile_in_slot slot
+        ≡ (if is_gone then None else option_map (λ kept. named_pieces kept.now.value) tile.entry)) }
 {
     match tile {
         Some(tile) if !is_gone => Ok(Slot {

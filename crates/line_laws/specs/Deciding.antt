@@ -8,8 +8,8 @@ use Rattle.script_form.specs.Replies.{error_line}
 use Rattle.script_form.specs.Transcript.{BookStore, IsTurn, IsTranscript}
 use Rattle.script_form.specs.Turns.{Turn}
 
--- a turn that was answered, of a line or of a batch with its lines: the history that it led to, the batches that its session
--- made, and the reply
+-- a turn that was answered, of a line or of a batch with its lines: the history that it led to, the batches that its
+-- session made, and the reply
 pub record Answered : Type 0 where
   pub turn : Turn
   pub after : History
@@ -61,7 +61,7 @@ TranscriptsHaveTurns stored =
     (session : ℕ) (seen : History) (run : Run) →
     IsRun stored session seen run → AreTurnsOf stored session seen run
 
--- whether a reply refuses a turn for what neither lines nor layers decide: memory ran out, the book closes or is not as far
+-- whether a reply refuses for what neither lines nor layers decide: memory ran out, the book closes or is not as far
 abbrev pub is_from_outside : List ℕ → Bool
 is_from_outside reply =
     bytes_eq reply (error_line OutOfMemory) || (bytes_eq reply (error_line Closing) || bytes_eq reply (error_line Gone))
@@ -95,8 +95,8 @@ pub record GoAlike (all others : List Answered) : Type 0 where
   pub versions : decided_by all ≡ decided_by others
   pub batches : map (λ (one : Answered). one.made) all ≡ map (λ (one : Answered). one.made) others
 
--- two runs of the same turns from versions that are alike, of which the same were refused from outside, go alike; the turns
--- are what the lines ask for, and so the same where the lines are
+-- two runs of the same turns from versions that are alike, of which the same were refused from outside, go alike; the
+-- turns are what the lines ask for, and so the same where the lines are
 abbrev pub LinesDecide : BookStore → BookStore → Type 0
 LinesDecide stored other_stored =
     (session other : ℕ) (seen other_seen : History) (all others : List Answered) →

@@ -18,9 +18,9 @@ impl Tells for Brand {
     ghost told = { λ history. Unit {0} };
 }
 
-/// Where no one else's command was accepted meanwhile, the number and the layers of the version after each line or batch,
-/// and what was made, are fixed by the version that was seen before, by the lines, and by which of them were refused
-/// because memory ran out, the book closed or was not as far.
+/// Where no one else's command was accepted meanwhile, the number and the layers of the version after each line or
+/// batch, and what was made, are fixed by the version that was seen before, by the lines, and by which of them were
+/// refused because memory ran out, the book closed or was not as far.
 pub fn lines_decide<A: Tells, B: Tells>()
     ensures { (there other_there : Bool) → LinesDecide (store_by A.told there) (store_by B.told other_there) }
 {}

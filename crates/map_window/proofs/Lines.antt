@@ -11,10 +11,10 @@ use Rattle.std.proofs.lemmas.List.Elements.{All-nil, All-cons, All-head, All-tai
 use Rattle.overlay_terms.specs.Plane.{WholePoint, Point, Segment, whole_cmp, same_whole, is_closed, ring_segments}
 use Rattle.overlay_terms.proofs.InputNumbers.{lt_true}
 use Rattle.overlay_terms.proofs.PointOrder.{whole_cmp_total}
-use Rattle.map_window.specs.Window.{Box, Side, left_of, right_of, under, over, AreAlike, SeesNothing}
+use Rattle.map_window.specs.Window.{Box, Side, left_of, right_of, under, over, AreAlike}
 use Rattle.map_window.specs.Drawn.{are_less, are_more, share_side, Line, points_of, added, ring_of}
 use Rattle.map_window.proofs.Sides.{differ, differ_self, Aside, mark}
-use Rattle.map_window.proofs.Steps.{step, ring_segments-cons, parted, alike_self, alike_same, alike_through, alike-append, Seen, seen, spared, last_of, line_seen}
+use Rattle.map_window.proofs.Steps.{SeesNothing, step, ring_segments-cons, parted, alike_self, alike_same, alike_through, alike-append, Seen, seen, spared, last_of, line_seen}
 
 -- ---- points that share a side
 -- a whole point lies off a box, on that side

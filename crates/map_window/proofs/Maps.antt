@@ -14,14 +14,14 @@ use Rattle.overlay_terms.proofs.PointOrder.{same_points}
 use Rattle.plane_base.specs.BaseLayer.{ring_fault, first_ring_fault, rings_fault}
 use Rattle.plane_base.specs.declared.fault.PlaneFault.{PlaneFault}
 use Rattle.plane_base.specs.declared.fault.PlaneFault.TheVariants.{RingOpen, RingShort, TooManySegments, OutOfMemory}
-use Rattle.map_window.specs.Window.{Box, IsIn, Side, AreAlike, SeesNothing, StaysWithin, Shows, NothingBeyond, NothingOff, whole_moved, moved}
-use Rattle.map_window.specs.Drawn.{is_framed, lies_in_plane, share_side, is_held, is_short, are_short, are_short_from, into, placed, box_moved, Line, points_of, extended, ring_drawn, rings_drawn}
+use Rattle.map_window.specs.Window.{Box, IsIn, Side, AreAlike, StaysWithin, Shows, NothingBeyond, NothingOff, whole_moved, moved}
+use Rattle.map_window.specs.Drawn.{is_framed, lies_in_plane, share_side, is_held, is_short, are_short, into, placed, box_moved, Line, points_of, extended, ring_drawn, rings_drawn}
 use Rattle.map_window.specs.Fault.{first_long_ring, window_fault, of_plane}
 use Rattle.map_window.specs.declared.fault.WindowFault.TheVariants as window
 use Rattle.map_window.specs.declared.fault.WindowFault.{WindowFault}
 use Rattle.map_window.specs.declared.fault.WindowFault.TheVariants.{CoreOffFrame, FrameOffPlane, StepTooLong, Plane}
 use Rattle.map_window.proofs.Sides.{Aside, differ, mark}
-use Rattle.map_window.proofs.Steps.{step, ring_segments-cons, alike_same, alike-append, nothing-append, nothing_alike, seen, last_of}
+use Rattle.map_window.proofs.Steps.{SeesNothing, step, ring_segments-cons, alike_same, alike-append, nothing-append, nothing_alike, seen, last_of}
 use Rattle.map_window.proofs.Moves.{line_moved}
 use Rattle.map_window.proofs.Lines.{ShareSide, shared_side, either, all_added_alike, first_of, first_added, last_added, length_added, EachPoint, each_added, segments_if, ring_alike, nothing_of_line, closed_is, IsSound, SoundIf, ring_sound}
 use Rattle.map_window.proofs.Frames.{IsFramed, framed, held, lies_still, stays_still, stays_framed, aside, in_moved, across, seen_across, mark_still}
@@ -46,10 +46,10 @@ module _ (core frame : Box) (f : IsFramed core frame) (q : Point) (positive : po
       alike_same (step (into frame a) (into frame b)) (step a b) q (λ i. step (held frame a k.0 i) (held frame b k.1 i))
 
   -- a line of short steps, clamped
-  pub line_clamped : (a : WholePoint) (rest : List WholePoint) → are_short_from core frame a rest ≡ true → AreAlike (ring_segments (map (into frame) (a ∷ rest))) q (ring_segments (a ∷ rest)) q
+  pub line_clamped : (a : WholePoint) (rest : List WholePoint) → are_short core frame (a ∷ rest) ≡ true → AreAlike (ring_segments (map (into frame) (a ∷ rest))) q (ring_segments (a ∷ rest)) q
   line_clamped a [] e = record { inside = refl; edge = refl }
   line_clamped a (b ∷ rest) e =
-      let k = and_parts (is_short core frame a b) (are_short_from core frame b rest) e in
+      let k = and_parts (is_short core frame a b) (are_short core frame (b ∷ rest)) e in
       rw (ring_segments-cons a b rest, ring_segments-cons (into frame a) (into frame b) (map (into frame) rest))
       (alike-append (step (into frame a) (into frame b)) (step a b) (ring_segments (map (into frame) (b ∷ rest))) (ring_segments (b ∷ rest)) q q
       (step_by a b (either (share_side core a b b) (is_held frame a && is_held frame b) k.0)) (line_clamped b rest k.1))

@@ -13,7 +13,7 @@ use Rattle.overlay_terms.specs.Laws.{is_on_any}
 use Rattle.overlay_terms.proofs.ClosedRings.{bit, count-cons, count-append}
 use Rattle.overlay_terms.proofs.InputNumbers.{left_most}
 use Rattle.overlay_terms.proofs.PointOrder.{both_equal, whole_cmp_total}
-use Rattle.map_window.specs.Window.{Side, left_of, right_of, under, over, AreAlike, SeesNothing}
+use Rattle.map_window.specs.Window.{Side, left_of, right_of, under, over, AreAlike}
 use Rattle.map_window.proofs.Sides.{differ, differ_self, differ_turned, Aside, mark, Looks, looks}
 
 -- the segment of a step, if it has one
@@ -58,6 +58,10 @@ pub edge-append : (xs ys : List Segment) (q : Point) → is_on_any (xs ++ ys) q 
 edge-append xs ys q = list_any-append (λ s. is_on s q) xs ys
 
 -- ---- looking alike
+-- of segments nothing is seen from a point
+abbrev pub SeesNothing : List Segment → Point → Type 0
+SeesNothing xs p = AreAlike xs p [] p
+
 pub alike_self : (xs : List Segment) (q : Point) → AreAlike xs q xs q
 alike_self xs q = record { inside = refl; edge = refl }
 

@@ -1,5 +1,7 @@
--- What is drawn of a map: tests of its points, rings clamped into a frame, and rings without the points that nothing of is seen.
-use Rattle.std.specs.Prelude.{ℤ, ◌-ℤ◌, int_lt, int_le, Bool, true, ◌&&◌, ◌||◌, List, [], ◌∷◌, ◌++◌, fold, filter_map, Option, Some, None, if◌then◌else◌}
+-- What is drawn of a map: tests of its points, rings clamped into a frame, and rings without the
+-- points that nothing of is seen.
+use Rattle.std.specs.Prelude.{ℤ, ◌-ℤ◌, ◌&&◌, ◌||◌, [], ◌∷◌, ◌++◌, if◌then◌else◌}
+use Rattle.std.specs.Prelude.{int_lt, int_le, Bool, true, List, fold, filter_map, Option, Some, None}
 use Rattle.overlay_terms.specs.Plane.{WholePoint, is_coordinate}
 use Rattle.map_window.specs.Window.{Box, whole_moved}
 
@@ -42,15 +44,10 @@ is_held box a = (int_le box.low_x a.x && int_le a.x box.high_x) && (int_le box.l
 abbrev pub is_short : Box → Box → WholePoint → WholePoint → Bool
 is_short core frame a b = share_side core a b b || (is_held frame a && is_held frame b)
 
--- the same of all steps from a point on along a line
-abbrev pub are_short_from : Box → Box → WholePoint → List WholePoint → Bool
-are_short_from core frame a [] = true
-are_short_from core frame a (b ∷ rest) = is_short core frame a b && are_short_from core frame b rest
-
 -- whether each step of a ring may be drawn in
 abbrev pub are_short : Box → Box → List WholePoint → Bool
-are_short core frame [] = true
-are_short core frame (a ∷ rest) = are_short_from core frame a rest
+are_short core frame (a ∷ b ∷ rest) = is_short core frame a b && are_short core frame (b ∷ rest)
+are_short core frame points = true
 
 -- the number of a range next to a number
 abbrev pub clamped : ℤ → ℤ → ℤ → ℤ
@@ -66,7 +63,13 @@ placed frame o a = whole_moved o (into frame a)
 
 -- a box seen from an origin
 abbrev pub box_moved : WholePoint → Box → Box
-box_moved o box = record { low_x = box.low_x -ℤ o.x; high_x = box.high_x -ℤ o.x; low_y = box.low_y -ℤ o.y; high_y = box.high_y -ℤ o.y }
+box_moved o box =
+    record {
+      low_x = box.low_x -ℤ o.x;
+      high_x = box.high_x -ℤ o.x;
+      low_y = box.low_y -ℤ o.y;
+      high_y = box.high_y -ℤ o.y;
+    }
 
 -- a line with its last two points apart
 pub record Line : Type 0 where

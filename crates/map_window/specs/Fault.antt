@@ -10,7 +10,8 @@ use Rattle.plane_base.specs.declared.fault.PlaneFault.TheVariants as plane_fault
 use Rattle.map_window.specs.Window.{Box}
 use Rattle.map_window.specs.Drawn.{is_framed, lies_in_plane, are_short}
 use Rattle.map_window.specs.declared.fault.WindowFault.{WindowFault}
-use Rattle.map_window.specs.declared.fault.WindowFault.TheVariants.{CoreOffFrame, FrameOffPlane, StepTooLong, Plane, OutOfMemory}
+use Rattle.map_window.specs.declared.fault.WindowFault.TheVariants.{CoreOffFrame, FrameOffPlane, StepTooLong}
+use Rattle.map_window.specs.declared.fault.WindowFault.TheVariants.{Plane, OutOfMemory}
 
 -- the first ring with a step that may meet the core and has an end off the frame; the first has the given index
 abbrev pub first_long_ring : Box → Box → ℕ → List (List WholePoint) → Option WindowFault

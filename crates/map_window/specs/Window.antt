@@ -1,5 +1,5 @@
 -- What a map of any size looks like from within a box: inside even-odd, and on an edge, as the plane defines both.
-use Rattle.std.specs.Prelude.{◌≡◌, ℤ, pos, ◌<ℤ◌, ◌≤ℤ◌, ◌*ℤ◌, ◌-ℤ◌, false, List, All}
+use Rattle.std.specs.Prelude.{◌≡◌, ℤ, pos, ◌<ℤ◌, ◌≤ℤ◌, ◌*ℤ◌, ◌-ℤ◌, List, [], All}
 use Rattle.overlay_terms.specs.Plane.{WholePoint, Point, Segment, segments_of, is_inside}
 use Rattle.overlay_terms.specs.Laws.{is_on_any}
 
@@ -46,15 +46,10 @@ whole_moved o a = record { x = a.x -ℤ o.x; y = a.y -ℤ o.y }
 abbrev pub moved : WholePoint → Point → Point
 moved o q = record { x = q.x -ℤ o.x *ℤ q.w; y = q.y -ℤ o.y *ℤ q.w; w = q.w }
 
--- segments seen from a point are like others seen from another
+-- segments seen from a point are like others seen from another; nothing is seen of those that are like none
 pub record AreAlike (xs : List Segment) (p : Point) (ys : List Segment) (q : Point) : Type 0 where
   pub inside : is_inside xs p ≡ is_inside ys q
   pub edge : is_on_any xs p ≡ is_on_any ys q
-
--- of segments nothing is seen from a point
-pub record SeesNothing (xs : List Segment) (p : Point) : Type 0 where
-  pub inside : is_inside xs p ≡ false
-  pub edge : is_on_any xs p ≡ false
 
 -- a layer shows a map within a core: each point of the core is inside, and on an edge, of both or of neither
 abbrev pub Shows : Box → WholePoint → List (List WholePoint) → List (List WholePoint) → Type 0
@@ -64,8 +59,9 @@ Shows core o map layer = (q : Point) → pos 0 <ℤ q.w → IsIn core q → AreA
 abbrev pub NothingBeyond : Box → WholePoint → List (List WholePoint) → List (List WholePoint) → Type 0
 NothingBeyond core o map layer =
     (side : Side) (q : Point) → pos 0 <ℤ q.w → All (All (StaysWithin core side)) map → IsOff core side q →
-    SeesNothing (segments_of layer) (moved o q)
+    AreAlike (segments_of layer) (moved o q) [] (moved o q)
 
 -- nothing of the layer is seen from off the frame
 abbrev pub NothingOff : Box → WholePoint → List (List WholePoint) → Type 0
-NothingOff frame o layer = (side : Side) (q : Point) → pos 0 <ℤ q.w → IsOff frame side q → SeesNothing (segments_of layer) (moved o q)
+NothingOff frame o layer =
+    (side : Side) (q : Point) → pos 0 <ℤ q.w → IsOff frame side q → AreAlike (segments_of layer) (moved o q) [] (moved o q)

@@ -3,7 +3,8 @@ ghost use Rattle.std.specs.Prelude.{◌≡◌, ◌++◌, ◌-ℤ◌, IfOk, OnOk,
 ghost use Rattle.std.specs.Option.{option_to_list};
 ghost use Rattle.overlay_terms.specs.Plane.{InRange};
 ghost use Rattle.map_window.specs.Window.{whole_moved};
-ghost use Rattle.map_window.specs.Drawn.{clamped, into, placed, box_moved, lies_in_plane, added, extended, ring_of, ring_drawn, rings_drawn};
+ghost use Rattle.map_window.specs.Drawn.{clamped, into, placed, box_moved, lies_in_plane};
+ghost use Rattle.map_window.specs.Drawn.{added, extended, ring_of, ring_drawn, rings_drawn};
 
 use crate::far::{FarBox, FarPt, FarRing};
 use crate::fitting::share_side;

@@ -2,7 +2,8 @@
 ghost use Rattle.std.specs.Prelude.{◌≡◌, int_lt, int_le, ◌&&◌, ◌||◌, ◌-ℤ◌, Some, None};
 ghost use Rattle.overlay_terms.specs.Plane.{is_coordinate};
 ghost use Rattle.map_window.specs.Window.{Box};
-ghost use Rattle.map_window.specs.Drawn.{are_nested, is_framed, are_coordinates, lies_in_plane, are_less, are_more, share_side, is_held, is_short, are_short_from, are_short};
+ghost use Rattle.map_window.specs.Drawn.{are_nested, is_framed, are_coordinates, lies_in_plane, are_less};
+ghost use Rattle.map_window.specs.Drawn.{are_more, share_side, is_held, is_short, are_short};
 ghost use Rattle.map_window.specs.Fault.{first_long_ring, window_fault};
 ghost use Rattle.plane_base.specs.BaseLayer.{ring_fault, first_ring_fault};
 

@@ -13,8 +13,8 @@ use crate::fitting::fault_of;
 use plane_base::{BaseLayer, Ring};
 use std::alloc::Global;
 
-/// What is seen of a map's rings from within the core, as a base layer of the plane that has this origin. Nothing of the
-/// layer lies off the frame.
+/// What is seen of a map's rings from within the core, as a base layer of the plane that has this origin. Nothing of
+/// the layer lies off the frame.
 pub fn windowed(
     alloc: Global,
     rings: &[FarRing],
@@ -26,8 +26,10 @@ pub fn windowed(
     ensures beyond { IfOk result (λ layer. NothingBeyond core.now origin rings.now layer) }
     ensures off { IfOk result (λ layer. NothingOff frame.now origin layer) }
     ensures refused { IfSome (window_fault core.now frame.now origin rings.now) (IsErrOf result) }
-    ensures others { window_fault core.now frame.now origin rings.now ≡ None → IfErr result (λ e. (e ≡ WindowFault.OutOfMemory) ⊎ (e ≡ WindowFault.Plane TooManySegments)) }
-    ensures accepted { window_fault core.now frame.now origin rings.now ≡ None → ring_step_count rings.now ≤ steps_max → IsOkUnless result WindowFault.OutOfMemory }
+    ensures others { window_fault core.now frame.now origin rings.now ≡ None
+        → IfErr result (λ e. (e ≡ WindowFault.OutOfMemory) ⊎ (e ≡ WindowFault.Plane TooManySegments)) }
+    ensures accepted { window_fault core.now frame.now origin rings.now ≡ None → ring_step_count rings.now ≤ steps_max
+        → IsOkUnless result WindowFault.OutOfMemory }
 {
     if let Some(fault) = fault_of(rings, core, frame, origin) {
         return Err(fault);

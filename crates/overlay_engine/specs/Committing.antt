@@ -13,13 +13,13 @@ use Rattle.overlay_engine.specs.declared.engine.Engine.{Engine}
 use Rattle.overlay_engine.specs.declared.step.Reply.{Reply}
 use Rattle.overlay_engine.specs.declared.step.Reply.TheVariants.{Going, Done}
 
--- a file stands for a version: its number, its layers, each of its finished tiles and no other
+-- a file holds a version: its number, its layers, each of its finished tiles and no other
 pub record IsFileOf (version : Version) (file : List ℕ) : Type 0 where
   pub held : Held
   pub image : IsImageOf version held
   pub stands : StandsFor held file
 
--- a file stands for what was held, or for a version
+-- a file holds what was held, or a version
 abbrev pub IsFileOfEither : Held → Version → List ℕ → Type 0
 IsFileOfEither held version file = StandsFor held file ⊎ IsFileOf version file
 
@@ -30,13 +30,13 @@ module _ {D : Type 0} (g : Ghosts D) where
     pub of : IsCommitOf version y
     pub runs : RunsFrom g f.commit x y
 
-  -- the store rests with a version: no commit is under way, no call has failed, and it stands for just the version
+  -- the store rests with a version: no commit is under way, no call has failed, and it holds just the version
   pub record RestsWith (f : Flusher D g) (version : Version) : Type 0 where
     pub y : Kept
     pub of : IsCommitOf version y
     pub stands : StoreStandsFor g f.commit y
 
-  -- a device step leads from what is kept to a version: so does the commit under way; where the store stands for what is kept, the version is the newest
+  -- a device step leads from what is kept to a version: so does the commit under way; where the store holds what is kept, the version is the newest
   abbrev pub IsToCommit : Engine D g → Kept → Version → Type 0
   IsToCommit e x version = Commits e.flusher x version ⊎ (StoreStandsFor g e.flusher.commit x × (version ≡ e.version))
 

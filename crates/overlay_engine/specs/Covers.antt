@@ -1,4 +1,4 @@
--- What every file that a crash may leave stands for.
+-- What every file that a crash may leave holds.
 use Rattle.std.specs.Prelude.{◌≡◌, ℕ, ◌+◌, ◌≤◌, List, [], ◌∷◌, length}
 use Rattle.disk_model.specs.declared.disk.Disk.{Ghosts}
 use Rattle.disk_model.specs.Moments.{Leaves, LeavesOnly}
@@ -25,14 +25,14 @@ pub record IsStored (start : Start) (batches : List Batch) (x : Held) : Type 0 w
   pub layers : x.layers ≡ layers_from start (up_to start x.number batches)
   pub exact : IsExact (version_of x)
 
--- the file stands for such a version, of at least this number
+-- the file holds such a version, of at least this number
 pub record Covered (start : Start) (least : ℕ) (batches : List Batch) (file : List ℕ) : Type 0 where
   pub held : Held
   pub no_less : least ≤ held.number
   pub stored : IsStored start batches held
   pub stands : StandsFor held file
 
--- the file stands for such a version, of exactly this number
+-- the file holds such a version, of exactly this number
 pub record CoveredExactly (start : Start) (number : ℕ) (batches : List Batch) (file : List ℕ) : Type 0 where
   pub held : Held
   pub exactly : held.number ≡ number
@@ -40,7 +40,7 @@ pub record CoveredExactly (start : Start) (number : ℕ) (batches : List Batch) 
   pub stands : StandsFor held file
 
 module _ {D : Type 0} (g : Ghosts D) (start : Start) where
-  -- no commit is under way: the file stands for the version that is stored
+  -- no commit is under way: the file holds the version that is stored
   pub record AtRest (f : Flusher D g) (batches : List Batch) : Type 0 where
     pub x : Kept
     pub number : x.held.number ≡ f.commit.root.version
@@ -78,7 +78,8 @@ module _ {D : Type 0} (g : Ghosts D) (start : Start) where
     pub stored : f.commit.root.version ≤ version.number
     pub store : In f.commit.phase f batches
 
-  -- a device call: the store covers the same version, and a crash at any moment of the call leaves one that is no older than what was reported as it began
+  -- a device call: the store covers the same version, and a crash at any moment of the call leaves one that is no older
+  -- than what was reported as it began
   pub record Moves (old new : Flusher D g) (version : Version) (batches : List Batch) : Type 0 where
     pub covers : Covers new version batches
     pub moments : LeavesOnly g old.commit.disk new.commit.disk (Covered start version.durable batches)

@@ -9,7 +9,7 @@ use Rattle.store_terms.specs.Image.{Held}
 use Rattle.store_terms.specs.StandsFor.{reading}
 use Rattle.store_terms.specs.declared.damage.Damage.{Damage}
 use Rattle.commit_plan.specs.declared.fault.StoreFault.TheVariants.{Device, Damaged, OutOfMemory}
-use Rattle.root_store.specs.Creating.{IsNewFile, MadeInPhases, CallsBehind}
+use Rattle.root_store.specs.Creating.{IsNewFile, MadeInPhases, CallsAfter}
 use Rattle.root_store.specs.Opening.{Tells, FailedBy, Untouched, OpeningWrites, HasRoot, IsCompleted, Completes}
 use Rattle.root_store.specs.declared.open_fault.OpenFault.{OpenFault}
 use Rattle.root_store.specs.HonestStore.{TellsReason, KeepsRefused}
@@ -25,7 +25,7 @@ module _ {D : Type 0} (g : Ghosts D) where
   -- an engine is made over a new store
   pub record MakesHonestly (max_blocks : ℕ) (disk : D) (result : Result (Engine D g) (OpenFault D)) : Type 0 where
     pub covers : IfOk result (λ e. Covers g from_nothing e.flusher e.version [])
-    -- the store stands for just the version, and no commit is under way
+    -- the store holds just the version, and no commit is under way
     pub rests : IfOk result (λ e. IsNewEngine g e)
     -- the file has three blocks that are zero but for the bodies, the catalog and the first gate, which alone is open
     pub file : IfOk result (λ e. Leaves g e.flusher.commit.disk IsNewFile)
@@ -36,7 +36,7 @@ module _ {D : Type 0} (g : Ghosts D) where
     pub cause : IfErr result (λ refused. refused.fault ≡ Device → Failed (g.faults disk) (g.faults refused.disk))
     -- five device calls are made; of a file that is refused, or without memory, the length alone is asked for
     pub calls : MatchResult result (λ e. g.calls e.flusher.commit.disk ≡ g.calls disk + 5)
-        (λ refused. CallsBehind refused.fault (g.calls disk) (g.calls refused.disk))
+        (λ refused. CallsAfter refused.fault (g.calls disk) (g.calls refused.disk))
 
   -- an engine is recovered from what a crash has left
   pub record RecoversHonestly (disk : D) (result : Result (Engine D g) (OpenFault D)) : Type 0 where
@@ -54,16 +54,16 @@ module _ {D : Type 0} (g : Ghosts D) where
         → MatchResult result
         (λ e. Recovered g start disk e crash.made.old.version.durable (batches ++ accepted_in_run crash.before))
         (λ refused. Refused g start disk refused crash.made.old.version.durable (batches ++ accepted_in_run crash.before))
-    -- of a file of the old format the version is what it stands for, with no finished tile, and the engine covers it
+    -- of a file of the old format the version is what it holds, with no finished tile, and the engine covers it
     -- from there on; it is refused only for the device or for memory, and what is left recovers as well
     pub old : (number : ℕ) (layers : List Layer) → Leaves g disk (IsOldFile number layers)
         → MatchResult result (λ e. OldRecovered g number layers disk e)
         (λ refused. Refused g (start_at number layers) disk refused number [])
-    -- of any file the version is what it stands for, or the fault is what is wrong with it
+    -- of any file the version is what it holds, or the fault is what is wrong with it
     pub gives : MatchResult result
         (λ e. (x : Held) × (reading (g.seen disk) ≡ Ok x) × (e.version ≡ version_of x))
         (λ refused. Tells refused.fault (reading (g.seen disk)))
-    -- the store stands for just the version, with its very tiles, and no commit is under way
+    -- the store holds just the version, with its very tiles, and no commit is under way
     pub rests : IfOk result (λ e. IsNewEngine g e)
     -- the device failed where it is said to be at fault, and nowhere else
     pub cause : MatchResult result (λ e. g.faults e.flusher.commit.disk ≡ g.faults disk)

@@ -18,7 +18,8 @@ module _ {D : Type 0} (g : Ghosts D) where
   abbrev pub EventsCover : Type 0
   EventsCover =
       (start : Start) (f : Flusher D g) (old new : Version) (event : Event) (batches : List Batch)
-      → Covers g start f old batches → Follows old event new → ReportsStored f event → Covers g start f new (batches ++ added event)
+      → Covers g start f old batches → Follows old event new → ReportsStored f event
+      → Covers g start f new (batches ++ added event)
 
   -- between two steps a crash leaves a version that is no older than the stored one
   abbrev pub CoveredStays : Type 0
@@ -26,7 +27,7 @@ module _ {D : Type 0} (g : Ghosts D) where
       (start : Start) (f : Flusher D g) (version : Version) (batches : List Batch)
       → Covers g start f version batches → Leaves g f.commit.disk (Covered start f.commit.root.version batches)
 
-  -- and it stands for something, where no commit is under way and no call has failed
+  -- and it holds something, where no commit is under way and no call has failed
   abbrev pub CoveredRests : Type 0
   CoveredRests =
       (start : Start) (f : Flusher D g) (version : Version) (batches : List Batch)
@@ -39,7 +40,8 @@ module _ {D : Type 0} (g : Ghosts D) where
     pub stands : StoreStandsFor g f.commit x
     pub stored : f.commit.root.version ≡ x.held.number
 
-  -- what a file holds is the version after the first batches, no older than the least, and the store covers it, all of it durable
+  -- what a file holds is the version after the first batches, no older than the least, and the
+  -- store covers it, all of it durable
   pub record Recovers (start : Start) (f : Flusher D g) (x : Kept) (least : ℕ) (batches : List Batch) : Type 0 where
     pub no_less : least ≤ x.held.number
     pub no_more : x.held.number ≤ start.number + length batches
@@ -50,20 +52,23 @@ module _ {D : Type 0} (g : Ghosts D) where
       (start : Start) (disk : D) (f : Flusher D g) (x : Kept) (least : ℕ) (batches : List Batch)
       → Leaves g disk (Covered start least batches) → IsOpened disk f x → Recovers start f x least batches
 
-  -- while the file is opened a crash leaves what was there, or what stands for the same
+  -- while the file is opened a crash leaves the file that was there, or one that holds the same
   abbrev pub OpeningIsCovered : Type 0
   OpeningIsCovered =
-      (start : Start) (disk : D) (least : ℕ) (batches : List Batch) → Leaves g disk (Covered start least batches) → g.may_leave disk (g.seen disk)
+      (start : Start) (disk : D) (least : ℕ) (batches : List Batch) → Leaves g disk (Covered start least batches)
+      → g.may_leave disk (g.seen disk)
       → (c : List ℕ) → g.may_leave disk c ⊎ (reading c ≡ reading (g.seen disk)) → Covered start least batches c
 
-  -- a commit of a version begins: it leads from what the store stands for to that version, under its number
+  -- a commit of a version begins: it leads from what the store holds to that version, under its number
   pub record IsBegun (old new : Flusher D g) (version : Version) : Type 0 where
     pub began : new.commit.phase ≡ Close
     pub honest : g.is_honest old.commit.disk → g.is_honest new.commit.disk
-    pub runs : (x : Kept) → StoreStandsFor g old.commit x → (y : Kept) × IsCommitOf version y × RunsFrom g new.commit x y
+    pub runs : (x : Kept) → StoreStandsFor g old.commit x
+        → (y : Kept) × IsCommitOf version y × RunsFrom g new.commit x y
     pub stored : new.commit.root.version ≡ old.commit.root.version
 
   abbrev pub BegunCovers : Type 0
   BegunCovers =
       (start : Start) (old new : Flusher D g) (version : Version) (batches : List Batch)
-      → old.commit.phase ≡ Idle → Covers g start old version batches → IsBegun old new version → Covers g start new version batches
+      → old.commit.phase ≡ Idle → Covers g start old version batches → IsBegun old new version
+      → Covers g start new version batches

@@ -22,7 +22,7 @@ module _ {D : Type 0} (g : Ghosts D) (start : Start) (disk : D) where
     pub durable : e.version.durable ≡ e.version.number
     pub covers : Covers g start e.flusher e.version (up_to start e.version.number batches)
     pub moments : LeavesOnly g disk e.flusher.commit.disk (Covered start least batches)
-    -- what might have been left before is left until the first sync has succeeded, which is the first device call, and from then on what stands for the same; after the reads there are two calls at most
+    -- what might have been left before is left until the first sync has succeeded, which is the first device call, and from then on a file that holds the same; after the reads there are two calls at most
     pub phases : InPhases g disk e.flusher.commit.disk
 
   -- a recovery is refused, by the fault `Device` or `OutOfMemory`, and what is left recovers as well
@@ -34,9 +34,11 @@ module _ {D : Type 0} (g : Ghosts D) (start : Start) (disk : D) where
     pub stops : Stops g disk (refused.fault ≡ Device) refused.disk
     pub cause : (refused.fault ≡ Device) ⊎ (refused.fault ≡ OutOfMemory)
 
--- where a point lies for a layer of a recovered version: what `locate` says of it is right for the layers after the commands
+-- where a point lies for a layer of a recovered version: what `locate` says of it is right
+-- for the layers after the commands
 abbrev pub RecoveredAnswers : {D : Type 0} → Ghosts D → Type 0
 RecoveredAnswers {D = D} g =
-    (start : Start) (disk : D) (e : Engine D g) (least : ℕ) (batches : List Batch) → Recovered g start disk e least batches
+    (start : Start) (disk : D) (e : Engine D g) (least : ℕ) (batches : List Batch)
+    → Recovered g start disk e least batches
     → (name : Name) (query : Point) (told : Place) → location told ≡ answer_at e.version.layers name query
     → location told ≡ answer_at (layers_from start (up_to start e.version.number batches)) name query

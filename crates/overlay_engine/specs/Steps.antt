@@ -1,5 +1,6 @@
 -- The steps of an engine: what each answers, and what it makes of the engine.
-use Rattle.std.specs.Prelude.{◌≡◌, ◌⊎◌, ℕ, ◌+◌, ◌-◌, ◌^◌, ◌==◌, List, [], ◌∷◌, ◌++◌, Option, Some, None, is_some, IsTrue, slice_get}
+use Rattle.std.specs.Prelude.{◌≡◌, ◌⊎◌, ℕ, ◌+◌, ◌-◌, ◌^◌, ◌==◌, [], ◌∷◌, ◌++◌}
+use Rattle.std.specs.Prelude.{List, Option, Some, None, is_some, IsTrue, slice_get}
 use Rattle.std.specs.List.{position, remove}
 use Rattle.std.specs.Option.{option_map}
 use Rattle.overlay_terms.specs.Layers.{Name}
@@ -20,7 +21,8 @@ use Rattle.versions.specs.declared.finishing.Finish.TheVariants as finish
 use Rattle.overlay_engine.specs.declared.engine.Engine.{Engine}
 use Rattle.overlay_engine.specs.declared.engine.HeldJob.{HeldJob}
 use Rattle.overlay_engine.specs.declared.step.Reply.{Reply}
-use Rattle.overlay_engine.specs.declared.step.Reply.TheVariants.{Accepted, Refused, RefusedAt, Taken, NoJob, Kept, Stale, Done, Durable}
+use Rattle.overlay_engine.specs.declared.step.Reply.TheVariants.{Accepted, Refused, RefusedAt, Taken}
+use Rattle.overlay_engine.specs.declared.step.Reply.TheVariants.{NoJob, Kept, Stale, Done, Durable}
 
 -- the number of a refusal: that of the first reason; where there is none, 40, that of want of memory
 abbrev pub RefusedAs : Option LayerFault → ℕ → Type 0
@@ -62,8 +64,8 @@ module _ {D : Type 0} {g : Ghosts D} where
       RefusedAs (option_map fault_of (refusal_at old.version.number old.version.layers command)) code × (new ≡ old)
   Submits command old reply new = ⊥
 
-  -- an engine makes a batch: it is accepted as one version; or it is refused for the first reason, with the place of the
-  -- command where it is one's; or memory runs out
+  -- an engine makes a batch: it is accepted as one version; or it is refused for the first reason, with the place of
+  -- the command where it is one's; or memory runs out
   abbrev pub SubmitsBatch : Batch → Engine D g → Reply → Engine D g → Type 0
   SubmitsBatch batch old (Accepted number) new =
       FollowsBatch old.version batch new.version × (number ≡ new.version.number) × (new ≡ record old { version = new.version })

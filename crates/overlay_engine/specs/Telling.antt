@@ -33,11 +33,15 @@ told_in number (made ∷ run) = told_in (told_after number made.reply) run
 module _ {D : Type 0} (g : Ghosts D) where
   -- no job number is used twice
   abbrev pub JobsAreNumbered : Type 0
-  JobsAreNumbered = (old : Engine D g) (run : List (Made D g)) (new : Engine D g) → EachFollows g old run new → Numbered old.next_job run
+  JobsAreNumbered =
+      (old : Engine D g) (run : List (Made D g)) (new : Engine D g) → EachFollows g old run new
+      → Numbered old.next_job run
 
   -- the durable number that was reported last is the version's, in the end and as a crash comes
   abbrev pub DurableIsTold : Type 0
-  DurableIsTold = (old : Engine D g) (run : List (Made D g)) (new : Engine D g) → EachFollows g old run new → new.version.durable ≡ told_in old.version.durable run
+  DurableIsTold =
+      (old : Engine D g) (run : List (Made D g)) (new : Engine D g) → EachFollows g old run new
+      → new.version.durable ≡ told_in old.version.durable run
 
   abbrev pub CrashKeepsTold : Type 0
   CrashKeepsTold = (old : Engine D g) (run : List (Made D g)) (new : Engine D g) (disk : D) → EachFollows g old run new

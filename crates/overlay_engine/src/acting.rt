@@ -21,9 +21,9 @@ impl<D: Disk> Engine<D> {
         ensures exact { IsExact self.old.version → IsExact self.new.version }
         // The blocks that the file may have stay as many.
         ensures blocks { (limit : ℕ) → KeepsTo limit self.old.flusher.commit → KeepsTo limit self.new.flusher.commit }
-        // What is committed is the version with which the commit began, the newest one where none was under way, whichever
-        // tiles it has: a crash at any moment of the step leaves what the store held before the commit, or that version,
-        // and after Done only that.
+        // What is committed is the version with which the commit began, the newest one where none was under way,
+        // whichever tiles it has: a crash at any moment of the step leaves what the store held before the commit, or
+        // that version, and after Done only that.
         ensures commits { CommitsJust D.Disk self.old result self.new }
         // The store goes on covering the batches, with the one that the step accepted, and a crash at any moment of
         // the step leaves what is no older than what was durable as it began.

@@ -20,7 +20,7 @@ impl<D: Disk> Engine<D> {
     ///
     /// What is promised of an honest disk (`MakesHonestly`):
     /// - `covers`: the engine covers no batch.
-    /// - `rests`: the store stands for just the version, and no commit is under way.
+    /// - `rests`: the store holds just the version, and no commit is under way.
     /// - `file`: three blocks that are zero but for the bodies, the catalog and the first gate, which alone is open.
     /// - `phases`: what is written first has both gates shut, and is synced before the first gate opens.
     /// - `answer`: a file is refused that is not empty, or has no block for the catalog.

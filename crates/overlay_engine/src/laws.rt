@@ -19,12 +19,12 @@ pub fn crash_is_covered<D: Disk>()
     ensures { CoveredStays D.Disk }
 {}
 
-/// A store that covers a version stands for something, where no commit is under way and no call has failed.
+/// A store that covers a version holds something, where no commit is under way and no call has failed.
 pub fn covered_rests<D: Disk>()
     ensures { CoveredRests D.Disk }
 {}
 
-/// A store that was opened on a disk of which each outcome is covered covers what its file stands for.
+/// A store that was opened on a disk of which each outcome is covered covers what its file holds.
 pub fn opened_recovers<D: Disk>()
     ensures { OpenedRecovers D.Disk }
 {}
@@ -34,7 +34,7 @@ pub fn opening_is_covered<D: Disk>()
     ensures { OpeningIsCovered D.Disk }
 {}
 
-/// A file of the old format is covered from what it stands for on.
+/// A file of the old format is covered from what it holds on.
 pub fn old_file_is_covered()
     ensures { OldFileIsCovered }
 {}
@@ -70,7 +70,7 @@ pub fn commit_tells<D: Disk>()
     ensures { CommitTells D.Disk }
 {}
 
-/// Where the store stood for something before it, and each of its steps commits just what it is to commit, as
+/// Where the store held something before it, and each of its steps commits just what it is to commit, as
 /// `Engine::drive` says, a commit leaves just the version with which it began, whichever tiles that has.
 pub fn commit_leaves<D: Disk>()
     ensures { CommitLeaves D.Disk }

@@ -26,10 +26,10 @@ impl<D: Disk> Engine<D> {
     /// - `err`: such a file is refused as `Device` or `OutOfMemory` alone, and is left such a file.
     /// - `crashed`: so it is after a crash within any step of a run of an engine, with at least what was durable as
     ///   that step began.
-    /// - `old`: of a file of the old format the version is what it stands for, with no finished tile, and the engine
+    /// - `old`: of a file of the old format the version is what it holds, with no finished tile, and the engine
     ///   covers it from there on; it is refused only for the device or for memory, and what is left recovers as well.
-    /// - `gives`: of any file the version is what it stands for, or the fault is what is wrong with it.
-    /// - `rests`: the store stands for just the version, with its very tiles, and no commit is under way.
+    /// - `gives`: of any file the version is what it holds, or the fault is what is wrong with it.
+    /// - `rests`: the store holds just the version, with its very tiles, and no commit is under way.
     /// - `writes`: nothing is written but the body, while its gate is shut.
     /// - `completed`, `completes`: where that gate was shut and a number is left, the body is the root's own under the
     ///   next number, and synced, by the last two device calls.

@@ -17,7 +17,8 @@ mark_by edge inside = if edge then 43 else (if inside then 35 else 46)
 abbrev pub is_on_marked : List Marked → Point → Bool
 is_on_marked marked p = list_any (λ m. is_on m.segment p) marked
 
--- the character of a point: on an edge where a segment holds it, else by the steps at the parities of the segments below
+-- the character of a point: on an edge where a segment holds it, else by the steps at the
+-- parities of the segments below
 abbrev pub mark_at : List Marked → Steps → Point → ℕ
 mark_at marked steps p = mark_by (is_on_marked marked p) (steps_value steps (below_bits marked p))
 
@@ -28,4 +29,5 @@ column_text marked steps rise count = map (λ j. mark_at marked steps (point_at 
 -- at each point the bits have changed once more by the parities of the segments below it
 abbrev pub AreTurnedBy : List Marked → Rise → List ℕ → List ℕ → Type 0
 AreTurnedBy marked rise before after =
-    (j k : ℕ) → j < length before → turned after (j + 1) k ≡ flipped_if (below_bits marked (point_at rise j) k) (turned before (j + 1) k)
+    (j k : ℕ) → j < length before
+    → turned after (j + 1) k ≡ flipped_if (below_bits marked (point_at rise j) k) (turned before (j + 1) k)

@@ -1,5 +1,6 @@
 -- Grids of points, and the picture of a layer on one.
-use Rattle.std.specs.Prelude.{ℕ, ℤ, pos, ◌+ℤ◌, ◌*ℤ◌, ◌≤ℤ◌, Bool, not, ◌&&◌, List, [], ◌∷◌, ◌++◌, map, flat_map, codes, decimal, unsigned_abs, Option, Some, None, if◌then◌else◌}
+use Rattle.std.specs.Prelude.{ℕ, ℤ, ◌+ℤ◌, ◌*ℤ◌, ◌≤ℤ◌, ◌&&◌, [], ◌∷◌, ◌++◌, if◌then◌else◌}
+use Rattle.std.specs.Prelude.{pos, Bool, not, List, map, flat_map, codes, decimal, unsigned_abs, Option, Some, None}
 use Rattle.std.specs.List.{list_all, range_with_len}
 use Rattle.overlay_terms.specs.Plane.{Point as PlanePoint, is_coordinate}
 use Rattle.overlay_terms.specs.Layers.{Name, Layer as BookLayer, Location, inside, outside, edge, answer_at}

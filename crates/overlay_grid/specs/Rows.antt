@@ -21,4 +21,5 @@ row_of columns j = map (λ c. slice_index c j) columns ++ 10 ∷ []
 -- the picture out of columns
 abbrev pub rows_text : Grid → List (List ℕ) → List ℕ
 rows_text g columns =
-    codes "grid " ++ (decimal g.nx ++ (codes " " ++ (decimal g.ny ++ (10 ∷ flat_map (row_of columns) (range_with_len 0 g.ny)))))
+    codes "grid " ++ (decimal g.nx
+    ++ (codes " " ++ (decimal g.ny ++ (10 ∷ flat_map (row_of columns) (range_with_len 0 g.ny)))))

@@ -24,7 +24,8 @@ pub fn column(
     count: usize,
 ) -> Result<Vec<u8>, AllocError>
     requires { length bases.now ≤ layers_max }
-    ensures { IfOk result (λ marks. marks.items ≡ column_text (marked_segments (map (λ b. b.now) bases.now)) steps.now rise count) }
+    ensures { IfOk result (λ marks. marks.items
+        ≡ column_text (marked_segments (map (λ b. b.now) bases.now)) steps.now rise count) }
 {
     let mut turns = vec![in alloc; 0u32; count]?;
     let mut edges = vec![in alloc; false; count]?;
@@ -66,7 +67,9 @@ fn marks(
     steps: &StepList,
 ) -> Result<Vec<u8>, AllocError>
     requires { length turns.now ≡ length edges.now }
-    ensures { IfOk result (λ marks. marks.items ≡ map (λ j. mark_by (is_marked edges.now j) (steps_value steps.now (turned turns.now (j + 1)))) (range_with_len 0 (length turns.now))) }
+    ensures { IfOk result (λ marks. marks.items
+        ≡ map (λ j. mark_by (is_marked edges.now j) (steps_value steps.now (turned turns.now (j + 1))))
+        (range_with_len 0 (length turns.now))) }
 {
     let mut marks = Vec::with_capacity(alloc, turns.len())?;
     let mut mask = 0;

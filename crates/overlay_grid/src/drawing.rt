@@ -39,7 +39,8 @@ pub fn grid(
 ) -> Result<Vec<u8>, GridFault>
     ensures ok { IfOk result (λ text. text.items ≡ grid_text version.now.layers name.now grid.now) }
     ensures accepted { IfOk result (λ _. grid_refusal version.now.layers name.now grid.now ≡ None) }
-    ensures refused { IfErr result (RefusedBy (GridFault.Layer LayerFault.OutOfMemory) (grid_refusal version.now.layers name.now grid.now)) }
+    ensures refused { IfErr result
+        (RefusedBy (GridFault.Layer LayerFault.OutOfMemory) (grid_refusal version.now.layers name.now grid.now)) }
 {
     let layers = version.layers();
     admit(layers, name, grid)?;
@@ -108,7 +109,8 @@ fn columns(
 ) -> Result<Vec<Vec<u8>>, AllocError>
     requires few { length bases.now ≤ layers_max }
     requires within { is_within_range grid.now ≡ true }
-    ensures { IfOk result (λ columns. map (λ c. c.items) columns.items ≡ columns_of (marked_segments (map (λ b. b.now) bases.now)) steps.now grid.now) }
+    ensures { IfOk result (λ columns. map (λ c. c.items) columns.items
+        ≡ columns_of (marked_segments (map (λ b. b.now) bases.now)) steps.now grid.now) }
 {
     (0..grid.nx())
         .into_par_iter()
@@ -118,7 +120,8 @@ fn columns(
                 requires near { i < grid.now.nx }
                 requires few { length bases.now ≤ layers_max }
                 requires within { is_within_range grid.now ≡ true }
-                ensures { IfOk result (λ v. v.items ≡ column_at (marked_segments (map (λ b. b.now) bases.entry.now)) steps.entry.now grid.entry.now i) }
+                ensures { IfOk result (λ v. v.items
+                    ≡ column_at (marked_segments (map (λ b. b.now) bases.entry.now)) steps.entry.now grid.entry.now i) }
             { drawn(alloc, bases, steps, grid, i) },
         )
         .collect::<Result<Vec<Vec<u8>>, AllocError>>(rt, alloc)?
@@ -135,7 +138,8 @@ fn drawn(
     requires few { length bases.now ≤ layers_max }
     requires within { is_within_range grid.now ≡ true }
     requires near { i < grid.now.nx }
-    ensures { IfOk result (λ column. column.items ≡ column_at (marked_segments (map (λ b. b.now) bases.now)) steps.now grid.now i) }
+    ensures { IfOk result (λ column. column.items
+        ≡ column_at (marked_segments (map (λ b. b.now) bases.now)) steps.now grid.now i) }
 {
     column(alloc, bases, steps, rise(grid, i), grid.ny())
 }

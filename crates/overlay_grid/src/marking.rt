@@ -1,5 +1,6 @@
 //! What a segment changes among points one above the other.
-ghost use Rattle.std.specs.Prelude.{◌≡◌, ℕ, ◌<◌, ◌+◌, ◌==◌, ◌&&◌, ◌<ℤ◌, ◌≤ℤ◌, ◌+ℤ◌, ◌*ℤ◌, length, not, true, pos, int_lt, nat_le, if◌then◌else◌};
+ghost use Rattle.std.specs.Prelude.{◌≡◌, ℕ, ◌<◌, ◌+◌, ◌==◌, ◌&&◌, ◌<ℤ◌, ◌≤ℤ◌, ◌+ℤ◌, ◌*ℤ◌, if◌then◌else◌};
+ghost use Rattle.std.specs.Prelude.{length, not, true, pos, int_lt, nat_le};
 ghost use Rattle.std.specs.Ordering.{int_eq};
 ghost use Rattle.overlay_terms.specs.Layers.{layers_max};
 ghost use Rattle.overlay_terms.specs.Plane.{height_over, is_below, is_on};

@@ -18,8 +18,8 @@ const BYTES_MAX: usize = 4_611_686_018_427_387_904;
 /// A session's lines, from standard input or from a file.
 type Lines = Source<Stdin, File>;
 
-/// A session's replies, to standard output or into a file. Where nobody reads any more a write is an error: no program of
-/// the kit is ended by the signal.
+/// A session's replies, to standard output or into a file. Where nobody reads any more a write is an error: no program
+/// of the kit is ended by the signal.
 pub type LiveReplies = Replies<Stdout, File>;
 
 /// Opens the pairs of paths in their order, of each first where its lines come from: of a named pipe each opening waits
@@ -71,8 +71,8 @@ fn open_to_read<Q: Files<File = File>>(rt: &Q, path: &str) -> io::Result<File> {
     Ok(file)
 }
 
-/// The file at a path, to be written from its beginning: one that is there is emptied, once nobody else has it, where it
-/// is no store.
+/// The file at a path, to be written from its beginning: one that is there is emptied, once nobody
+/// else has it, where it is no store.
 fn open_to_write<Q: Files<File = File>>(rt: &Q, path: &str) -> io::Result<File> {
     let file = there_or_made(rt, path)?;
     if file.metadata()?.is_file() {
@@ -83,8 +83,8 @@ fn open_to_write<Q: Files<File = File>>(rt: &Q, path: &str) -> io::Result<File> 
     Ok(file)
 }
 
-/// The file at a path as it is, or a new one. A plain file can be read as well, for what is in it. A pipe that is there is
-/// not asked to be made, which the system may refuse where it belongs to somebody else.
+/// The file at a path as it is, or a new one. A plain file can be read as well, for what is in it. A pipe that is there
+/// is not asked to be made, which the system may refuse where it belongs to somebody else.
 fn there_or_made<Q: Files<File = File>>(rt: &Q, path: &str) -> io::Result<File> {
     match fs::metadata(rt, path) {
         Ok(found) => OpenOptions::new()

@@ -25,8 +25,8 @@ pub fn read_asked<Q: Env + AllocGlobal>(rt: &Q) -> Result<Asked, ProgramFault> {
     Ok(read_live_words(rt.alloc(), &own_words(rt)?)?)
 }
 
-/// Runs what the words ask for. It says whether each session was read to its end and the newest version is in the store,
-/// where it is to be. The fault is one that no session's replies report.
+/// Runs what the words ask for. It says whether each session was read to its end and the newest version is in the
+/// store, where it is to be. The fault is one that no session's replies report.
 pub fn run<'a, Q: Files<File = File> + Threads + Wait + Sync + AllocGlobal>(
     rt: &Q,
     input: Stdin,
@@ -52,8 +52,8 @@ fn print<'a>(mut output: impl Write + Drop, text: &str) -> Result<bool, Refusal<
     }
 }
 
-/// Runs the sessions until each has read its lines to their end. The store is opened before the pairs, so that its fault
-/// is reported before anybody waits at a pipe.
+/// Runs the sessions until each has read its lines to their end. The store is opened before the pairs, so that its
+/// fault is reported before anybody waits at a pipe.
 fn serve_plan<'a, Q: Files<File = File> + Threads + Wait + Sync + AllocGlobal>(
     rt: &Q,
     input: Stdin,
@@ -77,8 +77,8 @@ fn serve_plan<'a, Q: Files<File = File> + Threads + Wait + Sync + AllocGlobal>(
     }
 }
 
-/// The fault at the end of a run, with the file that it is about: the store, or where the replies of the first session go
-/// that could not write them.
+/// The fault at the end of a run, with the file that it is about: the store, or where the replies of the first session
+/// go that could not write them.
 fn about<'a>(
     fault: ProgramFault,
     plan: &'a LivePlan,

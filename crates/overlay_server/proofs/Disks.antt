@@ -1,24 +1,18 @@
--- A disk comes back from a server just where there was an engine.
-use Rattle.std.proofs.Common.{◌≡◌, ◌∙◌, ℕ, List, Option, Some, None, is_some, IfOk, Result, Ok, Err, refl, ap}
+-- A disk comes back from a server just where it had a store.
+use Rattle.std.proofs.Common.{◌≡◌, Option, Some, None, is_some, List, ap}
 use Rattle.disk_model.specs.declared.disk.Disk.{Ghosts}
-use Rattle.overlay_terms.specs.Histories.{Version}
+use Rattle.overlay_terms.specs.Histories.{Entry, Version}
 use Rattle.flush_core.specs.declared.flusher.Flusher.{Flusher}
-use Rattle.overlay_engine.specs.declared.engine.Engine.{Engine}
 use Rattle.store_flushing.specs.declared.closed.Closed.{Closed}
-use Rattle.overlay_server.specs.Given.{Given}
-use Rattle.overlay_server.specs.Serving.{IsLeftFrom, IsLeftOfStore, flusher_of}
-use Rattle.overlay_server.specs.declared.outcome.Left.{Left}
+use Rattle.store_flushing.specs.declared.keeper.told_log.Told.{Told}
+use Rattle.overlay_server.specs.Refusing.{StoreComesBack}
+use Rattle.overlay_server.specs.Serving.{IsLeftOfStore}
 
-module _ {D : Type 0} (g : Ghosts D) (start : Version) (engine : Option (Engine D g)) where
-  back : (store : Option (Flusher D g)) (closed : Closed D) → IsLeftOfStore g start store closed → is_some closed.disk ≡ is_some store
-  back None closed left = ap (λ (o : Option D). is_some o) left.1
-  back (Some old) closed left = ap (λ (o : Option D). is_some o) left.disk
+module _ {D : Type 0} (g : Ghosts D) (start : Version) where
+  pub disk_left : (store : Option (Flusher D g)) (closed : Closed D) → IsLeftOfStore g start store closed → is_some closed.disk ≡ is_some store
+  disk_left None closed left = ap (λ (o : Option D). is_some o) left.1
+  disk_left (Some old) closed left = ap (λ (o : Option D). is_some o) left.disk
 
-  stored_too : (e : Option (Engine D g)) → is_some (flusher_of e) ≡ is_some e
-  stored_too None = refl
-  stored_too (Some e) = refl
-
-  pub left_disk : {W F : Type 0} (contents : W → Option (List ℕ)) (all : List Given) (r : Result (Left W D) F) → IfOk r (IsLeftFrom contents g start (flusher_of engine) all)
-      → IfOk r (λ (left : Left W D). is_some left.closed.disk ≡ is_some engine)
-  left_disk contents all (Ok left) were = back (flusher_of engine) left.closed were.kept ∙ stored_too engine
-  left_disk contents all (Err fault) were = tt
+  pub disk_back : (log : List Entry) (written : List Told) (store : Option (Flusher D g)) (back : Option D) → StoreComesBack g start log written store back → is_some back ≡ is_some store
+  disk_back log written None back is = ap (λ (o : Option D). is_some o) is
+  disk_back log written (Some old) back is = ap (λ (o : Option D). is_some o) is.there

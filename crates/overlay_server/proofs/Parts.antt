@@ -134,14 +134,6 @@ begin_there book start ports scripts seated =
     each_script (λ s. P (session_of s)) scripts
     (of_scripts P scripts (subst (All P) (sym seated.sessions) (all_begin book start P (λ n. begins_self (history_of (first_log start))) (length ports))))
 
--- and has made nothing
-pub nothing_made : {R W : Type 0} (book : Book) (start : Version) (ports : List (Port R W)) (scripts : List (Script R W)) → AreSeated book start ports scripts
-    → AllByRecursion (λ (s : Script R W). s.session.made ≡ []) scripts
-nothing_made book start ports scripts seated =
-    let P : Known → Type 0 = λ k. k.made ≡ [] in
-    each_script (λ s. P (session_of s)) scripts
-    (of_scripts P scripts (subst (All P) (sym seated.sessions) (all_begin book start P (λ n. refl) (length ports))))
-
 length-map_reader : {R W : Type 0} (ss : List (Script R W)) → length (map port_of ss) ≡ length ss
 length-map_reader [] = refl
 length-map_reader (s ∷ ss) = ap suc (length-map_reader ss)

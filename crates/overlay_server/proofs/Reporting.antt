@@ -1,25 +1,26 @@
--- What is asked of the writers of a server's sessions: what its book may report durable may be reported to them, and those that
--- keep their place are at the start of their sessions' scripts.
-use Rattle.std.proofs.Common.{◌≡◌, ℕ, Bool, IsTrue, List, [], ◌∷◌, IfSome, Option, is_some, map, sym, subst, ◌∙◌}
-use Rattle.std.specs.List.{All, AllByRecursion}
-use Rattle.std.proofs.lemmas.List.Elements.{All-cons, All-head, All-nil, All-tail}
+-- What is asked of the writers of a server's sessions: what its book may report durable may be reported to them, each goes on from
+-- what its session knows, and those that keep what is left of their scripts have all of them left.
+use Rattle.std.proofs.Common.{◌≡◌, ℕ, zero, suc, Bool, List, [], ◌∷◌, Option, Some, None, is_some, length, map, refl, ap, sym, subst, ◌∙◌, arith}
+use Rattle.std.specs.List.{All, AllByRecursion, AllZip}
+use Rattle.std.proofs.lemmas.List.Elements.{All-append, All-cons, All-head, All-nil, All-tail}
 use Rattle.logbook.specs.Pages.{Book}
 use Rattle.disk_model.specs.declared.disk.Disk.{Ghosts}
 use Rattle.overlay_terms.specs.Histories.{Version, Entry, History, BeginsWith}
 use Rattle.flush_core.specs.declared.flusher.Flusher.{Flusher}
+use Rattle.overlay_engine.specs.declared.engine.Engine.{Engine}
+use Rattle.book_lock.specs.Steps.{beginners}
+use Rattle.book_lock.proofs.Beginning.{count_of}
+use Rattle.book_history.specs.BookLogs.{BookLog}
 use Rattle.book_history.specs.Known.{Known, seen}
 use Rattle.book_history.specs.Logs.{history_of}
-use Rattle.server_session.specs.Replying.{IsAtStart, MayReport, Place}
-use Rattle.session_threads.specs.Seats.{port_of}
+use Rattle.server_session.specs.Replying.{MayReport}
+use Rattle.session_threads.specs.Seats.{port_of, session_of}
 use Rattle.session_threads.specs.declared.port.Port.{Port}
 use Rattle.session_threads.specs.declared.running.Script.{Script}
 use Rattle.store_flushing.proofs.Histories.{begins_trans}
-use Rattle.server_session.proofs.Places.{some_then}
-use Rattle.overlay_server.specs.Given.{IsBegun}
 use Rattle.overlay_server.specs.Moments.{HasOnlyNow}
-use Rattle.overlay_server.specs.Serving.{IsHeldOf, IsStoredOf, first_log}
+use Rattle.overlay_server.specs.Serving.{IsHeldOf, IsStoredOf, first_log, flusher_of}
 use Rattle.overlay_server.proofs.Held.{was_held}
-use Rattle.overlay_server.proofs.Parts.{AreSeated, nothing_made}
 
 module _ {D : Type 0} (g : Ghosts D) (now : HasOnlyNow g) (start : Version) (stored : List Entry → ℕ → Type 0) (store : Option (Flusher D g))
     (meant : (log : List Entry) (number : ℕ) → stored log number → IsStoredOf g start store log number) (may : History → Type 0)
@@ -34,18 +35,52 @@ module _ {D : Type 0} (g : Ghosts D) (now : HasOnlyNow g) (start : Version) (sto
       held history (was_held g now start stored store meant (sym same ∙ one) history (begins_trans (history_of (first_log start)) (seen s.session) history begin.0 on) told))
       (may_report_all ss begin.1)
 
-module _ {R W : Type 0} (remaining : R → Option (List ℕ)) (place : W → Option Place) where
-  abbrev pub IsOwn : Script R W → Type 0
-  IsOwn s = IfSome (place s.port.writer) (IsAtStart (remaining s.port.reader) s.session)
+-- ports' writers that have all of their scripts left are those of the scripts
+pub own_of : {R W : Type 0} (P : Port R W → Type 0) (ports : List (Port R W)) (ss : List (Script R W)) → map port_of ss ≡ ports → All P ports → All (λ (s : Script R W). P s.port) ss
+own_of P ports ss are owns = each ss (subst (All P) (sym are) owns) where
+  each : (ss : List (Script _ _)) → All P (map port_of ss) → All (λ (s : Script _ _). P s.port) ss
+  each [] all = All-nil (λ s. P s.port)
+  each (s ∷ ss) all = All-cons (λ s. P s.port) s ss (All-head P s.port (map port_of ss) all) (each ss (All-tail P s.port (map port_of ss) all))
 
-  begun_ports : (ss : List (Script R W)) → All (IsBegun remaining place) (map port_of ss) → AllByRecursion (λ (s : Script R W). s.session.made ≡ []) ss → All IsOwn ss
-  begun_ports [] begun none = All-nil IsOwn
-  begun_ports (s ∷ ss) begun none =
-      let at_start : (at : Place) → ((me : Known) → me.made ≡ [] → IsAtStart (remaining s.port.reader) me at) → IsAtStart (remaining s.port.reader) s.session at = λ at is. is s.session none.0 in
-      All-cons IsOwn s ss (some_then (place s.port.writer) at_start (All-head (IsBegun remaining place) (port_of s) (map port_of ss) begun))
-      (begun_ports ss (All-tail (IsBegun remaining place) (port_of s) (map port_of ss) begun) none.1)
+-- what holds of each port and the session of its place does of each script
+pub goes_of : {R W : Type 0} (P : Port R W → Known → Type 0) (ports : List (Port R W)) (sessions : List Known) (ss : List (Script R W)) → map port_of ss ≡ ports → map session_of ss ≡ sessions
+    → AllZip P ports sessions → All (λ (s : Script R W). P s.port s.session) ss
+goes_of P ports sessions ss are run zip = each ss (subst (λ ps. AllZip P ps (map session_of ss)) (sym are) (subst (AllZip P ports) (sym run) zip)) where
+  each : (ss : List (Script _ _)) → AllZip P (map port_of ss) (map session_of ss) → All (λ (s : Script _ _). P s.port s.session) ss
+  each [] zip = All-nil (λ s. P s.port s.session)
+  each (s ∷ ss) zip = All-cons (λ s. P s.port s.session) s ss zip.0 (each ss zip.1)
 
-  -- ports whose writers are at the start of their readers' scripts, with the sessions that a book begins with
-  pub all_begun : (book : Book) (start : Version) (ports : List (Port R W)) (ss : List (Script R W)) → AreSeated book start ports ss → All (IsBegun remaining place) ports → All IsOwn ss
-  all_begun book start ports ss seated begun =
-      begun_ports ss (subst (All (IsBegun remaining place)) (sym seated.ports_are) begun) (nothing_made book start ports ss seated)
+-- what always holds does of lists that are as long
+pub beside_any : {X Y : Type 0} {R : X → Y → Type 0} (xs : List X) (ys : List Y) → ((x : X) (y : Y) → R x y) → length xs ≡ length ys → AllZip R xs ys
+beside_any [] [] always same = tt
+beside_any [] (y ∷ ys) always same = absurd (omega (arith, same))
+beside_any (x ∷ xs) [] always same = absurd (omega (arith, same))
+beside_any (x ∷ xs) (y ∷ ys) always same = (always x y, beside_any xs ys always (omega (arith, same)))
+
+-- what holds of each port and of any session that has made nothing does of each and the session of its place
+unmade : (book_log : BookLog) (n : ℕ) → All (λ (k : Known). k.made ≡ []) (beginners book_log n)
+unmade book_log zero = All-nil (λ (k : Known). k.made ≡ [])
+unmade book_log (suc n) =
+    All-append (λ (k : Known). k.made ≡ []) (beginners book_log n) _ (unmade book_log n) (All-cons (λ (k : Known). k.made ≡ []) _ [] refl (All-nil (λ (k : Known). k.made ≡ [])))
+
+pub with_any : {X : Type 0} (P : X → Known → Type 0) (xs : List X) (ks : List Known) → length xs ≡ length ks → All (λ (x : X). (me : Known) → me.made ≡ [] → P x me) xs → All (λ (k : Known). k.made ≡ []) ks → AllZip P xs ks
+with_any P [] [] same each none = tt
+with_any P [] (k ∷ ks) same each none = absurd (omega (arith, same))
+with_any P (x ∷ xs) [] same each none = absurd (omega (arith, same))
+with_any P (x ∷ xs) (k ∷ ks) same each none = (
+  All-head (λ x. (me : Known) → me.made ≡ [] → P x me) x xs each k (All-head (λ (k : Known). k.made ≡ []) k ks none),
+  with_any P xs ks (omega (arith, same)) (All-tail (λ x. (me : Known) → me.made ≡ [] → P x me) x xs each) (All-tail (λ (k : Known). k.made ≡ []) k ks none),
+)
+
+pub with_beginners : {X : Type 0} (P : X → Known → Type 0) (xs : List X) (book_log : BookLog) (n : ℕ) → length xs ≡ n → All (λ (x : X). (me : Known) → me.made ≡ [] → P x me) xs
+    → AllZip P xs (beginners book_log n)
+with_beginners P xs book_log n same each = with_any P xs (beginners book_log n) (same ∙ sym (count_of book_log n)) each (unmade book_log n)
+
+-- a history and its book
+pub log_is : (l : BookLog) (book : Book) (log : List Entry) → l.book ≡ book → l.log ≡ log → l ≡ record { book = book; log = log }
+log_is l book log of is = ap (λ (b : Book). record { book = b; log = l.log }) of ∙ ap (λ (es : List Entry). record { book = book; log = es }) is
+
+-- a server has a store just where it was given an engine
+pub has_engine : {D : Type 0} {g : Ghosts D} (engine : Option (Engine D g)) → is_some (flusher_of engine) ≡ is_some engine
+has_engine None = refl
+has_engine (Some engine) = refl

@@ -2,9 +2,8 @@
 use Rattle.std.proofs.Common.{◌≡◌, ◌⊎◌, inl, inr, ⊎_elim, false, ℕ, ◌<◌, ◌≤◌, List, [], length, Option, Some, None, MatchOption, All, refl, sym, ◌∙◌, ◌↔◌, subst, arith}
 use Rattle.logbook.specs.Pages.{Book}
 use Rattle.disk_model.specs.declared.disk.Disk.{Ghosts}
-use Rattle.disk_model.specs.Moments.{LeavesOnly}
 use Rattle.disk_model.proofs.Runs.{widened}
-use Rattle.overlay_terms.specs.Histories.{Entry, History, Version, BeginsWith}
+use Rattle.overlay_terms.specs.Histories.{Entry, Version, BeginsWith}
 use Rattle.std.proofs.lemmas.Bool.{false≢true}
 use Rattle.root_store.specs.declared.phase.Phase.{Phase}
 use Rattle.root_store.specs.declared.phase.Phase.TheVariants.{Idle, Close, Settle, Put, Open, Finish, Failed}

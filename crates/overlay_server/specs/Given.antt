@@ -1,10 +1,8 @@
 -- What the sessions of a server are given.
-use Rattle.std.specs.Prelude.{◌≡◌, ℕ, List, [], map, IfSome, Option, Some}
+use Rattle.std.specs.Prelude.{ℕ, List, [], map, Option, Some}
 use Rattle.std.specs.declared.alloc.Global.{Global}
 use Rattle.std.specs.declared.vec.Vec.{Vec}
-use Rattle.book_history.specs.Known.{Known}
 use Rattle.script_form.specs.Lines.{script_max}
-use Rattle.server_session.specs.Replying.{IsAtStart, Place}
 use Rattle.session_threads.specs.declared.port.Port.{Port}
 
 -- what a session is given: what its reader has, so many bytes of it at most, and what its writer has
@@ -32,7 +30,3 @@ given_by remaining readers = map (given_from remaining) readers
 -- what a list of bytes has
 abbrev pub bytes_of : Vec ℕ Global → Option (List ℕ)
 bytes_of bytes = Some bytes.items
-
--- a port's writer that keeps its place is at the start of its reader's script, for any session that has made nothing
-abbrev pub IsBegun : {R W : Type 0} (remaining : R → Option (List ℕ)) (place : W → Option Place) → Port R W → Type 0
-IsBegun remaining place port = IfSome (place port.writer) (λ at. (me : Known) → me.made ≡ [] → IsAtStart (remaining port.reader) me at)

@@ -10,8 +10,8 @@ use Rattle.overlay_server.specs.Moments.{HasOnlyNow}
 use Rattle.overlay_server.specs.Serving.{first_log}
 use Rattle.overlay_server.specs.declared.hosted.Hosted.{Hosted}
 
--- a book was just opened for so many sessions: this is its first version, which alone its reporter and these have seen; it
--- knows whether it has a store, nothing was reported durable, and since now there is no other moment of the disk
+-- a book was just opened for so many sessions: this is its first version, which alone its reporter and these have seen;
+-- it knows whether it has a store, nothing was reported durable, and since now there is no other moment of the disk
 pub record IsHosted {J S D : Type 0} {g : Ghosts D} (book : Book) (count : ℕ) (hosted : Hosted J S D g) : Type 0 where
   pub number : hosted.number ≡ hosted.version.value.number
   pub first : hosted.seen_log.log ≡ first_log hosted.version.value

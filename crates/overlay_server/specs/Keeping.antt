@@ -13,7 +13,8 @@ use Rattle.store_flushing.specs.declared.keeper.store.Store.{Store}
 use Rattle.store_flushing.specs.declared.keeper.store.Store.TheVariants.{Kept, Alone}
 
 module _ {D : Type 0} (g : Ghosts D) where
-  -- the store is one of what the reporter has seen, was at each moment, and rests; reports were written down, and stay true
+  -- the store is one of what the reporter has seen, was at each moment, and rests; reports
+  -- were written down, and stay true
   pub record IsFlushed (old new : Keeper D g) : Type 0 where
     pub flushes : IsStoreOf g (history_of old.reporter.log) old.flusher → Flushes g (history_of old.reporter.log) old.flusher (history_of new.reporter.log) new.flusher
     pub rests : is_busy new.flusher.commit.phase ≡ false

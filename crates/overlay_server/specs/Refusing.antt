@@ -55,7 +55,7 @@ pub record AreStopped (stored : BookStore) (start : Version) (log : List Entry) 
 -- ---- the store
 
 module _ {D : Type 0} (g : Ghosts D) where
-  -- what is left of a store: a crash at any moment leaves a file that stands for a version of this log, none older than at
+  -- what is left of a store: a crash at any moment leaves a file that holds a version of this log, none older than at
   -- first; once the log has reported a version durable, which was written down then, no crash leaves an older one
   pub record IsStoppedBy (log : List Entry) (written : List Told) (old : Flusher D g) (disk : D) : Type 0 where
     pub moments : LeavesOnly g old.commit.disk disk (IsFileIn (history_of log) old.commit.root.version)

@@ -1,4 +1,5 @@
--- Runs of a store one after another: calls of the store's keeper, the end of a book, crashes within a call, and openings.
+-- Runs of a store one after another: calls of the store's keeper, the end of a book,
+-- crashes within a call, and openings.
 use Rattle.std.specs.Prelude.{◌≡◌, ◌⊎◌, ◌+◌, ◌≤◌, ℕ, List, [], ◌∷◌, ◌++◌, length}
 use Rattle.std.proofs.Common.{inl, inr}
 use Rattle.std.specs.List.{AllByRecursion}

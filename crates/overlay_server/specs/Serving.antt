@@ -73,8 +73,8 @@ pub record Part (W : Type 0) : Type 0 where
   pub given : Given
   pub finished : Finished W
 
--- a session was served: what it put after what its writer had are the replies to its lines, by histories that it has seen
--- then; the log has all of that, and of its batches just those it made; `stored`: what is known of the store
+-- a session was served: what it put after what its writer had are the replies to its lines, by histories that it has
+-- seen then; the log has all of that, and of its batches just those it made; `stored`: what is known of the store
 pub record IsServed {W : Type 0} (stored : BookStore) (contents : W → Option (List ℕ)) (log : List Entry) (part : Part W) : Type 0 where
   pub now : Known
   pub left : Option (List ℕ)
@@ -95,10 +95,10 @@ pub record AreServed {W : Type 0} (stored : BookStore) (contents : W → Option 
 -- ---- the store
 
 module _ {D : Type 0} (g : Ghosts D) where
-  -- what a run leaves of a store: a crash at any moment of it leaves a file that stands for a version of the log that the
+  -- what a run leaves of a store: a crash at any moment of it leaves a file that holds a version of the log that the
   -- run ended with, no older than what was stored at first, and from then on no older than what is stored; that is no
-  -- older than what was reported durable; and just it, unless a device call failed, before the run or within it. What it
-  -- reported durable was written down as it was reported, and from that moment on a crash leaves no older version
+  -- older than what was reported durable; and just it, unless a device call failed, before the run or within it. What
+  -- it reported durable was written down as it was reported, and from that moment on a crash leaves no older version
   pub record IsLeftBy (log : List Entry) (written : List Told) (old last : Flusher D g) : Type 0 where
     pub no_less : old.commit.root.version ≤ last.commit.root.version
     pub moments : LeavesOnly g old.commit.disk last.commit.disk (IsFileIn (history_of log) old.commit.root.version)

@@ -1,8 +1,9 @@
 //! The book of a server as it was opened.
-ghost use Rattle.std.specs.Prelude.{◌≡◌, List, [], None};
-ghost use Rattle.store_flushing.specs.Stores.{flusher_in, told_by};
+ghost use Rattle.std.specs.Prelude.{◌≡◌, List, None};
+ghost use Rattle.store_flushing.specs.Stores.{flusher_in};
 ghost use Rattle.overlay_server.specs.Answering.{answer_in};
 ghost use Rattle.overlay_server.specs.Given.{Given};
+ghost use Rattle.overlay_server.specs.Moments.{HasOnlyNow};
 ghost use Rattle.overlay_server.specs.Refusing.{IsRefusedFrom};
 ghost use Rattle.overlay_server.specs.Serving.{first_log};
 
@@ -13,6 +14,7 @@ use disk_model::disk::Disk;
 use std::alloc::Global;
 use std::snapshot::Snapshot;
 use std::sync::Wait;
+use store_flushing::keeper::opened::Shut;
 use store_flushing::keeper::store::Store;
 use version_book::seen_log::{BookName, SeenLog};
 use version_book::session::Session;
@@ -33,10 +35,10 @@ pub(crate) struct Hosted<J: BookName, S: Wait + Drop, D: Disk> {
 
 impl<J: BookName, S: Wait + Drop, D: Disk> Hosted<J, S, D> {
     /// Ends the book of a server that had no memory for its ports: the disk comes back.
-    pub fn unserved(self, alloc: Global) -> ServerFault<D>
+    pub fn unserved(self, alloc: Global) -> ServerFault<Shut<D>>
         requires answer { answer_in self.answer ≡ None }
         requires first { self.seen_log.log ≡ first_log self.version.value }
-        requires untold { told_by self.store ≡ [] }
+        requires now { HasOnlyNow D.Disk }
         ensures { (all : List Given) → IsRefusedFrom D.Disk self.version.value (flusher_in self.store) all result }
     {
         let Hosted {
@@ -48,6 +50,6 @@ impl<J: BookName, S: Wait + Drop, D: Disk> Hosted<J, S, D> {
             store,
             sessions: _sessions,
         } = self;
-        refused(alloc, answer, store.into_flusher(), seen_log)
+        refused(alloc, answer, store.into_disk(), seen_log)
     }
 }

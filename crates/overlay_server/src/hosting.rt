@@ -1,12 +1,16 @@
 //! The book of a server, from its opening to its end.
-ghost use Rattle.std.specs.Prelude.{◌≡◌, ◌<◌, ◌≤◌, ◌↔◌, ℕ, List, [], All, length, IfOk, IfErr};
+ghost use Rattle.std.specs.Prelude.{◌≡◌, ◌<◌, ◌≤◌, ◌↔◌, ℕ, List, [], All, is_some, length, IfOk, IfErr, IfSome};
+ghost use Rattle.std.specs.List.{AllZip};
 ghost use Rattle.book_history.specs.Rules.{head_of};
+ghost use Rattle.book_lock.specs.Steps.{beginners};
 ghost use Rattle.overlay_terms.specs.Histories.{Entry, History};
+ghost use Rattle.server_session.specs.Replying.{IsAtStart};
 ghost use Rattle.store_flushing.specs.Stores.{flusher_in};
-ghost use Rattle.overlay_server.specs.Given.{Given, IsBegun, bytes_of, given_by, given_to};
+ghost use Rattle.version_book.specs.Store.{has_store};
+ghost use Rattle.overlay_server.specs.Given.{Given, bytes_of, given_by, given_to};
 ghost use Rattle.overlay_server.specs.Hosting.{IsHosted};
 ghost use Rattle.overlay_server.specs.Refusing.{IsRefusedFrom, IsRefusedOf};
-ghost use Rattle.overlay_server.specs.Serving.{IsHeldOf, IsLeftFrom, IsStoredOf, first_log, flusher_of, start_of};
+ghost use Rattle.overlay_server.specs.Serving.{IsHeldOf, IsLeftFrom, IsStoredOf, first_log};
 
 use crate::hosted::Hosted;
 use crate::listening::listened;
@@ -16,8 +20,6 @@ use crate::refusing::{only_now, refused, stopped};
 use crate::storing::keep_store;
 use crate::threads::{Work, run_threads};
 use disk_model::disk::Disk;
-use flush_core::flusher::Flusher;
-use overlay_engine::engine::Engine;
 use server_session::reply_writer::ReplyWriter;
 use session_threads::counting::{await_number, made_by_all};
 use session_threads::halt::Halt;
@@ -28,37 +30,38 @@ use std::io::Read;
 use std::snapshot::Snapshot;
 use std::sync::Wait;
 use std::thread::Threads;
+use store_flushing::keeper::opened::{Opened, Shut};
 use store_flushing::keeper::store::Store;
 use tile_workers::gate::Gate;
 use version_book::seen_log::{BookName, LogWord, SeenLog};
 use versions::Version;
 
-/// Opens the book that is named by its history, for so many sessions. The engine is taken whole, so the book begins with
-/// the durable number that this engine has. Where it gives no places, the disk comes back.
+/// Opens the book that is named by its history, for so many sessions. It begins with its engine's version, and so with the
+/// durable number that this has. Where it gives no places, the disk comes back.
 fn host<J: BookName, S: Wait + Drop, D: Disk>(
     rt: S,
     alloc: Global,
     opened: (LogWord<J>, SeenLog),
-    engine: Option<Engine<D>>,
+    version: Version,
+    store: Opened<J, D>,
     sessions: usize,
-) -> Result<Hosted<J, S, D>, ServerFault<D>>
+) -> Result<Hosted<J, S, D>, ServerFault<Shut<D>>>
     requires head { opened.0 ≡ head_of J.book }
     requires book { opened.1.book ≡ J.book }
-    requires begun { opened.1.log ≡ first_log (start_of engine) }
+    requires begun { opened.1.log ≡ first_log version }
     requires sessions { (0 < sessions) × (sessions ≤ 4) }
     requires seats { sessions ≤ J.seats }
-    ensures version { IfOk result (λ hosted. hosted.version.value ≡ start_of engine) }
-    ensures flusher { IfOk result (λ hosted. flusher_in hosted.store ≡ flusher_of engine) }
+    ensures version { IfOk result (λ hosted. hosted.version.value ≡ version) }
+    ensures flusher { IfOk result (λ hosted. flusher_in hosted.store ≡ store.flusher) }
     ensures hosted { IfOk result (IsHosted J.book sessions) }
-    ensures refused { IfErr result (λ fault. (all : List Given) → IsRefusedFrom D.Disk (start_of engine) (flusher_of engine) all fault) }
+    ensures refused { IfErr result (λ fault. (all : List Given) → IsRefusedFrom D.Disk version store.flusher all fault) }
     ensures sessions { IfErr result (λ fault. fault.sessions.items ≡ []) }
 {
     let (head, seen_log) = opened;
-    let (version, flusher) = parts_of(alloc, engine);
     let number = version.number();
     let start = Snapshot::of(&version);
     let first = seen_log.again();
-    let stored = flusher.is_some();
+    let stored = store.is_there();
     // What the book begins with is what the store holds now: the clauses rest on that.
     only_now::<D>();
     let (begun, answer) = open_book::<J, S>(rt, alloc, head, seen_log, version, stored, sessions);
@@ -69,24 +72,10 @@ fn host<J: BookName, S: Wait + Drop, D: Disk>(
             seen_log: first,
             answer,
             shared,
-            store: Store::new(reporter, flusher),
+            store: Store::new::<J>(reporter, store),
             sessions,
         }),
-        Err(_) => Err(refused(alloc, answer, flusher, first)),
-    }
-}
-
-/// The version that a book begins with, and its store, where there is one.
-fn parts_of<D: Disk>(alloc: Global, engine: Option<Engine<D>>) -> (Version, Option<Flusher<D>>)
-    ensures version { result.0 ≡ start_of engine }
-    ensures flusher { result.1 ≡ flusher_of engine }
-{
-    match engine {
-        Some(engine) => {
-            let (version, flusher) = engine.into_parts();
-            (version, Some(flusher))
-        }
-        None => (Version::empty(alloc), None),
+        Err(_) => Err(refused(alloc, answer, store.into_disk(), first)),
     }
 }
 
@@ -97,9 +86,10 @@ pub fn listen_in<J, D, R, G, Q>(
     workers: usize,
     gate: &G,
     opened: (LogWord<J>, SeenLog),
-    engine: Option<Engine<D>>,
+    version: Version,
+    store: Opened<J, D>,
     readers: Vec<R>,
-) -> Result<Served<D>, ServerFault<D>>
+) -> Result<Served<Shut<D>>, ServerFault<Shut<D>>>
 where
     J: BookName + Send + Sync,
     D: Disk + Send + Drop,
@@ -108,14 +98,14 @@ where
     Q: Threads + Wait + Sync,
     requires head { opened.0 ≡ head_of J.book }
     requires book { opened.1.book ≡ J.book }
-    requires begun { opened.1.log ≡ first_log (start_of engine) }
-    requires stored { (log : List Entry) (number : ℕ) → J.stored log number ↔ IsStoredOf D.Disk (start_of engine) (flusher_of engine) log number }
+    requires begun { opened.1.log ≡ first_log version }
+    requires stored { (log : List Entry) (number : ℕ) → J.stored log number ↔ IsStoredOf D.Disk version store.flusher log number }
     requires seats { J.seats ≡ length readers.items }
     requires readers { (0 < length readers.items) × (length readers.items ≤ 4) }
-    ensures left { IfOk result (IsLeftFrom bytes_of D.Disk (start_of engine) (flusher_of engine) (given_by R.remaining readers.items)) }
-    ensures refused { IfErr result (IsRefusedFrom D.Disk (start_of engine) (flusher_of engine) (given_by R.remaining readers.items)) }
+    ensures left { IfOk result (IsLeftFrom bytes_of D.Disk version store.flusher (given_by R.remaining readers.items)) }
+    ensures refused { IfErr result (IsRefusedFrom D.Disk version store.flusher (given_by R.remaining readers.items)) }
 {
-    let hosted = host::<J, &Q, D>(rt, alloc, opened, engine, readers.len())?;
+    let hosted = host::<J, &Q, D>(rt, alloc, opened, version, store, readers.len())?;
     let Some(ports) = listened(alloc, readers) else {
         return Err(hosted.unserved(alloc));
     };
@@ -132,9 +122,10 @@ pub fn serve_in<J, D, R, W, G, Q>(
     workers: usize,
     gate: &G,
     opened: (LogWord<J>, SeenLog),
-    engine: Option<Engine<D>>,
+    version: Version,
+    store: Opened<J, D>,
     ports: Vec<Port<R, W>>,
-) -> Result<Left<W, D>, PortsFault<R, W, D>>
+) -> Result<Left<W, Shut<D>>, PortsFault<R, W, Shut<D>>>
 where
     J: BookName + Send + Sync,
     D: Disk + Send + Drop,
@@ -144,16 +135,18 @@ where
     Q: Threads + Wait + Sync,
     requires head { opened.0 ≡ head_of J.book }
     requires book { opened.1.book ≡ J.book }
-    requires begun { opened.1.log ≡ first_log (start_of engine) }
-    requires stored { (log : List Entry) (number : ℕ) → J.stored log number ↔ IsStoredOf D.Disk (start_of engine) (flusher_of engine) log number }
+    requires begun { opened.1.log ≡ first_log version }
+    requires stored { (log : List Entry) (number : ℕ) → J.stored log number ↔ IsStoredOf D.Disk version store.flusher log number }
     requires seats { J.seats ≡ length ports.items }
     requires ports { (0 < length ports.items) × (length ports.items ≤ 4) }
-    requires told { (history : History) → IsHeldOf D.Disk (start_of engine) (flusher_of engine) history → W.may_report history }
-    requires own { All (IsBegun R.remaining W.place) ports.items }
-    ensures left { IfOk result (IsLeftFrom W.contents D.Disk (start_of engine) (flusher_of engine) (given_to R.remaining W.contents ports.items)) }
-    ensures refused { IfErr result (IsRefusedOf R.remaining W.contents D.Disk (start_of engine) (flusher_of engine) (given_to R.remaining W.contents ports.items)) }
+    requires told { (history : History) → IsHeldOf D.Disk version store.flusher history → W.may_report history }
+    // Each writer goes on from the session of its place in this book alone: no other answers it, also where this never returns.
+    requires from { AllZip (λ port me. W.from port.writer (is_some store.flusher) me) ports.items (beginners opened.1 (length ports.items)) }
+    requires own { All (λ port. IfSome (W.left port.writer) (IsAtStart (R.remaining port.reader))) ports.items }
+    ensures left { IfOk result (IsLeftFrom W.contents D.Disk version store.flusher (given_to R.remaining W.contents ports.items)) }
+    ensures refused { IfErr result (IsRefusedOf R.remaining W.contents D.Disk version store.flusher (given_to R.remaining W.contents ports.items)) }
 {
-    match host::<J, &Q, D>(rt, alloc, opened, engine, ports.len()) {
+    match host::<J, &Q, D>(rt, alloc, opened, version, store, ports.len()) {
         Ok(hosted) => hosted.run(rt, alloc, workers, gate, ports),
         Err(fault) => Err(PortsFault {
             fault,
@@ -176,7 +169,7 @@ where
         workers: usize,
         gate: &G,
         ports: Vec<Port<R, W>>,
-    ) -> Result<Left<W, D>, PortsFault<R, W, D>>
+    ) -> Result<Left<W, Shut<D>>, PortsFault<R, W, Shut<D>>>
     where
         R: Read + Send + Drop,
         W: ReplyWriter + Send + Drop,
@@ -185,7 +178,8 @@ where
         requires ports { 0 < length ports.items }
         requires hosted { IsHosted J.book (length ports.items) self }
         requires told { (history : History) → IsHeldOf D.Disk self.version.value (flusher_in self.store) history → W.may_report history }
-        requires own { All (IsBegun R.remaining W.place) ports.items }
+        requires from { AllZip (λ port me. W.from port.writer (has_store self.shared) me) ports.items self.sessions.items }
+        requires own { All (λ port. IfSome (W.left port.writer) (IsAtStart (R.remaining port.reader))) ports.items }
         requires meant { (log : List Entry) (number : ℕ) → J.stored log number ↔ IsStoredOf D.Disk self.version.value (flusher_in self.store) log number }
         ensures left { IfOk result (IsLeftFrom W.contents D.Disk self.version.value (flusher_in self.store) (given_to R.remaining W.contents ports.items)) }
         ensures refused { IfErr result (IsRefusedOf R.remaining W.contents D.Disk self.version.value (flusher_in self.store) (given_to R.remaining W.contents ports.items)) }
@@ -205,7 +199,7 @@ where
             Ok(seats) => seats,
             Err(ports) => {
                 return Err(PortsFault {
-                    fault: refused(alloc, answer, store.into_flusher(), seen_log),
+                    fault: refused(alloc, answer, store.into_disk(), seen_log),
                     back: PortsBack::Unserved(ports),
                 });
             }

@@ -7,7 +7,8 @@ use session_threads::port::Port;
 use std::alloc::Global;
 use std::io::Read;
 
-/// A port into a list of bytes for each reader, whose scripts have the limit of scripts. None comes where memory is refused.
+/// A port into a list of bytes for each reader, whose scripts have the limit of scripts. None
+/// comes where memory is refused.
 pub fn listened<R: Read + Drop>(alloc: Global, readers: Vec<R>) -> Option<Vec<Port<R, Vec<u8>>>>
     ensures given { IfSome result (λ ports. given_to R.remaining bytes_of ports.items ≡ given_by R.remaining readers.items) }
     ensures count { IfSome result (λ ports. length ports.items ≡ length readers.items) }

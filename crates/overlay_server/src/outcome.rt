@@ -17,8 +17,8 @@ pub struct ServeOptions {
     pub ghost few: { workers ≤ 8 },
 }
 
-/// What a server leaves (`serve`: `Served`): the writer of each session and how it ended, in the order of the ports or readers, and what is left
-/// of the book and its store.
+/// What a server leaves (`serve`: `Served`): the writer of each session and how it ended, in the order of the ports or
+/// readers, and what is left of the book and its store.
 #[derive(Debug, Drop)]
 pub struct Left<W, D> {
     pub sessions: Vec<Finished<W>>,
@@ -28,8 +28,8 @@ pub struct Left<W, D> {
 /// What a server of readers leaves: the writer of each session is a list with the bytes that it wrote.
 pub type Served<D> = Left<Vec<u8>, D>;
 
-/// Why a server could not run: 44 where the book gives no places, and 40 where memory or a thread was refused. Memory is
-/// refused before the first thread starts.
+/// Why a server could not run: 44 where the book gives no places, and 40 where memory or a thread was refused. Memory
+/// is refused before the first thread starts.
 #[derive(Debug, Drop)]
 pub struct ServerFault<D> {
     pub code: u8,
@@ -41,8 +41,8 @@ pub struct ServerFault<D> {
     pub seen_log: SeenLog,
     /// What was reported durable, and when.
     pub told: ToldLog,
-    /// The sessions, in the order of the ports or readers, with what they have seen and made. None where none was begun,
-    /// and then no command was accepted.
+    /// The sessions, in the order of the ports or readers, with what they have seen and made. None where none was
+    /// begun, and then no command was accepted.
     pub sessions: Vec<Session>,
 }
 
@@ -58,7 +58,7 @@ pub struct PortsFault<R, W, D> {
 pub enum PortsBack<R, W> {
     /// The ports as they were: no thread was started for them.
     Unserved(Vec<Port<R, W>>),
-    /// The writer of each session and how it ended, in the order of the ports. One that was not begun ended by 40, and its
-    /// writer is as it was.
+    /// The writer of each session and how it ended, in the order of the ports. One that was not begun ended
+    /// by 40, and its writer is as it was.
     Stopped(Vec<Finished<W>>),
 }

@@ -1,5 +1,5 @@
 //! A server that could not run: why, the disk that comes back, and what is left of a book of which no session was begun.
-ghost use Rattle.std.specs.Prelude.{◌≡◌, [], None, Some, MatchBool, MatchOption};
+ghost use Rattle.std.specs.Prelude.{◌≡◌, [], MatchBool};
 ghost use Rattle.std.specs.List.{list_any};
 ghost use Rattle.session_threads.specs.Running.{was_begun};
 ghost use Rattle.store_flushing.specs.Told.{told_in};
@@ -9,7 +9,6 @@ ghost use Rattle.overlay_server.specs.Moments.{HasOnlyNow};
 use crate::opening::BookAnswer;
 use crate::outcome::{PortsBack, PortsFault, ServerFault};
 use disk_model::disk::Disk;
-use flush_core::flusher::Flusher;
 use session_threads::counting::any_begun;
 use session_threads::port::Finished;
 use std::alloc::Global;
@@ -20,23 +19,22 @@ use version_book::session::Session;
 
 /// No memory, no thread, or no places, by what the book answered, before any session was begun: the disk comes back, and
 /// the book's history is this one.
-pub fn refused<D: Disk>(
+pub fn refused<D>(
     alloc: Global,
     answer: BookAnswer,
-    flusher: Option<Flusher<D>>,
+    disk: Option<D>,
     seen_log: SeenLog,
 ) -> ServerFault<D>
     ensures code { result.code ≡ refusal_code (answer_in answer) }
     ensures answer { result.answer ≡ answer }
-    ensures disk { MatchOption flusher (result.disk ≡ None) (λ f. result.disk ≡ Some f.commit.disk) }
-    ensures now { HasOnlyNow D.Disk }
+    ensures disk { result.disk ≡ disk }
     ensures seen_log { result.seen_log ≡ seen_log }
     ensures told { told_in result.told ≡ [] }
     ensures sessions { result.sessions.items ≡ [] }
 {
     ServerFault {
         code: answer.code(),
-        disk: disk_of(flusher),
+        disk,
         answer,
         seen_log,
         told: ToldLog::none(),
@@ -44,8 +42,8 @@ pub fn refused<D: Disk>(
     }
 }
 
-/// A thread was refused: the disk comes back, what the book has come to, and what the sessions leave. The sessions come back
-/// themselves where one of them was begun.
+/// A thread was refused: the disk comes back, what the book has come to, and what the sessions leave. The sessions come
+/// back themselves where one of them was begun.
 pub fn stopped<R, W, D: Drop>(
     alloc: Global,
     answer: BookAnswer,
@@ -73,18 +71,6 @@ pub fn stopped<R, W, D: Drop>(
             sessions: if begun { sessions } else { Vec::new(alloc) },
         },
         back: PortsBack::Stopped(finished),
-    }
-}
-
-/// The disk of a store, where there is one.
-pub(crate) fn disk_of<D: Disk>(flusher: Option<Flusher<D>>) -> Option<D>
-    ensures disk { MatchOption flusher (result ≡ None) (λ f. result ≡ Some f.commit.disk) }
-    ensures now { HasOnlyNow D.Disk }
-{
-    only_now::<D>();
-    match flusher {
-        Some(flusher) => Some(flusher.into_disk()),
-        None => None,
     }
 }
 

@@ -1,11 +1,14 @@
 //! A server: from readers and an engine to what the sessions wrote, and what is left of the book and its store.
-ghost use Rattle.std.specs.Prelude.{◌≡◌, ◌<◌, ◌≤◌, All, is_some, length, IfOk, IfErr};
+ghost use Rattle.std.specs.Prelude.{◌≡◌, ◌<◌, ◌≤◌, [], All, is_some, length, IfOk, IfErr, IfSome};
+ghost use Rattle.book_history.specs.Known.{Known};
 ghost use Rattle.book_history.specs.Rules.{head_of};
-ghost use Rattle.overlay_server.specs.Given.{IsBegun, bytes_of, given_by, given_to};
+ghost use Rattle.server_session.specs.Replying.{IsAtStart};
+ghost use Rattle.overlay_server.specs.Given.{bytes_of, given_by, given_to};
 ghost use Rattle.overlay_server.specs.Refusing.{IsRefusedFrom, IsRefusedOf};
 ghost use Rattle.overlay_terms.specs.Histories.{History};
 ghost use Rattle.overlay_server.specs.Serving.{IsHeldOf, IsLeftFrom, first_log, flusher_of, start_of};
 
+use crate::handing::{handed, returned, returned_fault};
 use crate::hosting::{listen_in, serve_in};
 use crate::outcome::{Left, PortsFault, ServeOptions, Served, ServerFault};
 use disk_model::disk::Disk;
@@ -43,17 +46,30 @@ where
     G: Gate + Sync,
     Q: Threads + Wait + Sync,
     requires readers { (0 < length readers.items) × (length readers.items ≤ 4) }
-    // Each reader has its replies; what is left of book and store stands for the log that has all that was seen.
+    // Each reader has its replies; what is left of book and store is of the log that has all that was seen.
     ensures left { IfOk result (IsLeftFrom bytes_of D.Disk (start_of engine) (flusher_of engine) (given_by R.remaining readers.items)) }
     // A disk comes back just where there was an engine.
     ensures disk { IfOk result (λ left. is_some left.closed.disk ≡ is_some engine) }
     // The number is that of what the book answered as it was to be opened, and 40 where it was opened. The disk comes back,
-    // and a crash at any moment left a file that stands for a version of the history that comes with it. In that history
+    // and a crash at any moment left a file that holds a version of the history that comes with it. In that history
     // the readers' sessions alone had commands accepted, those of their scripts, and none where no session was begun.
     ensures refused { IfErr result (IsRefusedFrom D.Disk (start_of engine) (flusher_of engine) (given_by R.remaining readers.items)) }
 {
     let opened = history_of(alloc, &engine);
-    listen_in::<Brand, D, R, G, Q>(rt, alloc, options.workers, gate, opened, engine, readers)
+    let (version, store, key) = handed(alloc, engine);
+    match listen_in::<Brand, D, R, G, Q>(
+        rt,
+        alloc,
+        options.workers,
+        gate,
+        opened,
+        version,
+        store,
+        readers,
+    ) {
+        Ok(served) => Ok(returned(key, served)),
+        Err(fault) => Err(returned_fault(key, fault)),
+    }
 }
 
 /// The same where the replies of each session go to the writer beside its reader: each reply is written before more of the
@@ -76,16 +92,33 @@ where
     // To the writers may be reported what the store holds, and nothing else: this says what counts as stored, also in a call
     // that never returns. Each writer of bytes meets it.
     requires told { (history : History) → IsHeldOf D.Disk (start_of engine) (flusher_of engine) history → W.may_report history }
-    // Each that keeps its place is at the start of its reader's script, for whichever session that has made nothing. Each
-    // writer of bytes meets it.
-    requires own { All (IsBegun R.remaining W.place) ports.items }
+    // Each begins with whichever session that has made nothing, of a book with a store just where there is an engine, and has
+    // all of its reader's script left, if it keeps that. Each writer of bytes meets it.
+    requires from { All (λ port. (me : Known) → me.made ≡ [] → W.from port.writer (is_some engine) me) ports.items }
+    requires own { All (λ port. IfSome (W.left port.writer) (IsAtStart (R.remaining port.reader))) ports.items }
     ensures left { IfOk result (IsLeftFrom W.contents D.Disk (start_of engine) (flusher_of engine) (given_to R.remaining W.contents ports.items)) }
     ensures disk { IfOk result (λ left. is_some left.closed.disk ≡ is_some engine) }
     // Where it could not run, the ports come back as they were, or the writers, each with just what its session was answered.
     ensures refused { IfErr result (IsRefusedOf R.remaining W.contents D.Disk (start_of engine) (flusher_of engine) (given_to R.remaining W.contents ports.items)) }
 {
     let opened = history_of(alloc, &engine);
-    serve_in::<Brand, D, R, W, G, Q>(rt, alloc, options.workers, gate, opened, engine, ports)
+    let (version, store, key) = handed(alloc, engine);
+    match serve_in::<Brand, D, R, W, G, Q>(
+        rt,
+        alloc,
+        options.workers,
+        gate,
+        opened,
+        version,
+        store,
+        ports,
+    ) {
+        Ok(left) => Ok(returned(key, left)),
+        Err(refused) => Err(PortsFault {
+            fault: returned_fault(key, refused.fault),
+            back: refused.back,
+        }),
+    }
 }
 
 /// The history of an engine's version, or of no command where there is none, before its book is opened.

@@ -41,7 +41,8 @@ refusal_from i layers (command ∷ commands) =
 -- each batch is accepted by the layers after those before it
 abbrev pub AllBatchesAccepted : List Layer → List Batch → Type 0
 AllBatchesAccepted layers [] = Unit {0}
-AllBatchesAccepted layers (batch ∷ batches) = (refusal_from 0 layers batch ≡ None) × AllBatchesAccepted (applied_all layers batch) batches
+AllBatchesAccepted layers (batch ∷ batches) =
+    (refusal_from 0 layers batch ≡ None) × AllBatchesAccepted (applied_all layers batch) batches
 
 -- why a batch is refused at a version of this number: for a command, or since the number is the greatest
 abbrev pub batch_refusal_at : ℕ → List Layer → Batch → Option BatchRefusal

@@ -1,5 +1,6 @@
 -- Bytes of a text: the first of them, and digits.
-use Rattle.std.specs.Prelude.{ℕ, ◌+◌, ◌*◌, ◌-◌, nat_le, Bool, false, ◌&&◌, List, [], ◌∷◌, length, fold, Option, Some, None, if◌then◌else◌}
+use Rattle.std.specs.Prelude.{ℕ, ◌+◌, ◌*◌, ◌-◌, ◌&&◌, [], ◌∷◌, if◌then◌else◌}
+use Rattle.std.specs.Prelude.{nat_le, Bool, false, List, length, fold, Option, Some, None}
 use Rattle.std.specs.List.{list_all}
 use Rattle.std.specs.Char.{is_ascii_digit}
 

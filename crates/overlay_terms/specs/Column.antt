@@ -1,5 +1,6 @@
 -- The columns of the plane: vertical bands, each without its right border. Their number and width are given here alone.
-use Rattle.std.specs.Prelude.{ℕ, ℤ, pos, ◌+◌, ◌*◌, ◌-ℤ◌, ◌*ℤ◌, ◌<ℤ◌, ◌≤ℤ◌, neg_ℤ, int_le, int_lt, Bool, ◌&&◌, List, nat_lt, Option, Some, None, if◌then◌else◌}
+use Rattle.std.specs.Prelude.{ℕ, ℤ, ◌+◌, ◌*◌, ◌-ℤ◌, ◌*ℤ◌, ◌<ℤ◌, ◌≤ℤ◌, ◌&&◌, if◌then◌else◌}
+use Rattle.std.specs.Prelude.{pos, neg_ℤ, int_le, int_lt, Bool, List, nat_lt, Option, Some, None}
 use Rattle.std.specs.List.{range_with_len}
 use Rattle.overlay_terms.specs.Plane.{Point, Segment, coordinate_max}
 

@@ -1,5 +1,6 @@
 -- Commands: why one is refused, and what it makes of the layers.
-use Rattle.std.specs.Prelude.{◌≡◌, ℕ, ◌==◌, nat_le, Bool, false, true, not, ◌&&◌, List, [], ◌∷◌, ◌++◌, map, filter, fold, length, Option, Some, None, bytes_eq, if◌then◌else◌, ◌+◌, ◌^◌}
+use Rattle.std.specs.Prelude.{◌≡◌, ℕ, ◌==◌, nat_le, Bool, false, true, not, ◌&&◌, List, [], ◌∷◌, ◌++◌, map}
+use Rattle.std.specs.Prelude.{filter, fold, length, Option, Some, None, bytes_eq, if◌then◌else◌, ◌+◌, ◌^◌}
 use Rattle.std.specs.List.{list_any}
 use Rattle.std.specs.Option.{option_or}
 use Rattle.overlay_terms.specs.Plane.{WholePoint}
@@ -119,4 +120,5 @@ layers_after commands = fold applied [] commands
 -- each command is accepted by the layers after those before it
 abbrev pub AllAccepted : List Layer → List Command → Type 0
 AllAccepted layers [] = Unit {0}
-AllAccepted layers (command ∷ commands) = (refusal_of layers command ≡ None) × AllAccepted (applied layers command) commands
+AllAccepted layers (command ∷ commands) =
+    (refusal_of layers command ≡ None) × AllAccepted (applied layers command) commands

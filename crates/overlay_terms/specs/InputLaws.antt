@@ -23,7 +23,9 @@ segment_ends_at segments v =
 
 -- closed rings leave each whole point an end of an even number of segments
 abbrev pub RingsAreClosed : Type 0
-RingsAreClosed = (rings : List (List WholePoint)) (v : WholePoint) → All IsClosed rings → segment_ends_at (segments_of rings) v % 2 ≡ 0
+RingsAreClosed =
+    (rings : List (List WholePoint)) (v : WholePoint) → All IsClosed rings
+    → segment_ends_at (segments_of rings) v % 2 ≡ 0
 
 -- the segments of base layers are proper, and each whole point is an end of an even number of each layer's segments
 abbrev pub LayersAreClosed : Type 0
@@ -32,11 +34,14 @@ LayersAreClosed = (bases : List (List (List WholePoint))) → All (All IsRing) b
 -- of closed segments, those with a point in a column are the input of a tile
 abbrev pub ClosedIsInput : Type 0
 ClosedIsInput =
-    (marked : List Marked) (steps : Steps) (k : ℕ) → k < column_count → steps.bases ≤ layers_max → All (λ m. m.layer < steps.bases) marked → AreClosed marked →
+    (marked : List Marked) (steps : Steps) (k : ℕ) → k < column_count → steps.bases ≤ layers_max
+    → All (λ m. m.layer < steps.bases) marked → AreClosed marked →
     IsInput (record { column = k; marked = filter (λ m. touches k m.segment) marked; steps = steps })
 
--- where the rings of base layers are rings, and no more layers than there may be, the input of the tile of a layer and column is an input
+-- where the rings of base layers are rings, and no more layers than there may be, the input of the tile of
+-- a layer and column is an input
 abbrev pub InputOfIsInput : Type 0
 InputOfIsInput =
-    (layers : List Layer) (name : Name) (k : ℕ) → k < column_count → length layers ≤ layers_max → All (λ b. All IsRing b.1) (filter_map base_of layers) →
+    (layers : List Layer) (name : Name) (k : ℕ) → k < column_count → length layers ≤ layers_max
+    → All (λ b. All IsRing b.1) (filter_map base_of layers) →
     IsInput (input_of layers name k)

@@ -1,4 +1,5 @@
--- Laws of the tiles that are kept: the untouched tiles are those whose input stays, so each tile stays that of its input.
+-- Laws of the tiles that are kept: the untouched tiles are those whose input stays, so
+-- each tile stays that of its input.
 use Rattle.std.specs.Prelude.{◌≡◌, ◌↔◌, ℕ, ◌<◌, ◌≤◌, false, IsTrue, List, length, Some, None, bytes_eq}
 use Rattle.std.specs.List.{list_any}
 use Rattle.overlay_terms.specs.Column.{column_count}
@@ -7,14 +8,16 @@ use Rattle.overlay_terms.specs.Tiles.{input_of}
 use Rattle.overlay_terms.specs.Orderly.{IsOrderly}
 use Rattle.overlay_terms.specs.Commands.{Command, refusal_of, applied, stands_as_derived}
 use Rattle.overlay_terms.specs.Touched.{is_touched, derived_over, name_of}
-use Rattle.overlay_terms.specs.Histories.{Tile, Finished, pieces_max, IsTileAt, tile_at, Version, Event, Follows, History, IsHistory, newest}
+use Rattle.overlay_terms.specs.Histories.{Tile, Finished, pieces_max, IsTileAt, tile_at}
+use Rattle.overlay_terms.specs.Histories.{Version, Event, Follows, History, IsHistory, newest}
 
 -- what a command does not change: the input of the tile of a layer and column, and that the layer is derived
 pub record IsUntouched (before after : List Layer) (name : Name) (k : ℕ) : Type 0 where
   pub same_input : input_of after name k ≡ input_of before name k
   pub still_derived : IsTrue (stands_as_derived after name)
 
--- a command leaves a tile of a derived layer untouched exactly where it leaves the tile's input as it is, and the layer derived
+-- a command leaves a tile of a derived layer untouched exactly where it leaves the tile's input
+-- as it is, and the layer derived
 abbrev pub UntouchedInputStays : Type 0
 UntouchedInputStays =
     (layers : List Layer) (command : Command) (name : Name) (k : ℕ) → IsTrue (stands_as_derived layers name) →
@@ -23,8 +26,10 @@ UntouchedInputStays =
 -- an accepted command touches tiles of those layers alone that reach the name that it puts, defines or takes out
 abbrev pub OnlyReachIsTouched : Type 0
 OnlyReachIsTouched =
-    (layers : List Layer) (command : Command) (name : Name) (k : ℕ) → IsOrderly layers → refusal_of layers command ≡ None →
-    IsTrue (is_touched layers command name k) → IsTrue (list_any (bytes_eq name) (derived_over layers (name_of command)))
+    (layers : List Layer) (command : Command) (name : Name) (k : ℕ) → IsOrderly layers
+    → refusal_of layers command ≡ None →
+    IsTrue (is_touched layers command name k)
+    → IsTrue (list_any (bytes_eq name) (derived_over layers (name_of command)))
 
 -- tiles fit layers: each is of a derived layer among them, and of a column that there is
 abbrev pub AreFitting : List Layer → List Finished → Type 0
@@ -47,7 +52,8 @@ TilesAreExact version = AreExact version.layers version.tiles
 -- what is published leaves exact tiles exact
 abbrev pub ExactnessStays : Type 0
 ExactnessStays =
-    (old new : Version) (event : Event) → Follows old event new → IsOrderly old.layers → TilesFit old → TilesAreExact old →
+    (old new : Version) (event : Event) → Follows old event new → IsOrderly old.layers → TilesFit old
+    → TilesAreExact old →
     TilesFit new × TilesAreExact new
 
 -- what is published leaves orderly layers orderly, and no more than there may be where there were no more
@@ -69,4 +75,5 @@ HistoryIsExact = (history : History) → IsHistory history → IsExact history.s
 -- the newest version of a history has no more layers than there may be where its first one has
 abbrev pub HistoryHasRoom : Type 0
 HistoryHasRoom =
-    (history : History) → IsHistory history → length history.start.layers ≤ layers_max → length (newest history).layers ≤ layers_max
+    (history : History) → IsHistory history → length history.start.layers ≤ layers_max
+    → length (newest history).layers ≤ layers_max

@@ -1,11 +1,14 @@
 -- Laws over the definitions, which functions of this crate ensure.
-use Rattle.std.specs.Prelude.{◌≡◌, pos, ◌<ℤ◌, ◌↔◌, ◌≤◌, false, Bool, IsTrue, List, [], ◌∷◌, ◌++◌, reverse, length, filter_map, All, Any}
+use Rattle.std.specs.Prelude.{◌≡◌, ◌<ℤ◌, ◌↔◌, ◌≤◌, [], ◌∷◌, ◌++◌}
+use Rattle.std.specs.Prelude.{pos, false, Bool, IsTrue, List, reverse, length, filter_map, All, Any}
 use Rattle.std.specs.List.{list_any}
 use Rattle.std.specs.Ordering.{ordering_reverse}
 use Rattle.std.specs.declared.cmp.Ordering.TheVariants.{Less, Equal}
-use Rattle.overlay_terms.specs.Plane.{WholePoint, Point, Segment, segments_of, ring_segments, is_inside, is_on, point_cmp, same_place}
+use Rattle.overlay_terms.specs.Plane.{WholePoint, Point, Segment, segments_of, ring_segments}
+use Rattle.overlay_terms.specs.Plane.{is_inside, is_on, point_cmp, same_place}
 use Rattle.overlay_terms.specs.Trees.{Steps, steps_value}
-use Rattle.overlay_terms.specs.Layers.{layers_max, Name, Layer, value_of, base_of, layers_in_reach, segments_in_reach, steps_in_reach, answer_at, edge}
+use Rattle.overlay_terms.specs.Layers.{layers_max, Name, Layer, value_of, base_of, layers_in_reach}
+use Rattle.overlay_terms.specs.Layers.{segments_in_reach, steps_in_reach, answer_at, edge}
 use Rattle.overlay_terms.specs.Tiles.{below_bits}
 use Rattle.overlay_terms.specs.Commands.{Command, AllAccepted, layers_after}
 use Rattle.overlay_terms.specs.Orderly.{IsOrderly}
@@ -54,7 +57,8 @@ ValueIsSteps =
 abbrev pub FalseWhereBasesAre : Type 0
 FalseWhereBasesAre =
     (layers : List Layer) (name : Name) (p : Point) → IsOrderly layers →
-    All (λ b. is_inside (segments_of b.1) p ≡ false) (filter_map base_of (layers_in_reach layers name)) → value_of layers name p ≡ false
+    All (λ b. is_inside (segments_of b.1) p ≡ false) (filter_map base_of (layers_in_reach layers name))
+    → value_of layers name p ≡ false
 
 -- what accepted commands leave is orderly, and has room
 abbrev pub AcceptedIsOrderly : Type 0

@@ -20,14 +20,18 @@ pub record IsOffLayer (layers : List Layer) (name : Name) (k : ℕ) (q : Point) 
   pub within : IsTrue (is_in_column k q)
   pub off : IsTrue (is_off (segments_in_reach layers name) q)
 
--- off the segments in reach, an odd number of the pieces of a layer's tile is below a point of its column exactly where the point is in the layer
+-- off the segments in reach, an odd number of the pieces of a layer's tile is below a point of its column exactly where
+-- the point is in the layer
 abbrev pub LayerParityLaw : Type 0
 LayerParityLaw =
-    (layers : List Layer) (name : Name) (k : ℕ) (tile : List (Point × Point)) (q : Point) → AreSound layers → k < column_count → IsTileOf (segments_in_reach layers name) (steps_in_reach layers name) k tile →
+    (layers : List Layer) (name : Name) (k : ℕ) (tile : List (Point × Point)) (q : Point) → AreSound layers
+    → k < column_count → IsTileOf (segments_in_reach layers name) (steps_in_reach layers name) k tile →
     IsOffLayer layers name k q → (count_by (is_pair_below q) tile % 2 == 1) ≡ value_of layers name q
 
 -- the same for a tile of the layer's input
 abbrev pub InputParityLaw : Type 0
 InputParityLaw =
-    (layers : List Layer) (name : Name) (k : ℕ) (tile : List (Point × Point)) (q : Point) → AreSound layers → k < column_count →
-    IsTileOf (input_of layers name k).marked (input_of layers name k).steps (input_of layers name k).column tile → IsOffLayer layers name k q → (count_by (is_pair_below q) tile % 2 == 1) ≡ value_of layers name q
+    (layers : List Layer) (name : Name) (k : ℕ) (tile : List (Point × Point)) (q : Point) → AreSound layers
+    → k < column_count →
+    IsTileOf (input_of layers name k).marked (input_of layers name k).steps (input_of layers name k).column tile
+    → IsOffLayer layers name k q → (count_by (is_pair_below q) tile % 2 == 1) ≡ value_of layers name q

@@ -1,5 +1,6 @@
 -- Named layers: what a layer is at a point, what it reaches, and where a point lies.
-use Rattle.std.specs.Prelude.{ℕ, ◌+◌, Bool, false, List, [], ◌∷◌, ◌++◌, map, filter, fold, flat_map, length, Option, Some, None, bytes_eq, if◌then◌else◌}
+use Rattle.std.specs.Prelude.{ℕ, ◌+◌, [], ◌∷◌, ◌++◌, if◌then◌else◌}
+use Rattle.std.specs.Prelude.{Bool, false, List, map, filter, fold, flat_map, length, Option, Some, None, bytes_eq}
 use Rattle.std.specs.List.{list_any, enumerate_from, filter_map}
 use Rattle.overlay_terms.specs.Plane.{WholePoint, Point, Segment, segments_of, is_inside, is_on}
 use Rattle.overlay_terms.specs.Trees.{Tree, truth, leaves, relabel, Source, base_bit, definition, Steps}
@@ -98,8 +99,8 @@ steps_in_reach layers name =
     let definitions = filter_map derived_of (layers_in_reach layers name) in
     record { bases = length bases; definitions = map (λ d. relabel (source_of (map (λ b. b.0) bases) (map (λ e. e.0) definitions)) d.1) definitions }
 
--- in, out, or edge: off the edges the first two are interior and exterior (ISO 19125-1:2004, 6.1.14.2) of valid layers; edge is any
--- point on a segment of a base layer in reach
+-- in, out, or edge: off the edges the first two are interior and exterior (ISO 19125-1:2004, 6.1.14.2) of valid layers;
+-- edge is any point on a segment of a base layer in reach
 pub data Location : Type 0 where
   inside : Location
   outside : Location

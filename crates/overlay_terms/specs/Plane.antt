@@ -1,5 +1,8 @@
--- Points, segments, and what lies below, on and inside. Rings are those of ISO 19125-1:2004, 6.1.7 and 6.1.11; insides are taken even-odd.
-use Rattle.std.specs.Prelude.{ℕ, ℤ, pos, ◌-◌, ◌^◌, ◌%◌, ◌==◌, ◌*ℤ◌, ◌-ℤ◌, ◌≤ℤ◌, neg_ℤ, int_le, int_lt, Bool, true, false, ◌&&◌, not, List, length, drop, slice_get, zip, sum_by, count_by, filter_map, flat_map, Option, Some, None}
+-- Points, segments, and what lies below, on and inside. Rings are those of ISO 19125-1:2004, 6.1.7 and
+-- 6.1.11; insides are taken even-odd.
+use Rattle.std.specs.Prelude.{ℕ, ℤ, pos, ◌-◌, ◌^◌, ◌%◌, ◌==◌, ◌*ℤ◌, ◌-ℤ◌, ◌≤ℤ◌, neg_ℤ, int_le}
+use Rattle.std.specs.Prelude.{int_lt, Bool, true, false, ◌&&◌, not, List, length, drop, slice_get}
+use Rattle.std.specs.Prelude.{zip, sum_by, count_by, filter_map, flat_map, Option, Some, None}
 use Rattle.std.specs.Ordering.{int_cmp, ordering_then, is_lt, is_gt, int_eq}
 use Rattle.std.specs.declared.cmp.Ordering.{Ordering}
 use Rattle.std.specs.declared.cmp.Ordering.TheVariants.{Less, Equal, Greater}
@@ -52,7 +55,7 @@ InRange n = (neg_ℤ (pos coordinate_max) ≤ℤ n) × (n ≤ℤ pos coordinate_
 abbrev pub is_coordinate : ℤ → Bool
 is_coordinate z = int_le (neg_ℤ (pos coordinate_max)) z && int_le z (pos coordinate_max)
 
--- on which side of the line of a segment a point lies, by its sign alone: positive above, or left of a vertical one; 0 on it
+-- on which side of a segment's line a point lies, by its sign alone: positive above, or left of a vertical one; 0 on it
 abbrev pub height_over : Segment → Point → ℤ
 height_over s p =
     (s.right.x -ℤ s.left.x) *ℤ (p.y -ℤ s.left.y *ℤ p.w) -ℤ (s.right.y -ℤ s.left.y) *ℤ (p.x -ℤ s.left.x *ℤ p.w)

@@ -11,7 +11,8 @@ abbrev pub is_tile_before : List Layer → Finished → Finished → Bool
 is_tile_before layers a b =
     nat_lt (index_of layers a.name) (index_of layers b.name) || (bytes_eq a.name b.name && nat_lt a.column b.column)
 
--- tiles as a file holds them: of derived layers and of columns that there are, right or not but of their form, in the order of the layers, then of the columns
+-- tiles as a file holds them: of derived layers and of columns that there are, right or not but of their form, in the
+-- order of the layers, then of the columns
 pub record AreStored (layers : List Layer) (tiles : List Finished) : Type 0 where
   pub derived_layers : All (λ f. IsTrue (stands_as_derived layers f.name)) tiles
   pub known_columns : All (λ f. f.column < column_count) tiles

@@ -1,5 +1,7 @@
--- Nodes, pieces, their sides, and tiles: the pieces of the boundary of a point set of ISO 19125-1:2004, 6.1.2.4, whose left ends lie in one column.
-use Rattle.std.specs.Prelude.{◌≡◌, ℕ, pos, ◌%◌, ◌==◌, ◌+ℤ◌, ◌-ℤ◌, ◌*ℤ◌, ◌<ℤ◌, Bool, not, ◌&&◌, ◌||◌, IsTrue, List, map, filter, count_by, All, Any, Contains, ◌≢◌}
+-- Nodes, pieces, their sides, and tiles: the pieces of the boundary of a point set of ISO 19125-1:2004, 6.1.2.4, whose
+-- left ends lie in one column.
+use Rattle.std.specs.Prelude.{◌≡◌, ℕ, ◌%◌, ◌==◌, ◌+ℤ◌, ◌-ℤ◌, ◌*ℤ◌, ◌<ℤ◌, ◌&&◌, ◌||◌, ◌≢◌}
+use Rattle.std.specs.Prelude.{pos, Bool, not, IsTrue, List, map, filter, count_by, All, Any, Contains}
 use Rattle.std.specs.List.{list_any, AllPairs}
 use Rattle.std.specs.Ordering.{int_eq, ordering_then}
 use Rattle.std.specs.declared.cmp.Ordering.{Ordering}

@@ -7,7 +7,7 @@ use Rattle.overlay_terms.specs.Tiles.{input_of}
 use Rattle.overlay_terms.specs.SameInput.{same_input}
 use Rattle.overlay_terms.specs.Commands.{Command, put, define, remove, applied, is_derived, stands_as_derived}
 
--- whether the tile of a layer and column stays as it is: the layer is derived afterwards too, and the tile has the same input
+-- whether the tile of a layer and column stays: the layer is derived afterwards too, and the tile has the same input
 abbrev pub tile_stays : List Layer → List Layer → Name → ℕ → Bool
 tile_stays before after name k =
     stands_as_derived after name && same_input (input_of after name k) (input_of before name k)
@@ -35,4 +35,5 @@ reaches_name layers from name = list_any (λ layer. bytes_eq layer.name name) (l
 -- the derived layers that reach a name, in order: no other has a tile that a command under that name touches
 abbrev pub derived_over : List Layer → Name → List Name
 derived_over layers name =
-    map (λ (layer : Layer). layer.name) (filter (λ (layer : Layer). is_derived layer.content && reaches_name layers layer.name name) layers)
+    map (λ (layer : Layer). layer.name)
+    (filter (λ (layer : Layer). is_derived layer.content && reaches_name layers layer.name name) layers)

@@ -1,5 +1,6 @@
 -- Expressions over layers, and lists of definitions that name one another by number.
-use Rattle.std.specs.Prelude.{ℕ, ◌-◌, Bool, false, not, ◌&&◌, ◌||◌, List, [], ◌∷◌, ◌++◌, fold, slice_get, unwrap_or, if◌then◌else◌, ◌==◌}
+use Rattle.std.specs.Prelude.{ℕ, ◌-◌, ◌&&◌, ◌||◌, [], ◌∷◌, ◌++◌, if◌then◌else◌, ◌==◌}
+use Rattle.std.specs.Prelude.{Bool, false, not, List, fold, slice_get, unwrap_or}
 use Rattle.std.specs.Int.{bit_at}
 
 -- the set operations of ISO 19125-1:2004, 6.1.2.4: Intersection, Union, Difference and SymDifference
@@ -36,7 +37,7 @@ abbrev pub relabel : {A B : Type 0} → (A → B) → Tree A → Tree B
 relabel f (leaf a) = leaf (f a)
 relabel f (combine o l r) = combine o (relabel f l) (relabel f r)
 
--- what a leaf stands for: whether a base layer has the point (its bit), or an earlier definition, by its number
+-- what a leaf is: whether a base layer has the point (its bit), or an earlier definition, by its number
 pub data Source : Type 0 where
   base_bit : ℕ → Source
   definition : ℕ → Source

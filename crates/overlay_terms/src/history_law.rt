@@ -2,7 +2,8 @@
 
 ghost use Rattle.overlay_terms.specs.HistoryLaws.{NewestHasCommands, OwnAreAmongAll};
 
-/// The newest version of a history has the number of its start plus the count of the accepted batches, and the layers of its start changed by each of them in turn.
+/// The newest version of a history has the number of its start plus the count of the accepted batches, and the layers
+/// of its start changed by each of them in turn.
 pub fn newest_has_commands()
     ensures { NewestHasCommands }
 {}

@@ -23,7 +23,8 @@ pub fn closed_is_input()
     ensures { ClosedIsInput }
 {}
 
-/// Where the rings of base layers are closed and in range, and there are no more layers than there may be, the input of the tile of a layer and column is one.
+/// Where the rings of base layers are closed and in range, and there are no more layers than there may be, the input of
+/// the tile of a layer and column is one.
 pub fn input_of_is_input()
     ensures { InputOfIsInput }
 {}

@@ -1,8 +1,10 @@
 //! Laws of the tiles that are kept: each function does nothing, and its contract is the law.
 
-ghost use Rattle.overlay_terms.specs.KeptLaws.{ExactnessStays, HistoryHasRoom, HistoryIsExact, LayersStayOrderly, OnlyReachIsTouched, UntouchedInputStays};
+ghost use Rattle.overlay_terms.specs.KeptLaws.{ExactnessStays, HistoryHasRoom, HistoryIsExact};
+ghost use Rattle.overlay_terms.specs.KeptLaws.{LayersStayOrderly, OnlyReachIsTouched, UntouchedInputStays};
 
-/// A command leaves a tile of a derived layer untouched exactly where it leaves the tile's input as it is, and the layer derived.
+/// A command leaves a tile of a derived layer untouched exactly where it leaves the tile's input
+/// as it is, and the layer derived.
 pub fn untouched_input_stays()
     ensures { UntouchedInputStays }
 {}
@@ -17,7 +19,8 @@ pub fn exactness_stays()
     ensures { ExactnessStays }
 {}
 
-/// The layers of the next version are orderly where those of a version are, and no more than there may be where those are no more.
+/// The layers of the next version are orderly where those of a version are, and no more than there
+/// may be where those are no more.
 pub fn layers_stay_orderly()
     ensures { LayersStayOrderly }
 {}

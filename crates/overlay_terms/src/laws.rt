@@ -1,6 +1,8 @@
 //! Laws over the definitions: each function does nothing, and its contract is the law.
 
-ghost use Rattle.overlay_terms.specs.Laws.{AcceptedIsOrderly, DirectionHasNoMeaning, EdgeExactlyOnSegments, FalseWhereBasesAre, NothingFromNothing, OrderIsTotal, SamePlaceSameAnswer, TwiceIsAllEdge, ValueIsSteps};
+ghost use Rattle.overlay_terms.specs.Laws.{AcceptedIsOrderly, DirectionHasNoMeaning, EdgeExactlyOnSegments};
+ghost use Rattle.overlay_terms.specs.Laws.{FalseWhereBasesAre, NothingFromNothing, OrderIsTotal};
+ghost use Rattle.overlay_terms.specs.Laws.{SamePlaceSameAnswer, TwiceIsAllEdge, ValueIsSteps};
 
 /// A ring turned round leaves the inside and the edge of its layer as they were.
 pub fn direction_has_no_meaning()
@@ -32,12 +34,14 @@ pub fn same_place_same_answer()
     ensures { SamePlaceSameAnswer }
 {}
 
-/// What accepted commands leave has no name twice, and each definition is over earlier layers; they are no more than there may be.
+/// What accepted commands leave has no name twice, and each definition is over earlier layers; they
+/// are no more than there may be.
 pub fn accepted_is_orderly()
     ensures { AcceptedIsOrderly }
 {}
 
-/// The value of a layer among orderly ones is that of its steps, where the bit of each base layer in reach is the parity of its segments below.
+/// The value of a layer among orderly ones is that of its steps, where the bit of each base layer in reach is the
+/// parity of its segments below.
 pub fn value_is_steps()
     ensures { ValueIsSteps }
 {}

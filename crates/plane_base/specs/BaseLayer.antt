@@ -1,4 +1,5 @@
-use Rattle.std.specs.Prelude.{ℕ, ◌+◌, List, [], ◌∷◌, length, nat_lt, nat_le, if◌then◌else◌, Option, Some, None, ◌<◌, All}
+use Rattle.std.specs.Prelude.{ℕ, ◌+◌, [], ◌∷◌, if◌then◌else◌, ◌<◌}
+use Rattle.std.specs.Prelude.{List, length, nat_lt, nat_le, Option, Some, None, All}
 use Rattle.std.specs.Option.{option_or}
 use Rattle.overlay_terms.specs.Plane.{WholePoint, InRange, is_closed, ring_step_count, steps_max}
 use Rattle.plane_base.specs.declared.fault.PlaneFault.{PlaneFault}

@@ -1,7 +1,8 @@
 use Rattle.std.specs.Prelude.{ℕ, List}
 use Rattle.fault_texts.specs.FaultTable.{text, filled}
 use Rattle.plane_base.specs.declared.fault.PlaneFault.{PlaneFault}
-use Rattle.plane_base.specs.declared.fault.PlaneFault.TheVariants.{CoordRange, RingOpen, RingShort, TooManySegments, OutOfMemory}
+use Rattle.plane_base.specs.declared.fault.PlaneFault.TheVariants.{CoordRange, RingOpen, RingShort}
+use Rattle.plane_base.specs.declared.fault.PlaneFault.TheVariants.{TooManySegments, OutOfMemory}
 
 -- the number under which a fault is printed
 abbrev pub code_of : PlaneFault → ℕ

@@ -1,6 +1,8 @@
 //! Rings, and the base layers that they make.
-ghost use Rattle.std.specs.Prelude.{◌≡◌, ◌≤◌, ◌++◌, nat_le, None, List, length, IfSome, IfOk, IsNone, OnOk, IsErrOf, IsOkUnless, All};
-ghost use Rattle.overlay_terms.specs.Plane.{WholePoint, Segment, segments_of, ring_segments, ring_step_count, steps_max};
+ghost use Rattle.std.specs.Prelude.{◌≡◌, ◌≤◌, ◌++◌};
+ghost use Rattle.std.specs.Prelude.{nat_le, None, List, length, IfSome, IfOk, IsNone, OnOk, IsErrOf, IsOkUnless, All};
+ghost use Rattle.overlay_terms.specs.Plane.{WholePoint, Segment, segments_of};
+ghost use Rattle.overlay_terms.specs.Plane.{ring_segments, ring_step_count, steps_max};
 ghost use Rattle.overlay_terms.specs.InputLaws.{IsRing};
 ghost use Rattle.plane_base.specs.BaseLayer.{rings_fault, ring_fault, first_ring_fault, PointsInRange};
 
@@ -110,7 +112,8 @@ impl Model for BaseLayer {
 
     ghost view = { λ b. b.rings.items };
 
-    ghost invariant = { λ b. (rings_fault b.rings.items ≡ None) × (b.blocks ≡ segments_of b.rings.items) × All IsRing b.rings.items };
+    ghost invariant = { λ b. (rings_fault b.rings.items ≡ None) × (b.blocks ≡ segments_of b.rings.items)
+        × All IsRing b.rings.items };
 }
 
 impl BaseLayer {

@@ -1,5 +1,6 @@
 //! The columns of the plane. How many there are and how wide they are is said here alone.
-ghost use Rattle.std.specs.Prelude.{◌≡◌, ◌≤◌, ◌<◌, ◌*◌, ◌≤ℤ◌, ◌*ℤ◌, ◌<ℤ◌, neg_ℤ, pos, ℕ, ◌+◌, SomeIff, IfSome, IsSome, ◌↔◌};
+ghost use Rattle.std.specs.Prelude.{◌≡◌, ◌≤◌, ◌<◌, ◌*◌, ◌≤ℤ◌, ◌*ℤ◌, ◌<ℤ◌, ℕ, ◌+◌, ◌↔◌};
+ghost use Rattle.std.specs.Prelude.{neg_ℤ, pos, SomeIff, IfSome, IsSome};
 ghost use Rattle.overlay_terms.specs.Column.{border, column_count, IsInColumn, IsInPlane};
 ghost use Rattle.overlay_terms.specs.Plane.{denominator_max, InRange};
 

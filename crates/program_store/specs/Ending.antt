@@ -1,10 +1,11 @@
 -- How a run ends: what its sessions, its replies and its store come to.
-use Rattle.std.specs.Prelude.{ℕ, List, Bool, true, false, not, ◌&&◌, ◌||◌, nat_eq, nat_le, Option, Some, None, Result, Ok, Err, is_some, if◌then◌else◌}
+use Rattle.std.specs.Prelude.{ℕ, List, Bool, true, false, not, ◌&&◌, ◌||◌, nat_eq, nat_le, if◌then◌else◌}
+use Rattle.std.specs.Prelude.{Option, Some, None, Result, Ok, Err, is_some}
 use Rattle.std.specs.Arc.{arc_value}
 use Rattle.std.specs.List.{list_all}
 use Rattle.program_words.specs.declared.keeping.Keeping.{Keeping}
 use Rattle.program_words.specs.declared.keeping.Opening.{Opening}
-use Rattle.program_words.specs.declared.keeping.Opening.TheVariants.{Existing, New, ReadOnly}
+use Rattle.program_words.specs.declared.keeping.Opening.TheVariants.{ReadOnly}
 use Rattle.commit_plan.specs.declared.fault.StoreFault.{StoreFault}
 use Rattle.commit_plan.specs.declared.fault.StoreFault.TheVariants as store
 use Rattle.script_form.specs.declared.session_end.SessionEnd.{SessionEnd}
@@ -12,10 +13,9 @@ use Rattle.script_form.specs.declared.session_end.SessionEnd.TheVariants.{End, F
 use Rattle.session_threads.specs.Running.{was_begun}
 use Rattle.session_threads.specs.declared.port.Finished.{Finished}
 use Rattle.store_flushing.specs.declared.closed.Closed.{Closed}
-use Rattle.program_store.specs.Fault.{status_of}
 use Rattle.program_store.specs.declared.ending.Ends.{Ends}
 use Rattle.program_store.specs.declared.fault.ProgramFault.{ProgramFault}
-use Rattle.program_store.specs.declared.fault.ProgramFault.TheVariants.{OutOfMemory, Store, Write}
+use Rattle.program_store.specs.declared.fault.ProgramFault.TheVariants.{OutOfMemory, Store, Words, Write}
 
 -- a script was read to its end
 abbrev pub is_end : SessionEnd → Bool
@@ -35,57 +35,39 @@ ends_of all = record {
   written = list_all (λ one. was_written one.end) all;
 }
 
--- the fault that no session's replies report: a session was not run, or its replies could not be written
-abbrev pub unsaid_by : (run written : Bool) → Option ProgramFault
-unsaid_by false written = Some OutOfMemory
-unsaid_by true false = Some Write
-unsaid_by true true = None
-
--- the same, of how all sessions ended
-abbrev pub unsaid : Ends → Option ProgramFault
-unsaid ends = unsaid_by ends.run ends.written
-
--- a fault, or where there is none whether all is complete
-abbrev pub complete_or : Option ProgramFault → Bool → Result Bool ProgramFault
-complete_or None complete = Ok complete
-complete_or (Some fault) complete = Err fault
-
--- what a run comes to: the store's fault, that replies could not be printed, a session's that no reply reports, the
--- first that applies; else whether the newest version is stored and each script was read to its end
+-- what a run comes to: the store's fault, that replies could not be printed, a fault of a session that no reply reports
+-- (it was not run, or its replies could not be written), the first that applies; else whether the newest version is
+-- stored and each script was read to its end
 abbrev pub conclusion : Result Bool ProgramFault → Bool → Ends → Result Bool ProgramFault
 conclusion (Err fault) printed ends = Err fault
-conclusion (Ok stored) false ends = Err Write
-conclusion (Ok stored) true ends = complete_or (unsaid ends) (stored && ends.at_end)
+conclusion (Ok stored) printed ends =
+    if not printed then Err Write else (if not ends.run then Err OutOfMemory
+    else (if not ends.written then Err Write else Ok (stored && ends.at_end)))
 
--- the exit status of a run: 0 where nothing is missing
+-- the exit status of a run: 0 where nothing is missing; wrong words have one of their own
 abbrev pub exit_status : Result Bool ProgramFault → ℕ
 exit_status (Ok true) = 0
-exit_status (Ok false) = 1
-exit_status (Err fault) = status_of fault
-
--- the newest version is stored
-abbrev pub is_stored : {D : Type 0} → Closed D → Bool
-is_stored closed = nat_le (arc_value closed.version).number closed.stored
+exit_status (Err Words) = 2
+exit_status other = 1
 
 -- nothing is kept of what is only read
 abbrev pub is_read_only : Opening → Bool
-is_read_only Existing = false
-is_read_only New = false
 is_read_only ReadOnly = true
+is_read_only other = false
 
--- all is where the words have it: in memory alone where they name no store, or in the store
+-- all is where the words have it: in memory alone where they name no store, or in the store, which has the newest
+-- version
 abbrev pub is_kept : {D : Type 0} → Keeping → Closed D → Bool
-is_kept keeping closed = is_read_only keeping.opening || not (is_some keeping.store) || is_stored closed
+is_kept keeping closed =
+    is_read_only keeping.opening || not (is_some keeping.store)
+    || nat_le (arc_value closed.version).number closed.stored
 
--- why a version is not stored: of a store that failed, the device's fault that it failed by
-abbrev pub told_of : StoreFault → StoreFault
-told_of store.Failed = store.Device
-told_of fault = fault
-
--- what is reported where the newest version is not stored: the store's fault, if it has one
+-- what is reported where the newest version is not stored: the store's fault, if it has one; of a store that failed,
+-- the device's fault that it failed by
 abbrev pub unstored : Option StoreFault → Result Bool ProgramFault
 unstored None = Ok false
-unstored (Some fault) = Err (Store (told_of fault))
+unstored (Some store.Failed) = Err (Store store.Device)
+unstored (Some fault) = Err (Store fault)
 
 -- whether the newest version is where it is to be, and the store's fault where it reported one
 abbrev pub kept_by : {D : Type 0} → Keeping → Closed D → Result Bool ProgramFault

@@ -18,12 +18,3 @@ code_of Write = 49
 abbrev pub text_of : ProgramFault → List ℕ
 text_of (Store fault) = stores.text_of fault
 text_of fault = text (code_of fault)
-
--- the exit status after a fault: wrong words have one of their own
-abbrev pub status_of : ProgramFault → ℕ
-status_of Words = 2
-status_of Script = 1
-status_of (Store fault) = 1
-status_of OutOfMemory = 1
-status_of Gone = 1
-status_of Write = 1

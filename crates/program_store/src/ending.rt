@@ -1,8 +1,9 @@
 //! How a run ends.
-ghost use Rattle.std.specs.Prelude.{◌≡◌, true, is_some, IfOk, Ok};
+ghost use Rattle.std.specs.Prelude.{◌≡◌, nat_le, true, is_some, IfOk, Ok};
+ghost use Rattle.std.specs.Arc.{arc_value};
 ghost use Rattle.std.specs.List.{list_all};
 ghost use Rattle.session_threads.specs.Running.{was_begun};
-ghost use Rattle.program_store.specs.Ending.{conclusion, ends_of, exit_status, is_end, is_kept, is_read_only, is_stored, kept_by, told_of, unsaid, was_written};
+ghost use Rattle.program_store.specs.Ending.{conclusion, ends_of, exit_status, is_end, is_kept, is_read_only, kept_by, was_written};
 
 use crate::fault::ProgramFault;
 use commit_plan::fault::StoreFault;
@@ -77,13 +78,17 @@ pub fn end_run<D>(
     if !printed {
         return Err(ProgramFault::Write);
     }
-    match unsaid(ends) {
-        Some(fault) => Err(fault),
-        None => Ok(stored && ends.at_end),
+    if !ends.run {
+        return Err(ProgramFault::OutOfMemory);
     }
+    if !ends.written {
+        return Err(ProgramFault::Write);
+    }
+    Ok(stored && ends.at_end)
 }
 
-/// Whether the newest version is where it is to be. The fault is why the store does not take it.
+/// Whether the newest version is where it is to be. The fault is why the store does not take it: of a store that failed, the
+/// device's fault that it failed by.
 fn has_stored<D>(keeping: &Keeping, closed: &Closed<D>) -> Result<bool, ProgramFault>
     ensures value { result ≡ kept_by keeping.now closed.now }
     ensures kept { result ≡ Ok true → is_kept keeping.now closed.now ≡ true }
@@ -92,7 +97,8 @@ fn has_stored<D>(keeping: &Keeping, closed: &Closed<D>) -> Result<bool, ProgramF
         return Ok(true);
     }
     match closed.fault {
-        Some(fault) => Err(ProgramFault::Store(told(fault))),
+        Some(StoreFault::Failed) => Err(ProgramFault::Store(StoreFault::Device)),
+        Some(fault) => Err(ProgramFault::Store(fault)),
         None => Ok(false),
     }
 }
@@ -104,28 +110,6 @@ fn is_read_only(opening: Opening) -> bool
     match opening {
         Opening::ReadOnly => true,
         Opening::Existing | Opening::New => false,
-    }
-}
-
-/// Why a version is not stored: of a store that failed, the device's fault that it failed by.
-fn told(fault: StoreFault) -> StoreFault
-    ensures { result ≡ told_of fault }
-{
-    match fault {
-        StoreFault::Failed => StoreFault::Device,
-        other => other,
-    }
-}
-
-/// The fault of a session that ended without a line of its own: there was no memory for its lines, or none for its
-/// replies.
-fn unsaid(ends: Ends) -> Option<ProgramFault>
-    ensures { result ≡ unsaid ends }
-{
-    match (ends.run, ends.written) {
-        (false, _) => Some(ProgramFault::OutOfMemory),
-        (true, false) => Some(ProgramFault::Write),
-        (true, true) => None,
     }
 }
 
@@ -173,7 +157,7 @@ pub fn was_written(end: &SessionEnd) -> bool
 
 /// Whether the newest version is stored.
 fn is_stored<D>(closed: &Closed<D>) -> bool
-    ensures { result ≡ is_stored closed.now }
+    ensures { result ≡ nat_le (arc_value closed.now.version).number closed.now.stored }
 {
     closed.version.number() <= closed.stored
 }

@@ -1,7 +1,8 @@
 //! The faults of the program's own.
 ghost use Rattle.std.specs.Prelude.{◌≡◌, ◌⊎◌};
 ghost use Rattle.fault_texts.specs.FaultText.{shown, IsBrief};
-ghost use Rattle.program_store.specs.Fault.{code_of, status_of, text_of};
+ghost use Rattle.program_store.specs.Ending.{exit_status};
+ghost use Rattle.program_store.specs.Fault.{code_of, text_of};
 ghost use Rattle.program_store.specs.declared.fault.ProgramFault.TheVariants as faults;
 ghost use Rattle.program_words.specs.Fault as words;
 
@@ -44,7 +45,7 @@ impl ProgramFault {
 
     /// The exit status after the fault.
     pub fn status(&self) -> u8
-        ensures { result ≡ status_of self.now }
+        ensures { result ≡ exit_status (Err self.now) }
     {
         match self {
             ProgramFault::Words => 2,

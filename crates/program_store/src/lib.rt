@@ -1,4 +1,5 @@
-//! What both programs do with their store, from opening it to the exit status, and the faults that they report of their own.
+//! What both programs do with their store, from opening it to the exit status, and the faults
+//! that they report of their own.
 #![tactic(auto)]
 
 pub mod ending;

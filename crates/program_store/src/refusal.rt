@@ -6,8 +6,8 @@ use crate::fault::ProgramFault;
 use std::alloc::AllocFailed;
 use std::{fmt, io};
 
-/// Why a program runs no session, or why what it leaves is not all: the fault, and for its user the path of the file that
-/// it is about and what the system said of that file, each where there is one.
+/// Why a program runs no session, or why what it leaves is not all: the fault, and for its user the path of the file
+/// that it is about and what the system said of that file, each where there is one.
 #[derive(Clone, Copy, Debug)]
 pub struct Refusal<'p> {
     pub fault: ProgramFault,

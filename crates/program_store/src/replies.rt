@@ -4,8 +4,8 @@ ghost use Rattle.program_store.specs.Replies.{contents_of};
 use std::io;
 use std::io::Write;
 
-/// Where replies go: an output such as the standard one, or a file. Each write is one of theirs, so that nothing waits in
-/// a buffer of its own.
+/// Where replies go: an output such as the standard one, or a file. Each write is one of theirs, so that nothing waits
+/// in a buffer of its own.
 #[derive(Drop)]
 pub enum Replies<O, F> {
     Output(O),

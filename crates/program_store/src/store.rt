@@ -60,7 +60,8 @@ pub fn engine_on<D: Disk>(
     opening: Opening,
     max_blocks: u32,
 ) -> Result<Engine<D>, OpenFault<D>>
-    // Where the disk keeps the rules, it is what a creation gives, or what a recovery gives, and a refusal leaves what these leave.
+    // Where the disk keeps the rules, it is what a creation gives, or what a recovery gives, and
+    // a refusal leaves what these leave.
     ensures makes { opening ≡ New → D.is_honest disk → MakesHonestly D.Disk max_blocks disk result }
     ensures recovers { opening ≢ New → D.is_honest disk → RecoversHonestly D.Disk disk result }
     ensures limit { IfOk result (λ e. KeepsTo max_blocks e.flusher.commit) }
@@ -86,8 +87,8 @@ fn open_disk<Q: Files<File = File> + AllocGlobal>(
     }
 }
 
-/// Whether a file has a store's magic in one of its two root slots, so that it must not be written over. What a crash left
-/// of a store has it too.
+/// Whether a file has a store's magic in one of its two root slots, so that it must not be written over. What a crash
+/// left of a store has it too.
 pub fn is_store(file: &File) -> io::Result<bool> {
     Ok(has_magic(file, BODY as u64)? || has_magic(file, (SLOTS_END / 2 + BODY) as u64)?)
 }

@@ -10,8 +10,8 @@ use std::rt::Files;
 const PLACE: &str = "/";
 
 /// Sees to it that no file which is opened afterwards gets the number of a standard stream that the program was started
-/// without: what is printed there would be written over the file. Such a stream stays one that can't be used. The fault is
-/// `Script` where its number can't be taken for another reason than want of memory.
+/// without: what is printed there would be written over the file. Such a stream stays one that can't be used. The fault
+/// is `Script` where its number can't be taken for another reason than want of memory.
 pub fn keep_streams<Q: Files<File = File>>(
     rt: &Q,
     input: &Stdin,

@@ -14,7 +14,7 @@ use Rattle.clap.specs.Walk as clap
 use Rattle.program_words.proofs.Line.{at, or_else_nil, rows_at_end, total}
 use Rattle.program_words.proofs.Rows.{has_look, is_flag, look_other, look_same, none_of, texts}
 use Rattle.program_words.specs.CommandLine.{is_set, number_or, opening_of}
-use Rattle.program_words.specs.Number.{word_number}
+use Rattle.overlay_terms.specs.Bytes.{digits_number}
 use Rattle.program_words.specs.Synopsis.{IsNumber, Word, flags_of}
 use Rattle.program_words.specs.declared.keeping.Opening.{Opening}
 use Rattle.program_words.specs.declared.keeping.Opening.TheVariants.{Existing, New, ReadOnly}
@@ -241,7 +241,7 @@ few_flags key ReadOnly = one_few (bytes_eq (codes "read-only") key) (codes "read
 pub to_number : (xs : List Word) (usual most n : ℕ) → length xs ≤ 1 → number_or (slice_get xs 0) usual most ≡ Some n → IsNumber xs usual most n
 to_number [] usual most n few e = sym (same_Some usual n e)
 to_number (text ∷ []) usual most n few e =
-    option_and_then_some (λ (m : ℕ). if nat_le 1 m && nat_le m most then Some m else None) (word_number text) n e
+    option_and_then_some (λ (m : ℕ). if nat_le 1 m && nat_le m most then Some m else None) (digits_number 7 text) n e
     (λ m is within.
     let both = cond_some (nat_le 1 m && nat_le m most) m n within in
     let tests = and_parts (nat_le 1 m) (nat_le m most) both.0 in

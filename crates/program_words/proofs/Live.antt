@@ -18,7 +18,7 @@ use Rattle.program_words.proofs.RequestLemmas.{asked_if, asked_parts}
 use Rattle.program_words.proofs.Rows.{flags_fit, parts_fit}
 use Rattle.program_words.specs.CommandLine.{is_known, is_set}
 use Rattle.program_words.specs.LiveLine.{is_alone, is_known_live, live_line, live_request_in, live_request_of}
-use Rattle.program_words.specs.Synopsis.{AskOnce, Asks, AsksLive, AsksRun, Help, LiveRequest, RunRequest, Run, Version, Word, flag_of, flags_of, is_plain}
+use Rattle.program_words.specs.Synopsis.{AskOnce, Asks, AsksLive, Help, LiveRequest, RunRequest, Run, Version, Word, flag_of, flags_of, is_plain}
 use Rattle.program_words.specs.declared.fault.WordFault.{WordFault}
 use Rattle.program_words.specs.declared.fault.WordFault.TheVariants.{Words}
 use Rattle.program_words.specs.declared.keeping.Opening.{Opening}
@@ -112,7 +112,7 @@ pub ask_once : AskOnce
 ask_once words r s a b = picks_once id (rows_for words) _ r s (asked_picks words r a) (asked_picks words s b)
 
 -- ---- both ways
-pub to_run : (words : List Word) (r : RunRequest) → live_request_of words ≡ Some r → AsksRun words r
+pub to_run : (words : List Word) (r : RunRequest) → live_request_of words ≡ Some r → AsksLive words (Run r)
 to_run words r e =
     let is = asked_parts (list_all is_known_live words) (fault_of live_line (codes "overlay_live" ∷ words)) (live_request_in (rows_for words)) r e in
     let none : total top (at [] None clap.idle) words ≡ [] = sym (fault_is words) ∙ is.1 in
@@ -123,26 +123,25 @@ to_run words r e =
     let names = flags_fit both_flags f.parts f.fit in
     let picks : Picks id (rows_of_parts top both_flags id is_line has_rules f.parts) (is_set (first_of (codes "read-only") (rows_of_parts top both_flags id is_line has_rules f.parts))) r =
     record { opening = p.opening_is; store = p.store_is; workers = p.workers_is; max_blocks = p.blocks_is; paths = p.paths_is } in
-    let limits = and_parts _ _ p.limited in
-    record {
-      asked = to_asks top both_flags id is_line has_rules f.parts f.fit fault words _ r f.spelled
+    let limits = and_parts _ _ p.limited in (
+      to_asks top both_flags id is_line has_rules f.parts f.fit fault words _ r f.spelled
           (opened_by top both_flags id is_line has_rules f.parts f.fit fault _ r refl names
           (few_given top both_flags id is_line has_rules f.parts f.fit fault (codes "read-only") refl)
-          (flag_found top both_flags id is_line has_rules f.parts f.fit fault (codes "read-only") refl) picks) picks;
-      pairs = subst (λ (xs : List Word). length xs % 2 ≡ 0) p.paths_is (eqb-true _ 0 limits.0);
-      few = subst (λ (xs : List Word). length xs ≤ 8) p.paths_is (leb-true _ 8 limits.1);
-    }
+          (flag_found top both_flags id is_line has_rules f.parts f.fit fault (codes "read-only") refl) picks) picks,
+      subst (λ (xs : List Word). length xs % 2 ≡ 0) p.paths_is (eqb-true _ 0 limits.0),
+      subst (λ (xs : List Word). length xs ≤ 8) p.paths_is (leb-true _ 8 limits.1),
+    )
 
-pub from_run : (words : List Word) (r : RunRequest) → AsksRun words r → live_request_of words ≡ Some r
-from_run words r a =
-    let fit = asked_fit words r a.asked in
-    let fault = asked_faults top both_flags id is_line has_rules words r a.asked fit in
-    let none = fault_is words ∙ fault_of_parts top both_flags id is_line has_rules words a.asked.parts a.asked.spelled fit ∙ fault in
-    let known = ap (list_all is_known_live) a.asked.spelled
-    ∙ known_parts top both_flags id is_line has_rules is_known_live known_live_plain known_live_option known_live_flag a.asked.parts fit in
-    let picks = asked_picks words r a.asked in
-    let two = subst (λ (xs : List Word). length xs % 2 ≡ 0) (sym picks.paths) a.pairs in
-    let few = subst (λ (xs : List Word). length xs ≤ 8) (sym picks.paths) a.few in
+pub from_run : (words : List Word) (r : RunRequest) → AsksLive words (Run r) → live_request_of words ≡ Some r
+from_run words r (asks, pairs, few_paths) =
+    let fit = asked_fit words r asks in
+    let fault = asked_faults top both_flags id is_line has_rules words r asks fit in
+    let none = fault_is words ∙ fault_of_parts top both_flags id is_line has_rules words asks.parts asks.spelled fit ∙ fault in
+    let known = ap (list_all is_known_live) asks.spelled
+    ∙ known_parts top both_flags id is_line has_rules is_known_live known_live_plain known_live_option known_live_flag asks.parts fit in
+    let picks = asked_picks words r asks in
+    let two = subst (λ (xs : List Word). length xs % 2 ≡ 0) (sym picks.paths) pairs in
+    let few = subst (λ (xs : List Word). length xs ≤ 8) (sym picks.paths) few_paths in
     let request : live_request_in (rows_for words) ≡ Some r = to_picked _ _ _ _ _ _ r (record {
       limited = and_from _ _ (eq-eqb _ 0 two) (le-leb _ 8 few);
       opening_is = picks.opening;

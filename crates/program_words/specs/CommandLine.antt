@@ -5,7 +5,7 @@ use Rattle.std.specs.Prelude.{Option, Some, None, is_some, unwrap_or, option_and
 use Rattle.std.specs.List.{list_all}
 use Rattle.clap.specs.Words.{App, Row, Rule, Text, all_of, fault_of, first_of, matches_of, new_app, new_rule, with_rule}
 use Rattle.clap.specs.declared.builder.action.ArgAction.TheVariants.{Append, SetTrue}
-use Rattle.program_words.specs.Number.{word_number}
+use Rattle.overlay_terms.specs.Bytes.{digits_number}
 use Rattle.program_words.specs.Synopsis.{RunRequest}
 use Rattle.program_words.specs.declared.keeping.Opening.{Opening}
 use Rattle.program_words.specs.declared.keeping.Opening.TheVariants.{Existing, New, ReadOnly}
@@ -34,7 +34,7 @@ command_line =
     with_rule (with_rule (with_rule (with_rule (with_rule (new_app (codes "overlayd"))
     (option (codes "store"))) (flag (codes "create"))) (option (codes "workers"))) (option (codes "max-blocks"))) (others (codes "script"))
 
--- whether a text is `true`, which stands for a flag that is given
+-- whether a text is `true`, as that of a flag that is given
 abbrev pub is_set : Option Text → Bool
 is_set None = false
 is_set (Some text) = bytes_eq text (codes "true")
@@ -49,7 +49,7 @@ opening_of _ _ _ = None
 -- the number that a text spells if it is 1 to `most`, and the usual one where there is no text
 abbrev pub number_or : Option Text → ℕ → ℕ → Option ℕ
 number_or None usual most = Some usual
-number_or (Some text) usual most = option_and_then (λ n. if nat_le 1 n && nat_le n most then Some n else None) (word_number text)
+number_or (Some text) usual most = option_and_then (λ n. if nat_le 1 n && nat_le n most then Some n else None) (digits_number 7 text)
 
 -- at most four scripts
 abbrev pub are_few : ℕ → Bool

@@ -1,4 +1,5 @@
--- How the words after the live program's name are read where they ask for a run, by what `clap` finds as in CommandLine.
+-- How the words after the live program's name are read where they ask for a run, by what
+-- `clap` finds as in CommandLine.
 use Rattle.std.specs.Prelude.{ℕ, ◌==◌, ◌%◌, nat_le, Bool, false, ◌&&◌, ◌||◌, if◌then◌else◌, List, [], ◌∷◌, length}
 use Rattle.std.specs.Prelude.{Option, Some, None, is_some, unwrap_or, option_and_then, codes, bytes_eq}
 use Rattle.std.specs.List.{list_all}

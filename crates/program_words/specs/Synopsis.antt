@@ -5,7 +5,7 @@
 use Rattle.std.specs.Prelude.{◌≡◌, ◌≢◌, ℕ, ◌≤◌, ◌==◌, ◌%◌, Bool, true, not, ◌&&◌, IsTrue, List, [], ◌∷◌, ◌++◌, length, flat_map, codes, bytes_eq, if◌then◌else◌}
 use Rattle.std.specs.Prelude.{Option, Some, None, is_some, option_to_list}
 use Rattle.std.specs.List.{list_all, list_any, filter_map}
-use Rattle.program_words.specs.Number.{word_number}
+use Rattle.overlay_terms.specs.Bytes.{digits_number}
 use Rattle.program_words.specs.declared.keeping.Opening.{Opening}
 use Rattle.program_words.specs.declared.keeping.Opening.TheVariants.{Existing, New, ReadOnly}
 
@@ -59,10 +59,10 @@ flags_of Existing = []
 flags_of New = codes "create" ∷ []
 flags_of ReadOnly = codes "read-only" ∷ []
 
--- n is the number that the values of an option give, 1 to `most`; without a value it is the usual one
+-- n is the number that the values of an option give, in one to seven digits, 1 to `most`; without a value it is the usual one
 abbrev pub IsNumber : List Word → ℕ → ℕ → ℕ → Type 0
 IsNumber [] usual most n = n ≡ usual
-IsNumber (text ∷ []) usual most n = (word_number text ≡ Some n) × (1 ≤ n) × (n ≤ most)
+IsNumber (text ∷ []) usual most n = (digits_number 7 text ≡ Some n) × (1 ≤ n) × (n ≤ most)
 IsNumber (text ∷ next ∷ texts) usual most n = ⊥
 
 -- what words ask for
@@ -91,23 +91,17 @@ pub record AsksOverlayd (words : List Word) (r : RunRequest) : Type 0 where
   pub opening : r.opening ≢ ReadOnly
   pub scripts : length r.paths ≤ 4
 
--- the words ask overlay_live for a run: the paths are at most four pairs
-pub record AsksRun (words : List Word) (r : RunRequest) : Type 0 where
-  pub asked : Asks words r
-  pub pairs : length r.paths % 2 ≡ 0
-  pub few : length r.paths ≤ 8
-
 -- what words ask overlay_live for: how it is called, which program it is, or a run
 pub data LiveRequest : Type 0 where
   Help : LiveRequest
   Version : LiveRequest
   Run : RunRequest → LiveRequest
 
--- the words ask overlay_live for it: the two texts by their word alone
+-- the words ask overlay_live for it: the two texts by their word alone; of a run the paths are at most four pairs
 abbrev pub AsksLive : List Word → LiveRequest → Type 0
 AsksLive words Help = words ≡ codes "--help" ∷ []
 AsksLive words Version = words ≡ codes "--version" ∷ []
-AsksLive words (Run r) = AsksRun words r
+AsksLive words (Run r) = Asks words r × (length r.paths % 2 ≡ 0) × (length r.paths ≤ 8)
 
 -- words ask for one thing at most
 abbrev pub AskOnce : Type 0

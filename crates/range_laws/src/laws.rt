@@ -2,7 +2,8 @@
 
 ghost use Rattle.range_laws.specs.Ranges.{OneRange, TextsSpellRings};
 
-/// The test of a coordinate, which texts, records, grids and windows share, takes just the numbers in range, and so many may be asked about.
+/// The test of a coordinate, which texts, records, grids and windows share, takes just the numbers in range, and so
+/// many may be asked about.
 pub fn one_range()
     ensures { OneRange }
 {}

@@ -1,4 +1,4 @@
-//! Records read, and the bodies of roots: what their bytes stand for, or why they are not read.
+//! Records read, and the bodies of roots: the values that their bytes spell, or why they are not read.
 #![tactic(auto)]
 
 pub mod base_record;

@@ -83,7 +83,7 @@ pub(crate) fn crossing_in(bytes: &[u8]) -> Option<PointName>
     }
 }
 
-/// The name of a place, and what follows it. The name may stand for no place.
+/// The name of a place, and what follows it. The name may have no place.
 pub(crate) fn point_name_at(bytes: &[u8]) -> Result<(PointName, &[u8]), ReadFault>
     ensures { Gives (λ x. (x.0, x.1.now)) result (point_name.read bytes.now) }
 {

@@ -43,7 +43,8 @@ fn tile_in(alloc: Global, column: Column, bytes: &[u8]) -> Result<Tile, ReadFaul
     Ok(tile)
 }
 
-/// A column and what may be a tile of it, whether that has the form of a tile of the column given, and what follows them.
+/// A column and what may be a tile of it, whether that has the form of a tile of the
+/// column given, and what follows them.
 fn parts_at(
     alloc: Global,
     column: Column,

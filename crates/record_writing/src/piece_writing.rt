@@ -34,7 +34,7 @@ fn put_piece(out: &mut Vec<u8>, piece: &Piece) -> Result<(), AllocError>
     Ok(())
 }
 
-/// Says of a piece what is true of each: both its names stand for places on its support, the left one first.
+/// Says of a piece what is true of each: both its names have places on its support, the left one first.
 fn known(piece: &Piece)
     ensures { is_piece piece.now ≡ true }
 {
@@ -44,7 +44,7 @@ fn known(piece: &Piece)
     let _ = known_name(&piece.to());
 }
 
-/// Says of a name that stands for a place that the test accepts it.
+/// Says of a name that has a place that the test accepts it.
 fn known_name(name: &PointName)
     requires { HasPlace name.now }
     ensures { has_place name.now ≡ true }

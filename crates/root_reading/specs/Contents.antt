@@ -11,7 +11,8 @@ use Rattle.root_reading.specs.LayerReading.{then_layers}
 abbrev pub Adds : List ℕ → Tabled → Tabled → Listed → Type 0
 Adds file old new l =
     (rest : List Listed)
-    → then_layers (tiles_in old) (layers_of file old.layers (l ∷ rest)) ≡ then_layers (tiles_in new) (layers_of file new.layers rest)
+    → then_layers (tiles_in old) (layers_of file old.layers (l ∷ rest))
+    ≡ then_layers (tiles_in new) (layers_of file new.layers rest)
 
 -- a layer or a tile of it is not read: whatever is listed after it
 abbrev pub RefusesLayer : LoadFault → List ℕ → Tabled → Listed → Type 0

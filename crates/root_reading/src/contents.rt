@@ -62,7 +62,8 @@ fn with_derived<D: Disk>(
         → Gives (λ l. l) result (layers_with_derived (D.seen disk.old) layers.now name.now extent) }
     ensures longer { IfOk result (λ l. IsLonger layers.now l) }
     ensures next { (table : Tabled) → IsLaid (laid table) → table.layers ≡ layers.now
-        → IfOk result (λ l. (longer : Tabled) → longer.layers ≡ l → tiles_in longer ≡ tiles_in table → IsNextTo longer name.now 0) }
+        → IfOk result (λ l. (longer : Tabled) → longer.layers ≡ l → tiles_in longer ≡ tiles_in table
+        → IsNextTo longer name.now 0) }
 {
     let expression = expression_at(alloc, disk, size, extent)?;
     let name = name_in(alloc, name)?;

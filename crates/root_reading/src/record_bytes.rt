@@ -21,9 +21,9 @@ fn is_within(extent: RecordExtent, whole: u64) -> bool
         && blocks_of(extent.size) <= whole - extent.block
 }
 
-/// The bytes of a record in a file of this size; the damage where it is not placed in it. Where a record is longer than any
-/// of its form can be, they end one byte after that length: by these it is known, and no length that a file claims asks for
-/// more memory.
+/// The bytes of a record in a file of this size; the damage where it is not placed in it. Where a record is longer
+/// than any of its form can be, they end one byte after that length: by these it is known, and no length that a
+/// file claims asks for more memory.
 pub(crate) fn fetch<D: Disk>(
     alloc: Global,
     disk: &mut D,

@@ -53,7 +53,8 @@ pub fn listing_at<D: Disk>(
 
 /// The layers that the front of a catalog lists. Its counts are of bytes, and so are small.
 fn read_front(alloc: Global, is_old: bool, bytes: &[u8]) -> Result<Vec<Listed>, RecordFault>
-    ensures reads { Reads (λ v. listings.entries_of v.items) result (or_fault CatalogForm (catalog_of_record is_old bytes.now)) }
+    ensures reads { Reads (λ v. listings.entries_of v.items) result
+        (or_fault CatalogForm (catalog_of_record is_old bytes.now)) }
     ensures bytes { AreBytes bytes.now }
 {
     read_catalog(alloc, is_old, bytes)

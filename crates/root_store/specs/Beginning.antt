@@ -17,7 +17,8 @@ use Rattle.root_store.specs.declared.commit.Commit.{Commit}
 use Rattle.store_terms.specs.declared.root.Root.{Root}
 use Rattle.store_terms.specs.Roots.{sequence_max}
 use Rattle.commit_plan.specs.declared.fault.StoreFault.{StoreFault}
-use Rattle.commit_plan.specs.declared.fault.StoreFault.TheVariants.{Device, Full, Damaged, NotEmpty, Failed, SequenceLimit, OutOfMemory}
+use Rattle.commit_plan.specs.declared.fault.StoreFault.TheVariants.{Device, Full, Damaged, NotEmpty, Failed}
+use Rattle.commit_plan.specs.declared.fault.StoreFault.TheVariants.{SequenceLimit, OutOfMemory}
 use Rattle.root_store.specs.declared.phase.Phase.{Phase}
 use Rattle.root_store.specs.declared.phase.Phase.TheVariants as phases
 
@@ -37,7 +38,9 @@ IsReason phase root no_room Full = no_room
 IsReason phase root no_room OutOfMemory = Unit {0}
 IsReason phase root no_room fault = IsRefusal phase root fault
 
--- the writes of a commit of an image: the new records, as long as its own tiles and layers make them, the catalog and the body of the other slot; each but the body in the lowest run that is free of what the live root takes and of the runs before it
+-- the writes of a commit of an image: the new records, as long as its own tiles and layers make them, the
+-- catalog and the body of the other slot; each but the body in the lowest run that is free of what the live root
+-- takes and of the runs before it
 abbrev pub LaysOut : {D : Type 0} {g : Ghosts D} → Commit D g → Image → Commit D g → Type 0
 LaysOut old image new =
     IsLaidOut (live_content old.live) (taken_of old.live.room.map) old.live.room.max_blocks (image_held image)

@@ -1,4 +1,4 @@
--- What a store's file stands for, as the store's fields say it.
+-- What a store's file holds, as the store's fields say it.
 use Rattle.std.specs.Prelude.{◌≡◌, ℕ, List}
 use Rattle.disk_model.specs.declared.disk.Disk.{Ghosts}
 use Rattle.disk_model.specs.Moments.{Leaves}
@@ -24,7 +24,7 @@ content_of root live = record {
 }
 
 module _ {D : Type 0} (g : Ghosts D) where
-  -- no commit is under way, and the file stands for x
+  -- no commit is under way, and the file holds x
   pub record IsAtRest (disk : D) (phase : Phase) (live_root : Root) (live : LiveRecords) (x : Kept) : Type 0 where
     pub honest : g.is_honest disk
     pub idle : phase ≡ Idle
@@ -64,7 +64,7 @@ module _ {D : Type 0} (g : Ghosts D) where
     GoesOn phase =
         IsUnderWay disk phase root next_root next_live writes (content_of root live) (content_of next_root next_live)
 
-    -- what a store keeps: at rest its file stands for the content of the live root; while a commit is under way it goes
+    -- what a store keeps: at rest its file holds the content of the live root; while a commit is under way it goes
     -- from that to the content of the next one; after a failure, nothing
     abbrev pub Keeps : Phase → Type 0
     Keeps Idle = IsAtRest disk Idle root live (content_of root live)

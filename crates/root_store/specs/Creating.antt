@@ -1,5 +1,6 @@
 -- A new file.
-use Rattle.std.specs.Prelude.{false, ◌≡◌, ◌⊎◌, ℕ, ◌+◌, ◌*◌, ◌<◌, ◌≤◌, slice_index, List, [], ◌∷◌, length, ◌==◌, nat_lt, not, if◌then◌else◌, Option, Some, None}
+use Rattle.std.specs.Prelude.{◌≡◌, ◌⊎◌, ℕ, ◌+◌, ◌*◌, ◌<◌, ◌≤◌, [], ◌∷◌, ◌==◌, if◌then◌else◌}
+use Rattle.std.specs.Prelude.{false, slice_index, List, length, nat_lt, not, Option, Some, None}
 use Rattle.disk_model.specs.declared.disk.Disk.{Ghosts}
 use Rattle.disk_model.specs.Disk.{part, Holds, Torn}
 use Rattle.disk_model.specs.Moments.{Leaves, LeavesOnly}
@@ -8,7 +9,8 @@ use Rattle.store_terms.specs.Places.{block_size}
 use Rattle.store_terms.specs.Roots.{body_size, body_text}
 use Rattle.store_terms.specs.StandsFor.{gate, open_gate, body_at, slots_end}
 use Rattle.commit_plan.specs.declared.fault.StoreFault.{StoreFault}
-use Rattle.commit_plan.specs.declared.fault.StoreFault.TheVariants.{Device, Full, Damaged, NotEmpty, Failed, SequenceLimit, OutOfMemory}
+use Rattle.commit_plan.specs.declared.fault.StoreFault.TheVariants.{Device, Full, Damaged, NotEmpty, Failed}
+use Rattle.commit_plan.specs.declared.fault.StoreFault.TheVariants.{SequenceLimit, OutOfMemory}
 use Rattle.commit_plan.specs.Kept.{Kept, Rest}
 
 -- how many blocks a new store has: its slots, and one for its catalog
@@ -80,9 +82,9 @@ refusal_of_new file max_blocks =
     if not (length file == 0) then Some NotEmpty else if nat_lt max_blocks new_blocks then Some Full else None
 
 -- what is known of the calls after a refusal: the length alone was asked for, or the device failed in one of the five
-abbrev pub CallsBehind : StoreFault → ℕ → ℕ → Type 0
-CallsBehind Device old new = new ≤ old + 5
-CallsBehind fault old new = new ≡ old + 1
+abbrev pub CallsAfter : StoreFault → ℕ → ℕ → Type 0
+CallsAfter Device old new = new ≤ old + 5
+CallsAfter fault old new = new ≡ old + 1
 
 -- a fault says the reason, unless the device failed; memory is asked for only where there is none
 abbrev pub IsToldBy : StoreFault → Option StoreFault → Type 0

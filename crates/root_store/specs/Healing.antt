@@ -45,7 +45,7 @@ TwinHeals =
     → x.root.catalog.size < 2 ^ 32 → Shut x old
     → Torn (body_at (other x.root)) body_size old new → HoldsTwin x.root new → Rest x new
 
--- the completing write and its sync: a crash at any moment leaves what stands for x behind its one open gate, and in
+-- the completing write and its sync: a crash at any moment leaves what holds x behind its one open gate, and in
 -- the end whatever the other gate holds, behind which is the body of the twin of x's root
 pub record Heals {D : Type 0} (g : Ghosts D) (old new : D) (result : Result (Unit {0}) LoadFault)
     (x : Kept) : Type 0 where

@@ -1,5 +1,6 @@
 -- What the steps of making and opening a store promise, where the disk is honest.
-use Rattle.std.specs.Prelude.{◌≡◌, ◌≢◌, ℕ, ◌+◌, ◌≤◌, Bool, List, length, None, Result, IfOk, IfErr, OnOk, IsErrOf, MatchResult}
+use Rattle.std.specs.Prelude.{◌≡◌, ◌≢◌, ℕ, ◌+◌, ◌≤◌}
+use Rattle.std.specs.Prelude.{Bool, List, length, None, Result, IfOk, IfErr, OnOk, IsErrOf, MatchResult}
 use Rattle.disk_model.specs.declared.disk.Disk.{Ghosts}
 use Rattle.disk_model.specs.declared.fault.DiskFault.{DiskFault}
 use Rattle.disk_model.specs.Disk.{Torn, Only, Fewer, Elapses, Failed, CountsFailure}
@@ -16,8 +17,9 @@ use Rattle.commit_plan.specs.declared.loaded.Loaded.{Loaded}
 use Rattle.commit_plan.specs.Kept.{Kept, other, Rest, Shut}
 use Rattle.commit_plan.specs.Loaded.{held_in}
 use Rattle.root_store.specs.Healing.{Heals}
-use Rattle.root_store.specs.Opening.{IsRead, Loads, Untouched, OpeningWrites, HasRoot, IsSettled, InPhases, Stops, IsCompleted, Completes}
-use Rattle.root_store.specs.Creating.{nothing_kept, IsNewFile, MadeInPhases, refusal_of_new, IsToldBy, CallsBehind}
+use Rattle.root_store.specs.Opening.{IsRead, Loads, Untouched, OpeningWrites, HasRoot}
+use Rattle.root_store.specs.Opening.{IsSettled, InPhases, Stops, IsCompleted, Completes}
+use Rattle.root_store.specs.Creating.{nothing_kept, IsNewFile, MadeInPhases, refusal_of_new, IsToldBy, CallsAfter}
 
 module _ {D : Type 0} (g : Ghosts D) where
   -- the completing write of an opening
@@ -61,7 +63,7 @@ module _ {D : Type 0} (g : Ghosts D) where
     pub cause : IsErrOf result stores.Device → Failed (g.faults old) (g.faults new)
     pub count : OnOk result (g.faults new ≡ g.faults old)
     pub calls : MatchResult result (λ _. g.calls new ≡ g.calls old + 1)
-        (λ fault. CallsBehind fault (g.calls old) (g.calls new))
+        (λ fault. CallsAfter fault (g.calls old) (g.calls new))
 
   -- a new store is written
   pub record IsMade (old new : D) : Type 0 where
@@ -84,4 +86,4 @@ module _ {D : Type 0} (g : Ghosts D) where
         → (g.seen new ≡ g.seen old) × Fewer (g.may_leave old) (g.may_leave new)
     pub cause : IsErrOf result stores.Device → Failed (g.faults old) (g.faults new)
     pub calls : MatchResult result (λ _. g.calls new ≡ g.calls old + 5)
-        (λ fault. CallsBehind fault (g.calls old) (g.calls new))
+        (λ fault. CallsAfter fault (g.calls old) (g.calls new))

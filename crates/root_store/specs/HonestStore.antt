@@ -11,19 +11,21 @@ use Rattle.commit_plan.specs.Kept.{Kept}
 use Rattle.root_store.specs.declared.commit.Commit.{Commit}
 use Rattle.root_store.specs.declared.open_fault.OpenFault.{OpenFault}
 use Rattle.root_store.specs.Running.{StoreStandsFor}
-use Rattle.root_store.specs.Opening.{Opened, Untouched, OpeningWrites, HasRoot, Tells, FailedBy, InPhases, Stops, IsCompleted, Completes}
-use Rattle.root_store.specs.Creating.{nothing_kept, IsNewFile, MadeInPhases, refusal_of_new, IsToldBy, CallsBehind}
+use Rattle.root_store.specs.Opening.{Opened, Untouched, OpeningWrites, HasRoot, Tells}
+use Rattle.root_store.specs.Opening.{FailedBy, InPhases, Stops, IsCompleted, Completes}
+use Rattle.root_store.specs.Creating.{nothing_kept, IsNewFile, MadeInPhases, refusal_of_new, IsToldBy, CallsAfter}
 
 module _ {D : Type 0} (g : Ghosts D) where
   -- a file is opened
   pub record OpensHonestly (disk : D) (result : Result (Commit D g × Image) (OpenFault D)) : Type 0 where
-    -- what the file stands for, or what is wrong with it
+    -- what the file holds, or what is wrong with it
     pub gives : MatchResult result (λ x. reading (g.seen disk) ≡ Ok (image_held x.1))
         (λ refused. Tells refused.fault (reading (g.seen disk)))
-    -- the store stands for just that, and a crash at any moment of the call leaves what it might have left before, or
-    -- what stands for the same
+    -- the store holds just that, and a crash at any moment of the call leaves what it might have left before, or
+    -- a file that holds the same
     pub ok : IfOk result
-        (λ x. (k : Kept) × (k.held ≡ image_held x.1) × StoreStandsFor g x.0 k × LeavesOnly g disk x.0.disk (Opened g disk))
+        (λ x. (k : Kept) × (k.held ≡ image_held x.1) × StoreStandsFor g x.0 k
+        × LeavesOnly g disk x.0.disk (Opened g disk))
     -- so it does where the file is refused, and after the call
     pub err : IfErr result
         (λ refused. g.is_honest refused.disk × Leaves g refused.disk (Opened g disk)
@@ -77,4 +79,4 @@ module _ {D : Type 0} (g : Ghosts D) where
         (λ refused. refused.fault ≡ stores.Device → Failed (g.faults disk) (g.faults refused.disk))
     -- five device calls are made; of a file that is refused, or without memory, the length alone is asked for
     pub calls : MatchResult result (λ store. g.calls store.disk ≡ g.calls disk + 5)
-        (λ refused. CallsBehind refused.fault (g.calls disk) (g.calls refused.disk))
+        (λ refused. CallsAfter refused.fault (g.calls disk) (g.calls refused.disk))

@@ -28,11 +28,11 @@ pub record IsRead {D : Type 0} (g : Ghosts D) (old new : D) (x : Loaded) (is_shu
   pub shut_gate : is_shut ≡ has_shut_gate (g.seen old)
   pub room : IsMapOf (extents_in (kept_in x)) (taken_of x.live.room.map)
 
--- what a crash may leave while a file is opened: what it might have left before, or what stands for the same
+-- what a crash may leave while a file is opened: what it might have left before, or a file that holds the same
 abbrev pub Opened : {D : Type 0} → Ghosts D → D → List ℕ → Type 0
 Opened g old file = g.may_leave old file ⊎ (reading file ≡ reading (g.seen old))
 
--- a file is opened: what it stands for is read, and in the end a crash leaves what stands for it, as between commits
+-- a file is opened: what it holds is read, and in the end a crash leaves what holds that, as between commits
 pub record Loads {D : Type 0} (g : Ghosts D) (old new : D) (result : Result Loaded LoadFault) : Type 0 where
   pub honest : g.is_honest new
   pub gives : Gives held_in result (reading (g.seen old))
@@ -60,7 +60,7 @@ pub record WritesBody (old new : List ℕ) : Type 0 where
 abbrev pub OpeningWrites : List ℕ → List ℕ → Type 0
 OpeningWrites old new = (new ≡ old) ⊎ WritesBody old new
 
--- the file stands for what it stood for, and nothing but that body is written
+-- the file holds what it held, and nothing but that body is written
 abbrev pub StandsStill : List ℕ → List ℕ → Type 0
 StandsStill old new = (reading new ≡ reading old) × OpeningWrites old new
 
@@ -77,7 +77,7 @@ pub record IsSettled {D : Type 0} (g : Ghosts D) (old new : D) : Type 0 where
   pub after : LeavesOnly g synced new (λ file. file ≡ g.seen old)
 
 -- a file is opened in two phases: until the first sync has succeeded, a crash leaves what it might have left before;
--- from then on, what stands for the same, and differs from what was seen in that body alone. After the reads there are
+-- from then on, a file that holds the same, and differs from the one seen in that body alone. After the reads there are
 -- two calls at most
 pub record InPhases {D : Type 0} (g : Ghosts D) (old new : D) : Type 0 where
   -- the disk as the reads left it

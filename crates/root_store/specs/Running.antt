@@ -16,7 +16,7 @@ use Rattle.store_terms.specs.Image.{Held}
 use Rattle.root_store.specs.Content.{content_of, IsAtRest, IsBefore, IsUnderWay}
 
 module _ {D : Type 0} (g : Ghosts D) where
-  -- the store is at rest, and its file stands for x
+  -- the store is at rest, and its file holds x
   abbrev pub StoreStandsFor : Commit D g → Kept → Type 0
   StoreStandsFor s x = IsAtRest g s.disk s.phase s.root s.live x
 
@@ -114,7 +114,7 @@ Counts progress.Idle old new = (old ≡ 0) × (new ≡ 0)
 Counts progress.Going old new = (old ≡ new + 1) × (0 < new)
 Counts (progress.Done number) old new = (old ≡ 1) × (new ≡ 0)
 
--- what a store on an honest disk stands for is the content of its live root
+-- what a store on an honest disk holds is the content of its live root
 abbrev pub StoresStand : {D : Type 0} → Ghosts D → Type 0
 StoresStand {D = D} g =
     (s : Commit D g) → g.is_honest s.disk → s.phase ≡ Idle → StoreStandsFor g s (content_of s.root s.live)

@@ -1,5 +1,6 @@
 //! Beginning a commit.
-ghost use Rattle.std.specs.Prelude.{◌≡◌, ◌≢◌, ◌+◌, ◌<◌, ◌≤◌, ℕ, true, false, length, Some, IfErr, IfSome, IfNone, IsTrue, OnOk, OnErr};
+ghost use Rattle.std.specs.Prelude.{◌≡◌, ◌≢◌, ◌+◌, ◌<◌, ◌≤◌, ℕ};
+ghost use Rattle.std.specs.Prelude.{true, false, length, Some, IfErr, IfSome, IfNone, IsTrue, OnOk, OnErr};
 ghost use Rattle.extent_map.specs.Taken.{limit_of};
 ghost use Rattle.store_terms.specs.Image.{Held};
 ghost use Rattle.store_terms.specs.Roots.{sequence_max};
@@ -76,7 +77,7 @@ impl<D: Disk> Commit<D> {
     /// Begins the commit of an image. It makes no device call, and a refusal changes nothing.
     pub fn begin(&mut self, alloc: Global, image: Image) -> Result<(), StoreFault>
         requires { is_busy self.old.phase ≡ false }
-        // From the content that the store stands for to that of the image.
+        // From the content that the store holds to that of the image.
         ensures begun { (x : Kept) → StoreStandsFor D.Disk self.old x
             → OnOk result ((y : Kept) × (y.held ≡ image_held image) × RunsFrom D.Disk self.new x y) }
         // On an honest disk, with no premise: from the content of the live root to just the image.
@@ -91,13 +92,14 @@ impl<D: Disk> Commit<D> {
         ensures number { OnOk result (self.new.next_root.version ≡ image.number) }
         ensures begins { OnOk result (self.new.phase ≡ Phase.Close) }
         ensures busy { OnOk result (is_busy self.new.phase ≡ true) }
-        // The new records, the catalog and the body, in this order; each record and the catalog in the lowest run of free
-        // blocks, in whole blocks.
+        // The new records, the catalog and the body, in this order; each record and the catalog in the
+        // lowest run of free blocks, in whole blocks.
         ensures laid { OnOk result (LaysOut self.old image self.new) }
         // None of them is made.
         ensures left { OnOk result (writes_left self.new ≡ self.new.plan.items) }
         // One for each new record and the catalog, and six more.
-        ensures calls { OnOk result (calls_left self.new ≡ new_records (live_content self.old.live) (image_held image) + 7) }
+        ensures calls { OnOk result
+            (calls_left self.new ≡ new_records (live_content self.old.live) (image_held image) + 7) }
         ensures disk { self.new.disk ≡ self.old.disk }
         // The blocks that the file may have stay as many.
         ensures blocks { (limit : ℕ) → KeepsTo limit self.old → KeepsTo limit self.new }
@@ -105,8 +107,8 @@ impl<D: Disk> Commit<D> {
         ensures failed { self.old.phase ≡ Phase.Failed → result ≡ Err StoreFault.Failed }
         ensures limit { self.old.phase ≡ Phase.Idle → sequence_max ≤ self.old.root.sequence
             → result ≡ Err StoreFault.SequenceLimit }
-        // Where there is room for all new records of just this image among the free blocks, by first fit; where there is
-        // none, that is the reason.
+        // Where there is room for all new records of just this image among the free blocks, by first fit;
+        // where there is none, that is the reason.
         ensures room { OnOk result (HasRoom self.old.live image) }
         ensures errors { IfErr result
             (λ fault. IsReason self.old.phase self.old.root (HasNoRoom self.old.live image) fault) }
@@ -114,8 +116,8 @@ impl<D: Disk> Commit<D> {
         self.begin_known(alloc, image, false)
     }
 
-    /// The same, where the caller says whether each tile of the image is known to be the live root's: then none is compared, and a
-    /// commit's time follows what changed.
+    /// The same, where the caller says whether each tile of the image is known to be the live root's: then none is
+    /// compared, and a commit's time follows what changed.
     pub fn begin_known(
         &mut self,
         alloc: Global,
@@ -127,7 +129,7 @@ impl<D: Disk> Commit<D> {
         // What the live root holds stays until Done, and the root that it leads to holds the image's tiles.
         ensures records { self.new.live ≡ self.old.live }
         ensures next_tiles { OnOk result ((live_content self.new.next_live).tiles ≡ (image_held image).tiles) }
-        // From the content that the store stands for to that of the image.
+        // From the content that the store holds to that of the image.
         ensures begun { (x : Kept) → StoreStandsFor D.Disk self.old x
             → OnOk result ((y : Kept) × (y.held ≡ image_held image) × RunsFrom D.Disk self.new x y) }
         // On an honest disk, with no premise: from the content of the live root to just the image.
@@ -142,13 +144,14 @@ impl<D: Disk> Commit<D> {
         ensures number { OnOk result (self.new.next_root.version ≡ image.number) }
         ensures begins { OnOk result (self.new.phase ≡ Phase.Close) }
         ensures busy { OnOk result (is_busy self.new.phase ≡ true) }
-        // The new records, the catalog and the body, in this order; each record and the catalog in the lowest run of free
-        // blocks, in whole blocks.
+        // The new records, the catalog and the body, in this order; each record and the catalog in the
+        // lowest run of free blocks, in whole blocks.
         ensures laid { OnOk result (LaysOut self.old image self.new) }
         // None of them is made.
         ensures left { OnOk result (writes_left self.new ≡ self.new.plan.items) }
         // One for each new record and the catalog, and six more.
-        ensures calls { OnOk result (calls_left self.new ≡ new_records (live_content self.old.live) (image_held image) + 7) }
+        ensures calls { OnOk result
+            (calls_left self.new ≡ new_records (live_content self.old.live) (image_held image) + 7) }
         ensures disk { self.new.disk ≡ self.old.disk }
         // The blocks that the file may have stay as many.
         ensures blocks { (limit : ℕ) → KeepsTo limit self.old → KeepsTo limit self.new }
@@ -156,8 +159,8 @@ impl<D: Disk> Commit<D> {
         ensures failed { self.old.phase ≡ Phase.Failed → result ≡ Err StoreFault.Failed }
         ensures limit { self.old.phase ≡ Phase.Idle → sequence_max ≤ self.old.root.sequence
             → result ≡ Err StoreFault.SequenceLimit }
-        // Where there is room for all new records of just this image among the free blocks, by first fit; where there is
-        // none, that is the reason.
+        // Where there is room for all new records of just this image among the free blocks, by first fit;
+        // where there is none, that is the reason.
         ensures room { OnOk result (HasRoom self.old.live image) }
         ensures errors { IfErr result
             (λ fault. IsReason self.old.phase self.old.root (HasNoRoom self.old.live image) fault) }

@@ -1,5 +1,6 @@
 //! A store, and a commit of it, one device call a step.
-ghost use Rattle.std.specs.Prelude.{◌≡◌, ◌↔◌, ℕ, ◌+◌, ◌<◌, true, length, drop, slice_get, vec_capacity, IfSome, IfOk, OnOk, OnErr, IsErrOf, IfErr};
+ghost use Rattle.std.specs.Prelude.{◌≡◌, ◌↔◌, ℕ, ◌+◌, ◌<◌, true, length, drop, slice_get};
+ghost use Rattle.std.specs.Prelude.{vec_capacity, IfSome, IfOk, OnOk, OnErr, IsErrOf, IfErr};
 ghost use Rattle.disk_model.specs.Disk.{Failed, CountsCall};
 ghost use Rattle.commit_plan.specs.Kept.{Kept};
 ghost use Rattle.root_store.specs.Content.{Keeps};
@@ -18,18 +19,18 @@ use store_terms::root::Root;
 #[derive(Debug, Drop)]
 pub struct Commit<D: Disk> {
     pub(crate) disk: D,
-    /// What the file stands for while no commit is under way.
+    /// What the file holds while no commit is under way.
     pub(crate) root: Root,
     pub(crate) live: LiveRecords,
     pub(crate) phase: Phase,
-    /// What the file stands for after the commit.
+    /// What the file holds after the commit.
     pub(crate) next_root: Root,
     pub(crate) next_live: LiveRecords,
     /// The writes of the commit: records, catalog, body. Those that are made have no bytes; none is kept after Done.
     pub(crate) plan: Vec<Write>,
     /// How many of them are made.
     pub(crate) next: usize,
-    /// On an honest disk: what the file stands for at rest, or whence and whither the commit goes.
+    /// On an honest disk: what the file holds at rest, or whence and whither the commit goes.
     pub ghost keeps: { D.is_honest disk
         → ∥ Keeps D.Disk disk root live next_root next_live (drop next plan.items) phase ∥₁ },
 }

@@ -136,7 +136,7 @@ fn prepare<D: Disk>(
 /// blocks. A crash before the last of them may leave a file that is no store.
 ///
 /// What is promised of an honest disk (`CreatesHonestly`):
-/// - `ok`: the store stands for nothing.
+/// - `ok`: the store holds nothing.
 /// - `file`: three blocks that are zero but for the bodies, the catalog and the first gate, which alone is open.
 /// - `phases`: what is written first has both gates shut, and is synced before the first gate opens; from then on a
 ///   crash leaves those three blocks, whatever that gate.

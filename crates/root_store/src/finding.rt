@@ -1,5 +1,6 @@
 //! The root of a file.
-ghost use Rattle.std.specs.Prelude.{◌≡◌, ◌≢◌, ◌==◌, ◌&&◌, ◌*◌, ◌^◌, ◌<◌, ◌≤◌, ℕ, List, length, not, IfSome, IfOk, IfErr};
+ghost use Rattle.std.specs.Prelude.{◌≡◌, ◌≢◌, ◌==◌, ◌&&◌, ◌*◌, ◌^◌, ◌<◌, ◌≤◌, ℕ};
+ghost use Rattle.std.specs.Prelude.{List, length, not, IfSome, IfOk, IfErr};
 ghost use Rattle.overlay_terms.specs.Commands.{version_max};
 ghost use Rattle.store_terms.specs.Places.{block_size};
 ghost use Rattle.store_terms.specs.StandsFor.{gate, slot, newer_root, root_of, is_foreign, open_gate};

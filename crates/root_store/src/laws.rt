@@ -26,7 +26,7 @@ pub fn laid_is_below<D: Disk>()
     ensures { LaidIsBelow D.Disk }
 {}
 
-/// A store at rest on an honest disk stands for the content of its live root.
+/// A store at rest on an honest disk holds the content of its live root.
 pub fn stores_stand<D: Disk>()
     ensures { StoresStand D.Disk }
 {}

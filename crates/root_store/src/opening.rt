@@ -83,13 +83,13 @@ pub(crate) fn load<D: Disk>(
     Ok(loaded)
 }
 
-/// Opens the store of a file that a crash may have left: what it stands for, or what is wrong with it.
-/// It may itself be stopped, or fail, and the file stands for the same.
+/// Opens the store of a file that a crash may have left: what it holds, or what is wrong with it.
+/// It may itself be stopped, or fail, and the file holds the same.
 ///
 /// What is promised of an honest disk (`OpensHonestly`):
-/// - `gives`: what the file stands for, or what is wrong with it.
-/// - `ok`, `err`: the store stands for just that; a crash at any moment of the call leaves what it might have left
-///   before, or what stands for the same.
+/// - `gives`: what the file holds, or what is wrong with it.
+/// - `ok`, `err`: the store holds just that; a crash at any moment of the call leaves what it might have left
+///   before, or a file that holds the same.
 /// - `phases`, `stops`: the first call is a sync. What might have been left before is left until it has succeeded, and
 ///   no longer; from then on the file as it was seen, but for the body behind a shut gate. After the reads there are
 ///   two calls at most.

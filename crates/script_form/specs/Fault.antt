@@ -10,7 +10,10 @@ use Rattle.overlay_grid.specs.Fault as pictures
 use Rattle.overlay_grid.specs.declared.fault.GridFault.{GridFault}
 use Rattle.overlay_grid.specs.declared.fault.GridFault.TheVariants as picture
 use Rattle.script_form.specs.declared.fault.CommandFault.{CommandFault}
-use Rattle.script_form.specs.declared.fault.CommandFault.TheVariants.{Wkt, Expression, Query, Version, Device, Full, StoreFailed, SequenceLimit, OutOfMemory, CommandSyntax, LineTooLong, Closing, Gone, GridSize, NoStore, ReadLimit, Read, Write}
+use Rattle.script_form.specs.declared.fault.CommandFault.TheVariants.{Wkt, Expression, Query, Version, Device, Full}
+use Rattle.script_form.specs.declared.fault.CommandFault.TheVariants.{StoreFailed, SequenceLimit, OutOfMemory}
+use Rattle.script_form.specs.declared.fault.CommandFault.TheVariants.{CommandSyntax, LineTooLong, Closing, Gone}
+use Rattle.script_form.specs.declared.fault.CommandFault.TheVariants.{GridSize, NoStore, ReadLimit, Read, Write}
 
 -- the number under which a fault is printed
 abbrev pub code_of : CommandFault → ℕ

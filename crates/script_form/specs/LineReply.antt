@@ -3,7 +3,8 @@ use Rattle.std.specs.Prelude.{ℕ, List, [], codes}
 use Rattle.layer_book.specs.Place.{location}
 use Rattle.script_form.specs.Replies.{numbered_line, error_line, refused_line, location_line, verdict_line}
 use Rattle.script_form.specs.declared.line_reply.LineReply.{LineReply}
-use Rattle.script_form.specs.declared.line_reply.LineReply.TheVariants.{Nothing, Accepted, Located, Built, Durable, Compared, Fault, RefusedAt, Lines}
+use Rattle.script_form.specs.declared.line_reply.LineReply.TheVariants.{Nothing, Accepted, Located, Built, Durable}
+use Rattle.script_form.specs.declared.line_reply.LineReply.TheVariants.{Compared, Fault, RefusedAt, Lines}
 
 -- the bytes of a reply
 abbrev pub reply_text : LineReply → List ℕ

@@ -1,5 +1,6 @@
 -- A script as lines.
-use Rattle.std.specs.Prelude.{◌≡◌, ℕ, ◌+◌, ◌==◌, nat_le, Bool, IsTrue, not, ◌||◌, List, [], ◌∷◌, ◌++◌, map, length, if◌then◌else◌}
+use Rattle.std.specs.Prelude.{◌≡◌, ℕ, ◌+◌, ◌==◌, ◌||◌, [], ◌∷◌, ◌++◌, if◌then◌else◌}
+use Rattle.std.specs.Prelude.{nat_le, Bool, IsTrue, not, List, map, length}
 use Rattle.std.specs.List.{list_all}
 use Rattle.overlay_terms.specs.Bytes.{begins}
 

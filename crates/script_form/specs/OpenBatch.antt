@@ -1,5 +1,6 @@
 -- Batches of the code that wait for lines, and what a line makes of them.
-use Rattle.std.specs.Prelude.{◌≡◌, ℕ, Bool, true, false, List, [], ◌∷◌, ◌++◌, map, length, Option, Some, None, Result, Ok, Err, Vec}
+use Rattle.std.specs.Prelude.{◌≡◌, ℕ, [], ◌∷◌, ◌++◌}
+use Rattle.std.specs.Prelude.{Bool, true, false, List, map, length, Option, Some, None, Result, Ok, Err, Vec}
 use Rattle.overlay_terms.specs.Batches.{Batch}
 use Rattle.layer_book.specs.Command.{command}
 use Rattle.layer_book.specs.declared.command.Command.{Command}
@@ -50,7 +51,8 @@ IsEnded turns (Alone asked) = turns ≡ alone (request asked) ∷ []
 IsEnded turns (Whole read) = (requests : List Request) × (turns ≡ together requests ∷ []) × AreRead requests read
 
 -- a line is taken: which batch waits then, and which turn ended
-pub record IsLineGathered (waiting : Option Waiting) (asked : Request) (new : Option OpenBatch) (turn : LineTurn) : Type 0 where
+pub record IsLineGathered (waiting : Option Waiting) (asked : Request) (new : Option OpenBatch)
+    (turn : LineTurn) : Type 0 where
   pub open_then : IsOpen (waiting_after waiting asked) new
   pub ended : IsEnded (ended_by waiting asked) turn
 
@@ -66,7 +68,8 @@ abbrev pub Joins : OpenBatch → Request → Joined → Type 0
 Joins old asked result = (waiting : Waiting) → IsOpenBatch waiting old → IsJoined (with_line waiting asked) result
 
 -- one line more is read
-abbrev pub ReadsNext : {Y Z : Type 0} → Result (Vec Command Y) LinesFault → Request → Result (Vec Command Z) LinesFault → Type 0
+abbrev pub ReadsNext : {Y Z : Type 0} → Result (Vec Command Y) LinesFault → Request → Result (Vec Command Z) LinesFault
+    → Type 0
 ReadsNext read asked result =
     (requests : List Request) → AreReadSoFar requests read → AreReadSoFar (requests ++ asked ∷ []) result
 

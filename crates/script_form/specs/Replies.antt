@@ -6,8 +6,8 @@ use Rattle.version_core.specs.declared.verifying.Verdict.TheVariants.{Same, Diff
 use Rattle.script_form.specs.declared.fault.CommandFault.{CommandFault}
 use Rattle.script_form.specs.Fault.{code_of, text_of}
 
--- a word and a number: `ok` and the number of an accepted command's version, `built` and the number of the version in which
--- the tiles of a layer are built, `durable` and the durable number
+-- a word and a number: `ok` and the number of an accepted command's version, `built` and the number of the version in
+-- which the tiles of a layer are built, `durable` and the durable number
 abbrev pub numbered_line : List ℕ → ℕ → List ℕ
 numbered_line word number = word ++ (decimal number ++ 10 ∷ [])
 

@@ -1,13 +1,16 @@
 -- What a line asks for: a table of commands, each its word and its arguments, and one reading of lines by it.
-use Rattle.std.specs.Prelude.{ℕ, ℤ, List, [], ◌∷◌, codes, bytes_eq, Option, Some, None, option_and_then, unwrap_or, if◌then◌else◌}
+use Rattle.std.specs.Prelude.{ℕ, ℤ, [], ◌∷◌, if◌then◌else◌}
+use Rattle.std.specs.Prelude.{List, codes, bytes_eq, Option, Some, None, option_and_then, unwrap_or}
 use Rattle.std.specs.List.{list_all}
 use Rattle.script_form.specs.Lines.{is_gap, is_skipped, is_too_long}
 use Rattle.script_form.specs.Words.{word_at, left_side_at, number_at, number_or_one_at, right_side_at, text_at}
 use Rattle.script_form.specs.declared.request.Request as code
-use Rattle.script_form.specs.declared.request.Request.TheVariants.{Nothing, TooLong, Malformed, Put, Define, Remove, Locate, Grid, ListLayers, Edges, Wait, Verify, Sync, Batch}
+use Rattle.script_form.specs.declared.request.Request.TheVariants.{Nothing, TooLong, Malformed, Put, Define}
+use Rattle.script_form.specs.declared.request.Request.TheVariants.{Remove, Locate, Grid, ListLayers, Edges}
+use Rattle.script_form.specs.declared.request.Request.TheVariants.{Wait, Verify, Sync, Batch}
 
--- a request: a name and a text, a name, a point with its denominator, a grid, a name and a column's number, how many commands
--- a batch has, or no more than its word
+-- a request: a name and a text, a name, a point with its denominator, a grid, a name and a column's number, how many
+-- commands a batch has, or no more than its word
 pub data Request : Type 0 where
   nothing : Request
   too_long : Request
@@ -26,8 +29,8 @@ pub data Request : Type 0 where
 
 -- ==== The table
 
--- a kind of argument: a word; a number; a number that is 1 where it is left out; a name that may end at a `=`; the `=` and the
--- text after it; a text. A text runs to the end of the line
+-- a kind of argument: a word; a number; a number that is 1 where it is left out; a name that may end at a `=`; the `=`
+-- and the text after it; a text. A text runs to the end of the line
 pub data ArgumentKind : Type 0 where
   a_word : ArgumentKind
   a_number : ArgumentKind

@@ -1,11 +1,14 @@
 -- The shapes of lines, and the law of lines: a line asks for a request exactly where it has its shape.
-use Rattle.std.specs.Prelude.{◌≡◌, ℕ, ℤ, pos, ◌<◌, ◌≤◌, ◌↔◌, ◌⊎◌, Bool, false, IsTrue, List, [], ◌∷◌, ◌++◌, length, Some}
+use Rattle.std.specs.Prelude.{◌≡◌, ℕ, ℤ, ◌<◌, ◌≤◌, ◌↔◌, ◌⊎◌, [], ◌∷◌, ◌++◌}
+use Rattle.std.specs.Prelude.{pos, Bool, false, IsTrue, List, length, Some}
 use Rattle.std.specs.List.{list_all}
 use Rattle.overlay_terms.specs.Blank.{is_blank}
 use Rattle.overlay_terms.specs.Bytes.{begins}
 use Rattle.script_form.specs.Lines.{line_max, is_gap}
 use Rattle.script_form.specs.Words.{is_word_byte, is_name_side, number_of}
-use Rattle.script_form.specs.Requests.{Request, nothing, too_long, malformed, ArgumentKind, a_word, a_number, a_number_or_one, a_left_side, a_right_side, a_text, Value, Arguments, ends, takes, forms, arguments_of, request_of}
+use Rattle.script_form.specs.Requests.{Request, nothing, too_long, malformed, ArgumentKind, a_word}
+use Rattle.script_form.specs.Requests.{a_number, a_number_or_one, a_left_side, a_right_side, a_text}
+use Rattle.script_form.specs.Requests.{Value, Arguments, ends, takes, forms, arguments_of, request_of}
 
 -- not too long
 abbrev pub IsShort : List ℕ → Type 0
@@ -59,7 +62,8 @@ pub record IsText (text bytes : List ℕ) : Type 0 where
 abbrev pub IsArgument : (kind : ArgumentKind) → Value kind → List ℕ → List ℕ → Type 0
 IsArgument a_word value behind bytes = IsNext is_word_byte value behind bytes
 IsArgument a_number value behind bytes = IsNextNumber value behind bytes
-IsArgument a_number_or_one value behind bytes = (AreGaps bytes × (value ≡ pos 1) × (behind ≡ [])) ⊎ IsNextNumber value behind bytes
+IsArgument a_number_or_one value behind bytes =
+    (AreGaps bytes × (value ≡ pos 1) × (behind ≡ [])) ⊎ IsNextNumber value behind bytes
 IsArgument a_left_side value behind bytes = IsNext is_name_side value behind bytes
 IsArgument a_right_side value behind bytes = IsRightSide value bytes × (behind ≡ [])
 IsArgument a_text value behind bytes = IsText value bytes × (behind ≡ [])
@@ -68,7 +72,8 @@ IsArgument a_text value behind bytes = IsText value bytes × (behind ≡ [])
 abbrev pub AreArguments : Arguments → Request → List ℕ → Type 0
 AreArguments (ends asked) request bytes = AreGaps bytes × (request ≡ asked)
 AreArguments (takes kind more) request bytes =
-    (value : Value kind) × (behind : List ℕ) × IsArgument kind value behind bytes × AreArguments (more value) request behind
+    (value : Value kind) × (behind : List ℕ) × IsArgument kind value behind bytes
+    × AreArguments (more value) request behind
 
 -- a command's word and its arguments, by which a request is asked for
 pub record IsCommandLine (request : Request) (line : List ℕ) : Type 0 where
@@ -83,7 +88,8 @@ pub record IsCommandLine (request : Request) (line : List ℕ) : Type 0 where
 abbrev pub IsShapeOf : Request → List ℕ → Type 0
 IsShapeOf too_long line = line_max < length line
 IsShapeOf nothing line = IsShort line × IsBlankOrComment line
-IsShapeOf malformed line = IsShort line × (IsBlankOrComment line → ⊥) × ((request : Request) → IsCommandLine request line → ⊥)
+IsShapeOf malformed line =
+    IsShort line × (IsBlankOrComment line → ⊥) × ((request : Request) → IsCommandLine request line → ⊥)
 IsShapeOf request line = IsShort line × IsCommandLine request line
 
 -- a line has the shape of a request exactly where it asks for it

@@ -1,7 +1,7 @@
--- The replies of a script: for each line, and for each batch of lines, a history that goes on from the one before, and the
--- reply at its newest version.
--- `stored` is what is known of the book's store.
-use Rattle.std.specs.Prelude.{◌≡◌, ◌<◌, ◌≤◌, ℕ, ℤ, pos, negsuc, ◌⊎◌, Bool, true, false, IsTrue, List, [], ◌∷◌, ◌++◌, Option, Some, None, codes}
+-- The replies of a script: for each line, and for each batch of lines, a history that goes on from the one before, and
+-- the reply at its newest version. `stored` is what is known of the book's store.
+use Rattle.std.specs.Prelude.{◌≡◌, ◌<◌, ◌≤◌, ℕ, ℤ, ◌⊎◌, [], ◌∷◌, ◌++◌}
+use Rattle.std.specs.Prelude.{pos, negsuc, Bool, true, false, IsTrue, List, Option, Some, None, codes}
 use Rattle.overlay_terms.specs.Plane.{WholePoint, Point}
 use Rattle.overlay_terms.specs.Trees.{Tree}
 use Rattle.overlay_terms.specs.Layers.{Layer as BookLayer, Location, answer_at}
@@ -31,10 +31,14 @@ use Rattle.versions.specs.Building.{IsBuilt, wait_refusal}
 use Rattle.overlay_grid.specs.Grid.{Grid, IsGridSize, grid_with, grid_refusal, grid_text}
 use Rattle.overlay_grid.specs.declared.fault.GridFault.{GridFault}
 use Rattle.script_form.specs.declared.fault.CommandFault.{CommandFault}
-use Rattle.script_form.specs.declared.fault.CommandFault.TheVariants.{Wkt, Expression, Query, Version, Device, Full, StoreFailed, SequenceLimit, OutOfMemory, CommandSyntax, LineTooLong, Closing, Gone, GridSize, NoStore}
+use Rattle.script_form.specs.declared.fault.CommandFault.TheVariants.{Wkt, Expression, Query, Version, Device}
+use Rattle.script_form.specs.declared.fault.CommandFault.TheVariants.{Full, StoreFailed, SequenceLimit}
+use Rattle.script_form.specs.declared.fault.CommandFault.TheVariants.{OutOfMemory, CommandSyntax, LineTooLong}
+use Rattle.script_form.specs.declared.fault.CommandFault.TheVariants.{Closing, Gone, GridSize, NoStore}
 use Rattle.script_form.specs.BatchLines.{AreCommandsOf, IsFirstUnread}
 use Rattle.script_form.specs.Fault.{of_grid}
-use Rattle.script_form.specs.Requests.{Request, nothing, too_long, malformed, put_text, define_text, remove_name, locate, grid, list_layers, edges, wait, verify, sync, batch}
+use Rattle.script_form.specs.Requests.{Request, nothing, too_long, malformed, put_text, define_text}
+use Rattle.script_form.specs.Requests.{remove_name, locate, grid, list_layers, edges, wait, verify, sync, batch}
 use Rattle.script_form.specs.Turns.{Turn, alone, together, cut_off}
 use Rattle.script_form.specs.Replies.{numbered_line, error_line, refused_line, location_line, verdict_line}
 
@@ -68,7 +72,7 @@ pub record IsAcceptedBy (session : ℕ) (before : History) (commands : Batch) (a
   pub only : made ≡ commands ∷ []
   pub told : reply ≡ numbered_line (codes "ok ") version.number
 
--- a command: refused by the first reason that applies at the newest version, or accepted; or the book closes, or is not as far
+-- a command: refused by the first reason at the newest version, or accepted; or the book closes, or is not as far
 abbrev pub IsSubmitted : ℕ → History → Command → History → List Batch → List ℕ → Type 0
 IsSubmitted session before command after made reply =
     IsClosing made reply
@@ -76,7 +80,7 @@ IsSubmitted session before command after made reply =
     ⊎ ((refusal : Refusal) × (refusal_at (newest after).number (newest after).layers command ≡ Some refusal) × IsRefused (Version (Layer (fault_of refusal))) made reply)
     ⊎ IsAcceptedBy session before (command ∷ []) after made reply
 
--- a batch that is refused for one of its lines, counted from 0: nothing is made, and the reply is the place and the fault
+-- a batch refused for one of its lines, counted from 0: nothing is made, and the reply is the place and the fault
 pub record IsRefusedAt (place : ℕ) (fault : CommandFault) (made : List Batch) (reply : List ℕ) : Type 0 where
   pub nothing_made : made ≡ []
   pub told : reply ≡ refused_line place fault
@@ -86,8 +90,8 @@ abbrev pub IsRefusedBatch : BatchRefusal → List Batch → List ℕ → Type 0
 IsRefusedBatch (at place refusal) made reply = IsRefusedAt place (Version (Layer (fault_of refusal))) made reply
 IsRefusedBatch (whole refusal) made reply = IsRefused (Version (Layer (fault_of refusal))) made reply
 
--- a batch of commands: refused by the first reason that applies at the newest version, or accepted; or the book closes, or
--- has not reached what was seen
+-- a batch of commands: refused by the first reason that applies at the newest version, or accepted; or the book closes,
+-- or has not reached what was seen
 abbrev pub IsSubmittedAll : ℕ → History → Batch → History → List Batch → List ℕ → Type 0
 IsSubmittedAll session before commands after made reply =
     IsClosing made reply
@@ -181,8 +185,8 @@ IsSynced stored asked after made reply =
     ⊎ (IsTrue stored.there × IsDurableTold stored asked after made reply)
     ⊎ (IsTrue stored.there × IsNotDurable asked (newest after).durable made reply)
 
--- what a request makes of the history, what the session makes, and the reply. A BATCH line that begins no batch has no size
--- of one
+-- what a request makes of the history, what the session makes, and the reply. A BATCH line that
+-- begins no batch has no size of one
 abbrev pub IsAnswered : BookStore → ℕ → History → Request → History → List Batch → List ℕ → Type 0
 IsAnswered stored session before nothing after made reply = IsTold [] made reply
 IsAnswered stored session before too_long after made reply = IsRefused LineTooLong made reply
@@ -253,8 +257,8 @@ takes_memory (batch size) = false
 abbrev pub IsOutOfMemory : Request → List Batch → List ℕ → Type 0
 IsOutOfMemory request made reply = IsTrue (takes_memory request) × IsRefused OutOfMemory made reply
 
--- what a turn makes of the history, what the session makes, and the reply, or memory ran out for it; a batch that is cut
--- off is refused
+-- what a turn makes of the history, what the session makes, and the reply, or memory ran out for it; a
+-- batch that is cut off is refused
 abbrev pub IsTurnAnswered : BookStore → ℕ → History → Turn → History → List Batch → List ℕ → Type 0
 IsTurnAnswered stored session before (alone request) after made reply =
     IsOutOfMemory request made reply ⊎ IsAnswered stored session before request after made reply
@@ -267,8 +271,8 @@ pub record IsTurn (stored : BookStore) (session : ℕ) (before : History) (turn 
   pub goes_on : BeginsWith after before
   pub answered : IsTurnAnswered stored session before turn after made reply
 
--- the turns one after another: the replies joined, and all that the session made, from what it had seen before to what it
--- has seen then
+-- the turns one after another: the replies joined, and all that the session made, from what it had seen
+-- before to what it has seen then
 abbrev pub IsTranscript : BookStore → ℕ → History → List Turn → History → List Batch → List ℕ → Type 0
 IsTranscript stored session seen [] after made replies = (after ≡ seen) × (made ≡ []) × (replies ≡ [])
 IsTranscript stored session seen (turn ∷ turns) after made replies =

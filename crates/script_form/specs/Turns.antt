@@ -1,10 +1,11 @@
 -- Lines in turn: each has a reply of its own, but those of a batch, which have one together.
-use Rattle.std.specs.Prelude.{ℕ, ℤ, pos, negsuc, ◌==◌, nat_le, Bool, true, false, ◌&&◌, List, [], ◌∷◌, ◌++◌, map, fold, length, Option, Some, None, option_map, if◌then◌else◌}
+use Rattle.std.specs.Prelude.{ℕ, ℤ, pos, negsuc, ◌==◌, nat_le, Bool, true, false, ◌&&◌, List, [], ◌∷◌}
+use Rattle.std.specs.Prelude.{◌++◌, map, fold, length, Option, Some, None, option_map, if◌then◌else◌}
 use Rattle.overlay_terms.specs.Batches.{batch_max}
 use Rattle.script_form.specs.Requests.{Request, nothing, batch, request_of}
 
--- what has one reply: what a line asks for; what all lines of a batch ask for; what those of them ask for that came before
--- the script ended
+-- what has one reply: what a line asks for; what all lines of a batch ask for; what those of them ask for that came
+-- before the script ended
 pub data Turn : Type 0 where
   alone : Request → Turn
   together : List Request → Turn

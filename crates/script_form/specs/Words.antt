@@ -1,5 +1,6 @@
 -- Words, numbers and texts of a line.
-use Rattle.std.specs.Prelude.{ℕ, ℤ, pos, neg_ℤ, ◌==◌, Bool, not, ◌&&◌, List, [], ◌∷◌, length, drop, Option, Some, None, option_map, option_and_then, if◌then◌else◌, take_while}
+use Rattle.std.specs.Prelude.{ℕ, ℤ, pos, neg_ℤ, ◌==◌, Bool, not, ◌&&◌, List, [], ◌∷◌, length, drop}
+use Rattle.std.specs.Prelude.{Option, Some, None, option_map, option_and_then, if◌then◌else◌, take_while}
 use Rattle.std.specs.List.{list_all, prefix_len}
 use Rattle.overlay_terms.specs.Blank.{is_blank}
 use Rattle.overlay_terms.specs.Bytes.{digits_number}

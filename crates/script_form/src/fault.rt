@@ -1,7 +1,8 @@
 //! Why a line is refused, or a session ends early.
 ghost use Rattle.std.specs.Prelude.{◌≡◌};
 ghost use Rattle.script_form.specs.Fault.{code_of, of_grid};
-ghost use Rattle.script_form.specs.declared.fault.CommandFault.TheVariants.{Wkt, Expression, Query, Version, OutOfMemory};
+ghost use Rattle.script_form.specs.declared.fault.CommandFault.TheVariants.{Wkt, Expression, Query, Version};
+ghost use Rattle.script_form.specs.declared.fault.CommandFault.TheVariants.{OutOfMemory};
 
 use crate::fault_text::fault_text;
 use exact_point::PointFault;

@@ -2,7 +2,8 @@
 ghost use Rattle.std.specs.Prelude.{◌≡◌, ◌⊎◌, IfOk, IfErr, IsTrue};
 ghost use Rattle.layer_expr.specs.Name.{is_name};
 ghost use Rattle.layer_book.specs.Command.{command};
-ghost use Rattle.script_form.specs.Reading.{IsMemory, IsNoName, SpellsPut, IsPutRefused, IsDefine, IsDefineRefused, IsRemove};
+ghost use Rattle.script_form.specs.Reading.{IsMemory, IsNoName, SpellsPut, IsPutRefused};
+ghost use Rattle.script_form.specs.Reading.{IsDefine, IsDefineRefused, IsRemove};
 
 use crate::fault::CommandFault;
 use layer_book::command::Command;

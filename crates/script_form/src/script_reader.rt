@@ -21,7 +21,8 @@ pub fn read_chunk<R: Read>(
     requires countable { most < 2 ^ 63 }
     ensures within { IfOk result (λ count. count ≤ length chunk.new) }
     ensures in_limit { IfOk result (λ count. taken + count ≤ most + 1) }
-    ensures bytes { IfOk result (λ count. Consumes (R.remaining reader.old) (R.remaining reader.new) (take count chunk.new)) }
+    ensures bytes { IfOk result
+        (λ count. Consumes (R.remaining reader.old) (R.remaining reader.new) (take count chunk.new)) }
     ensures at_end { IfOk result (λ count. count ≡ 0 → IsAtEnd (R.remaining reader.new)) }
     ensures fault { IfErr result (λ fault. fault ≡ CommandFault.Read) }
     ensures err { OnErr result (Keeps (R.remaining reader.old) (R.remaining reader.new)) }

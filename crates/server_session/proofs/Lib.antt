@@ -8,4 +8,4 @@ pub mod Anywhere
 pub mod TileAnswers
 pub mod Replies
 pub mod Weaker
-pub mod Places
+pub mod Left

@@ -41,7 +41,7 @@ turns_ended-behind taken bytes =
     let is : turns_of (ended_lines (taken ++ bytes)) ≡ turns_of (ended_lines taken) ++ more = ap turns_of on.is ∙ turns_of-more (ended_lines taken) on.more in
     is ∙ ap (λ (ts : List Turn). turns_of (ended_lines taken) ++ ts) (sym (turns_ended-are taken bytes more is))
 
-turns_ended-nil : (taken : List ℕ) → turns_ended taken [] ≡ []
+pub turns_ended-nil : (taken : List ℕ) → turns_ended taken [] ≡ []
 turns_ended-nil taken = turns_ended-are taken [] [] (ap (λ bytes. turns_of (ended_lines bytes)) (append-nil taken) ∙ sym (append-nil (turns_of (ended_lines taken))))
 
 pub turns_ended-byte : (taken : List ℕ) (b : ℕ) → (b == 10) ≡ false → turns_ended taken (b ∷ []) ≡ []
@@ -52,7 +52,7 @@ turns_ended-feed taken =
     turns_ended-are taken (10 ∷ []) (ended_by (waiting_behind (ended_lines taken)) (request_of (without_cr (unended taken))))
     (ap turns_of (ended_lines-feed taken) ∙ turns_of-push (ended_lines taken) (without_cr (unended taken)))
 
-turns_ended-join : (taken xs ys : List ℕ) → turns_ended taken xs ++ turns_ended (taken ++ xs) ys ≡ turns_ended taken (xs ++ ys)
+pub turns_ended-join : (taken xs ys : List ℕ) → turns_ended taken xs ++ turns_ended (taken ++ xs) ys ≡ turns_ended taken (xs ++ ys)
 turns_ended-join taken xs ys =
     sym (turns_ended-are taken (xs ++ ys) (turns_ended taken xs ++ turns_ended (taken ++ xs) ys) (
     ap (λ bytes. turns_of (ended_lines bytes)) (sym (append_assoc taken xs ys)) ∙ turns_ended-behind (taken ++ xs) ys

@@ -1,13 +1,15 @@
 -- What is said of a book's store may be said by another measure.
-use Rattle.std.proofs.Common.{ℕ, Bool, IsTrue, List, Option, inl, inr, [], ◌∷◌}
+use Rattle.std.proofs.Common.{ℕ, ◌⊎◌, Bool, IsTrue, List, Option, inl, inr, [], ◌∷◌}
 use Rattle.overlay_terms.specs.Batches.{Batch}
 use Rattle.overlay_terms.specs.Histories.{History, BeginsWith}
 use Rattle.book_history.specs.Known.{Known, seen}
 use Rattle.script_form.specs.declared.session_end.SessionEnd.{SessionEnd}
 use Rattle.script_form.specs.declared.session_end.SessionEnd.TheVariants.{End, Failed}
 use Rattle.script_form.specs.Requests.{Request, nothing, too_long, malformed, put_text, define_text, remove_name, locate, grid, list_layers, edges, wait, verify, sync, batch}
-use Rattle.script_form.specs.Transcript.{store_by, IsAnswered, IsTurnAnswered, IsTranscript}
+use Rattle.script_form.specs.Transcript.{store_by, IsAnswered, IsOutOfMemory, IsTurnAnswered, IsTranscript}
 use Rattle.script_form.specs.Turns.{Turn, alone, together, cut_off}
+use Rattle.server_session.specs.Answering.{Answers}
+use Rattle.server_session.specs.Replying.{IsReplySince}
 use Rattle.server_session.specs.Session.{IsSharedRun, IsPastLimit, IsReadFault, IsCutOff, IsWriteFault, EndsSo, IsSessionWithin}
 use Rattle.server_session.proofs.Turns.{begins_trans}
 
@@ -95,6 +97,22 @@ module _ (told more : History → Type 0) (there : Bool) (first : History) (weak
   ends_so most (Failed code) was now taken left written on (inr (inl (number, is))) = inr (inl (number, read_fault most was now taken _ written on is))
   ends_so most (Failed code) was now taken left written on (inr (inr (inl (number, is)))) = inr (inr (inl (number, write_fault most was now taken left written on is)))
   ends_so most (Failed code) was now taken left written on (inr (inr (inr is))) = inr (inr (inr is))
+
+  -- a request
+  answer : (was : Known) (request : Request) (now : Known) (reply : List ℕ) → BeginsWith (seen now) first → Answers (store_by told there) was request now reply → Answers (store_by more there) was request now reply
+  answer was request now reply on is = record {
+    stays = is.stays;
+    answered = record { made = is.answered.made; answered = either is.answered.answered; only = is.answered.only };
+  } where
+    either : IsOutOfMemory request is.answered.made reply ⊎ IsAnswered (store_by told there) was.session (seen was) request (seen now) is.answered.made reply
+        → IsOutOfMemory request is.answered.made reply ⊎ IsAnswered (store_by more there) was.session (seen was) request (seen now) is.answered.made reply
+    either (inl memory) = inl memory
+    either (inr so) = inr (answered was.session (seen was) (seen now) request is.answered.made reply on so)
+
+  pub reply_since : (was now : Known) (text : List ℕ) → BeginsWith (seen now) first → IsReplySince (store_by told there) was now text → IsReplySince (store_by more there) was now text
+  reply_since was now text on (inl fault) = inl fault
+  reply_since was now text on (inr (inl (request, is))) = inr (inl (request, answer was request now text on is))
+  reply_since was now text on (inr (inr submits)) = inr (inr submits)
 
   -- a session
   pub session_weaker : (most : ℕ) (end : SessionEnd) (was now : Known) (input left output all : Option (List ℕ)) → BeginsWith (seen was) first

@@ -28,7 +28,8 @@ fault_told book.Gone = Gone
 fault_told book.NoStore = NoStore
 fault_told (book.Store fault) = store_told fault
 
--- a fault by which a batch is refused: a refusal of the definitions, or the book closes, or is not as far, or memory ran out
+-- a fault by which a batch is refused: a refusal of the definitions, or the book closes, or
+-- is not as far, or memory ran out
 abbrev pub IsBatchFault : CommandFault → Type 0
 IsBatchFault fault =
     ((reason : Refusal) × (fault ≡ Version (Layer (fault_of reason)))) ⊎ (fault ≡ Closing) ⊎ (fault ≡ Gone) ⊎ (fault ≡ OutOfMemory)

@@ -1,4 +1,5 @@
--- The words of the steps on the way through a script. What a session promises is in `Session` and `SessionState`, without them.
+-- The words of the steps on the way through a script. What a session promises is in `Session`
+-- and `SessionState`, without them.
 use Rattle.std.specs.Prelude.{◌≡◌, ℕ, ◌⊎◌, Bool, List, Option, Result, MatchResult}
 use Rattle.std.specs.Io.KnownBytes.{Appends}
 use Rattle.book_history.specs.Known.{Known}

@@ -26,8 +26,8 @@ pub record IsSharedRun (stored : BookStore) (was : Known) (turns : List Turn) (n
   pub told : IsTranscript stored was.session (seen was) turns (seen now) made replies
   pub only : now.made ≡ was.made ++ made
 
--- how a session ended: what it had known and knows, `taken`, `left` to the reader, `written`; `most` is its limit of bytes
--- its script ended: each line, or the batch that it is of, has its reply
+-- how a session ended: what it had known and knows, `taken`, `left` to the reader, `written`; `most` is its limit of
+-- bytes its script ended: each line, or the batch that it is of, has its reply
 pub record IsEnded (most : ℕ) (stored : BookStore) (was now : Known) (taken : List ℕ) (left : Option (List ℕ)) (written : List ℕ) : Type 0 where
   pub all_taken : IsAtEnd left
   pub short : length taken ≤ most
@@ -67,8 +67,8 @@ pub record IsCutOff (stored : BookStore) (was now : Known) (turns : List Turn) (
   pub cut : IsCutTurn stored between now last front
   pub written_is : written ≡ replies ++ front
 
--- a write failed: on the way through the turns that were ended within the limit, or through those of the whole script where it
--- was read to its end; or in the line of another fault, when all of them had their replies
+-- a write failed: on the way through the turns that were ended within the limit, or through those of the whole script
+-- where it was read to its end; or in the line of another fault, when all of them had their replies
 abbrev pub IsWriteFault : ℕ → BookStore → Known → Known → List ℕ → Option (List ℕ) → List ℕ → Type 0
 IsWriteFault most stored was now taken left written =
     IsCutOff stored was now (turns_of (ended_lines (take most taken))) written

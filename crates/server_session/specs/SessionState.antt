@@ -1,11 +1,10 @@
 -- A session on its way through its script: what it has taken, and what it appends to its writer as it takes more.
-use Rattle.std.specs.Prelude.{◌≡◌, ℕ, Bool, List, ◌++◌, take, drop, length, Option, IfSome}
+use Rattle.std.specs.Prelude.{◌≡◌, ℕ, Bool, List, ◌++◌, take, drop, length, Option}
 use Rattle.std.specs.Io.KnownBytes.{Appends}
 use Rattle.book_history.specs.Known.{Known}
 use Rattle.script_form.specs.OpenBatch.{IsOpen}
 use Rattle.script_form.specs.Lines.{line_room, ended_lines, unended, whole_lines}
 use Rattle.script_form.specs.Turns.{Turn, turns_of, all_turns_of, waiting_behind}
-use Rattle.server_session.specs.Replying.{IsThere, KeepsPlace, Place}
 use Rattle.server_session.specs.Session.{IsSharedRun, IsCutOff}
 use Rattle.server_session.specs.declared.session_state.SessionState.{SessionState}
 use Rattle.script_form.specs.Transcript.{BookStore}
@@ -40,17 +39,11 @@ pub record AnswersInPart (stored : BookStore) (was : Known) (turns : List Turn) 
   pub appended : Appends output all written
 
 -- a session is on its way: these bytes of its script come next; turns without a reply are those that had not ended before
-pub record IsOnWay (state : SessionState) (me : Known) (next : List ℕ) (at : Place) : Type 0 where
-  pub there : IsThere me at
+pub record IsOnWay (state : SessionState) (next : List ℕ) (left : List Turn) : Type 0 where
   pub taken : List ℕ
   pub has : HasTaken state taken
-  pub left : all_turns_of (whole_lines (taken ++ next)) ≡ turns_of (ended_lines taken) ++ at.left
+  pub parts : all_turns_of (whole_lines (taken ++ next)) ≡ turns_of (ended_lines taken) ++ left
 
--- where a writer keeps the place of a session, these bytes are the next of its script
-abbrev pub AreNext : Option Place → SessionState → Known → List ℕ → Type 0
-AreNext place state me bytes = IfSome place (λ at. (more : List ℕ) × IsOnWay state me (bytes ++ more) at)
-
--- a session takes bytes, and goes on to whatever comes after them
-abbrev pub GoesPast : List ℕ → Option Place → SessionState → Known → Option Place → SessionState → Known → Type 0
-GoesPast bytes place state me place_then state_then now =
-    KeepsPlace place place_then (λ at at_then. (more : List ℕ) → IsOnWay state me (bytes ++ more) at → IsOnWay state_then now more at_then)
+-- these bytes are the next of its script
+abbrev pub AreNext : SessionState → List ℕ → List Turn → Type 0
+AreNext state bytes left = (more : List ℕ) × IsOnWay state (bytes ++ more) left

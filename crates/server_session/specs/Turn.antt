@@ -1,5 +1,5 @@
 -- What a line makes of a session.
-use Rattle.std.specs.Prelude.{◌≡◌, ℕ, Bool, true, false, List, [], ◌∷◌, ◌++◌, Option, Some, None}
+use Rattle.std.specs.Prelude.{◌≡◌, ℕ, List, [], ◌∷◌, ◌++◌, Option, Some, None}
 use Rattle.book_history.specs.Known.{Known}
 use Rattle.script_form.specs.OpenBatch.{IsOpen}
 use Rattle.script_form.specs.Requests.{request_of}
@@ -7,7 +7,6 @@ use Rattle.script_form.specs.LineReply.{reply_text}
 use Rattle.script_form.specs.Turns.{Turn, Waiting, waiting_after, ended_by, cut_off_in}
 use Rattle.script_form.specs.declared.line_reply.LineReply.{LineReply}
 use Rattle.script_form.specs.declared.open_batch.OpenBatch.{OpenBatch}
-use Rattle.server_session.specs.Replying.{IsThere, Place}
 use Rattle.server_session.specs.Session.{IsSharedRun, Stays}
 use Rattle.script_form.specs.Transcript.{BookStore}
 
@@ -32,21 +31,15 @@ EndsTurn open_before line was now None = (now ≡ was) × ((waiting : Option Wai
 EndsTurn open_before line was now (Some reply) =
     (waiting : Option Waiting) → IsOpen waiting open_before → (turn : Turn) × (ended_by waiting (request_of line) ≡ turn ∷ [])
 
--- the place of a session at a line: the turn that it ends, if it ends one, is the next
-pub record IsAtLine (me : Known) (open_before : Option OpenBatch) (line : List ℕ) (later : List Turn) (at : Place) : Type 0 where
-  pub there : IsThere me at
+-- the turns that are left at a line: the one that it ends, if it ends one, is the next
+pub record IsAtLine (open_before : Option OpenBatch) (line : List ℕ) (left : List Turn) : Type 0 where
   pub waiting : Option Waiting
   pub is_open : IsOpen waiting open_before
-  pub left : at.left ≡ ended_by waiting (request_of line) ++ later
+  pub later : List Turn
+  pub parts : left ≡ ended_by waiting (request_of line) ++ later
 
--- the place of a session after a line
-pub record IsPastLine (me : Known) (later : List Turn) (at : Place) : Type 0 where
-  pub there : IsThere me at
-  pub left : at.left ≡ later
-
--- the place of a session after the last line: the batch that waits, if one does, is all that is left
-pub record IsAtLast (me : Known) (open_before : Option OpenBatch) (at : Place) : Type 0 where
-  pub there : IsThere me at
+-- after the last line: the batch that waits, if one does, is all that is left
+pub record IsAtLast (open_before : Option OpenBatch) (left : List Turn) : Type 0 where
   pub waiting : Option Waiting
   pub is_open : IsOpen waiting open_before
-  pub left : at.left ≡ cut_off_in waiting
+  pub last : left ≡ cut_off_in waiting

@@ -1,5 +1,5 @@
-//! A session of a book that threads share: the answer to a line, a session on its way, and a run from the bytes of a script to
-//! those of its replies.
+//! A session of a book that threads share: the answer to a line, a session on its way, and a run from the bytes of a
+//! script to those of its replies.
 #![tactic(auto)]
 
 pub mod answering;

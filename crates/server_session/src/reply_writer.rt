@@ -1,9 +1,10 @@
 //! Where a session's replies go.
-ghost use Rattle.std.specs.Prelude.{◌≡◌, ◌⊎◌, None, IfErr, IfSome, option_map};
+ghost use Rattle.std.specs.Prelude.{◌≡◌, ◌⊎◌, Bool, None, IfErr, IfSome, OnOk, drop, option_map};
+ghost use Rattle.book_history.specs.Known.{Known};
 ghost use Rattle.script_form.specs.LineReply.{reply_text};
 ghost use Rattle.script_form.specs.Replies.{error_line};
 ghost use Rattle.script_form.specs.Writing.{Writes};
-ghost use Rattle.server_session.specs.Replying.{IsNextReply, IsSomeReply, IsThere, ended_at, replied_at};
+ghost use Rattle.server_session.specs.Replying.{IsNextReply, IsSomeReply};
 
 use script_form::{CommandFault, LineReply, write_reply};
 use std::io::Write;
@@ -11,11 +12,12 @@ use version_book::session::Session;
 
 /// A writer of the replies of one session. Each reply is that to the next turn of the session's script, at what the session
 /// has seen; since this is asked as a reply is written, a call that never returns owes it too. Who knows a writer as this
-/// alone can write nothing else to it, and has to take it for one that keeps its place in the script.
+/// alone can write nothing else to it, and has to take it for one that keeps what is left of the script.
 pub trait ReplyWriter {
-    ghost use Rattle.std.specs.Prelude.{ℕ, List, Option};
+    ghost use Rattle.std.specs.Prelude.{ℕ, Bool, List, Option};
     ghost use Rattle.overlay_terms.specs.Histories as terms;
-    ghost use Rattle.server_session.specs.Replying.{Place};
+    ghost use Rattle.book_history.specs.Known.{Known};
+    ghost use Rattle.script_form.specs.Turns.{Turn};
 
     /// The bytes that it has been given, where they are known.
     ghost contents: { Self → Option (List ℕ) };
@@ -23,33 +25,40 @@ pub trait ReplyWriter {
     /// Of which history it may be given the durable number.
     ghost may_report: { terms.History → Type 0 };
 
-    /// Where it is in the script whose replies it takes, if it keeps that.
-    ghost place: { Self → Option Place };
+    /// From where it may be given the next reply: of a book with or without a store, by a session that knew this at the reply
+    /// before, or as it began. A reply that was written says it anew, and nothing else.
+    ghost from: { Self → Bool → Known → Type 0 };
+
+    /// The turns of the script whose replies it takes that have none yet, if it keeps that.
+    ghost left: { Self → Option (List Turn) };
 
     /// Writes the reply to the next turn, without taking memory.
     fn reply(&mut self, me: &Session, reply: &LineReply) -> Result<(), CommandFault>
-        requires right { IfSome (place self.old) (IsNextReply may_report me.now (reply_text reply.now)) }
-        requires told { IsSomeReply may_report me.now (reply_text reply.now) }
-        ensures place { place self.new ≡ option_map (replied_at me.now) (place self.old) }
+        requires right { IfSome (left self.old) (IsNextReply (from self.old) may_report me.now (reply_text reply.now)) }
+        requires told { IsSomeReply (from self.old) may_report me.now (reply_text reply.now) }
+        ensures from { OnOk result ((there : Bool) (was : Known) → from self.old there was → from self.new there me.now) }
+        ensures left { OnOk result (left self.new ≡ option_map (drop 1) (left self.old)) }
         ensures writes { Writes result (contents self.old) (contents self.new) (reply_text reply.now) }
         ensures err { IfErr result (λ fault. fault ≡ CommandFault.Write) };
 
     /// Writes the line of the fault that ends the session: a read failed, or a byte too many came. No reply comes after it.
     fn end(&mut self, me: &Session, fault: CommandFault) -> Result<(), CommandFault>
         requires fault { (fault ≡ CommandFault.Read) ⊎ (fault ≡ CommandFault.ReadLimit) }
-        requires right { IfSome (place self.old) (IsThere me.now) }
-        ensures place { place self.new ≡ option_map ended_at (place self.old) }
+        requires from { (there : Bool) × from self.old there me.now }
         ensures writes { Writes result (contents self.old) (contents self.new) (error_line fault) }
         ensures err { IfErr result (λ fault. fault ≡ CommandFault.Write) };
 }
 
-/// Each writer of bytes is one, which may be given the durable number of any history, and keeps no place.
+/// Each writer of bytes is one, which may be given the durable number of any history, from anywhere, and does not keep what is
+/// left of a script.
 impl<W: Write> ReplyWriter for W {
     ghost contents = { W.contents };
 
     ghost may_report = { λ history. Unit {0} };
 
-    ghost place = { λ writer. None };
+    ghost from = { λ writer there was. Unit {0} };
+
+    ghost left = { λ writer. None };
 
     fn reply(&mut self, _me: &Session, reply: &LineReply) -> Result<(), CommandFault> {
         write_reply(self, reply)

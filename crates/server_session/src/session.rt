@@ -1,11 +1,11 @@
 //! A session of a book that threads share, from the bytes of a script to the bytes of its replies.
-ghost use Rattle.std.specs.Prelude.{◌≡◌, ◌<◌, ◌^◌, ◌⊎◌, [], false, length, IfOk, IfSome};
+ghost use Rattle.std.specs.Prelude.{◌≡◌, ◌<◌, ◌^◌, ◌⊎◌, Bool, [], false, length, IfOk, IfSome};
 ghost use Rattle.overlay_terms.specs.Histories.{BeginsWith, IsHistory};
 ghost use Rattle.book_history.specs.Known.{seen};
 ghost use Rattle.version_book.specs.Store.{has_store};
 ghost use Rattle.script_form.specs.Fault.{code_of};
 ghost use Rattle.script_form.specs.Replies.{error_line};
-ghost use Rattle.server_session.specs.Replying.{IsAtStart, IsThere, MayReport};
+ghost use Rattle.server_session.specs.Replying.{IsAtStart, MayReport};
 ghost use Rattle.server_session.specs.Stores.{store_of};
 ghost use Rattle.server_session.specs.Session.{IsSharedSession, IsSessionWithin, Stays};
 ghost use Rattle.server_session.specs.SessionState.{has_ended, HasTaken, IsOnWay};
@@ -66,7 +66,8 @@ pub fn session_run_within<
     requires book { me.old.book ≡ J.book }
     requires countable { most < 2 ^ 63 }
     requires told { MayReport J.stored (has_store shared.now) me.old W.may_report }
-    requires own { IfSome (W.place writer.old) (IsAtStart (R.remaining reader.old) me.old) }
+    requires from { W.from writer.old (has_store shared.now) me.old }
+    requires own { IfSome (W.left writer.old) (IsAtStart (R.remaining reader.old)) }
     ensures run { IsSessionWithin most (store_of J.stored (has_store shared.now)) result me.old me.new (R.remaining reader.old)
         (R.remaining reader.new) (W.contents writer.old) (W.contents writer.new) }
     ensures goes_on { BeginsWith (seen me.new) (seen me.old) }
@@ -126,7 +127,8 @@ fn run<J: BookName, S: Wait + Drop, Q: Wait + Threads + Sync, R: Read, W: ReplyW
     requires room { 0 < length chunk.old }
     requires countable { most < 2 ^ 63 }
     requires told { MayReport J.stored (has_store shared.now) me.old W.may_report }
-    requires own { IfSome (W.place writer.old) (IsAtStart (R.remaining reader.old) me.old) }
+    requires from { W.from writer.old (has_store shared.now) me.old }
+    requires own { IfSome (W.left writer.old) (IsAtStart (R.remaining reader.old)) }
     ensures run { IsSessionWithin most (store_of J.stored (has_store shared.now)) result me.old me.new (R.remaining reader.old)
         (R.remaining reader.new) (W.contents writer.old) (W.contents writer.new) }
     ensures stays { Stays me.old me.new }
@@ -160,7 +162,8 @@ fn finish<J: BookName, S: Wait + Drop, Q: Wait + Threads + Sync, W: ReplyWriter>
     requires book { me.old.book ≡ J.book }
     requires going { has_ended state.old ≡ false }
     requires told { MayReport J.stored (has_store shared.now) me.old W.may_report }
-    requires own { IfSome (W.place writer.old) (IsOnWay state.old me.old []) }
+    requires from { W.from writer.old (has_store shared.now) me.old }
+    requires own { IfSome (W.left writer.old) (IsOnWay state.old []) }
     ensures finishes { Finishes (store_of J.stored (has_store shared.now)) result state.old me.old me.new (W.contents writer.old)
         (W.contents writer.new) }
     ensures stays { Stays me.old me.new }
@@ -174,7 +177,7 @@ fn finish<J: BookName, S: Wait + Drop, Q: Wait + Threads + Sync, W: ReplyWriter>
 /// Writes the line of the fault that ends the session.
 fn end_by<W: ReplyWriter>(me: &Session, fault: CommandFault, writer: &mut W) -> SessionEnd
     requires fault { (fault ≡ CommandFault.Read) ⊎ (fault ≡ CommandFault.ReadLimit) }
-    requires own { IfSome (W.place writer.old) (IsThere me.now) }
+    requires from { (there : Bool) × W.from writer.old there me.now }
     ensures ends { EndsBy result (code_of fault) (error_line fault) (W.contents writer.old) (W.contents writer.new) }
 {
     match writer.end(me, fault) {

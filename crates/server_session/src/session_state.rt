@@ -1,14 +1,16 @@
 //! A session on its way through its script.
-ghost use Rattle.std.specs.Prelude.{◌≡◌, Bool, ◌∷◌, ◌++◌, [], List, ℕ, false, true, is_err, IfOk, IfErr, IfSome, OnOk, OnErr};
+ghost use Rattle.std.specs.Prelude.{◌≡◌, Bool, ◌∷◌, ◌++◌, [], List, Option, MatchOption, None, Some, ℕ, drop, false, length, true, is_err, IfOk, IfErr, IfSome, OnOk, OnErr};
 ghost use Rattle.overlay_terms.specs.Histories.{IsHistory};
 ghost use Rattle.book_history.specs.Known.{seen};
 ghost use Rattle.version_book.specs.Store.{has_store};
-ghost use Rattle.script_form.specs.Turns.{Turn};
-ghost use Rattle.server_session.specs.Replying.{KeepsPlace, MayReport};
+ghost use Rattle.script_form.specs.OpenBatch.{IsOpen};
+ghost use Rattle.script_form.specs.Requests.{request_of};
+ghost use Rattle.script_form.specs.Turns.{Waiting, ended_by};
+ghost use Rattle.server_session.specs.Replying.{MayReport};
 ghost use Rattle.server_session.specs.Stores.{store_of};
 ghost use Rattle.server_session.specs.Session.{Stays};
-ghost use Rattle.server_session.specs.SessionState.{has_ended, HasTaken, turns_ended, turns_at_end, AnswersTurns, AnswersInPart, AreNext, GoesPast, IsOnWay};
-ghost use Rattle.server_session.specs.Turn.{IsAtLast, IsAtLine, IsPastLine};
+ghost use Rattle.server_session.specs.SessionState.{has_ended, HasTaken, turns_ended, turns_at_end, AnswersTurns, AnswersInPart, AreNext, IsOnWay};
+ghost use Rattle.server_session.specs.Turn.{IsAtLast, IsAtLine};
 ghost use Rattle.server_session.specs.Loop.{AnswersLine, EndsBatch};
 
 use crate::answering::answer;
@@ -64,7 +66,8 @@ impl SessionState {
         requires book { me.old.book ≡ J.book }
         requires going { has_ended self.old ≡ false }
         requires told { MayReport J.stored (has_store shared.now) me.old W.may_report }
-        requires own { AreNext (W.place writer.old) self.old me.old bytes.now }
+        requires from { W.from writer.old (has_store shared.now) me.old }
+        requires own { IfSome (W.left writer.old) (AreNext self.old bytes.now) }
         ensures takes { OnOk result ((taken : List ℕ) → HasTaken self.old taken → HasTaken self.new (taken ++ bytes.now)) }
         ensures answers { OnOk result ((taken : List ℕ) → HasTaken self.old taken
             → AnswersTurns (store_of J.stored (has_store shared.now)) me.old (turns_ended taken bytes.now) me.new (W.contents writer.old) (W.contents writer.new)) }
@@ -72,7 +75,9 @@ impl SessionState {
             → AnswersInPart (store_of J.stored (has_store shared.now)) me.old (turns_ended taken bytes.now) me.new (W.contents writer.old) (W.contents writer.new)) }
         ensures fault { IfErr result (λ fault. fault ≡ CommandFault.Write) }
         ensures ended { has_ended self.new ≡ is_err result }
-        ensures own { OnOk result (GoesPast bytes.now (W.place writer.old) self.old me.old (W.place writer.new) self.new me.new) }
+        ensures from { OnOk result (W.from writer.new (has_store shared.now) me.new) }
+        ensures left { OnOk result (MatchOption (W.left writer.old) (W.left writer.new ≡ None) (λ left. (taken : List ℕ) → HasTaken self.old taken
+            → W.left writer.new ≡ Some (drop (length (turns_ended taken bytes.now)) left))) }
         ensures stays { Stays me.old me.new }
         // Each version that a reply reports is one of a history.
         ensures history { IsHistory (seen me.new) }
@@ -95,7 +100,8 @@ impl SessionState {
         requires book { me.old.book ≡ J.book }
         requires going { has_ended self.old ≡ false }
         requires told { MayReport J.stored (has_store shared.now) me.old W.may_report }
-        requires own { AreNext (W.place writer.old) self.old me.old bytes.now }
+        requires from { W.from writer.old (has_store shared.now) me.old }
+        requires own { IfSome (W.left writer.old) (AreNext self.old bytes.now) }
         ensures takes { OnOk result ((taken : List ℕ) → HasTaken self.old taken → HasTaken self.new (taken ++ bytes.now)) }
         ensures answers { OnOk result ((taken : List ℕ) → HasTaken self.old taken
             → AnswersTurns (store_of J.stored (has_store shared.now)) me.old (turns_ended taken bytes.now) me.new (W.contents writer.old) (W.contents writer.new)) }
@@ -103,7 +109,9 @@ impl SessionState {
             → AnswersInPart (store_of J.stored (has_store shared.now)) me.old (turns_ended taken bytes.now) me.new (W.contents writer.old) (W.contents writer.new)) }
         ensures fault { IfErr result (λ fault. fault ≡ CommandFault.Write) }
         ensures ended { has_ended self.new ≡ is_err result }
-        ensures own { OnOk result (GoesPast bytes.now (W.place writer.old) self.old me.old (W.place writer.new) self.new me.new) }
+        ensures from { OnOk result (W.from writer.new (has_store shared.now) me.new) }
+        ensures left { OnOk result (MatchOption (W.left writer.old) (W.left writer.new ≡ None) (λ left. (taken : List ℕ) → HasTaken self.old taken
+            → W.left writer.new ≡ Some (drop (length (turns_ended taken bytes.now)) left))) }
         ensures stays { Stays me.old me.new }
     {
         for byte in bytes {
@@ -124,7 +132,8 @@ impl SessionState {
         requires book { me.old.book ≡ J.book }
         requires going { has_ended self.old ≡ false }
         requires told { MayReport J.stored (has_store shared.now) me.old W.may_report }
-        requires own { AreNext (W.place writer.old) self.old me.old (byte ∷ []) }
+        requires from { W.from writer.old (has_store shared.now) me.old }
+        requires own { IfSome (W.left writer.old) (AreNext self.old (byte ∷ [])) }
         ensures takes { OnOk result ((taken : List ℕ) → HasTaken self.old taken → HasTaken self.new (taken ++ byte ∷ [])) }
         ensures answers { OnOk result ((taken : List ℕ) → HasTaken self.old taken
             → AnswersTurns (store_of J.stored (has_store shared.now)) me.old (turns_ended taken (byte ∷ [])) me.new (W.contents writer.old) (W.contents writer.new)) }
@@ -132,7 +141,9 @@ impl SessionState {
             → AnswersInPart (store_of J.stored (has_store shared.now)) me.old (turns_ended taken (byte ∷ [])) me.new (W.contents writer.old) (W.contents writer.new)) }
         ensures fault { IfErr result (λ fault. fault ≡ CommandFault.Write) }
         ensures ended { has_ended self.new ≡ is_err result }
-        ensures own { OnOk result (GoesPast (byte ∷ []) (W.place writer.old) self.old me.old (W.place writer.new) self.new me.new) }
+        ensures from { OnOk result (W.from writer.new (has_store shared.now) me.new) }
+        ensures left { OnOk result (MatchOption (W.left writer.old) (W.left writer.new ≡ None) (λ left. (taken : List ℕ) → HasTaken self.old taken
+            → W.left writer.new ≡ Some (drop (length (turns_ended taken (byte ∷ []))) left))) }
         ensures stays { Stays me.old me.new }
     {
         if byte != b'\n' {
@@ -161,7 +172,8 @@ impl SessionState {
         requires book { me.old.book ≡ J.book }
         requires going { has_ended self.old ≡ false }
         requires told { MayReport J.stored (has_store shared.now) me.old W.may_report }
-        requires own { IfSome (W.place writer.old) (IsOnWay self.old me.old []) }
+        requires from { W.from writer.old (has_store shared.now) me.old }
+        requires own { IfSome (W.left writer.old) (IsOnWay self.old []) }
         ensures answers { OnOk result ((taken : List ℕ) → HasTaken self.old taken
             → AnswersTurns (store_of J.stored (has_store shared.now)) me.old (turns_at_end taken) me.new (W.contents writer.old) (W.contents writer.new)) }
         ensures stops { OnErr result ((taken : List ℕ) → HasTaken self.old taken
@@ -187,7 +199,8 @@ impl SessionState {
         requires book { me.old.book ≡ J.book }
         requires going { has_ended self.old ≡ false }
         requires told { MayReport J.stored (has_store shared.now) me.old W.may_report }
-        requires own { IfSome (W.place writer.old) (IsOnWay self.old me.old []) }
+        requires from { W.from writer.old (has_store shared.now) me.old }
+        requires own { IfSome (W.left writer.old) (IsOnWay self.old []) }
         ensures answers { OnOk result ((taken : List ℕ) → HasTaken self.old taken
             → AnswersTurns (store_of J.stored (has_store shared.now)) me.old (turns_at_end taken) me.new (W.contents writer.old) (W.contents writer.new)) }
         ensures stops { OnErr result ((taken : List ℕ) → HasTaken self.old taken
@@ -219,12 +232,14 @@ fn answer_line<J: BookName, S: Wait + Drop, Q: Wait + Threads + Sync, W: ReplyWr
 ) -> Result<(), CommandFault>
     requires book { me.old.book ≡ J.book }
     requires told { MayReport J.stored (has_store shared.now) me.old W.may_report }
-    requires own { IfSome (W.place writer.old) (λ at. (later : List Turn) × IsAtLine me.old waiting.old line.now later at) }
+    requires from { W.from writer.old (has_store shared.now) me.old }
+    requires own { IfSome (W.left writer.old) (IsAtLine waiting.old line.now) }
     ensures answers { AnswersLine (store_of J.stored (has_store shared.now)) result me.old waiting.old line.now me.new waiting.new
         (W.contents writer.old) (W.contents writer.new) }
     ensures fault { IfErr result (λ fault. fault ≡ CommandFault.Write) }
-    ensures own { KeepsPlace (W.place writer.old) (W.place writer.new)
-        (λ at at_then. (later : List Turn) → IsAtLine me.old waiting.old line.now later at → IsPastLine me.new later at_then) }
+    ensures from { OnOk result (W.from writer.new (has_store shared.now) me.new) }
+    ensures left { OnOk result (MatchOption (W.left writer.old) (W.left writer.new ≡ None) (λ left. (batch : Option Waiting) → IsOpen batch waiting.old
+        → W.left writer.new ≡ Some (drop (length (ended_by batch (request_of line.now))) left))) }
 {
     match answer(rt, alloc, shared, me, waiting, line) {
         Some(reply) => writer.reply(me, &reply),
@@ -238,7 +253,8 @@ fn end_batch<J: BookName, W: ReplyWriter>(
     waiting: &Option<OpenBatch>,
     writer: &mut W,
 ) -> Result<(), CommandFault>
-    requires own { IfSome (W.place writer.old) (IsAtLast me.now waiting.now) }
+    requires from { (there : Bool) × W.from writer.old there me.now }
+    requires own { IfSome (W.left writer.old) (IsAtLast waiting.now) }
     ensures ends { (there : Bool) → EndsBatch (store_of J.stored there) result waiting.now (W.contents writer.old) (W.contents writer.new) }
     ensures fault { IfErr result (λ fault. fault ≡ CommandFault.Write) }
 {

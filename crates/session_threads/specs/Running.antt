@@ -10,14 +10,17 @@ use Rattle.server_session.specs.Session.{IsSessionWithin}
 use Rattle.session_threads.specs.declared.running.Script.{Script}
 use Rattle.session_threads.specs.declared.running.Ended.{Ended}
 
--- a session of this book ran its script: what it put to its writer are the replies; `stored`: whether the book has a store
-pub record IsRunOf {R W : Type 0} (book : Book) (stored : BookStore) (remaining : R → Option (List ℕ)) (contents : W → Option (List ℕ)) (script : Script R W) (ended : Ended R W) : Type 0 where
+-- a session of this book ran its script: what it put to its writer are the replies;
+-- `stored`: whether the book has a store
+pub record IsRunOf {R W : Type 0} (book : Book) (stored : BookStore) (remaining : R → Option (List ℕ))
+    (contents : W → Option (List ℕ)) (script : Script R W) (ended : Ended R W) : Type 0 where
   pub of : ended.session.book ≡ book
   pub same : ended.session.session ≡ script.session.session
   pub begun : 0 < length ended.session.log
   pub goes_on : BeginsWith (seen ended.session) (seen script.session)
   pub ran : IsSessionWithin script.port.most stored ended.end script.session ended.session
-      (remaining script.port.reader) (remaining ended.port.reader) (contents script.port.writer) (contents ended.port.writer)
+      (remaining script.port.reader) (remaining ended.port.reader) (contents script.port.writer)
+      (contents ended.port.writer)
 
 -- a script was not begun: its session, its reader and its writer are as they were, as where a session has no memory
 pub record IsNotBegunOf {R W : Type 0} (script : Script R W) (ended : Ended R W) : Type 0 where

@@ -22,7 +22,8 @@ module _ {R W : Type 0} where
   finished_of ended = record { writer = ended.port.writer; end = ended.end }
 
 -- something has ended for each of a list, as is said of both, and left these sessions and what they finished
-pub record Leave {X R W : Type 0} (so : X → Ended R W → Type 0) (xs : List X) (sessions : List Known) (finished : List (Finished W)) : Type 0 where
+pub record Leave {X R W : Type 0} (so : X → Ended R W → Type 0) (xs : List X) (sessions : List Known)
+    (finished : List (Finished W)) : Type 0 where
   pub ended : List (Ended R W)
   pub each : AllZip so xs ended
   pub sessions_are : sessions ≡ map ended_session ended

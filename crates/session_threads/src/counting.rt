@@ -24,8 +24,8 @@ pub fn made_by_all<Q: Wait>(rt: &Q, sessions: &[Session]) -> u64
     made
 }
 
-/// Returns where the last version of a book is so many batches after the first. Were it not, which cannot come, it would
-/// wait for ever.
+/// Returns where the last version of a book is so many batches after the first. Were it not, which
+/// cannot come, it would wait for ever.
 pub fn await_number<Q: Wait>(rt: &Q, first: u64, made: u64, last: &Version)
     ensures { last.now.number ≡ first + made }
 {

@@ -68,9 +68,9 @@ pub struct Seats<J: BookName, R: Read, W: ReplyWriter> {
     pub finished: Vec<Finished<W>>,
 }
 
-/// Runs a thread for each script, and takes them in, in their order. Where a thread is refused, the run halts and the book
-/// closes: the scripts that are begun by then end as in a book that closes, and the others come back as they were, as those
-/// of sessions that had no memory (40).
+/// Runs a thread for each script, and takes them in, in their order. Where a thread is refused, the run halts and the
+/// book closes: the scripts that are begun by then end as in a book that closes, and the others come back as they were,
+/// as those of sessions that had no memory (40).
 pub fn run_sessions<'s, E, J, S, Q, R, W>(
     scope: &'s Scope<'s, E>,
     rt: &'s Q,
@@ -86,10 +86,14 @@ where
     R: Read + Send + Drop + 's,
     W: ReplyWriter + Send + Drop + 's,
     requires scripts { All (λ script. script.session.book ≡ J.book) seats.scripts.items }
-    requires told { All (λ script. MayReport J.stored (has_store shared.now) script.session W.may_report) seats.scripts.items }
-    requires own { All (λ script. IfSome (W.place script.port.writer) (IsAtStart (R.remaining script.port.reader) script.session)) seats.scripts.items }
+    requires told { All (λ script. MayReport J.stored
+        (has_store shared.now) script.session W.may_report) seats.scripts.items }
+    requires from { All (λ script. W.from script.port.writer (has_store shared.now) script.session) seats.scripts.items }
+    requires own { All (λ script. IfSome (W.left script.port.writer)
+        (IsAtStart (R.remaining script.port.reader))) seats.scripts.items }
     requires room { HasRoom seats (length seats.scripts.items) }
-    ensures { Leave (λ script ended. IsRunOf J.book (store_of J.stored (has_store shared.now)) R.remaining W.contents script ended) seats.scripts.items
+    ensures { Leave (λ script ended. IsRunOf J.book
+        (store_of J.stored (has_store shared.now)) R.remaining W.contents script ended) seats.scripts.items
         result.0.items result.1.items }
 {
     let Seats {
@@ -104,8 +108,8 @@ where
     join_sessions(rt, running, sessions, finished)
 }
 
-/// Starts a thread for a script, where the run has not halted. Where it is refused the run halts, the book closes, and the
-/// script comes back.
+/// Starts a thread for a script, where the run has not halted. Where it is refused the run halts, the book closes, and
+/// the script comes back.
 fn start_session<'s, E, J, S, Q, R, W>(
     scope: &'s Scope<'s, E>,
     rt: &'s Q,
@@ -122,7 +126,8 @@ where
     W: ReplyWriter + Send + Drop + 's,
     requires book { script.session.book ≡ J.book }
     requires told { MayReport J.stored (has_store shared.now) script.session W.may_report }
-    requires own { IfSome (W.place script.port.writer) (IsAtStart (R.remaining script.port.reader) script.session) }
+    requires from { W.from script.port.writer (has_store shared.now) script.session }
+    requires own { IfSome (W.left script.port.writer) (IsAtStart (R.remaining script.port.reader)) }
     ensures { MatchResult result
         (λ h. (h.promise.begun.value ≡ script) × (h.promise.stored ≡ has_store shared.now))
         (λ back. IsRunOf J.book (store_of J.stored (has_store shared.now)) R.remaining W.contents script back) }
@@ -140,8 +145,10 @@ where
         move || -> Ended<R, W>
             requires book { script.session.book ≡ J.book }
             requires told { MayReport J.stored (has_store shared.now) script.session W.may_report }
-            requires own { IfSome (W.place script.port.writer) (IsAtStart (R.remaining script.port.reader) script.session) }
-            ensures { IsRunOf J.book (store_of J.stored (has_store shared.entry.now)) R.remaining W.contents script result }
+            requires from { W.from script.port.writer (has_store shared.now) script.session }
+            requires own { IfSome (W.left script.port.writer) (IsAtStart (R.remaining script.port.reader)) }
+            ensures { IsRunOf J.book (store_of J.stored
+                (has_store shared.entry.now)) R.remaining W.contents script result }
         { begin_script(rt, alloc, shared, halt, script) },
     );
     match started {
@@ -205,7 +212,8 @@ fn begin_script<J: BookName, S: Wait + Drop, Q: Threads + Wait + Sync, R: Read, 
 ) -> Ended<R, W>
     requires book { script.session.book ≡ J.book }
     requires told { MayReport J.stored (has_store shared.now) script.session W.may_report }
-    requires own { IfSome (W.place script.port.writer) (IsAtStart (R.remaining script.port.reader) script.session) }
+    requires from { W.from script.port.writer (has_store shared.now) script.session }
+    requires own { IfSome (W.left script.port.writer) (IsAtStart (R.remaining script.port.reader)) }
     ensures { IsRunOf J.book (store_of J.stored (has_store shared.now)) R.remaining W.contents script result }
 {
     if halt.is_set() {
@@ -238,7 +246,8 @@ fn run_script<J: BookName, S: Wait + Drop, Q: Threads + Wait + Sync, R: Read, W:
 ) -> Ended<R, W>
     requires book { script.session.book ≡ J.book }
     requires told { MayReport J.stored (has_store shared.now) script.session W.may_report }
-    requires own { IfSome (W.place script.port.writer) (IsAtStart (R.remaining script.port.reader) script.session) }
+    requires from { W.from script.port.writer (has_store shared.now) script.session }
+    requires own { IfSome (W.left script.port.writer) (IsAtStart (R.remaining script.port.reader)) }
     ensures { IsRunOf J.book (store_of J.stored (has_store shared.now)) R.remaining W.contents script result }
 {
     let Script { mut session, port } = script;

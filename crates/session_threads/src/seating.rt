@@ -11,8 +11,8 @@ use std::io::Read;
 use version_book::seen_log::BookName;
 use version_book::session::Session;
 
-/// Gives each reader's script the session of its place, and takes the memory for the lists that are filled later. The ports
-/// come back as they were where memory is refused.
+/// Gives each reader's script the session of its place, and takes the memory for the lists that are filled later. The
+/// ports come back as they were where memory is refused.
 pub fn seated<J: BookName, R: Read + Drop, W: ReplyWriter + Drop>(
     alloc: Global,
     sessions: Vec<Session>,

@@ -12,13 +12,14 @@ use Rattle.store_flushing.specs.Among.{IsFileIn}
 use Rattle.store_flushing.specs.Storing.{IsStoreOf, KeepsTold}
 use Rattle.store_flushing.specs.Since.{reported_in}
 
--- a store that stands for a version, of which no more is durable than stored, is one of the history that begins with it
+-- a store that holds a version, of which no more is durable than stored, is one of the history that begins with it
 abbrev pub StoreBegins : {D : Type 0} → Ghosts D → Type 0
 StoreBegins {D = D} g =
     (version : Version) (f : Flusher D g) (x : Kept) → StoreStandsFor g f.commit x → IsImageOf version x.held
-    → f.commit.root.version ≡ version.number → version.durable ≤ f.commit.root.version → IsStoreOf g (record { start = version; entries = [] }) f
+    → f.commit.root.version ≡ version.number → version.durable ≤ f.commit.root.version
+    → IsStoreOf g (record { start = version; entries = [] }) f
 
--- each file that a crash may leave of a store of a history stands for a version of it, no older than what is stored
+-- each file that a crash may leave of a store of a history holds a version of it, no older than what is stored
 abbrev pub StoreLeaves : {D : Type 0} → Ghosts D → Type 0
 StoreLeaves {D = D} g =
     (history : History) (f : Flusher D g) → IsStoreOf g history f → Leaves g f.commit.disk (IsFileIn history f.commit.root.version)
@@ -37,4 +38,5 @@ ToldIsLeft {D = D} g = (was now : History) (old new : Flusher D g) → KeepsTold
 -- the durable number of a history's newest version is that of its start, or among those reported in its entries
 abbrev pub DurableIsReported : Type 0
 DurableIsReported = (history : History) → IsHistory history
-    → ((newest history).durable ≡ history.start.durable) ⊎ Contains (reported_in history.entries) (newest history).durable
+    → ((newest history).durable ≡ history.start.durable)
+    ⊎ Contains (reported_in history.entries) (newest history).durable

@@ -1,7 +1,8 @@
 -- What was published since a version, and whether a later version's tiles are all its own.
 use Rattle.std.specs.Prelude.{◌≡◌, ℕ, ◌+◌, ◌≤◌, ◌==◌, List, [], length, filter_map, Option, Some, None, if◌then◌else◌}
 use Rattle.overlay_terms.specs.Layers.{Name}
-use Rattle.overlay_terms.specs.Histories.{Tile, Finished, tile_at, Version, Event, accepted, kept, durable_to, Entry, AllFollow, last_version}
+use Rattle.overlay_terms.specs.Histories.{Tile, Finished, tile_at, Version, Event, accepted}
+use Rattle.overlay_terms.specs.Histories.{kept, durable_to, Entry, AllFollow, last_version}
 use Rattle.commit_plan.specs.Staying.{LiveContent}
 use Rattle.book_history.specs.BookLogs.{BookLog}
 use Rattle.book_history.specs.Logs.{newest_in}
@@ -28,7 +29,8 @@ reported_in entries = filter_map (λ (e : Entry). number_told e.event) entries
 
 -- each tile of a later version is the earlier one's
 abbrev pub HasTilesOf : Version → Version → Type 0
-HasTilesOf old new = (name : Name) (k : ℕ) (tile : Tile) → tile_at new.tiles name k ≡ Some tile → tile_at old.tiles name k ≡ Some tile
+HasTilesOf old new =
+    (name : Name) (k : ℕ) (tile : Tile) → tile_at new.tiles name k ≡ Some tile → tile_at old.tiles name k ≡ Some tile
 
 -- they are where none was kept since: a batch adds no tile, nor does a report
 abbrev pub TilesStay : Type 0
@@ -46,7 +48,8 @@ AreFew old entries new = old.number + entries ≤ new.number + reports_between o
 -- then no tile was kept between them; and they are that few wherever none was, and at most one number was reported
 pub record AreToldByNumbers (version : Version) (entries : List Entry) : Type 0 where
   pub none : AreFew version (length entries) (last_version version entries) → kept_in entries ≡ []
-  pub few : kept_in entries ≡ [] → length (reported_in entries) ≤ 1 → AreFew version (length entries) (last_version version entries)
+  pub few : kept_in entries ≡ [] → length (reported_in entries) ≤ 1
+      → AreFew version (length entries) (last_version version entries)
 
 abbrev pub NumbersTell : Type 0
 NumbersTell = (version : Version) (entries : List Entry) → AllFollow version entries → AreToldByNumbers version entries

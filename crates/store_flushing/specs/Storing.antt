@@ -14,7 +14,7 @@ use Rattle.book_lock.specs.Heard.{Heard}
 use Rattle.store_flushing.specs.Among.{IsHeldIn, IsFileIn}
 
 module _ {D : Type 0} (g : Ghosts D) (history : History) where
-  -- no commit is under way: the file stands for the version that is stored
+  -- no commit is under way: the file holds the version that is stored
   pub record Rests (f : Flusher D g) : Type 0 where
     pub x : Kept
     pub held : IsHeldIn history x.held
@@ -63,8 +63,8 @@ pub record Flushes {D : Type 0} (g : Ghosts D) (was : History) (old : Flusher D 
   pub moments : LeavesOnly g old.commit.disk new.commit.disk (IsFileIn now old.commit.root.version)
   pub by_device : FailsByDevice g old.commit new.commit
 
--- a call of a store's keeper: what the reporter has seen goes on and is a history, the store is one of it, and it fails by
--- its device alone. What is reported by its end was stored as it began; a crash within it leaves no older version
+-- a call of a store's keeper: what the reporter has seen goes on and is a history, the store is one of it, and it fails
+-- by its device alone. What is reported by its end was stored as it began; a crash within it leaves no older version
 pub record KeepsTold {D : Type 0} (g : Ghosts D) (was : History) (old : Flusher D g) (now : History) (new : Flusher D g)
     : Type 0 where
   pub goes_on : BeginsWith now was

@@ -63,14 +63,17 @@ pub fn close<J: BookName, R: Wait + Drop, D: Disk, W: Wait>(
     ensures none { IfNone flusher ((result.stored ≡ 0) × (result.disk ≡ None)) }
     ensures disk { IfSome flusher (λ f. (result.stored ≡ f.commit.root.version) × (result.disk ≡ Some f.commit.disk)) }
     // Where the newest version is not stored and the store would not begin its commit, the book is given the reason.
-    ensures fault { IfSome result.fault (λ fault. IfSome flusher (λ f. IsUnstoredFor fault f (arc_value result.version))) }
-    ensures failed { IfSome flusher (λ f. f.commit.phase ≡ phases.Failed → f.commit.root.version < (arc_value result.version).number
+    ensures fault { IfSome result.fault
+        (λ fault. IfSome flusher (λ f. IsUnstoredFor fault f (arc_value result.version))) }
+    ensures failed { IfSome flusher (λ f. f.commit.phase ≡ phases.Failed
+        → f.commit.root.version < (arc_value result.version).number
         → result.fault ≡ Some StoreFault.Failed) }
     // All that is reported is stored, where it was for the reporter.
     ensures reported { IfSome flusher (λ f. (newest_in reporter.log).durable ≤ f.commit.root.version
         → All (λ entry. entry.version.durable ≤ result.stored) result.seen_log.log) }
-    // Every file that a crash may leave stands for a version of the log, where it stood for one of the reporter's.
-    ensures files { IfSome flusher (λ f. Leaves D.Disk f.commit.disk (IsFileIn (history_of reporter.log) f.commit.root.version)
+    // Every file that a crash may leave holds a version of the log, where it held one of the reporter's.
+    ensures files { IfSome flusher
+        (λ f. Leaves D.Disk f.commit.disk (IsFileIn (history_of reporter.log) f.commit.root.version)
         → IfSome result.disk (λ disk. Leaves D.Disk disk (IsFileIn (history_of result.seen_log.log) result.stored))) }
     // It is just the version that is stored, where no commit is under way and the device did not fail.
     ensures exactly { IfSome flusher (λ f. IsStoreOf D.Disk (history_of reporter.log) f → f.commit.phase ≡ phases.Idle
@@ -78,7 +81,8 @@ pub fn close<J: BookName, R: Wait + Drop, D: Disk, W: Wait>(
         (IsFileExactlyIn (history_of result.seen_log.log) result.stored))) }
     // What was written down as it was reported is all that the log reports durable, and it stays so.
     ensures written { result.told ≡ told }
-    ensures told { IfSome flusher (λ f. IfSome result.disk (λ disk. TellsOn D.Disk (history_of reporter.log) (told_in told) f.commit.disk
+    ensures told { IfSome flusher
+        (λ f. IfSome result.disk (λ disk. TellsOn D.Disk (history_of reporter.log) (told_in told) f.commit.disk
         (history_of result.seen_log.log) (told_in result.told) disk)) }
 {
     end_book(rt, alloc, shared, &reporter, flusher, told, &sessions)
@@ -101,11 +105,14 @@ pub(crate) fn end_book<J: BookName, R: Wait + Drop, D: Disk, W: Wait>(
     ensures reporter { HasHeard result.seen_log.log reporter.now }
     ensures begun { 0 < length reporter.now.log }
     ensures sessions { All (λ session. HasAllOf result.seen_log.log session) sessions.now }
-    ensures durable { All (λ entry. entry.version.durable ≤ (newest_in result.seen_log.log).durable) result.seen_log.log }
+    ensures durable { All (λ entry. entry.version.durable
+        ≤ (newest_in result.seen_log.log).durable) result.seen_log.log }
     ensures none { IfNone flusher ((result.stored ≡ 0) × (result.disk ≡ None)) }
     ensures some { IfSome flusher (λ f. (result.stored ≡ f.commit.root.version) × (result.disk ≡ Some f.commit.disk)) }
-    ensures fault { IfSome result.fault (λ fault. IfSome flusher (λ f. IsUnstoredFor fault f (arc_value result.version))) }
-    ensures failed { IfSome flusher (λ f. f.commit.phase ≡ phases.Failed → f.commit.root.version < (arc_value result.version).number
+    ensures fault { IfSome result.fault
+        (λ fault. IfSome flusher (λ f. IsUnstoredFor fault f (arc_value result.version))) }
+    ensures failed { IfSome flusher (λ f. f.commit.phase ≡ phases.Failed
+        → f.commit.root.version < (arc_value result.version).number
         → result.fault ≡ Some StoreFault.Failed) }
     ensures told { result.told ≡ told }
 {
@@ -144,7 +151,8 @@ fn refusal_of<D: Disk>(
     ensures disk { flusher.new.commit.disk ≡ flusher.old.commit.disk }
     ensures stored { flusher.new.commit.root.version ≡ flusher.old.commit.root.version }
     ensures fault { IfSome result (λ fault. IsUnstoredFor fault flusher.old version.now) }
-    ensures failed { flusher.old.commit.phase ≡ phases.Failed → flusher.old.commit.root.version < version.now.number → result ≡ Some StoreFault.Failed }
+    ensures failed { flusher.old.commit.phase ≡ phases.Failed → flusher.old.commit.root.version < version.now.number
+        → result ≡ Some StoreFault.Failed }
 {
     if flusher.busy() || version.number() <= flusher.stored() {
         return None;

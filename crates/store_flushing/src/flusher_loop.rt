@@ -36,7 +36,8 @@ pub fn flush<J: BookName, R: Wait + Drop, D: Disk, W: Wait>(
     // What it stores it reports, and a crash at any moment leaves a version that the reporter has seen in the end, no
     // older than what was stored at first.
     ensures flushes { IsStoreOf D.Disk (history_of keeper.old.reporter.log) keeper.old.flusher
-        → Flushes D.Disk (history_of keeper.old.reporter.log) keeper.old.flusher (history_of keeper.new.reporter.log) keeper.new.flusher }
+        → Flushes D.Disk (history_of keeper.old.reporter.log) keeper.old.flusher
+        (history_of keeper.new.reporter.log) keeper.new.flusher }
     ensures tells { KeepsTelling D.Disk keeper.old keeper.new }
     // No commit is left half done, unless the device failed.
     ensures rests { is_busy keeper.new.flusher.commit.phase ≡ false }
@@ -61,7 +62,8 @@ fn round<J: BookName, R: Wait + Drop, D: Disk, W: Wait>(
     requires book { keeper.old.reporter.book ≡ J.book }
     requires stored { HoldsOfStored D.Disk J.stored (history_of keeper.old.reporter.log) keeper.old.flusher }
     ensures flushes { IsStoreOf D.Disk (history_of keeper.old.reporter.log) keeper.old.flusher
-        → Flushes D.Disk (history_of keeper.old.reporter.log) keeper.old.flusher (history_of keeper.new.reporter.log) keeper.new.flusher }
+        → Flushes D.Disk (history_of keeper.old.reporter.log) keeper.old.flusher
+        (history_of keeper.new.reporter.log) keeper.new.flusher }
     ensures tells { KeepsTelling D.Disk keeper.old keeper.new }
     ensures rests { is_busy keeper.new.flusher.commit.phase ≡ false }
     ensures ends { result ≡ false → (keeper.new.flusher.commit.phase ≡ phases.Failed) ⊎ (keeper.new ≡ keeper.old) }
@@ -94,7 +96,8 @@ fn commit<J: BookName, R: Wait + Drop, D: Disk, W: Wait>(
     requires history { IsHistory (history_of keeper.old.reporter.log) }
     requires newest { version.now ≡ newest (history_of keeper.old.reporter.log) }
     ensures flushes { IsStoreOf D.Disk (history_of keeper.old.reporter.log) keeper.old.flusher
-        → Flushes D.Disk (history_of keeper.old.reporter.log) keeper.old.flusher (history_of keeper.new.reporter.log) keeper.new.flusher }
+        → Flushes D.Disk (history_of keeper.old.reporter.log) keeper.old.flusher
+        (history_of keeper.new.reporter.log) keeper.new.flusher }
     ensures tells { KeepsTelling D.Disk keeper.old keeper.new }
     ensures rests { is_busy keeper.new.flusher.commit.phase ≡ false }
     ensures ends { result ≡ false → keeper.new.flusher.commit.phase ≡ phases.Failed }
@@ -117,7 +120,8 @@ fn end_commit<J: BookName, R: Wait + Drop, D: Disk, W: Wait>(
     requires book { keeper.old.reporter.book ≡ J.book }
     requires stored { HoldsOfStored D.Disk J.stored (history_of keeper.old.reporter.log) keeper.old.flusher }
     ensures flushes { IsStoreOf D.Disk (history_of keeper.old.reporter.log) keeper.old.flusher
-        → Flushes D.Disk (history_of keeper.old.reporter.log) keeper.old.flusher (history_of keeper.new.reporter.log) keeper.new.flusher }
+        → Flushes D.Disk (history_of keeper.old.reporter.log) keeper.old.flusher
+        (history_of keeper.new.reporter.log) keeper.new.flusher }
     ensures tells { KeepsTelling D.Disk keeper.old keeper.new }
     ensures rests { is_busy keeper.new.flusher.commit.phase ≡ false }
     ensures ends { result ≡ false → keeper.new.flusher.commit.phase ≡ phases.Failed }

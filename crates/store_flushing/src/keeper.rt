@@ -33,6 +33,7 @@ use version_book::shared::Shared;
 use versions::Version;
 
 mod flushing;
+pub mod opened;
 pub mod store;
 pub mod told_log;
 mod version_mark;
@@ -118,8 +119,8 @@ impl<D: Disk> Keeper<D> {
         looked
     }
 
-    /// Begins the commit of the newest version that was seen. It makes no device call, and reports nothing. Its tiles are
-    /// compared with those of the live root, unless they are known to be these.
+    /// Begins the commit of the newest version that was seen. It makes no device call, and reports nothing. Its tiles
+    /// are compared with those of the live root, unless they are known to be these.
     pub fn begin(&mut self, alloc: Global, version: &Version) -> Result<(), StoreFault>
         requires idle { is_busy self.old.flusher.commit.phase ≡ false }
         requires history { IsHistory (history_of self.old.reporter.log) }
@@ -130,7 +131,9 @@ impl<D: Disk> Keeper<D> {
         ensures reporter { self.new.reporter ≡ self.old.reporter }
         ensures told { self.new.told ≡ self.old.told }
         ensures err { OnErr result (self.new ≡ self.old) }
-        ensures errors { IfErr result (λ fault. IsReason self.old.flusher.commit.phase self.old.flusher.commit.root (HasNoRoomFor self.old.flusher.commit version.now) fault) }
+        ensures errors { IfErr result
+            (λ fault. IsReason self.old.flusher.commit.phase self.old.flusher.commit.root
+            (HasNoRoomFor self.old.flusher.commit version.now) fault) }
     {
         let mark = VersionMark::of(&self.reporter, version);
         let known = self.is_known(&mark);
@@ -146,7 +149,8 @@ impl<D: Disk> Keeper<D> {
     /// Whether it is known that each tile of a version is the live root's.
     fn is_known(&self, version: &VersionMark) -> bool
         requires { version.now.book ≡ self.now.reporter.book }
-        ensures { IsTrue result → AreKnown (live_content self.now.flusher.commit.live) (newest_in version.now.log).tiles }
+        ensures { IsTrue result → AreKnown (live_content self.now.flusher.commit.live)
+            (newest_in version.now.log).tiles }
     {
         match &self.live {
             Some(live) => live.has_tiles_of(version),
@@ -158,8 +162,10 @@ impl<D: Disk> Keeper<D> {
     pub fn step(&mut self) -> Result<Progress, StoreFault>
         ensures keeps { Keeps D.Disk self.old.reporter self.old.flusher self.new.reporter self.new.flusher }
         ensures tells { KeepsTelling D.Disk self.old self.new }
-        ensures stored { self.new.flusher.commit.root.version ≡ stored_after result self.old.flusher.commit.root.version }
-        ensures counted { IfOk result (λ p. Counts p (calls_left self.old.flusher.commit) (calls_left self.new.flusher.commit)) }
+        ensures stored { self.new.flusher.commit.root.version
+            ≡ stored_after result self.old.flusher.commit.root.version }
+        ensures counted { IfOk result
+            (λ p. Counts p (calls_left self.old.flusher.commit) (calls_left self.new.flusher.commit)) }
         ensures failed { OnErr result (self.new.flusher.commit.phase ≡ phases.Failed) }
         ensures reporter { self.new.reporter ≡ self.old.reporter }
         ensures told { self.new.told ≡ self.old.told }
@@ -187,7 +193,8 @@ impl<D: Disk> Keeper<D> {
         ensures history { IsHistory (history_of self.new.reporter.log) }
         ensures reported { IsStoreOf D.Disk (history_of self.old.reporter.log) self.old.flusher
             → AllReported (history_of self.new.reporter.log) self.new.flusher }
-        ensures written { told_in self.new.told ≡ told_in self.old.told ++ told_at (D.moment self.old.flusher.commit.disk)
+        ensures written { told_in self.new.told
+            ≡ told_in self.old.told ++ told_at (D.moment self.old.flusher.commit.disk)
             (news_in (history_of self.old.reporter.log) (history_of self.new.reporter.log)) }
         ensures flusher { self.new.flusher ≡ self.old.flusher }
         ensures same { self.new.reporter.book ≡ self.old.reporter.book }

@@ -9,19 +9,19 @@ pub fn store_begins<D: Disk>()
     ensures { StoreBegins D.Disk }
 {}
 
-/// Every file that a crash may leave of a store of a history stands for one of its versions.
+/// Every file that a crash may leave of a store of a history holds one of its versions.
 pub fn store_leaves<D: Disk>()
     ensures { StoreLeaves D.Disk }
 {}
 
-/// A store at rest is one of a history where all that is reported is stored, and every file that a crash may leave of it
-/// stands for one of its versions, no older than what is stored.
+/// A store at rest is one of a history where all that is reported is stored, and every file that a crash may leave of
+/// it holds one of its versions, no older than what is stored.
 pub fn store_is_known<D: Disk>()
     ensures { StoreIsKnown D.Disk }
 {}
 
-/// At every moment of a keeper's call a crash leaves a version of the history that is no older than what is reported durable
-/// by the call's end.
+/// At every moment of a keeper's call a crash leaves a version of the history that is no older than what is reported
+/// durable by the call's end.
 pub fn told_is_left<D: Disk>()
     ensures { ToldIsLeft D.Disk }
 {}

@@ -1,7 +1,9 @@
 -- The codes of what is wrong with a file.
 use Rattle.std.specs.Prelude.{ℕ, Option, Some, None}
 use Rattle.store_terms.specs.declared.damage.Damage.{Damage}
-use Rattle.store_terms.specs.declared.damage.Damage.TheVariants.{NotAStore, Format, Numbers, CatalogPlace, CatalogForm, RecordPlace, LayerForm, LayerRefused, TileForm, Overlap}
+use Rattle.store_terms.specs.declared.damage.Damage.TheVariants.{NotAStore, Format, Numbers, CatalogPlace}
+use Rattle.store_terms.specs.declared.damage.Damage.TheVariants.{CatalogForm, RecordPlace, LayerForm}
+use Rattle.store_terms.specs.declared.damage.Damage.TheVariants.{LayerRefused, TileForm, Overlap}
 
 -- the code that `damaged` carries; none where the file is no store
 abbrev pub code_of : Damage → Option ℕ

@@ -1,5 +1,6 @@
--- Fields of records: what the bytes at the front of some bytes stand for, and how a value is spelled.
-use Rattle.std.specs.Prelude.{◌≡◌, ℕ, zero, suc, ℤ, ◌^◌, ◌<◌, ◌==◌, nat_lt, Bool, true, ◌&&◌, List, [], ◌∷◌, ◌++◌, length, drop, slice_index, flat_map, Option, Some, None, if◌then◌else◌}
+-- Fields of records: the value that is read from the front of some bytes, and how a value is spelled.
+use Rattle.std.specs.Prelude.{◌≡◌, ℕ, zero, suc, ℤ, ◌^◌, ◌<◌, ◌==◌, nat_lt, Bool, true, ◌&&◌, List, [], ◌∷◌}
+use Rattle.std.specs.Prelude.{◌++◌, length, drop, slice_index, flat_map, Option, Some, None, if◌then◌else◌}
 use Rattle.std.specs.List.{list_all}
 use Rattle.std.specs.Int.{w32, cast_signed, cast_unsigned}
 use Rattle.byteorder.specs.Endian.{big_number, big_bytes}
@@ -22,7 +23,8 @@ AreBytes bytes = (i : ℕ) → slice_index bytes i < 256
 
 -- what is read is spelled so, and what is spelled so is read
 pub record IsField {A : Type 0} (f : Field A) : Type 0 where
-  pub takes : (bytes : List ℕ) (x : A × List ℕ) → AreBytes bytes → f.read bytes ≡ Some x → (bytes ≡ f.text x.0 ++ x.1) × (f.fits x.0 ≡ true)
+  pub takes : (bytes : List ℕ) (x : A × List ℕ) → AreBytes bytes → f.read bytes ≡ Some x
+      → (bytes ≡ f.text x.0 ++ x.1) × (f.fits x.0 ≡ true)
   pub again : (x : A) (rest : List ℕ) → f.fits x ≡ true → f.read (f.text x ++ rest) ≡ Some (x, rest)
 
 -- a number of n bytes, the highest byte first

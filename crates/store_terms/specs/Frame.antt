@@ -25,4 +25,5 @@ extents_of file r = r.catalog ∷ listed_extents (listing_of file r)
 -- a file that is the same in the extents of a root holds the same for it, whatever is elsewhere
 abbrev pub ElsewhereHasNoMeaning : Type 0
 ElsewhereHasNoMeaning =
-    (old new : List ℕ) (r : Root) → AllByRecursion (IsSameAt old new) (extents_of old r) → (held_of new r ≡ held_of old r) × (extents_of new r ≡ extents_of old r)
+    (old new : List ℕ) (r : Root) → AllByRecursion (IsSameAt old new) (extents_of old r)
+    → (held_of new r ≡ held_of old r) × (extents_of new r ≡ extents_of old r)

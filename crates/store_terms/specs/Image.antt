@@ -1,5 +1,6 @@
 -- What the catalog of a root holds: layers and finished tiles.
-use Rattle.std.specs.Prelude.{ℕ, ◌+◌, Bool, not, ◌&&◌, List, [], ◌∷◌, ◌++◌, Option, Some, None, Result, Ok, Err, if◌then◌else◌}
+use Rattle.std.specs.Prelude.{ℕ, ◌+◌, ◌&&◌, [], ◌∷◌, ◌++◌, if◌then◌else◌}
+use Rattle.std.specs.Prelude.{Bool, not, List, Option, Some, None, Result, Ok, Err}
 use Rattle.std.specs.Option.{is_none}
 use Rattle.std.proofs.Common.{inl, inr}
 use Rattle.overlay_terms.specs.Layers.{Name, Content, base, derived, Layer}
@@ -7,7 +8,8 @@ use Rattle.overlay_terms.specs.Commands.{Refusal, refusal_of_put, refusal_of_def
 use Rattle.overlay_terms.specs.Histories.{Finished}
 use Rattle.layer_expr.specs.Name.{is_name}
 use Rattle.store_terms.specs.declared.damage.Damage.{Damage}
-use Rattle.store_terms.specs.declared.damage.Damage.TheVariants.{CatalogPlace, CatalogForm, RecordPlace, LayerForm, LayerRefused, TileForm, Overlap}
+use Rattle.store_terms.specs.declared.damage.Damage.TheVariants.{CatalogPlace, CatalogForm, RecordPlace}
+use Rattle.store_terms.specs.declared.damage.Damage.TheVariants.{LayerForm, LayerRefused, TileForm, Overlap}
 use Rattle.store_terms.specs.BaseRecord.{base_of_record}
 use Rattle.store_terms.specs.DefinitionRecord.{definition_of_record}
 use Rattle.store_terms.specs.TileRecord.{tile_of_record}

@@ -1,5 +1,6 @@
 -- Where the records of a store lie in its file. The file is read through `bytes_at` and `is_placed` alone.
-use Rattle.std.specs.Prelude.{ℕ, ◌+◌, ◌*◌, ◌/◌, nat_le, Bool, true, ◌&&◌, ◌||◌, List, [], ◌∷◌, length, flat_map, Option, Some, None}
+use Rattle.std.specs.Prelude.{ℕ, ◌+◌, ◌*◌, ◌/◌, ◌&&◌, ◌||◌, [], ◌∷◌}
+use Rattle.std.specs.Prelude.{nat_le, Bool, true, List, length, flat_map, Option, Some, None}
 use Rattle.std.proofs.Common.{inl, inr}
 use Rattle.disk_model.specs.Disk.{part}
 pub use Rattle.extent_map.specs.Blocks.{block_size, blocks}

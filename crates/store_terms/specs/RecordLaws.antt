@@ -21,23 +21,32 @@ use Rattle.store_terms.specs.Frame.{extents_of}
 
 -- a definition record is the text of its expression, and no other spelling
 abbrev pub DefinitionIsItsText : Type 0
-DefinitionIsItsText = (bytes : List ℕ) (tree : Tree Name) → (definition_of_record bytes ≡ Some tree) ↔ (IsExpression tree × (bytes ≡ expression_text tree))
+DefinitionIsItsText =
+    (bytes : List ℕ) (tree : Tree Name)
+    → (definition_of_record bytes ≡ Some tree) ↔ (IsExpression tree × (bytes ≡ expression_text tree))
 
 -- a tile record spells a tile by some names of its ends
 abbrev pub TileIsNamed : Type 0
-TileIsNamed = (k : ℕ) (bytes : List ℕ) (tile : Tile) → AreBytes bytes → (tile_of_record k bytes ≡ Some tile) ↔ IsTileRecord k tile bytes
+TileIsNamed =
+    (k : ℕ) (bytes : List ℕ) (tile : Tile) → AreBytes bytes
+    → (tile_of_record k bytes ≡ Some tile) ↔ IsTileRecord k tile bytes
 
 -- where a root holds something, each of its extents is placed
 abbrev pub HeldIsPlaced : Type 0
-HeldIsPlaced = (file : List ℕ) (r : Root) (x : Held) → held_of file r ≡ Ok x → AllByRecursion (λ e. is_placed file e ≡ true) (extents_of file r)
+HeldIsPlaced =
+    (file : List ℕ) (r : Root) (x : Held) → held_of file r ≡ Ok x
+    → AllByRecursion (λ e. is_placed file e ≡ true) (extents_of file r)
 
 -- the record of rings that a base layer has is read again
 abbrev pub BaseReadsBack : Type 0
-BaseReadsBack = (rs : List (List WholePoint)) → rings_fault rs ≡ None → All IsRing rs → base_of_record (rings.text rs) ≡ Some rs
+BaseReadsBack =
+    (rs : List (List WholePoint)) → rings_fault rs ≡ None → All IsRing rs → base_of_record (rings.text rs) ≡ Some rs
 
 -- a body that is written is read again
 abbrev pub BodyReadsBack : Type 0
-BodyReadsBack = (r : Root) → r.sequence < 256 ^ 8 → r.version < 256 ^ 8 → r.catalog.block < 256 ^ 8 → r.catalog.size < 256 ^ 4 → body_in (take body_read (body_text r)) ≡ ours r
+BodyReadsBack =
+    (r : Root) → r.sequence < 256 ^ 8 → r.version < 256 ^ 8 → r.catalog.block < 256 ^ 8 → r.catalog.size < 256 ^ 4
+    → body_in (take body_read (body_text r)) ≡ ours r
 
 -- what a root holds are layers in order: no name twice, and each definition over earlier layers
 abbrev pub HeldIsOrderly : Type 0

@@ -1,5 +1,6 @@
--- What a file stands for: a number, layers and finished tiles; or what is wrong with it.
-use Rattle.std.specs.Prelude.{◌≡◌, ℕ, ◌+◌, ◌*◌, ◌%◌, ◌==◌, nat_lt, nat_le, Bool, not, ◌&&◌, ◌||◌, if◌then◌else◌, List, length, slice_index, Option, Some, None, Result, Ok, Err}
+-- What a file holds: a number, layers and finished tiles; or what is wrong with it.
+use Rattle.std.specs.Prelude.{◌≡◌, ℕ, ◌+◌, ◌*◌, ◌%◌, ◌==◌, ◌&&◌, ◌||◌, if◌then◌else◌}
+use Rattle.std.specs.Prelude.{nat_lt, nat_le, Bool, not, List, length, slice_index, Option, Some, None, Result, Ok, Err}
 use Rattle.overlay_terms.specs.Commands.{version_max}
 use Rattle.disk_model.specs.Disk.{part}
 use Rattle.store_terms.specs.declared.damage.Damage.{Damage}
@@ -56,7 +57,7 @@ newer_root (Some a) None = Ok a
 newer_root None (Some b) = Ok b
 newer_root (Some a) (Some b) = if nat_lt b.sequence a.sequence then Ok a else Ok b
 
--- the root of a file: both slots are ours, then the numbers of the one and of the other are right, then the newer is taken
+-- the root of a file: both slots are ours, then the numbers of the one and the other are right, then the newer is taken
 unfoldable pub root_of : List ℕ → Result Root Damage
 root_of file =
     if nat_lt (length file) slots_end || (is_foreign file 0 || is_foreign file 1) then Err NotAStore
@@ -66,6 +67,6 @@ root_of file =
 abbrev pub reading : List ℕ → Result Held Damage
 reading file = root_of file >>= λ r. held_of file r
 
--- the file stands for a number, layers and finished tiles
+-- the file holds a number, layers and finished tiles
 abbrev pub StandsFor : Held → List ℕ → Type 0
 StandsFor held file = reading file ≡ Ok held

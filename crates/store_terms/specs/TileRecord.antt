@@ -1,5 +1,6 @@
 -- How a finished tile is spelled: its column, and its pieces by the names of their ends, or that they are too many.
-use Rattle.std.specs.Prelude.{◌≡◌, ℕ, pos, ◌==◌, nat_lt, int_lt, Bool, true, not, ◌&&◌, ◌⊎◌, List, map, Option, Some, None, if◌then◌else◌}
+use Rattle.std.specs.Prelude.{◌≡◌, ℕ, ◌==◌, ◌&&◌, ◌⊎◌, if◌then◌else◌}
+use Rattle.std.specs.Prelude.{pos, nat_lt, int_lt, Bool, true, not, List, map, Option, Some, None}
 use Rattle.std.proofs.Common.{inl, inr}
 use Rattle.std.specs.Ordering.{is_lt}
 use Rattle.overlay_terms.specs.Plane.{Segment, whole_cmp, point_cmp, is_on}
@@ -23,7 +24,7 @@ segment = sieved (λ s. is_lt (whole_cmp s.left s.right)) (made (λ p. record { 
 abbrev pub point_name : Field PointName
 point_name = made name_from name_parts (one_of_three whole_point (both segment segment) (both segment (number 1)))
 
--- whether a name stands for a place
+-- whether a name has a place
 abbrev pub has_place : PointName → Bool
 has_place (Vertex v) = true
 has_place (Cross a b) = not (is_parallel a b) && int_lt (pos 0) (crossing_place a b).w && is_on a (crossing_place a b) && is_on b (crossing_place a b)

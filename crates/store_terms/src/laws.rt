@@ -6,7 +6,8 @@ ghost use Rattle.store_terms.specs.BaseRecord.{rings};
 ghost use Rattle.store_terms.specs.TileRecord.{named_tile};
 ghost use Rattle.store_terms.specs.Catalog.{catalog};
 ghost use Rattle.store_terms.specs.Frame.{ElsewhereHasNoMeaning};
-ghost use Rattle.store_terms.specs.RecordLaws.{BaseReadsBack, BodyReadsBack, DefinitionIsItsText, HeldIsOrderly, HeldIsPlaced, OldHasNoTiles, TileIsNamed};
+ghost use Rattle.store_terms.specs.RecordLaws.{BaseReadsBack, BodyReadsBack, DefinitionIsItsText};
+ghost use Rattle.store_terms.specs.RecordLaws.{HeldIsOrderly, HeldIsPlaced, OldHasNoTiles, TileIsNamed};
 ghost use Rattle.store_terms.specs.Spelled.{SpelledIsHeld, HeldIsSpelled};
 
 /// What is read as a base record is spelled so, and what is spelled so is read.

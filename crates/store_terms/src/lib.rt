@@ -1,4 +1,4 @@
-//! What records and files of the store stand for, and laws over that.
+//! What records and files of the store hold, and laws over that.
 #![tactic(auto)]
 
 pub mod catalog;

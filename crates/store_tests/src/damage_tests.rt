@@ -24,7 +24,8 @@ const CASES: &[Case] = &[
     // Another magic, in either slot.
     (16, b"X", 32, 0),
     (SLOT + 23, b"X", 32, 0),
-    // Another format; the old one in the older root, which is not looked at further, and over a catalog of the present one.
+    // Another format; the old one in the older root, which is not looked at further, and
+    // over a catalog of the present one.
     (27, &[0], 33, 1),
     (27, &[3], 33, 1),
     (SLOT + 24, &[1], 33, 1),

@@ -1,5 +1,5 @@
-//! Stores in memory for the tests: what each holds is hidden from the proofs, so that a function that owns one is proved
-//! soon.
+//! Stores in memory for the tests: what each holds is hidden from the proofs, so that a
+//! function that owns one is proved soon.
 ghost use Rattle.std.specs.Prelude.{ℕ};
 
 use commit_plan::fault::StoreFault;

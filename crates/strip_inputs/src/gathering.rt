@@ -20,7 +20,8 @@ pub(crate) fn add_segments(
     base: &BaseLayer,
 ) -> Result<(), AllocError>
     ensures marked { OnOk result
-        (map marked_of marked.new.items ≡ map marked_of marked.old.items ++ kept_in_strip strip (marked_by layer base.now)) }
+        (map marked_of marked.new.items
+        ≡ map marked_of marked.old.items ++ kept_in_strip strip (marked_by layer base.now)) }
     ensures proper { OnOk result (All IsProper (segments_of base.now)) }
     ensures valid { rings_fault base.now ≡ None }
 {

@@ -34,7 +34,9 @@ impl Model for StripInput {
 
     ghost view = { λ i. record { strip = i.strip; marked = map marked_of i.marked.items; steps = i.steps } };
 
-    ghost invariant = { λ i. IsStripInput (record { strip = i.strip; marked = map marked_of i.marked.items; steps = i.steps }) × (length (map marked_of i.marked.items) ≤ segments_max) };
+    ghost invariant = { λ i. IsStripInput
+        (record { strip = i.strip; marked = map marked_of i.marked.items; steps = i.steps })
+        × (length (map marked_of i.marked.items) ≤ segments_max) };
 }
 
 impl StripInput {
@@ -46,11 +48,20 @@ impl StripInput {
         steps: StepList,
     ) -> Result<StripInput, AllocError>
         requires { length bases.now ≡ steps.bases }
-        ensures ok { IfOk result (λ input. input ≡ record { strip = strip; marked = kept_in_strip strip (marked_segments (map (λ b. b.now) bases.now)); steps = steps }) }
+        ensures ok { IfOk result (λ input. input
+            ≡ record {
+              strip = strip;
+              marked = kept_in_strip strip (marked_segments (map (λ b. b.now) bases.now));
+              steps = steps;
+            }) }
         ensures strip { IfOk result (λ input. input.strip ≡ strip) }
         // The part of each column is what `TileInput::of` gathers there.
         ensures part { IfOk result (λ input. (k : ℕ) → strip.first ≤ k → k ≤ strip.last
-            → part input k ≡ record { column = k; marked = kept_in k (marked_segments (map (λ b. b.now) bases.now)); steps = steps }) }
+            → part input k ≡ record {
+              column = k;
+              marked = kept_in k (marked_segments (map (λ b. b.now) bases.now));
+              steps = steps;
+            }) }
     {
         // The strip's columns are in order, and there are so many: the type rests on that.
         let _ = strip.last().number();

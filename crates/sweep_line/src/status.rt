@@ -64,7 +64,8 @@ impl Status {
     /// says that there may be more. Where the order of the pieces does not lead to it, all that do
     /// not go on are taken out at once.
     fn take_out_next(&mut self, at: &HPoint) -> bool
-        ensures more { result ≡ true → filter (goes_on (place at.now)) self.new ≡ filter (goes_on (place at.now)) self.old }
+        ensures more { result ≡ true
+            → filter (goes_on (place at.now)) self.new ≡ filter (goes_on (place at.now)) self.old }
         ensures fewer { result ≡ true → length self.new < length self.old }
         ensures done { result ≡ false → self.new ≡ filter (goes_on (place at.now)) self.old }
     {
@@ -84,7 +85,8 @@ impl Status {
     pub(crate) fn place_of(&self, at: &HPoint, support: &Seg) -> usize
         ensures bound { result ≤ length self.now }
         ensures partitioned { IsPartitionedBy (is_passed (place at.now) support.now) self.now
-            → IsPartitionPoint (λ e. is_passed (place at.now) support.now e ≡ true) (λ e. is_passed (place at.now) support.now e ≡ false) self.now result }
+            → IsPartitionPoint (λ e. is_passed (place at.now) support.now e ≡ true)
+            (λ e. is_passed (place at.now) support.now e ≡ false) self.now result }
     {
         self.entries
             .partition_point(|entry| stands_under(entry, at, support))
@@ -130,12 +132,13 @@ fn take_out_at(entries: &mut Vec<StatusEntry>, end: &HPoint) -> bool
 
 /// Whether a piece ends over the x of a point.
 fn ends_over(entry: &StatusEntry, at: &HPoint) -> bool
-    ensures { result ≡ int_eq ((place entry.now.to).x *ℤ (place at.now).w) ((place at.now).x *ℤ (place entry.now.to).w) }
+    ensures { result ≡ int_eq ((place entry.now.to).x *ℤ (place at.now).w)
+        ((place at.now).x *ℤ (place entry.now.to).w) }
 {
     x_cmp(&entry.to, at).is_eq()
 }
 
-/// Whether a piece of the status stands under one of the segment that begins at the point.
+/// Whether a piece of the status is under one of the segment that begins at the point.
 fn stands_under(entry: &StatusEntry, at: &HPoint, support: &Seg) -> bool
     ensures { result ≡ is_passed (place at.now) support.now entry.now }
 {

@@ -26,7 +26,8 @@ abbrev pub calls_of : {D P : Type 0} → Ghosts D → PlannedDisk D P → ℕ
 calls_of g d = g.calls d.disk + d.refused
 
 -- a call is refused, and the disk below stays as it was, or it is passed on, and fails where the disk below does
-pub record GoesByPlan {D P T E : Type 0} (g : Ghosts D) (p : plans.Ghosts P) (result : Result T E) (old new : PlannedDisk D P) : Type 0 where
+pub record GoesByPlan {D P T E : Type 0} (g : Ghosts D) (p : plans.Ghosts P) (result : Result T E)
+    (old new : PlannedDisk D P) : Type 0 where
   pub failed : p.passes (plan_of old) ≡ false → IsErr result
   pub untouched : p.passes (plan_of old) ≡ false → below_of new ≡ below_of old
   pub passed : g.is_honest (below_of old) → p.passes (plan_of old) ≡ true
@@ -34,8 +35,10 @@ pub record GoesByPlan {D P T E : Type 0} (g : Ghosts D) (p : plans.Ghosts P) (re
   pub plan : plan_of new ≡ p.next (plan_of old)
 
 -- a call of an honest disk: time goes on, and the call is counted, as a failure too where it is one
-pub record IsCallCounted {D P T E : Type 0} (g : Ghosts D) (result : Result T E) (old new : PlannedDisk D P) : Type 0 where
-  pub time : Elapses (g.moment (below_of old)) (g.moment (below_of new)) (g.left_since (below_of old)) (g.left_since (below_of new)) (g.may_leave (below_of new))
+pub record IsCallCounted {D P T E : Type 0} (g : Ghosts D) (result : Result T E)
+    (old new : PlannedDisk D P) : Type 0 where
+  pub time : Elapses (g.moment (below_of old)) (g.moment (below_of new)) (g.left_since (below_of old))
+      (g.left_since (below_of new)) (g.may_leave (below_of new))
   pub cause : CountsFailure result (faults_of g old) (faults_of g new)
   pub calls : CountsCall result (calls_of g old) (calls_of g new)
 

@@ -109,7 +109,8 @@ impl<D: Disk, P: Plan> Disk for PlannedDisk<D, P> {
         ensures others { D.is_honest (below_of self.old)
             → Torn at (length bytes.now) (D.seen (below_of self.old)) (D.seen (below_of self.new)) }
         ensures crash { D.is_honest (below_of self.old)
-            → OneStepOn (Torn at (length bytes.now)) (D.may_leave (below_of self.old)) (D.may_leave (below_of self.new)) }
+            → OneStepOn (Torn at (length bytes.now)) (D.may_leave (below_of self.old))
+            (D.may_leave (below_of self.new)) }
         ensures counted { D.is_honest (below_of self.old) → IsCallCounted D.Disk result self.old self.new }
     {
         self.pass()?;

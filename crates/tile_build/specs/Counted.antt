@@ -14,8 +14,8 @@ abbrev pub HasPieces : Tile → Type 0
 HasPieces (Pieces list) = Unit {0}
 HasPieces Oversize = ⊥
 
--- the tile of an input, the count of its nodes, and at most two tests a node, of pairs of units; where the pieces are there, each node strictly between the
--- borders that is no end is where a tested pair crosses
+-- the tile of an input, the count of its nodes, and at most two tests a node, of pairs of units; where the pieces are
+-- there, each node strictly between the borders that is no end is where a tested pair crosses
 pub record IsCounted (input : Input) (cap : ℕ) (counted : Counted) : Type 0 where
   pub tile : IsTileAt cap input (tile_of counted.tile)
   pub nodes : AreCounted input (HasPieces counted.tile) counted.nodes

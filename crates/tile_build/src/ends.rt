@@ -13,7 +13,7 @@ use exact_point::{HPoint, PointName, is_in, on};
 use plane_base::{Column, Pt, Seg};
 use std::cmp::Ordering;
 
-/// Whether two names stand for places on a segment, the first left of the second.
+/// Whether two names have places on a segment, the first left of the second.
 pub fn are_ends(support: &Seg, from: &PointName, to: &PointName) -> bool
     ensures between { IsTrue result ↔ IsBetween support.now from.now to.now }
     ensures placed { IsTrue result → IsPlaceOf from.now (place_of from.now) × IsPlaceOf to.now (place_of to.now) }
@@ -71,7 +71,7 @@ fn lies_on(support: &Seg, name: &PointName, at: &HPoint) -> bool
     on(support, at)
 }
 
-/// Whether a name is made of a segment, and so stands for a place on it if for any.
+/// Whether a name is made of a segment, so that its place, if it has one, is on it.
 fn is_made_of(support: &Seg, name: &PointName) -> bool
     ensures { IsTrue result → IsPlaceOf name.now (place_of name.now) → IsTrue (is_on support.now (place_of name.now)) }
 {

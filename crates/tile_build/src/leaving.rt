@@ -15,16 +15,19 @@ use plane_base::Column;
 use std::alloc::{AllocError, Global};
 use strip_inputs::StripInput;
 
-/// Builds the tiles of a strip's columns in order, each of its own column's input, as long as they are wanted: after each
-/// portion of a pass the wish is asked. They are found by one pass over the strip; where it has more pieces in all than a
-/// tile holds, by one pass over each column. None says that the wish has ended, and the pass was left.
+/// Builds the tiles of a strip's columns in order, each of its own column's input, as long as they are wanted: after
+/// each portion of a pass the wish is asked. They are found by one pass over the strip; where it has more pieces in all
+/// than a tile holds, by one pass over each column. None says that the wish has ended, and the pass was left.
 pub fn build_strip_while<W: Wish>(
     alloc: Global,
     input: &StripInput,
     wish: &W,
 ) -> Result<Option<Vec<SharedBuilt>>, AllocError>
-    ensures each { IfOk result (λ o. IfSome o (λ list. length list.items + input.now.strip.first ≡ input.now.strip.last + 1)) }
-    ensures inputs { IfOk result (λ o. IfSome o (λ list. (i : ℕ) (d : Input × terms.Tile) → i < length list.items → (get_or list.items i d).0 ≡ part input.now (input.now.strip.first + i))) }
+    ensures each { IfOk result
+        (λ o. IfSome o (λ list. length list.items + input.now.strip.first ≡ input.now.strip.last + 1)) }
+    ensures inputs { IfOk result
+        (λ o. IfSome o (λ list. (i : ℕ) (d : Input × terms.Tile) → i < length list.items
+        → (get_or list.items i d).0 ≡ part input.now (input.now.strip.first + i))) }
     ensures left { IfOk result (λ o. IsNone o → W.ended wish.now) }
 {
     let pass = input.pass();
@@ -65,8 +68,8 @@ fn build_apart_while<W: Wish>(
     Ok(Some(list))
 }
 
-/// Builds the tile of an input as `Built::new` does, as long as it is wanted. None says that the wish has ended, and the
-/// pass was left.
+/// Builds the tile of an input as `Built::new` does, as long as it is wanted. None says that the wish
+/// has ended, and the pass was left.
 pub fn build_while<W: Wish>(
     alloc: Global,
     input: TileInput,

@@ -96,7 +96,11 @@ impl Piece {
     pub(crate) fn of_row(names: &[NodeName], row: &Row) -> Piece
         requires span { IsRowSpan names.now row.now }
         requires numbered { AreNumbered names.now }
-        ensures value { result ≡ record { support = row.now.support; from = name_at names.now row.now.first; to = name_at names.now row.now.last } }
+        ensures value { result ≡ record {
+          support = row.now.support;
+          from = name_at names.now row.now.first;
+          to = name_at names.now row.now.last;
+        } }
         ensures ends { ends_of result ≡ named_ends names.now row.now }
     {
         Piece {

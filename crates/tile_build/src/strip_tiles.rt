@@ -24,7 +24,8 @@ use strip_inputs::StripInput;
 /// Builds the tiles of a strip's columns as `build_strip_while` does, to the end.
 pub fn build_strip(alloc: Global, input: &StripInput) -> Result<Vec<SharedBuilt>, AllocError>
     ensures each { IfOk result (λ list. length list.items + input.now.strip.first ≡ input.now.strip.last + 1) }
-    ensures inputs { IfOk result (λ list. (i : ℕ) (d : Input × terms.Tile) → i < length list.items → (get_or list.items i d).0 ≡ part input.now (input.now.strip.first + i)) }
+    ensures inputs { IfOk result (λ list. (i : ℕ) (d : Input × terms.Tile) → i < length list.items
+        → (get_or list.items i d).0 ≡ part input.now (input.now.strip.first + i)) }
 {
     match build_strip_while(alloc, input, &Always)? {
         Some(list) => Ok(list),
@@ -48,8 +49,8 @@ pub(crate) fn tiles_of(
     Ok(Some(list))
 }
 
-/// Rows that have these names for their ends as the tiles of the strip's columns, where they are all pieces of the boundary
-/// in the strip.
+/// Rows that have these names for their ends as the tiles of the strip's columns, where they are all pieces of the
+/// boundary in the strip.
 fn split(
     alloc: Global,
     input: &StripInput,
@@ -88,8 +89,10 @@ fn part_end(column: Column, names: &[NodeName], rows: &[Row], start: usize) -> u
     requires numbered { AreNumbered names.now }
     ensures from { start ≤ result }
     ensures to { result ≤ length rows.now }
-    ensures within { (i : ℕ) (d : _) → start ≤ i → i < result → is_in_column column (named_ends names.now (get_or rows.now i d)).0 ≡ true }
-    ensures next { (d : _) → result < length rows.now → is_in_column column (named_ends names.now (get_or rows.now result d)).0 ≡ false }
+    ensures within { (i : ℕ) (d : _) → start ≤ i → i < result
+        → is_in_column column (named_ends names.now (get_or rows.now i d)).0 ≡ true }
+    ensures next { (d : _) → result < length rows.now
+        → is_in_column column (named_ends names.now (get_or rows.now result d)).0 ≡ false }
 {
     for end in start..rows.len() {
         if !begins_in(column, names, &rows[end]) {

@@ -18,10 +18,13 @@ AreOfRings layers = All (λ b. All IsRing b.1) (filter_map base_of layers)
 abbrev pub TileOfInput : Type 0
 TileOfInput =
     (layers : List Layer) (name : Name) (k : ℕ) (tile : List (Point × Point)) → AreOfRings layers → k < column_count →
-    IsTileOfLayer layers name k tile ↔ IsTileOf (input_of layers name k).marked (input_of layers name k).steps (input_of layers name k).column tile
+    IsTileOfLayer layers name k tile
+    ↔ IsTileOf (input_of layers name k).marked (input_of layers name k).steps (input_of layers name k).column tile
 
 -- it depends on that input alone: layers with the same input have the same tile
 abbrev pub InputDecidesTile : Type 0
 InputDecidesTile =
-    (layers others : List Layer) (name other : Name) (k : ℕ) (tile : List (Point × Point)) → AreOfRings layers → AreOfRings others → k < column_count →
-    input_of layers name k ≡ input_of others other k → IsTileOfLayer layers name k tile ↔ IsTileOfLayer others other k tile
+    (layers others : List Layer) (name other : Name) (k : ℕ) (tile : List (Point × Point)) → AreOfRings layers
+    → AreOfRings others → k < column_count →
+    input_of layers name k ≡ input_of others other k
+    → IsTileOfLayer layers name k tile ↔ IsTileOfLayer others other k tile

@@ -32,5 +32,6 @@ HasPositiveEnds oversize = Unit {0}
 -- beside a tile of the input, a held tile is that of the input exactly where the two are alike
 abbrev pub HeldTile : Type 0
 HeldTile =
-    (input : Input) (held built : Tile) → (IsTrue (same_tile held built) → HasPositiveEnds held) → IsTileAt pieces_max input built →
+    (input : Input) (held built : Tile) → (IsTrue (same_tile held built) → HasPositiveEnds held)
+    → IsTileAt pieces_max input built →
     IsTrue (same_tile held built) ↔ IsTileAt pieces_max input held

@@ -13,14 +13,19 @@ pub record AreSome (input : Input) (some : List (Point × Point)) : Type 0 where
 
 -- each input has its tile
 abbrev pub EachHasItsTile : Type 0
-EachHasItsTile = (input : Input) → IsInput input → (tile : List (Point × Point)) × IsTileOf input.marked input.steps input.column tile
+EachHasItsTile =
+    (input : Input) → IsInput input
+    → (tile : List (Point × Point)) × IsTileOf input.marked input.steps input.column tile
 
 -- pieces of the boundary, in order, are no more than the tile's
 abbrev pub SomeAreNoMore : Type 0
 SomeAreNoMore =
-    (input : Input) (some tile : List (Point × Point)) → AreSome input some → IsTileOf input.marked input.steps input.column tile →
+    (input : Input) (some tile : List (Point × Point)) → AreSome input some
+    → IsTileOf input.marked input.steps input.column tile →
     length some ≤ length tile
 
 -- where more pieces of the boundary than a cap are there, the tile has too many
 abbrev pub MoreIsOversize : Type 0
-MoreIsOversize = (input : Input) (cap : ℕ) (some : List (Point × Point)) → IsInput input → AreSome input some → cap < length some → IsTileAt cap input oversize
+MoreIsOversize =
+    (input : Input) (cap : ℕ) (some : List (Point × Point)) → IsInput input → AreSome input some → cap < length some
+    → IsTileAt cap input oversize

@@ -1,12 +1,12 @@
 //! The loop of a worker.
 ghost use Rattle.std.specs.Prelude.{◌≡◌, ◌≤◌, IfOk, IfSome};
 ghost use Rattle.crossing_sweep.specs.StripInput.{part};
-ghost use Rattle.version_book.specs.Strips.{AreNext};
 
 use crate::gate::Gate;
 use crate::strip_wish::StripWish;
 use plane_base::Column;
 use std::alloc::{AllocError, Global};
+use std::slice;
 use std::sync::Wait;
 use tile_build::{SharedBuilt, build_strip_while, build_while};
 use version_book::resting::rest;
@@ -17,7 +17,8 @@ use version_book::strip_job::StripJob;
 /// Builds tiles until the book closes. Where none are handed out for want of memory (40), it sleeps a moment and asks
 /// again; where memory runs out later, it gives back those that are left.
 // It has no clause on what it built, as nothing of what lies under the lock can be said once that is given up. But each
-// strip is spent, as it is no value that may be dropped, and each of its tiles only with one that is built of its own input.
+// strip is spent, as it is no value that may be dropped, and each of its tiles only with one
+// that is built of its own input.
 pub fn worker_loop<J: BookName, R: Wait + Drop, G: Gate, W: Wait>(
     rt: &W,
     alloc: Global,
@@ -58,8 +59,8 @@ fn work<J: BookName, R: Wait + Drop, G: Gate, W: Wait>(
     }
 }
 
-/// Builds the tiles of a strip by one pass, and spends them until memory runs out. It says whether it left them, as none of
-/// them was wanted any more.
+/// Builds the tiles of a strip by one pass, and spends them until memory runs out. It says whether it left them, as
+/// none of them was wanted any more.
 fn finish_whole<J: BookName, R: Wait + Drop, W: Wait>(
     rt: &W,
     alloc: Global,
@@ -70,30 +71,14 @@ fn finish_whole<J: BookName, R: Wait + Drop, W: Wait>(
     requires whole { strip.old.next ≡ strip.old.input.strip.first }
     ensures { strip.new.book ≡ strip.old.book }
 {
-    let done = build(rt, alloc, shared, strip)?;
-    let Some(built) = done else {
-        return Ok(true);
-    };
-    finish_each(rt, alloc, shared, strip, &built);
-    Ok(false)
-}
-
-/// The tiles of a strip, as long as one of them is wanted.
-fn build<J: BookName, R: Wait + Drop, W: Wait>(
-    rt: &W,
-    alloc: Global,
-    shared: &Shared<J, R>,
-    strip: &StripJob,
-) -> Result<Option<Vec<SharedBuilt>>, AllocError>
-    requires { strip.now.next ≡ strip.now.input.strip.first }
-    ensures { IfOk result (λ o. IfSome o (λ list. AreNext strip.now list.items)) }
-{
     let wish = StripWish::new(rt, alloc, shared, strip);
     let done = build_strip_while(alloc, strip.input(), &wish)?;
     let Some(built) = done else {
-        return Ok(None);
+        return Ok(true);
     };
-    Ok(Some(built))
+    // Where memory runs out, the strip has those that are left.
+    let _ = shared.finish_strip(rt, alloc, strip, &built);
+    Ok(false)
 }
 
 /// Enters the gate for each column of a strip.
@@ -104,28 +89,8 @@ fn enter<G: Gate>(gate: &G, strip: &StripJob) {
     }
 }
 
-/// Spends the tiles of a strip in order with those that were built, until memory runs out.
-fn finish_each<J: BookName, R: Wait + Drop, W: Wait>(
-    rt: &W,
-    alloc: Global,
-    shared: &Shared<J, R>,
-    strip: &mut StripJob,
-    built: &[SharedBuilt],
-)
-    requires book { strip.old.book ≡ J.book }
-    requires tiles { AreNext strip.old built.now }
-    ensures { strip.new.book ≡ strip.old.book }
-{
-    for one in built {
-        match shared.finish_next(rt, alloc, strip, one) {
-            Ok((_is_kept, _log)) => {}
-            Err(_fault) => return,
-        }
-    }
-}
-
-/// Builds the tiles of a strip one after another, each by a pass over its own column alone, and spends them, until memory
-/// runs out. It says whether it left some, as none of them was wanted any more.
+/// Builds the tiles of a strip one after another, each by a pass over its own column alone, and spends them, until
+/// memory runs out. It says whether it left some, as none of them was wanted any more.
 fn finish_apart<J: BookName, R: Wait + Drop, W: Wait>(
     rt: &W,
     alloc: Global,
@@ -142,8 +107,8 @@ fn finish_apart<J: BookName, R: Wait + Drop, W: Wait>(
         let Some(built) = done else {
             return true;
         };
-        match shared.finish_next(rt, alloc, strip, &built) {
-            Ok((_is_kept, _log)) => {}
+        match shared.finish_strip(rt, alloc, strip, slice::from_ref(&built)) {
+            Ok((_kept, _log)) => {}
             Err(_fault) => return false,
         }
     }

@@ -1,5 +1,8 @@
 -- What is made of tiles of neighbouring columns that can be handed out.
-use Rattle.std.proofs.Common.{◌≡◌, ℕ, ◌+◌, ◌<◌, ◌≤◌, List, length, get_or, refl, ap, sym, ◌∙◌, subst, arith}
+use Rattle.std.proofs.Common.{◌≡◌, ℕ, ◌+◌, ◌<◌, ◌≤◌, List, [], ◌∷◌, length, get_or, take, refl, ap, sym, ◌∙◌, subst, arith}
+use Rattle.std.specs.List.{All}
+use Rattle.std.proofs.lemmas.List.{get_or-take, length-take-le}
+use mathlib.Core.List.{IsPrefix}
 use Rattle.logbook.specs.Pages.{Book}
 use Rattle.overlay_terms.specs.Plane.{WholePoint}
 use Rattle.overlay_terms.specs.Trees.{Steps}
@@ -10,10 +13,12 @@ use Rattle.arrange.specs.Marked.{kept_in}
 use Rattle.crossing_sweep.specs.StripInput.{StripInput, part}
 use Rattle.layer_book.proofs.MarkedLayers.{rings_of}
 use Rattle.book_history.specs.Logs.{newest_in, IsLog}
+use Rattle.book_lock.proofs.Finishing.{begun}
+use Rattle.book_lock.proofs.Growing.{layers_stay}
 use Rattle.version_book.specs.declared.held_tiles.HeldTile.{HeldTile}
 use Rattle.version_book.specs.Free.{IsFree}
 use Rattle.version_book.specs.Jobs.{IsHandedOut, IsJob}
-use Rattle.version_book.specs.Strips.{without_next, AreNext, HandedStrip, IsStripHandedOut, IsStripJob}
+use Rattle.version_book.specs.Strips.{job_in, AreNext, HandedStrip, IsStripHandedOut, IsStripJob}
 
 -- a part over the base layers and steps in reach is the input of a tile
 pub part_present : (layers : List Layer) (name : Name) (k : ℕ) (bases : List (List (List WholePoint))) (steps : Steps) (part : Input) → bases ≡ rings_of (layers_in_reach layers name) → steps ≡ steps_in_reach layers name
@@ -46,33 +51,34 @@ module _ (book : Book) (log now : List Entry) (held : List HeldTile) (name tile 
       record { whole = refl; each = subst (λ n. AreHandedOut (newest_in log) held n input) (sym named) each } in
       subst (IsStripHandedOut (newest_in log) held) (sym made) there
 
--- ---- tiles that are spent one after another
--- so many of a strip's tiles are spent
-pub record AreSpent (old : HandedStrip) (i : ℕ) (now : HandedStrip) : Type 0 where
-  pub book : now.book ≡ old.book
-  pub input : now.input ≡ old.input
-  pub next : now.next ≡ old.next + i
-
-pub none_spent : (strip : HandedStrip) → AreSpent strip 0 strip
-none_spent strip = record { book = refl; input = refl; next = omega arith }
-
-pub one_spent : (old now after : HandedStrip) (i : ℕ) → AreSpent old i now → after ≡ without_next now → AreSpent old (i + 1) after
-one_spent old now after i so is = record {
-  book = ap (λ (s : HandedStrip). s.book) is ∙ so.book;
-  input = ap (λ (s : HandedStrip). s.input) is ∙ so.input;
-  next = omega (arith, ap (λ (s : HandedStrip). s.next) is, so.next);
+-- ---- tiles that are built
+-- one tile, of the next column
+pub one_next : (strip : HandedStrip) (one : Input × Tile) → strip.next ≤ strip.input.strip.last → one.0 ≡ part strip.input strip.next → AreNext strip (one ∷ [])
+one_next strip one left is = record {
+  few = omega arith;
+  inputs = λ i d within. let first : 0 ≡ i = omega arith in
+      subst (λ n. (get_or (one ∷ []) n d).0 ≡ part strip.input (strip.next + n)) first (is ∙ ap (part strip.input) (omega arith));
 }
 
--- the next one is within the strip
-pub next_within : (old now : HandedStrip) (built : List (Input × Tile)) (i : ℕ) → AreNext old built → AreSpent old i now → i < length built → now.next ≤ now.input.strip.last
-next_within old now built i are so within =
-    let last : now.input.strip.last ≡ old.input.strip.last = ap (λ (x : StripInput). x.strip.last) so.input in
-    omega (arith, are.few, so.next, last, within)
+-- the first of these tiles
+pub first_next : (strip : HandedStrip) (built : List (Input × Tile)) (n : ℕ) → n ≤ length built → AreNext strip built → AreNext strip (take n built)
+first_next strip built n within next =
+    let long = length-take-le n built within in
+    record {
+      few = omega (arith, next.few, long);
+      inputs = λ i d before. let low : i < n = omega (arith, long) in
+          ap (λ (b : Input × Tile). b.0) (get_or-take n built i d low) ∙ next.inputs i d (omega arith);
+    }
 
--- and its input is the part there
-pub next_input : (old now : HandedStrip) (built : List (Input × Tile)) (i : ℕ) (one : Input × Tile) → AreNext old built → AreSpent old i now → i < length built → one ≡ get_or built i one → one.0 ≡ part now.input now.next
-next_input old now built i one are so within is =
-    ap (λ (b : Input × Tile). b.0) is ∙ are.inputs i one within ∙ ap (part old.input) (sym so.next) ∙ ap (λ (x : StripInput). part x now.next) (sym so.input)
+-- where no command was accepted since the strip was handed out, all of them are built of the present inputs
+pub all_present : (strip : HandedStrip) (built : List (Input × Tile)) (log : List Entry) (name : Name) → IsStripJob strip → AreNext strip built → name ≡ strip.name → IsLog log → IsPrefix strip.log log → (newest_in log).number ≡ (newest_in strip.log).number
+    → All (λ (b : Input × Tile). b.0 ≡ input_of (newest_in log).layers name b.0.column) built
+all_present strip built log name job next named valid longer number i d within =
+    let k = strip.next + i in
+    let one : IsJob (job_in strip k) = job.jobs k (omega (arith, job.from)) (omega (arith, next.few, within)) in
+    let layers = layers_stay strip.log log (begun strip.log one.valid) valid longer number in
+    subst (λ (x : Input). x ≡ input_of (newest_in log).layers name x.column) (sym (next.inputs i d within))
+    (one.present ∙ (λ j. input_of (sym layers j) (sym named j) k))
 
 -- tiles of all columns of a strip of which none is spent
 pub all_next : (strip : HandedStrip) (input : StripInput) (built items : List (Input × Tile)) → strip.next ≡ strip.input.strip.first → input ≡ strip.input → built ≡ items → length items + input.strip.first ≡ input.strip.last + 1

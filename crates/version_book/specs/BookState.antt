@@ -1,8 +1,7 @@
 -- The book's state beside its log.
 use Rattle.std.specs.Prelude.{◌≡◌, ℕ, ◌+◌, ◌%◌, ◌^◌, Bool, true, false, List, [], Option, Some, None, if◌then◌else◌}
-use Rattle.overlay_terms.specs.Layers.{Name}
 use Rattle.book_history.specs.Fault.{passes}
-use Rattle.version_book.specs.HeldTiles.{taken_in, unmarked}
+use Rattle.version_book.specs.HeldTiles.{unmarked}
 use Rattle.version_book.specs.declared.held_tiles.HeldTile.{HeldTile}
 use Rattle.book_history.specs.declared.fault.ToldFault.{ToldFault}
 use Rattle.version_book.specs.declared.book_state.BookState.{BookState}
@@ -45,9 +44,9 @@ pub record IsAfterCommand (old new : BookState) : Type 0 where
   pub closing : new.closing ≡ old.closing
   pub news : new.news ≡ next_news old.news
 
--- a tile's job was spent: the tile is not handed out any more, and there are news where it was kept
-pub record IsAfterFinish (old : BookState) (name : Name) (column : ℕ) (is_kept : Bool) (new : BookState) : Type 0 where
-  pub held : new.held.list.items ≡ taken_in name column old.held.list.items
+-- tiles were finished: these are handed out or marked now, and there are news where one was kept
+pub record IsAfterFinish (old : BookState) (tiles : List HeldTile) (is_kept : Bool) (new : BookState) : Type 0 where
+  pub held : new.held.list.items ≡ tiles
   pub fault : new.fault ≡ old.fault
   pub resting : new.resting ≡ old.resting
   pub closing : new.closing ≡ old.closing

@@ -1,5 +1,5 @@
 -- Tiles that are handed out, and tiles that wait for memory.
-use Rattle.std.specs.Prelude.{ℕ, ◌+◌, ◌-◌, ◌==◌, nat_le, Bool, true, false, ◌&&◌, ◌||◌, not, List, [], ◌∷◌, ◌++◌, filter, map, bytes_eq, if◌then◌else◌}
+use Rattle.std.specs.Prelude.{ℕ, ◌+◌, ◌-◌, ◌==◌, nat_le, nat_lt, Bool, true, false, ◌&&◌, ◌||◌, not, List, [], ◌∷◌, ◌++◌, filter, map, bytes_eq, if◌then◌else◌}
 use Rattle.std.specs.List.{list_any, range_with_len}
 use Rattle.overlay_terms.specs.Layers.{Name}
 use Rattle.crossing_sweep.specs.StripInput.{Span}
@@ -42,22 +42,22 @@ marked_if name column tile =
 abbrev pub given_back : Name → ℕ → List HeldTile → List HeldTile
 given_back name column held = map (marked_if name column) held
 
--- whether it is a tile of these columns, from one to another
+-- whether it is a tile of these columns, from one on and before another
 abbrev pub is_within : Name → ℕ → ℕ → HeldTile → Bool
-is_within name first last tile = bytes_eq tile.name name && (nat_le first tile.column && nat_le tile.column last)
+is_within name first end tile = bytes_eq tile.name name && (nat_le first tile.column && nat_lt tile.column end)
 
 -- a tile, marked if it is one of these
 abbrev pub marked_within : Name → ℕ → ℕ → HeldTile → HeldTile
-marked_within name first last tile =
-    record { name = tile.name; column = tile.column; marked = tile.marked || is_within name first last tile }
+marked_within name first end tile =
+    record { name = tile.name; column = tile.column; marked = tile.marked || is_within name first end tile }
 
--- tiles that were handed out, from one column to another, are marked, and so are not handed out again
+-- tiles that were handed out, from one column on and before another, are marked, and so are not handed out again
 abbrev pub strip_given_back : Name → ℕ → ℕ → List HeldTile → List HeldTile
-strip_given_back name first last held = map (marked_within name first last) held
+strip_given_back name first end held = map (marked_within name first end) held
 
--- tiles that were handed out, from one column to another, are not handed out any more
+-- tiles that were handed out, from one column on and before another, are not handed out any more
 abbrev pub strip_taken_in : Name → ℕ → ℕ → List HeldTile → List HeldTile
-strip_taken_in name first last held = filter (λ tile. tile.marked || not (is_within name first last tile)) held
+strip_taken_in name first end held = filter (λ tile. tile.marked || not (is_within name first end tile)) held
 
 -- no tile is marked
 abbrev pub unmarked : List HeldTile → List HeldTile

@@ -28,8 +28,8 @@ pub record IsJob (job : Handed) : Type 0 where
   pub pending : IsPending (newest_in job.log) job.name job.input.column
   pub present : job.input ≡ input_of (newest_in job.log).layers job.name job.input.column
 
--- a job was spent with a tile, at a log that goes on from that of the job: where the tile was awaited there, the last entry
--- now keeps it; where not, the log stayed as it was
+-- a job was spent with a tile, at a log that goes on from that of the job: where the tile was awaited there, the last
+-- entry now keeps it; where not, the log stayed as it was
 pub record IsFinishedBy (job : Handed) (tile : Tile) (is_kept : Bool) (after : List Entry) : Type 0 where
   pub log : List Entry
   pub goes_on : IsPrefix job.log log

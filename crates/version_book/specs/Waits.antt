@@ -73,8 +73,8 @@ IsSyncRefused number version fault.Gone = Unit {0}
 IsSyncRefused number version fault.NoStore = Unit {0}
 IsSyncRefused number version (fault.Store refused) = version.durable < number
 
--- the same under the lock of a book that has a store: the number is not durable, and the store reported this fault, or it
--- reported none and the book closes
+-- the same under the lock of a book that has a store: the number is not durable, and the store reported this fault, or
+-- it reported none and the book closes
 abbrev pub IsSyncRefusedAt : BookState → Version → ℕ → BookFault → Type 0
 IsSyncRefusedAt state version number (fault.Version refused) = ⊥
 IsSyncRefusedAt state version number fault.Closing =
@@ -95,8 +95,8 @@ abbrev pub LosesMarks : BookState → Name → BookState → Type 0
 LosesMarks old name new =
     (has_mark name old.held.list.items ≡ true) × HasHeld old (unmarked_of name old.held.list.items) new
 
--- a wait for the tiles of a layer was answered how it ends: its marks go where memory ran out, and else nothing changes;
--- there are no marks where it ends by closing
+-- a wait for the tiles of a layer was answered how it ends: its marks go where memory ran out, and else nothing
+-- changes; there are no marks where it ends by closing
 abbrev pub IsAfterTold : Version → BookState → Name → Result ℕ BookFault → BookState → Type 0
 IsAfterTold version old name (Ok number) new = new ≡ old
 IsAfterTold version old name (Err (fault.Version refused)) new =

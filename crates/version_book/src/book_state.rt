@@ -1,6 +1,6 @@
 //! The book's state beside its log.
 ghost use Rattle.std.specs.Prelude.{◌≡◌};
-ghost use Rattle.version_book.specs.HeldTiles.{given_back, strip_given_back, strip_taken_in, unmarked_of};
+ghost use Rattle.version_book.specs.HeldTiles.{given_back, strip_given_back, strip_taken_in, taken_in, unmarked_of};
 ghost use Rattle.version_book.specs.BookState.{HasHeld, IsAfterClosing, IsAfterCommand, IsAfterFailure, IsAfterFinish};
 ghost use Rattle.version_book.specs.BookState.{IsFresh, left_over, told};
 
@@ -49,10 +49,20 @@ impl BookState {
 
     /// The job of a tile was spent, and the tile was kept or not.
     pub fn job_finished(&mut self, name: &Name, column: Column, kept: bool)
-        ensures { IsAfterFinish self.old name.now column kept self.new }
+        ensures { IsAfterFinish self.old (taken_in name.now column self.old.held.list.items) kept self.new }
     {
         self.held.take_in(name, column);
         if kept {
+            self.news = self.news.wrapping_add(1);
+        }
+    }
+
+    /// Tiles of a strip, from one column on and before another, are not handed out any more: some were kept, or none.
+    pub fn strip_taken_in(&mut self, name: &Name, first: u8, end: u8, some_kept: bool)
+        ensures { IsAfterFinish self.old (strip_taken_in name.now first end self.old.held.list.items) some_kept self.new }
+    {
+        self.held.take_in_strip(name, first, end);
+        if some_kept {
             self.news = self.news.wrapping_add(1);
         }
     }
@@ -72,18 +82,11 @@ impl BookState {
         self.held.give_back(name, column);
     }
 
-    /// Tiles that were handed out, from one column to another, were given back: they are marked.
-    pub fn give_back_strip(&mut self, name: &Name, first: u8, last: u8)
-        ensures { HasHeld self.old (strip_given_back name.now first last self.old.held.list.items) self.new }
+    /// Tiles that were handed out, from one column on and before another, were given back: they are marked.
+    pub fn give_back_strip(&mut self, name: &Name, first: u8, end: u8)
+        ensures { HasHeld self.old (strip_given_back name.now first end self.old.held.list.items) self.new }
     {
-        self.held.give_back_strip(name, first, last);
-    }
-
-    /// Tiles that were handed out, from one column to another, were let go: they can be handed out again.
-    pub fn let_go_strip(&mut self, name: &Name, first: u8, last: u8)
-        ensures { HasHeld self.old (strip_taken_in name.now first last self.old.held.list.items) self.new }
-    {
-        self.held.take_in_strip(name, first, last);
+        self.held.give_back_strip(name, first, end);
     }
 
     /// A wait for the tiles of a layer was ended by its marks, which go.

@@ -36,17 +36,17 @@ impl HeldTile {
         }
     }
 
-    fn is_within(&self, name: &Name, first: u8, last: u8) -> bool
-        ensures { result ≡ is_within name.now first last self.now }
+    fn is_within(&self, name: &Name, first: u8, end: u8) -> bool
+        ensures { result ≡ is_within name.now first end self.now }
     {
         let number = self.column.number();
-        self.name.bytes() == name.bytes() && (first <= number && number <= last)
+        self.name.bytes() == name.bytes() && (first <= number && number < end)
     }
 
-    fn mark_within(&mut self, name: &Name, first: u8, last: u8)
-        ensures { self.new ≡ marked_within name.now first last self.old }
+    fn mark_within(&mut self, name: &Name, first: u8, end: u8)
+        ensures { self.new ≡ marked_within name.now first end self.old }
     {
-        let within = self.is_within(name, first, last);
+        let within = self.is_within(name, first, end);
         self.marked = self.marked || within;
     }
 }
@@ -142,21 +142,21 @@ impl HeldTiles {
         }
     }
 
-    /// Marks the tiles of a layer that were handed out, from one column to another.
-    pub fn give_back_strip(&mut self, name: &Name, first: u8, last: u8)
-        ensures { self.new.list.items ≡ strip_given_back name.now first last self.old.list.items }
+    /// Marks the tiles of a layer that were handed out, from one column on and before another.
+    pub fn give_back_strip(&mut self, name: &Name, first: u8, end: u8)
+        ensures { self.new.list.items ≡ strip_given_back name.now first end self.old.list.items }
     {
         for tile in self.list.iter_mut() {
-            tile.mark_within(name, first, last);
+            tile.mark_within(name, first, end);
         }
     }
 
-    /// Takes the tiles of a layer in that were handed out, from one column to another.
-    pub fn take_in_strip(&mut self, name: &Name, first: u8, last: u8)
-        ensures { self.new.list.items ≡ strip_taken_in name.now first last self.old.list.items }
+    /// Takes the tiles of a layer in that were handed out, from one column on and before another.
+    pub fn take_in_strip(&mut self, name: &Name, first: u8, end: u8)
+        ensures { self.new.list.items ≡ strip_taken_in name.now first end self.old.list.items }
     {
         self.list
-            .retain(|tile| tile.marked || !tile.is_within(name, first, last));
+            .retain(|tile| tile.marked || !tile.is_within(name, first, end));
     }
 
     /// Drops all marks.

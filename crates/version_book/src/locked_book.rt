@@ -4,6 +4,7 @@ ghost use mathlib.Core.List.{IsPrefix};
 ghost use Rattle.book_history.specs.Fault.{no_memory};
 ghost use Rattle.book_history.specs.Logs.{IsLog};
 ghost use Rattle.version_book.specs.BookState.{IsAfterCommand, IsAfterFinish};
+ghost use Rattle.version_book.specs.HeldTiles.{taken_in};
 ghost use Rattle.book_lock.specs.Steps.{IsAcceptedIn, IsFinishedIn, IsRefusedIn};
 
 use crate::book_state::BookState;
@@ -33,8 +34,8 @@ pub mod waits;
 pub struct LockedBook<J: BookName, R: Wait + Drop> {
     log: LockedLog<J, R>,
     state: BookState,
-    /// Where the layer stood whose tile was handed out last, and the tile's column by its number: there the next one is looked for
-    /// first.
+    /// Where the layer was whose tile was handed out last, and the tile's column by its number: there the next one is
+    /// looked for first.
     near: (usize, u8),
     /// Memory for the next report: what is stored can be reported where there is none any more.
     room: Room,
@@ -97,7 +98,8 @@ impl<J: BookName, R: Wait + Drop> LockedBook<J, R> {
         ensures log { IfOk result
             (λ is_kept. IsFinishedIn self.old.log job.name job.input built.now.1 is_kept self.new.log) }
         ensures state { IfOk result
-            (λ is_kept. IsAfterFinish self.old.state job.name job.input.column is_kept self.new.state) }
+            (λ is_kept. IsAfterFinish self.old.state
+            (taken_in job.name job.input.column self.old.state.held.list.items) is_kept self.new.state) }
         ensures err { IfErr result
             (λ e. (e.0 ≡ job) × (self.new.log ≡ self.old.log) × (self.new.state ≡ self.old.state)) }
         ensures refused { IfErr result (λ e. (e.1 ≡ no_memory) ⊎ (e.1 ≡ BookFault.Gone)) }

@@ -12,9 +12,8 @@ ghost use Rattle.book_history.specs.Telling.{IsToldIn};
 ghost use Rattle.book_lock.specs.Steps.{beginners, HasAllOf, IsAcceptedIn, IsRefusedIn};
 ghost use Rattle.book_lock.specs.Heard.{HasHeard, IsReportedBy};
 ghost use Rattle.version_book.specs.Jobs.{IsFinishedBy, IsJob};
-ghost use Rattle.crossing_sweep.specs.StripInput.{part};
 ghost use Rattle.version_book.specs.Store.{has_store};
-ghost use Rattle.version_book.specs.Strips.{job_in, without_next, IsStripJob};
+ghost use Rattle.version_book.specs.Strips.{AreFinishedBy, AreNext, IsStripJob};
 ghost use Rattle.version_book.specs.Waits.{IsBuiltAt, IsSyncRefused, IsWaitRefused};
 
 use crate::closing::ClosedBook;
@@ -218,36 +217,37 @@ impl<J: BookName, R: Wait + Drop> Shared<J, R> {
         turn.book.take_strip(alloc)
     }
 
-    /// Spends the next tile of a strip with the tile that was built of its input, as `finish` does with a job, but that
-    /// nothing of it is copied. Where that cannot be written down, for want of memory, the strip stays as it was.
-    pub fn finish_next<W: Wait>(
+    /// Spends the next tiles of a strip with those that were built of their inputs, one after another, as `finish` does
+    /// with jobs, but in one turn, and nothing of them is copied. It says how many were kept, with the log after them.
+    /// Where memory runs out, the strip has those that are left; where not even the first one can be written down, it
+    /// stays as it was.
+    pub fn finish_strip<W: Wait>(
         &self,
         rt: &W,
         alloc: Global,
         strip: &mut StripJob,
-        built: &SharedBuilt,
-    ) -> Result<(bool, SeenLog), BookFault>
+        built: &[SharedBuilt],
+    ) -> Result<(u64, SeenLog), BookFault>
         requires book { strip.old.book ≡ J.book }
-        requires left { strip.old.next ≤ strip.old.input.strip.last }
-        requires input { built.now.0 ≡ part strip.old.input strip.old.next }
+        requires tiles { AreNext strip.old built.now }
         ensures finished { IfOk result
-            (λ r. IsFinishedBy (job_in strip.old strip.old.next) built.now.1 r.0 r.1.log) }
+            (λ r. (log : List Entry) × AreFinishedBy strip.old built.now log strip.new r.0 r.1.log) }
         ensures log { IfOk result (λ r. (r.1.book ≡ J.book) × IsLog r.1.log) }
-        ensures next { IfOk result (λ _. strip.new ≡ without_next strip.old) }
         ensures err { IfErr result (λ _. strip.new ≡ strip.old) }
         ensures refused { IfErr result (λ fault. (fault ≡ no_memory) ⊎ (fault ≡ BookFault.Gone)) }
+        ensures same { strip.new.book ≡ strip.old.book }
     {
         let layer = strip.name().clone().ok();
         let mut turn = self.turns.next(rt, TurnKind::Unsaid);
-        let is_kept = match turn.book.finish_next(alloc, strip, built) {
-            Ok(is_kept) => is_kept,
+        let kept = match turn.book.finish_strip(alloc, strip, built) {
+            Ok(kept) => kept,
             Err(fault) => return Err(fault),
         };
         turn.kind = TurnKind::Finished {
             layer,
-            kept: is_kept,
+            kept: kept == built.len() as u64,
         };
-        Ok((is_kept, turn.book.end()))
+        Ok((kept, turn.book.end()))
     }
 
     /// Ends a strip. Where some of its tiles are not spent, as memory ran out, these are marked.

@@ -32,7 +32,8 @@ pub(crate) enum TurnKind {
     Commanded,
     /// A tile was handed out, or none could be.
     HandedOut,
-    /// A tile of a layer was finished, and kept or not. No layer is named where memory for its name was refused.
+    /// One tile or several of a layer were finished, and all kept or not. No layer is named where memory for its name
+    /// was refused.
     Finished { layer: Option<Name>, kept: bool },
     /// A tile was given back, and is marked.
     GivenBack,

@@ -1,5 +1,6 @@
 -- The edges of a tile as text.
-use Rattle.std.specs.Prelude.{◌≡◌, ℕ, ◌+◌, ◌≤◌, ◌<ℤ◌, pos, IsTrue, List, [], ◌∷◌, ◌++◌, length, flat_map, codes, decimal, Option, Some, None}
+use Rattle.std.specs.Prelude.{◌≡◌, ℕ, ◌+◌, ◌≤◌, ◌<ℤ◌, [], ◌∷◌, ◌++◌}
+use Rattle.std.specs.Prelude.{pos, IsTrue, List, length, flat_map, codes, decimal, Option, Some, None}
 use Rattle.std.specs.Option.{option_map, option_or}
 use Rattle.std.specs.Fmt.{signed_decimal}
 use Rattle.overlay_terms.specs.Plane.{Point, same_place}

@@ -62,7 +62,9 @@ impl Answers for Version {
     fn edges(&self, alloc: Global, name: &Name, number: u64) -> Result<Vec<u8>, VersionFault>
         ensures ok { IfOk result (λ text. AreEdges self.now name.now (column_numbered number) text.items) }
         ensures accepted { IfOk result (λ _. edges_refusal self.now name.now (column_numbered number) ≡ None) }
-        ensures refused { IfErr result (RefusedBy (VersionFault.Layer LayerFault.OutOfMemory) (edges_refusal self.now name.now (column_numbered number))) }
+        ensures refused { IfErr result
+            (RefusedBy (VersionFault.Layer LayerFault.OutOfMemory)
+            (edges_refusal self.now name.now (column_numbered number))) }
     {
         self.edges_in(alloc, name, Column::new(number))
     }
@@ -76,7 +78,8 @@ impl Answers for Version {
     ) -> Result<Vec<u8>, VersionFault>
         ensures ok { IfOk result (λ text. AreEdges self.now name.now column text.items) }
         ensures accepted { IfOk result (λ _. edges_refusal self.now name.now column ≡ None) }
-        ensures refused { IfErr result (RefusedBy (VersionFault.Layer LayerFault.OutOfMemory) (edges_refusal self.now name.now column)) }
+        ensures refused { IfErr result
+            (RefusedBy (VersionFault.Layer LayerFault.OutOfMemory) (edges_refusal self.now name.now column)) }
     {
         let column = self.layers().tile_column(name, column)?;
         match finished_tile(self, name, column)? {
@@ -89,7 +92,9 @@ impl Answers for Version {
     fn verify(&self, alloc: Global, name: &Name, number: u64) -> Result<Verdict, VersionFault>
         ensures same { IfOk result (IsVerdict self.now name.now (column_numbered number)) }
         ensures accepted { IfOk result (λ _. finished_refusal self.now name.now (column_numbered number) ≡ None) }
-        ensures refused { IfErr result (RefusedBy (VersionFault.Layer LayerFault.OutOfMemory) (finished_refusal self.now name.now (column_numbered number))) }
+        ensures refused { IfErr result
+            (RefusedBy (VersionFault.Layer LayerFault.OutOfMemory)
+            (finished_refusal self.now name.now (column_numbered number))) }
     {
         self.verify_in(alloc, name, Column::new(number))
     }
@@ -103,7 +108,8 @@ impl Answers for Version {
     ) -> Result<Verdict, VersionFault>
         ensures same { IfOk result (IsVerdict self.now name.now column) }
         ensures accepted { IfOk result (λ _. finished_refusal self.now name.now column ≡ None) }
-        ensures refused { IfErr result (RefusedBy (VersionFault.Layer LayerFault.OutOfMemory) (finished_refusal self.now name.now column)) }
+        ensures refused { IfErr result
+            (RefusedBy (VersionFault.Layer LayerFault.OutOfMemory) (finished_refusal self.now name.now column)) }
     {
         let column = self.layers().tile_column(name, column)?;
         let held = finished_tile(self, name, column)?;

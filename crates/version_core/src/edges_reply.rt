@@ -94,7 +94,7 @@ fn put_left(line: &mut LineText, texts: &mut EndTexts, name: &PointName)
     }
 }
 
-/// Puts down the place that a name stands for. The text of a whole point is not kept: it is made as fast. That of a place
+/// Puts down the place of a name. The text of a whole point is not kept: it is made as fast. That of a place
 /// on a border is not either: mostly one piece of the column ends there.
 fn put_end(line: &mut LineText, texts: &mut EndTexts, name: &PointName)
     requires named { HasPlace name.now }

@@ -27,7 +27,7 @@ pub(crate) struct EndText {
 }
 
 impl EndText {
-    /// The text of the place that a name stands for.
+    /// The text of a name's place.
     pub(crate) fn new(name: &PointName, low: HPoint, text: PlaceText) -> EndText
         requires same { IsTrue (same_place (place low) (place_of name.now)) }
         requires lowest { IsLowest (place low) }

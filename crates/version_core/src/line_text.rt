@@ -54,7 +54,8 @@ impl LineText {
         self.bytes[self.start] = byte;
     }
 
-    /// Puts the text of a place before the text, with the bytes before it: a copy of so many bytes as ever is the fastest.
+    /// Puts the text of a place before the text, with the bytes before it: a copy of so
+    /// many bytes as ever is the fastest.
     pub(crate) fn put_text(&mut self, text: &PlaceText)
         requires { length self.old ≤ 128 }
         ensures text { self.new ≡ text.now ++ self.old }

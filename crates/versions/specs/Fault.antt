@@ -1,4 +1,4 @@
--- The faults of versions: their numbers and texts, and those that stand for the refusals of commands.
+-- The faults of versions: their numbers and texts, and which fault each refusal of a command is.
 use Rattle.std.specs.Prelude.{ℕ, List}
 use Rattle.fault_texts.specs.FaultTable.{text}
 use Rattle.overlay_terms.specs.Commands.{Refusal}

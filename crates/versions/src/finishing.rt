@@ -1,6 +1,7 @@
 //! Keeping a built tile.
 ghost use Rattle.std.specs.Prelude.{◌≡◌, ◌↔◌, IsTrue, IfOk, IfErr};
 ghost use Rattle.overlay_terms.specs.Histories.{FollowsTile, IsTileAt, pieces_max};
+ghost use Rattle.overlay_terms.specs.Tiles.{input_of};
 ghost use Rattle.tile_build.specs.Tile.{tile_of};
 ghost use Rattle.versions.specs.Finish.{IfKept, IsAwaited, IsKept, IsPending};
 
@@ -63,20 +64,23 @@ impl Version {
         }
     }
 
-    /// The same for a built tile that can be shared: the version has the tile itself, and nothing of it is copied.
+    /// The same for a built tile that can be shared: the version has the tile itself, and nothing of it is copied. Its
+    /// input is not compared where it is known to be the present one.
     pub fn finish_shared(
         &self,
         alloc: Global,
         name: &Name,
         built: &SharedBuilt,
+        is_present: bool,
     ) -> Result<Finish, VersionFault>
+        requires present { IsTrue is_present → built.now.0 ≡ input_of self.now.layers name.now built.now.0.column }
         ensures kept { IfOk result (λ finish. IfKept finish (λ next. FollowsTile self.now name.now built.now.0.column built.now.1 next)) }
         ensures exactly { IfOk result (λ finish. IsKept finish ↔ IsAwaited self.now name.now built.now.0) }
         ensures err { IfErr result (λ fault. fault ≡ VersionFault.Layer LayerFault.OutOfMemory) }
         ensures pending { IfErr result (λ _. IsPending self.now name.now built.now.0.column) }
     {
         let input = built.input();
-        if !self.is_awaited(name, input) {
+        if !self.awaits(name, input, is_present) {
             return Ok(Finish::Stale);
         }
         let tile = built.share()?;
@@ -88,8 +92,19 @@ impl Version {
     pub fn is_awaited(&self, name: &Name, input: &TileInput) -> bool
         ensures { IsTrue result ↔ IsAwaited self.now name.now input.now }
     {
+        self.awaits(name, input, false)
+    }
+
+    /// The same of an input that is not compared where it is known to be the present one.
+    fn awaits(&self, name: &Name, input: &TileInput, is_present: bool) -> bool
+        requires present { IsTrue is_present → input.now ≡ input_of self.now.layers name.now input.now.column }
+        ensures { IsTrue result ↔ IsAwaited self.now name.now input.now }
+    {
         if !self.is_pending(name, input.column()) {
             return false;
+        }
+        if is_present {
+            return true;
         }
         self.layers().has_input(name, input)
     }

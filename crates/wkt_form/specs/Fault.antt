@@ -5,7 +5,8 @@ use Rattle.plane_base.specs.Fault as rings
 use Rattle.plane_base.specs.declared.fault.PlaneFault.{PlaneFault}
 use Rattle.plane_base.specs.declared.fault.PlaneFault.TheVariants as plane
 use Rattle.wkt_form.specs.declared.fault.WktFault.{WktFault}
-use Rattle.wkt_form.specs.declared.fault.WktFault.TheVariants.{Syntax, NotWhole, CoordRange, RingOpen, RingShort, TooManySegments, OutOfMemory}
+use Rattle.wkt_form.specs.declared.fault.WktFault.TheVariants.{Syntax, NotWhole, CoordRange, RingOpen}
+use Rattle.wkt_form.specs.declared.fault.WktFault.TheVariants.{RingShort, TooManySegments, OutOfMemory}
 
 -- the number under which a fault is printed
 abbrev pub code_of : WktFault → ℕ

@@ -1,5 +1,6 @@
 -- The grammar of Well-Known Text (ISO 19125-1:2004, 6.2) for POLYGON and MULTIPOLYGON, by what a text spells.
-use Rattle.std.specs.Prelude.{◌≡◌, ℕ, ◌+◌, ◌⊎◌, Bool, false, true, IsTrue, ◌&&◌, List, [], ◌∷◌, ◌++◌, map, flat_map, length, take, slice_get, All, codes, if◌then◌else◌, Option, Some, None}
+use Rattle.std.specs.Prelude.{◌≡◌, ℕ, ◌+◌, ◌⊎◌, Bool, false, true, IsTrue, ◌&&◌, List, [], ◌∷◌, ◌++◌, map}
+use Rattle.std.specs.Prelude.{flat_map, length, take, slice_get, All, codes, if◌then◌else◌, Option, Some, None}
 use Rattle.std.specs.List.{list_all}
 use Rattle.std.specs.Str.{str_to_ascii_uppercase}
 use Rattle.overlay_terms.specs.Plane.{WholePoint, is_coordinate}
@@ -126,8 +127,8 @@ pub record IsGoodSoFar (tokens : List Token) : Type 0 where
   pub begun : IsBegun tokens
   pub numbers : All (λ token. number_fault token ≡ None) tokens
 
--- the token at a position is the first at fault: it cannot stand there, or it is a number that is not whole or no coordinate;
--- at the end of the tokens the text is not whole, and its length is the position
+-- the token at a position is the first at fault: it cannot come there, or it is a number that is not whole or no
+-- coordinate; at the end of the tokens the text is not whole, and its length is the position
 abbrev pub IsFaultAt : List ℕ → ℕ → Option Token → WktFault → Type 0
 IsFaultAt bytes i None fault = ¬ (IsText (tokens_of bytes)) × (fault ≡ Syntax (length bytes))
 IsFaultAt bytes i (Some token) fault =

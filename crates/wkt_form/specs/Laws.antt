@@ -17,12 +17,15 @@ HasOneFault = (bytes : List ℕ) (f g : WktFault) → IsRefusedBy bytes f → Is
 
 -- no bytes are both read and refused
 abbrev pub NeverBoth : Type 0
-NeverBoth = (bytes : List ℕ) (layer : List (List WholePoint)) (fault : WktFault) → ReadsAs bytes layer → ¬ (IsRefusedBy bytes fault)
+NeverBoth =
+    (bytes : List ℕ) (layer : List (List WholePoint)) (fault : WktFault) → ReadsAs bytes layer
+    → ¬ (IsRefusedBy bytes fault)
 
 -- all bytes are read or refused
 abbrev pub ReadOrRefused : Type 0
 ReadOrRefused =
-    (bytes : List ℕ) → ((layer : List (List WholePoint)) × ReadsAs bytes layer) ⊎ ((fault : WktFault) × IsRefusedBy bytes fault)
+    (bytes : List ℕ) → ((layer : List (List WholePoint)) × ReadsAs bytes layer)
+    ⊎ ((fault : WktFault) × IsRefusedBy bytes fault)
 
 -- both coordinates of each point of the rings are in range
 abbrev pub AreInRange : List (List WholePoint) → Type 0
@@ -30,4 +33,5 @@ AreInRange layer = All (λ ring. All (λ (p : WholePoint). InRange p.x × InRang
 
 -- the text of a layer spells it
 abbrev pub WrittenReadsBack : Type 0
-WrittenReadsBack = (layer : List (List WholePoint)) → AreInRange layer → rings_fault layer ≡ None → ReadsAs (wkt_text layer) layer
+WrittenReadsBack =
+    (layer : List (List WholePoint)) → AreInRange layer → rings_fault layer ≡ None → ReadsAs (wkt_text layer) layer

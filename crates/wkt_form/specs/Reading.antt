@@ -1,5 +1,5 @@
--- What a reader has read so far, and what one more token makes of it. Only private functions of the reader cite this: what a
--- text is, and by what it is refused, the grammar says alone.
+-- What a reader has read so far, and what one more token makes of it. Only private functions of the reader cite this:
+-- what a text is, and by what it is refused, the grammar says alone.
 use Rattle.std.specs.Prelude.{ℕ, ℤ, pos, Bool, true, false, List, [], ◌∷◌, ◌++◌, Option, Some, None, Result, Ok, Err}
 use Rattle.overlay_terms.specs.Plane.{WholePoint}
 use Rattle.wkt_form.specs.declared.fault.WktFault.{WktFault}
@@ -46,23 +46,24 @@ with_close r = by_state r.state where
   by_state states.PointEnd = record r { points = []; rings = r.rings ++ r.points ∷ [] }
   by_state state = r
 
--- what a symbol that can stand there adds
+-- what a symbol that can come there adds
 abbrev pub with_symbol : Reading → ℕ → Symbol → Result Reading WktFault
 with_symbol r at symbols.MultiPolygon = Ok (record r { several = true })
 with_symbol r at (symbols.Number n) = whole_at at n >>= λ z. Ok (with_number r z)
 with_symbol r at symbols.Close = Ok (with_close r)
 with_symbol r at symbol = Ok r
 
--- the state after a token, or the fault that it cannot stand there
-abbrev pub state_behind : Reading → code.Token → Result State WktFault
-state_behind r token = by_next (next_state r.state r.several token.symbol) where
+-- the state after a token, or the fault that it cannot come there
+abbrev pub state_after : Reading → code.Token → Result State WktFault
+state_after r token = by_next (next_state r.state r.several token.symbol) where
   by_next : Option State → Result State WktFault
   by_next (Some state) = Ok state
   by_next None = Err (faults.Syntax token.at)
 
--- what one more token makes of it: that it cannot stand there is found first, then what is wrong with it as a number
+-- what one more token makes of it: that it cannot come there is found first, then what is wrong with it as a number
 abbrev pub with_token : Reading → code.Token → Result Reading WktFault
-with_token r token = state_behind r token >>= λ state. with_symbol r token.at token.symbol >>= λ more. Ok (record more { state = state })
+with_token r token =
+    state_after r token >>= λ state. with_symbol r token.at token.symbol >>= λ more. Ok (record more { state = state })
 
 abbrev pub with_tokens : Reading → List code.Token → Result Reading WktFault
 with_tokens r [] = Ok r

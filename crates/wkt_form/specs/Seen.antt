@@ -1,4 +1,5 @@
--- The tokens of bytes as the reader sees them. Only its private functions cite this: what a text is, the grammar says alone.
+-- The tokens of bytes as the reader sees them. Only its private functions cite this: what a
+-- text is, the grammar says alone.
 use Rattle.std.specs.Prelude.{ℕ, List, map}
 use Rattle.wkt_form.specs.declared.token.Token as code
 use Rattle.wkt_form.specs.Token.{Token, tokens_from}

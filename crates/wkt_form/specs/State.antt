@@ -7,16 +7,16 @@ use Rattle.wkt_form.specs.declared.token.Symbol.{Symbol}
 use Rattle.wkt_form.specs.declared.token.Symbol.TheVariants as symbols
 
 -- after a polygon: of several more may come
-abbrev pub behind_polygon : Bool → State
-behind_polygon several = if several then states.PolygonEnd else states.End
+abbrev pub after_polygon : Bool → State
+after_polygon several = if several then states.PolygonEnd else states.End
 
--- where a reader is after a symbol, if that can stand there
+-- where a reader is after a symbol, if that can come there
 abbrev pub next_state : State → Bool → Symbol → Option State
 next_state states.Start several symbols.Polygon = Some states.Polygon
 next_state states.Start several symbols.MultiPolygon = Some states.Members
 next_state states.Members several symbols.Empty = Some states.End
 next_state states.Members several symbols.Open = Some states.Polygon
-next_state states.Polygon several symbols.Empty = Some (behind_polygon several)
+next_state states.Polygon several symbols.Empty = Some (after_polygon several)
 next_state states.Polygon several symbols.Open = Some states.Ring
 next_state states.Ring several symbols.Open = Some states.First
 next_state states.First several (symbols.Number n) = Some states.Second
@@ -24,7 +24,7 @@ next_state states.Second several (symbols.Number n) = Some states.PointEnd
 next_state states.PointEnd several symbols.Comma = Some states.First
 next_state states.PointEnd several symbols.Close = Some states.RingEnd
 next_state states.RingEnd several symbols.Comma = Some states.Ring
-next_state states.RingEnd several symbols.Close = Some (behind_polygon several)
+next_state states.RingEnd several symbols.Close = Some (after_polygon several)
 next_state states.PolygonEnd several symbols.Comma = Some states.Polygon
 next_state states.PolygonEnd several symbols.Close = Some states.End
 next_state state several symbol = None

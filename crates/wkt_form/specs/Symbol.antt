@@ -1,4 +1,5 @@
--- Tokens as the grammar sees them: three words, numbers with what they are worth, brackets, commas, and what no text has.
+-- Tokens as the grammar sees them: three words, numbers with what they are worth,
+-- brackets, commas, and what no text has.
 use Rattle.std.specs.Prelude.{ℕ, ◌==◌, List, Option, Some, None, codes, if◌then◌else◌}
 use Rattle.std.specs.Str.{bytes_eq}
 use Rattle.wkt_form.specs.declared.number.Number.{Number}
@@ -32,7 +33,8 @@ run_symbol bs = if is_number bs then symbols.Number (number_worth bs) else symbo
 -- a byte that is a token by itself
 abbrev pub mark_symbol : ℕ → Symbol
 mark_symbol b =
-    if b == 40 then symbols.Open else (if b == 41 then symbols.Close else (if b == 44 then symbols.Comma else symbols.Unknown))
+    if b == 40 then symbols.Open
+    else (if b == 41 then symbols.Close else (if b == 44 then symbols.Comma else symbols.Unknown))
 
 -- a kind, its word in upper case
 abbrev pub symbol_of : Kind → Symbol

@@ -13,7 +13,7 @@ use thiserror::Error;
 #[derive(Clone, Copy, Debug, PartialEq, Eq, Error)]
 #[error("{}", self.text())]
 pub enum WktFault {
-    /// The offset of the token that cannot stand there, or the length of the text.
+    /// The offset of the token that cannot come there, or the length of the text.
     Syntax(usize),
     /// The offset of a number with a digit after its point that is not 0.
     NotWhole(usize),

@@ -3,7 +3,8 @@ ghost use Rattle.std.specs.Prelude.{◌≡◌, ◌||◌, min, count_by};
 ghost use Rattle.std.specs.List.{list_all, list_any, position_or_len};
 ghost use Rattle.std.specs.Char.{is_ascii_digit};
 ghost use Rattle.overlay_terms.specs.Bytes.{digits_value};
-ghost use Rattle.wkt_form.specs.Number.{is_number, is_whole, is_point, unsigned, before_point, behind_point, is_negative};
+ghost use Rattle.wkt_form.specs.Number.{is_number, is_whole, is_point, unsigned};
+ghost use Rattle.wkt_form.specs.Number.{before_point, behind_point, is_negative};
 ghost use Rattle.wkt_form.specs.Symbol.{number_of};
 
 use crate::coordinate::Coordinate;

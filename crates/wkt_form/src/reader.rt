@@ -28,7 +28,13 @@ pub struct Reader {
 impl Model for Reader {
     ghost Value = { Reading };
 
-    ghost view = { λ r. record { state = r.state; several = r.several; first = r.first; points = r.points.items; rings = r.rings.items } };
+    ghost view = { λ r. record {
+      state = r.state;
+      several = r.several;
+      first = r.first;
+      points = r.points.items;
+      rings = r.rings.items;
+    } };
 }
 
 impl Reader {
@@ -60,10 +66,11 @@ impl Reader {
         Ok(())
     }
 
-    /// Adds what the token brings, which may stand here.
+    /// Adds what the token brings, which may come here.
     fn add(&mut self, alloc: Global, token: Token) -> Result<(), WktFault>
         ensures ok { OnOk result (with_symbol self.old token.at token.symbol ≡ Ok self.new) }
-        ensures err { IfErr result (λ fault. (fault ≡ WktFault.OutOfMemory) ⊎ (with_symbol self.old token.at token.symbol ≡ Err fault)) }
+        ensures err { IfErr result (λ fault. (fault ≡ WktFault.OutOfMemory)
+            ⊎ (with_symbol self.old token.at token.symbol ≡ Err fault)) }
     {
         let Token { at, symbol } = token;
         match symbol {

@@ -37,7 +37,8 @@ fn read_rings(alloc: Global, bytes: &[u8]) -> Result<Vec<Ring>, WktFault>
 /// What the tokens of a text make, whether they are a whole text or not.
 fn read_tokens(alloc: Global, bytes: &[u8]) -> Result<Reader, WktFault>
     ensures ok { IfOk result (λ reader. with_tokens nothing_read (seen_from 0 bytes.now) ≡ Ok reader) }
-    ensures err { IfErr result (λ fault. (fault ≡ WktFault.OutOfMemory) ⊎ (with_tokens nothing_read (seen_from 0 bytes.now) ≡ Err fault)) }
+    ensures err { IfErr result (λ fault. (fault ≡ WktFault.OutOfMemory)
+        ⊎ (with_tokens nothing_read (seen_from 0 bytes.now) ≡ Err fault)) }
 {
     let mut reader = Reader::new(alloc);
     let mut at = 0;

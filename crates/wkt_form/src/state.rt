@@ -29,8 +29,7 @@ pub enum State {
     End,
 }
 
-/// Where a reader is after a symbol, if that can stand here. Of several polygons more may
-/// come.
+/// Where a reader is after a symbol, if that can come here. Of several polygons more may come.
 pub fn next_state(state: State, several: bool, symbol: Symbol) -> Option<State>
     ensures { result ≡ next_state state several symbol }
 {

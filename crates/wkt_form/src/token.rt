@@ -107,7 +107,8 @@ fn first_symbol(bytes: &[u8]) -> (Symbol, usize)
     requires some { 0 < length bytes.now }
     requires no_blank { is_blank (slice_index bytes.now 0) ≡ false }
     ensures size { (0 < result.1) × (result.1 ≤ length bytes.now) }
-    ensures first { (at : ℕ) → seen_from at bytes.now ≡ record { at = at; symbol = result.0 } ∷ seen_from (at + result.1) (drop result.1 bytes.now) }
+    ensures first { (at : ℕ) → seen_from at bytes.now
+        ≡ record { at = at; symbol = result.0 } ∷ seen_from (at + result.1) (drop result.1 bytes.now) }
 {
     let first = bytes[0];
     if first.is_ascii_alphabetic() {
@@ -135,7 +136,8 @@ fn past_blanks(bytes: &[u8], at: usize) -> usize
 pub fn token_from(bytes: &[u8], at: usize) -> Option<(Token, usize)>
     requires { at ≤ length bytes.now }
     ensures none { IfNone result (seen_from at (drop at bytes.now) ≡ []) }
-    ensures some { IfSome result (λ found. seen_from at (drop at bytes.now) ≡ found.0 ∷ seen_from found.1 (drop found.1 bytes.now)) }
+    ensures some { IfSome result
+        (λ found. seen_from at (drop at bytes.now) ≡ found.0 ∷ seen_from found.1 (drop found.1 bytes.now)) }
     ensures on { IfSome result (λ found. (at < found.1) × (found.1 ≤ length bytes.now)) }
 {
     let at = past_blanks(bytes, at);

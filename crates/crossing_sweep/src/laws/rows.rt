@@ -1,6 +1,7 @@
 //! Laws of what a pass carries along: each function does nothing, and its contract is the law.
 
-ghost use Rattle.crossing_sweep.specs.RowLaws.{NodesAreFew, RowsAreSome, RowsBegin, RowsEnd, RowsGoOn, RowsInOrder, RowsTellOversize, UnitChangesMasks};
+ghost use Rattle.crossing_sweep.specs.RowLaws.{NodesAreFew, RowsAreSome, RowsBegin, RowsEnd, RowsGoOn};
+ghost use Rattle.crossing_sweep.specs.RowLaws.{RowsInOrder, RowsTellOversize, UnitChangesMasks};
 ghost use Rattle.crossing_sweep.specs.StripCrossed.{StripParts};
 
 /// Just after a place, what lies up to a unit is what lies under it, changed by the layers over the unit.

@@ -21,9 +21,9 @@ fn left(alloc: Global, disk: MemDisk) -> Result<(u64, usize), Fail> {
 /// Checks what a crash after so many calls of the commit leaves.
 fn check_left(rt: &impl Abort, found: (u64, usize), calls: usize) {
     let whole = found == (1, 2);
-    assert!(rt; whole || found == (0, 0), "behind {calls} calls");
-    assert!(rt; !whole || calls >= CALLS - 1, "behind {calls} calls");
-    assert!(rt; whole || calls < CALLS, "behind {calls} calls");
+    assert!(rt; whole || found == (0, 0), "after {calls} calls");
+    assert!(rt; !whole || calls >= CALLS - 1, "after {calls} calls");
+    assert!(rt; whole || calls < CALLS, "after {calls} calls");
 }
 
 /// The disk of a new store on which the batch is committed.

@@ -91,7 +91,7 @@ fn a_crash_at_each_call_leaves_the_version_before_or_after(rt: HostRuntime) -> R
         for &choice in &CHOICES {
             assert!(rt;
                 recovers(rt.alloc(), &disk, calls, choice)?,
-                "behind {calls} calls"
+                "after {calls} calls"
             );
         }
     }

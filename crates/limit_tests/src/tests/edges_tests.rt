@@ -40,7 +40,7 @@ fn a_version_without_workers_tells_that_its_tiles_are_pending(rt: HostRuntime) {
 fn a_tile_that_is_kept_is_told_and_no_other(rt: HostRuntime) {
     let version = with_tile(&rt, rt.alloc());
     let name = name_of(&rt, rt.alloc(), "I");
-    let text = version.edges(rt.alloc(), &name, 16).expect(&rt, "told");
+    let text = version.edges(rt.alloc(), &name, 16).expect(&rt, "a text");
     assert!(rt; text.as_slice() == EDGES);
     assert!(rt; refusal(&rt, rt.alloc(), &version, "I", 15) == 21);
 }

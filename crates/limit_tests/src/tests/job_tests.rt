@@ -1,4 +1,5 @@
-//! More than 1,000 jobs that one engine holds: the same tile, handed out again and again, of which the last one is kept.
+//! More than 1,000 jobs that one engine holds: the same tile, handed out again and again,
+//! of which the last one is kept.
 use crate::tests::testing::{SHIFTED, SQUARE, define, name_of, put};
 use disk_model::mem_disk::MemDisk;
 use overlay_engine::step::{Reply, Step};

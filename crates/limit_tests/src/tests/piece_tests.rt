@@ -1,9 +1,9 @@
 //! A tile of as many pieces as are kept: built, committed, opened again and compared; and one of a piece more.
 //!
 //! In one column rectangles that lie are crossed by all that stand. The two long sides of a lying one are cut at both
-//! sides of each standing one, the two at its ends by none, and the other way round. Where just one of the two layers is,
-//! all of that is boundary: N lying and M standing ones have N * (2 * (2 * M + 1) + 2) + M * (2 * (2 * N + 1) + 2) pieces.
-//! 49 and 165 have 32,536 and 33,000, together 65,536. A corner that is cut off adds one.
+//! sides of each standing one, the two at its ends by none, and the other way round. Where just one of the two layers
+//! is, all of that is boundary: N lying and M standing ones have N * (2 * (2 * M + 1) + 2) + M * (2 * (2 * N + 1) + 2)
+//! pieces. 49 and 165 have 32,536 and 33,000, together 65,536. A corner that is cut off adds one.
 use crate::tests::testing::{define, name_of, put};
 use disk_model::mem_disk::MemDisk;
 use overlay_engine::step::{Reply, Step};
@@ -104,7 +104,7 @@ fn check_pieces(rt: &impl Abort, alloc: Global, version: &Version) {
         Some(Tile::Pieces(pieces)) => assert!(rt; pieces.len() == 65_536),
         _ => panic!(rt; "no pieces"),
     }
-    let told = version.edges(alloc, &name, 16).expect(rt, "told");
+    let told = version.edges(alloc, &name, 16).expect(rt, "a text");
     assert!(rt; told.starts_with(b"edges 65536\n"));
     let verdict = version.verify(alloc, &name, 16).expect(rt, "compared");
     assert!(rt; verdict == Verdict::Same);
@@ -126,7 +126,7 @@ fn check_oversize(rt: &impl Abort, alloc: Global, version: &Version) {
     let name = name_of(rt, alloc, "X");
     assert!(rt; matches!(version.tile(&name, 16), Some(Tile::Oversize)));
     match version.edges(alloc, &name, 16) {
-        Ok(_) => panic!(rt; "told"),
+        Ok(_) => panic!(rt; "a text of too many pieces"),
         Err(fault) => assert!(rt; fault.code() == 22),
     }
     let verdict = version.verify(alloc, &name, 16).expect(rt, "compared");

@@ -28,7 +28,7 @@ const BATCHES: &[(&[Change], Reply)] = &[
 
 #[test]
 fn a_batch_makes_one_version_or_none(rt: HostRuntime) {
-    let mut edition = Edition::behind(&rt, rt.alloc(), &[]);
+    let mut edition = Edition::after_all(&rt, rt.alloc(), &[]);
     for (row, (changes, want)) in BATCHES.iter().enumerate() {
         let batch = batch(&rt, rt.alloc(), changes);
         match edition.submit_all(rt.alloc(), &batch) {
@@ -70,8 +70,8 @@ fn a_batch_has_one_to_64_commands(rt: HostRuntime) {
     }
 }
 
-/// Batches on two squares and where both are, with one tile built, and how many tiles are pending then: of I all but the
-/// one that is kept and the 33 of J, or all of I.
+/// Batches on two squares and where both are, with one tile built, and how many tiles are pending then: of I all but
+/// the one that is kept and the 33 of J, or all of I.
 const TOUCHING: &[(&[Change], usize)] = &[
     (&[Change::Put("C", SQUARE), Change::Define("J", "C")], 65),
     (&[Change::Remove("I"), Change::Define("I", "A & B")], 33),
@@ -83,7 +83,7 @@ fn a_batch_touches_the_tiles_of_each_of_its_commands(rt: HostRuntime) {
     let first = behind_batch(
         &rt,
         rt.alloc(),
-        &Edition::behind(&rt, rt.alloc(), &[]),
+        &Edition::after_all(&rt, rt.alloc(), &[]),
         OVERLAP,
     );
     let edition = first.with_tile(&rt, rt.alloc(), "I", 16);

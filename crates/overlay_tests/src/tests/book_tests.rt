@@ -102,8 +102,8 @@ fn each_tile_is_handed_out_once_and_a_late_one_is_not_kept(rt: HostRuntime) {
 
 const PUT_WIDE: Call = Call::Submit(Change::Put("A", WIDE));
 
-/// A strip has at most 17 columns. The left half lies in column 16 alone, so where it takes the place of the other square, that
-/// column's tile is stale and its neighbours' are kept.
+/// A strip has at most 17 columns. The left half lies in column 16 alone, so where it takes the place of the other
+/// square, that column's tile is stale and its neighbours' are kept.
 const STRIPS: &[&[Row]] = &[
     OVERLAP,
     &[
@@ -190,8 +190,8 @@ fn the_last_tile_a_command_and_a_batch_each_end_a_wait(rt: HostRuntime) {
     play(&rt, rt.alloc(), false, BUILT, 8);
 }
 
-/// The square and its left half lie in column 16 alone. So a command that puts one in the place of the other makes the tile
-/// of that column pending, and no other.
+/// The square and its left half lie in column 16 alone. So a command that puts one in the place of the other makes the
+/// tile of that column pending, and no other.
 const WOKEN: &[&[Row]] = &[
     OVERLAP,
     &[BUILDS; 33],

@@ -77,8 +77,8 @@ pub enum Row {
     Builds(bool),
     /// A tile is asked for and given back: whether there is one.
     GivesBack(bool),
-    /// A strip of tiles is taken, a call is made, and the tiles are finished in order then: how many there are, and how many
-    /// of them are kept.
+    /// A strip of tiles is taken, a call is made, and the tiles are finished in order then: how many there
+    /// are, and how many of them are kept.
     BuildsStrip(Option<Call>, usize, u64),
     /// A strip of so many tiles is taken. The first one is built, which is kept, and the others are given back.
     GivesBackStrip(usize),
@@ -88,8 +88,8 @@ pub enum Row {
     BuildsBeside(&'static str, Answer),
     /// A worker or the first session waits in a thread of its own, until a call ends that: what the wait answers.
     WaitsBeside(WaitFor, Call, Answer),
-    /// A tile is taken, and a call makes it stale. A worker waits for a tile in a thread of its own then, until the stale
-    /// one is finished, which is not kept: what the wait answers.
+    /// A tile is taken, and a call makes it stale. A worker waits for a tile in a thread of its own then, until the
+    /// stale one is finished, which is not kept: what the wait answers.
     StaleBeside(Call, Answer),
     /// The reporter waits for news in a thread of its own, until the first session ends that: the number of the version
     /// that it is given, where it is given one.

@@ -35,7 +35,7 @@ impl Edition {
     }
 
     /// The version after these changes, one after another.
-    pub fn behind(rt: &impl Abort, alloc: Global, changes: &[Change]) -> Edition {
+    pub fn after_all(rt: &impl Abort, alloc: Global, changes: &[Change]) -> Edition {
         let mut edition = Edition::new(Version::empty(alloc));
         for change in changes {
             edition = edition.after(rt, alloc, change);

@@ -40,8 +40,8 @@ pub enum Work {
     ClosesLate,
 }
 
-/// Does a work, and returns the numbers of its versions, each above the one before. What asks for a tile returns its column,
-/// where there is one; what builds a tile returns nothing, and neither does what closes the book.
+/// Does a work, and returns the numbers of its versions, each above the one before. What asks for a tile returns its
+/// column, where there is one; what builds a tile returns nothing, and neither does what closes the book.
 fn carry_out<J: BookName, R: Wait + Clock + Abort>(
     rt: &R,
     alloc: Global,
@@ -124,8 +124,8 @@ fn build<J: BookName, R: Wait + Abort>(rt: &R, alloc: Global, shared: &Shared<J,
     ask(rt, alloc, shared).expect(rt, "no tile");
 }
 
-/// The column of a tile that is asked for and built in a thread of its own, while one that was taken is finished a tenth
-/// of a second late; and whether that one was kept.
+/// The column of a tile that is asked for and built in a thread of its own, while one that was taken is finished a
+/// tenth of a second late; and whether that one was kept.
 // Where there is no memory for a thread, the tile that was taken is finished first.
 pub fn ask_beside<J: BookName + Send + Sync, R: Threads + Wait + Clock + Abort + Sync>(
     rt: &R,

@@ -30,7 +30,7 @@ fn check_columns(rt: &impl Abort, list: &[(Name, u8)]) {
 
 #[test]
 fn a_new_layer_has_all_tiles_pending(rt: HostRuntime) {
-    let edition = Edition::behind(&rt, rt.alloc(), OVERLAP);
+    let edition = Edition::after_all(&rt, rt.alloc(), OVERLAP);
     let list = edition.version().pending(rt.alloc()).expect(&rt, "memory");
     assert!(rt; list.len() == 33);
     check_columns(&rt, &list);
@@ -38,7 +38,7 @@ fn a_new_layer_has_all_tiles_pending(rt: HostRuntime) {
 
 /// The tile of I in column 16, and a version in which A has changed since.
 fn late_tile(rt: &impl Abort, alloc: Global) -> (Built, Edition) {
-    let edition = Edition::behind(rt, alloc, OVERLAP);
+    let edition = Edition::after_all(rt, alloc, OVERLAP);
     let late = edition.built(rt, alloc, "I", 16);
     (late, edition.after(rt, alloc, &Change::Put("A", SMALLER)))
 }
@@ -61,7 +61,7 @@ const REPORTS: &[(u64, u64)] = &[(0, 0), (2, 2), (3, 3), (4, 0)];
 
 #[test]
 fn a_report_raises_the_durable_number_up_to_the_version(rt: HostRuntime) {
-    let edition = Edition::behind(&rt, rt.alloc(), OVERLAP);
+    let edition = Edition::after_all(&rt, rt.alloc(), OVERLAP);
     for (row, &(number, want)) in REPORTS.iter().enumerate() {
         let reported = edition.durable_to(&rt, rt.alloc(), number);
         check(&rt, row, &reported, &want);
@@ -73,7 +73,7 @@ const TWO: &[Change] = &[Change::Put("M", TWO_SQUARES), Change::Define("N", "M")
 
 /// The same with all tiles of N.
 fn two_squares_built(rt: &impl Abort, alloc: Global) -> Edition {
-    let mut edition = Edition::behind(rt, alloc, TWO);
+    let mut edition = Edition::after_all(rt, alloc, TWO);
     for column in 0..33 {
         edition = edition.with_tile(rt, alloc, "N", column);
     }
@@ -122,7 +122,7 @@ fn a_layer_is_built_where_all_its_tiles_are_finished(rt: HostRuntime) {
 
 #[test]
 fn a_tile_is_kept_once_while_the_caller_has_it(rt: HostRuntime) {
-    let edition = Edition::behind(&rt, rt.alloc(), OVERLAP);
+    let edition = Edition::after_all(&rt, rt.alloc(), OVERLAP);
     let tile = edition.built(&rt, rt.alloc(), "I", 16);
     let kept = edition.finish_with(&rt, rt.alloc(), "I", &tile);
     check_kept(&rt, rt.alloc(), kept, &tile);

@@ -60,7 +60,7 @@ fn port_of(
 }
 
 #[test]
-fn replies_stand_behind_what_their_writer_held(rt: HostRuntime) -> Result<(), Fail> {
+fn replies_follow_what_their_writer_held(rt: HostRuntime) -> Result<(), Fail> {
     let alloc = rt.alloc();
     let first = port_of(alloc, b"LAYERS\n", b"first: ")?;
     let second = port_of(alloc, b"HELLO\n", b"second: ")?;

@@ -212,7 +212,7 @@ fn a_script_holds_16777216_bytes(rt: HostRuntime) {
         let mut reader = io::repeat(b'\n').take(feeds).chain(text);
         let mut writer = Vec::new(rt.alloc());
         assert_eq!(rt; run_script(&rt, rt.alloc(), &mut reader, &mut writer), end);
-        check_written(&rt, &writer, replies.as_bytes(), "behind", feeds);
+        check_written(&rt, &writer, replies.as_bytes(), "line feeds", feeds);
     }
 }
 

@@ -62,8 +62,8 @@ fn a_layer_is_there_when_the_store_is_opened_again(rt: HostRuntime) -> Result<()
     Ok(())
 }
 
-// Caught: `end_commit_reports_nothing` (in store_flushing/src/flusher_loop.rt the number that a commit has reached is not
-// reported): SYNC sleeps for ever.
+// Caught: `end_commit_reports_nothing` (in store_flushing/src/flusher_loop.rt the number that a commit has reached is
+// not reported): SYNC sleeps for ever.
 #[test]
 fn a_sync_ends_with_a_durable_version(rt: HostRuntime) -> Result<(), Fail> {
     let alloc = rt.alloc();
@@ -146,4 +146,21 @@ fn a_layer_is_there_when_the_file_is_opened_again(rt: HostRuntime) -> Result<(),
 #[test]
 fn a_file_has_what_is_told_durable(rt: HostRuntime) -> Result<(), Fail> {
     over_a_file(&rt, "synced-store", PUT_AND_SYNC, "ok 1\ndurable 1\n")
+}
+
+#[test]
+fn a_write_of_nothing_past_the_end_makes_a_file_longer(rt: HostRuntime) -> Result<(), Fail> {
+    let path = "longer-file";
+    let _absent = fs::remove_file(&rt, path);
+    let mut disk = FileDisk::at(&rt, path, true)?;
+    for (at, length) in [(5, 5), (3, 5), (6, 6)] {
+        let written = disk.write_at(at, &[]);
+        assert!(rt; written.is_ok(), "a write at {at}");
+        assert!(rt;
+            disk.length() == Ok(length),
+            "the length after a write at {at}"
+        );
+    }
+    fs::remove_file(&rt, path)?;
+    Ok(())
 }

@@ -66,7 +66,8 @@ impl Watch {
     }
 }
 
-/// A reader that gives one line a read, and counts how often it is asked. It does not end before so many tiles are begun.
+/// A reader that gives one line a read, and counts how often it is asked. It does not end
+/// before so many tiles are begun.
 #[derive(Drop)]
 pub struct Lines<'a, R> {
     pub rt: &'a R,

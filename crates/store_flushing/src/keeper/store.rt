@@ -9,9 +9,9 @@ ghost use Rattle.store_flushing.specs.Told.{told_in};
 
 use crate::closed::{Closed, end_book};
 use crate::keeper::Keeper;
+use crate::keeper::opened::{Opened, Shut};
 use crate::keeper::told_log::ToldLog;
 use disk_model::disk::Disk;
-use flush_core::flusher::Flusher;
 use std::alloc::Global;
 use std::sync::Wait;
 use version_book::reporter::Reporter;
@@ -28,26 +28,27 @@ pub enum Store<D: Disk> {
 
 impl<D: Disk> Store<D> {
     /// That of a book that begins: nothing was reported.
-    pub fn new(reporter: Reporter, flusher: Option<Flusher<D>>) -> Store<D>
+    pub fn new<J: BookName>(reporter: Reporter, opened: Opened<J, D>) -> Store<D>
+        requires book { reporter.book ≡ J.book }
         ensures reporter { reporter_of result ≡ reporter }
-        ensures flusher { flusher_in result ≡ flusher }
+        ensures flusher { flusher_in result ≡ opened.flusher }
         ensures told { told_by result ≡ [] }
     {
-        match flusher {
+        match opened.into_flusher() {
             Some(flusher) => Store::Kept(Keeper::of(reporter, flusher, ToldLog::none())),
             None => Store::Alone(reporter),
         }
     }
 
-    /// Ends a book once the threads that share it have returned, and gives up its store. The sessions are all that it
-    /// began with.
+    /// Ends a book once the threads that share it have returned, and gives up its store, whose disk stays shut. The
+    /// sessions are all that it began with.
     pub fn close<J: BookName, R: Wait + Drop, W: Wait>(
         self,
         rt: &W,
         alloc: Global,
         shared: Shared<J, R>,
         sessions: &[Session],
-    ) -> Closed<D>
+    ) -> Closed<Shut<D>>
         requires reporter { (reporter_of self).book ≡ J.book }
         requires sessions { All (λ session. session.book ≡ J.book) sessions.now }
         ensures version { arc_value result.version ≡ newest_in result.seen_log.log }
@@ -55,7 +56,8 @@ impl<D: Disk> Store<D> {
         ensures reporter { HasHeard result.seen_log.log (reporter_of self) }
         ensures begun { 0 < length (reporter_of self).log }
         ensures sessions { All (λ session. HasAllOf result.seen_log.log session) sessions.now }
-        ensures durable { All (λ entry. entry.version.durable ≤ (newest_in result.seen_log.log).durable) result.seen_log.log }
+        ensures durable { All (λ entry. entry.version.durable
+            ≤ (newest_in result.seen_log.log).durable) result.seen_log.log }
         ensures store { MatchOption (flusher_in self) ((result.stored ≡ 0) × (result.disk ≡ None))
             (λ f. (result.stored ≡ f.commit.root.version) × (result.disk ≡ Some f.commit.disk)) }
         ensures told { told_in result.told ≡ told_by self }
@@ -69,19 +71,18 @@ impl<D: Disk> Store<D> {
                     live: _,
                     next: _,
                 } = keeper;
-                end_book(rt, alloc, shared, &reporter, Some(flusher), told, sessions)
+                shut(end_book(rt, alloc, shared, &reporter, Some(flusher), told, sessions))
             }
             Store::Alone(reporter) => {
                 let told = ToldLog::none();
-                end_book(rt, alloc, shared, &reporter, None, told, sessions)
+                shut(end_book(rt, alloc, shared, &reporter, None, told, sessions))
             }
         }
     }
 
-    /// Gives the store up, where there is one and nothing was reported durable: after a report only `close` does.
-    pub fn into_flusher(self) -> Option<Flusher<D>>
-        requires untold { told_by self ≡ [] }
-        ensures { result ≡ flusher_in self }
+    /// Gives the store up with its reporter. The disk stays shut.
+    pub fn into_disk(self) -> Option<Shut<D>>
+        ensures { MatchOption (flusher_in self) (result ≡ None) (λ f. result ≡ Some f.commit.disk) }
     {
         match self {
             Store::Kept(keeper) => {
@@ -92,9 +93,23 @@ impl<D: Disk> Store<D> {
                     live: _,
                     next: _,
                 } = keeper;
-                Some(flusher)
+                Shut::of(Some(flusher.into_disk()))
             }
             Store::Alone(_reporter) => None,
         }
+    }
+}
+
+/// What is left of a book and its store, with the disk shut.
+fn shut<D>(closed: Closed<D>) -> Closed<Shut<D>>
+    ensures { result ≡ closed }
+{
+    Closed {
+        version: closed.version,
+        seen_log: closed.seen_log,
+        stored: closed.stored,
+        fault: closed.fault,
+        disk: Shut::of(closed.disk),
+        told: closed.told,
     }
 }

@@ -64,7 +64,9 @@ impl<'a, D: Disk> Opening<News<'a, D>, Told> for WithNews {
     ghost use Rattle.book_history.specs.Logs.{history_of};
     ghost use Rattle.store_flushing.specs.Told.{news_in, told_at, told_in};
 
-    ghost log = { λ n news. told_in news.told.now ++ told_at (D.moment news.flusher.now.commit.disk) (news_in (history_of news.was.now.value.log) (history_of news.reporter.now.log)) };
+    ghost log = { λ n news. told_in news.told.now
+        ++ told_at (D.moment news.flusher.now.commit.disk)
+        (news_in (history_of news.was.now.value.log) (history_of news.reporter.now.log)) };
 }
 
 /// The numbers that were reported durable, in order, each with the disk's moment then. It has no bytes, and its

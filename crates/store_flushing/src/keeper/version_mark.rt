@@ -47,8 +47,8 @@ impl VersionMark {
         }
     }
 
-    /// Whether it is known that each tile of a later version is this one's. A batch raises the number by one and adds no
-    /// tile, and a report shows in what is durable: where no more entries lie between than these, none kept a tile.
+    /// Whether it is known that each tile of a later version is this one's. A batch raises the number by one and adds
+    /// no tile, and a report shows in what is durable: where no more entries lie between than these, none kept a tile.
     pub(super) fn has_tiles_of(&self, later: &VersionMark) -> bool
         requires { later.now.book ≡ self.now.book }
         ensures known { IsTrue result → HasTilesOf (newest_in self.now.log) (newest_in later.now.log) }

@@ -1,5 +1,5 @@
 //! Whether tiles in hand are still awaited, and letting them go, under the lock.
-ghost use Rattle.std.specs.Prelude.{◌≡◌, ◌↔◌, IsTrue, false, IfSome, IfNone};
+ghost use Rattle.std.specs.Prelude.{◌≡◌, ◌+◌, ◌↔◌, IsTrue, false, IfSome, IfNone};
 ghost use Rattle.book_history.specs.Logs.{newest_in};
 ghost use Rattle.version_book.specs.BookState.{HasHeld};
 ghost use Rattle.version_book.specs.HeldTiles.{strip_taken_in};
@@ -35,10 +35,12 @@ impl<J: BookName, R: Wait + Drop> LockedBook<J, R> {
     pub fn let_go_strip(&mut self, strip: StripJob)
         requires { strip.book ≡ J.book }
         ensures log { self.new.log ≡ self.old.log }
-        ensures state { HasHeld self.old.state (strip_taken_in strip.name strip.next strip.input.strip.last self.old.state.held.list.items) self.new.state }
+        ensures state { HasHeld self.old.state
+            (strip_taken_in strip.name strip.next (strip.input.strip.last + 1) self.old.state.held.list.items) self.new.state }
     {
-        let last = strip.input().strip().last().number();
-        self.state.let_go_strip(strip.name(), strip.next(), last);
+        let end = strip.input().strip().last().number() + 1;
+        self.state
+            .strip_taken_in(strip.name(), strip.next(), end, false);
         strip.end();
     }
 }

@@ -14,8 +14,8 @@ use book_lock::room::Room;
 use std::alloc::Global;
 use std::sync::Wait;
 
-/// Reports a number durable: one entry, or none. It answers the durable number then. Memory for the next report is taken
-/// ahead, where there is some.
+/// Reports a number durable: one entry, or none. It answers the durable number then. Memory for the next report is
+/// taken ahead, where there is some.
 pub(crate) fn report<J: BookName, R: Wait + Drop>(
     locked: &mut LockedBook<J, R>,
     alloc: Global,

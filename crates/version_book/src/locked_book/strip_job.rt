@@ -1,6 +1,7 @@
 //! A strip of tiles that are handed out as one.
-ghost use Rattle.std.specs.Prelude.{◌≡◌, ◌<◌, ◌≤◌, ◌↔◌, IsTrue};
-ghost use Rattle.version_book.specs.Strips.{without_next, IsStripJob};
+ghost use Rattle.std.specs.Prelude.{◌≡◌, ◌<◌, ◌≤◌, ◌+◌, ◌↔◌, IsTrue};
+ghost use Rattle.book_history.specs.Logs.{newest_in};
+ghost use Rattle.version_book.specs.Strips.{without_first, IsStripJob};
 
 use book_history::seen_log::SeenLog;
 use layer_expr::name::Name;
@@ -16,9 +17,13 @@ pub struct StripJob {
     input: StripInput,
     next: u8,
     seen_log: SeenLog,
+    /// The number of the version at which they were handed out.
+    number: u64,
 }
 
 impl Model for StripJob {
+    ghost use Rattle.std.specs.Prelude.{◌≡◌};
+    ghost use Rattle.book_history.specs.Logs.{newest_in};
     ghost use Rattle.version_book.specs.Strips.{HandedStrip, IsStripJob, strip_code};
 
     ghost Value = { HandedStrip };
@@ -27,13 +32,15 @@ impl Model for StripJob {
 
     ghost view = { λ s. record { book = s.seen_log.book; log = s.seen_log.log; name = s.name; input = s.input; next = s.next } };
 
-    ghost invariant = { λ s. IsStripJob (record { book = s.seen_log.book; log = s.seen_log.log; name = s.name; input = s.input; next = s.next }) };
+    ghost invariant = { λ s. IsStripJob (record { book = s.seen_log.book; log = s.seen_log.log; name = s.name; input = s.input; next = s.next })
+        × ((newest_in s.seen_log.log).number ≡ s.number) };
 }
 
 impl StripJob {
-    // Tiles that are pending in the newest version of a log. None is spent.
-    pub(super) fn new(name: Name, input: StripInput, seen_log: SeenLog) -> StripJob
-        requires { IsStripJob (record { book = seen_log.book; log = seen_log.log; name = name; input = input; next = input.strip.first }) }
+    // Tiles that are pending in the newest version of a log, which has this number. None is spent.
+    pub(super) fn new(name: Name, input: StripInput, seen_log: SeenLog, number: u64) -> StripJob
+        requires number { (newest_in seen_log.log).number ≡ number }
+        requires job { IsStripJob (record { book = seen_log.book; log = seen_log.log; name = name; input = input; next = input.strip.first }) }
         ensures { result ≡ record { book = seen_log.book; log = seen_log.log; name = name; input = input; next = input.strip.first } }
     {
         let next = input.strip().first().number();
@@ -42,6 +49,7 @@ impl StripJob {
             input,
             next,
             seen_log,
+            number,
         }
     }
 
@@ -75,6 +83,15 @@ impl StripJob {
         &self.seen_log
     }
 
+    /// The number of that version.
+    /// The number of the version at which they were handed out.
+    pub fn number(&self) -> u64
+        ensures value { result ≡ (newest_in self.now.log).number }
+        ensures strip { IsStripJob self.now }
+    {
+        self.number
+    }
+
     /// Whether each of its tiles is spent.
     pub fn is_spent(&self) -> bool
         ensures { IsTrue result ↔ (self.now.input.strip.last < self.now.next) }
@@ -89,14 +106,14 @@ impl StripJob {
         self.end();
     }
 
-    // The next tile is spent.
-    pub(super) fn go_on(&mut self)
-        requires { self.old.next ≤ self.old.input.strip.last }
-        ensures { self.new ≡ without_next self.old }
+    // So many tiles more are spent.
+    pub(super) fn go_on(&mut self, count: usize)
+        requires { self.old.next + count ≤ self.old.input.strip.last + 1 }
+        ensures { self.new ≡ without_first count self.old }
     {
         // The strip ends at a column that there is: the next number fits.
         let _ = self.input.strip().last().number();
-        self.next += 1;
+        self.next += count as u8;
     }
 
     // Ends a strip of which no tile is handed out any more.
@@ -106,6 +123,7 @@ impl StripJob {
             input: _input,
             next: _next,
             seen_log: _seen_log,
+            number: _number,
         } = self;
     }
 }

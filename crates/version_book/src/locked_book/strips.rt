@@ -1,15 +1,13 @@
-//! Handing out strips of tiles, and taking them back tile by tile, under the lock.
-ghost use Rattle.std.specs.Prelude.{◌≡◌, ◌⊎◌, ◌≤◌, ℕ, IsTrue, None, Ok, IfOk, IfErr, IfSome, IfNone};
-ghost use mathlib.Core.List.{IsPrefix};
+//! Handing out strips of tiles, and taking them back with the tiles that were built or without, under the lock.
+ghost use Rattle.std.specs.Prelude.{◌≡◌, ◌⊎◌, ◌≤◌, ◌+◌, ◌==◌, ℕ, not, IsTrue, None, Ok, IfOk, IfErr, IfSome, IfNone};
 ghost use Rattle.book_history.specs.Fault.{no_memory};
 ghost use Rattle.book_history.specs.Logs.{newest_in};
-ghost use Rattle.book_lock.specs.Steps.{IsFinishedIn};
 ghost use Rattle.crossing_sweep.specs.StripInput.{part};
 ghost use Rattle.version_book.specs.BookState.{HasHeld, IsAfterFinish};
 ghost use Rattle.version_book.specs.Free.{IsFree};
-ghost use Rattle.version_book.specs.HeldTiles.{strip_given_back, strip_handed_out};
+ghost use Rattle.version_book.specs.HeldTiles.{strip_given_back, strip_handed_out, strip_taken_in};
 ghost use Rattle.version_book.specs.Jobs.{IsHandedOut};
-ghost use Rattle.version_book.specs.Strips.{without_next, IsStripHandedOut, IsStripJob};
+ghost use Rattle.version_book.specs.Strips.{AreFinishedBy, AreNext, IsStripHandedOut, IsStripJob};
 ghost use Rattle.version_book.specs.Waits.{IsIdle};
 
 use crate::locked_book::LockedBook;
@@ -51,7 +49,8 @@ impl<J: BookName, R: Wait + Drop> LockedBook<J, R> {
             return Err(NO_MEMORY);
         };
         let columns = input.strip();
-        let strip = StripJob::new(name, input, self.log.last().seen_log.again());
+        let last = self.log.last();
+        let strip = StripJob::new(name, input, last.seen_log.again(), last.version.number());
         if self
             .state
             .held
@@ -68,24 +67,23 @@ impl<J: BookName, R: Wait + Drop> LockedBook<J, R> {
         Ok(Some(strip))
     }
 
-    /// Spends the next tile of a strip: keeps the tile that was built of its input where it is awaited, and says whether
-    /// it was, by one entry or none. The tile is not handed out any more. Where that cannot be written down, or the log does
-    /// not go on from that at which the strip was handed out, nothing changes.
-    pub fn finish_next(
+    /// Spends the next tiles of a strip with those that were built of their inputs: keeps each where it is awaited, by
+    /// an entry of its own, and says how many were kept. The log is published once. These tiles are not handed out any
+    /// more. Where memory runs out, the strip has those that are left. Where not even the first one can be written down,
+    /// or the log does not go on from that at which the strip was handed out, nothing changes.
+    pub fn finish_strip(
         &mut self,
         alloc: Global,
         strip: &mut StripJob,
-        built: &SharedBuilt,
-    ) -> Result<bool, BookFault>
+        built: &[SharedBuilt],
+    ) -> Result<u64, BookFault>
         requires book { strip.old.book ≡ J.book }
-        requires left { strip.old.next ≤ strip.old.input.strip.last }
-        requires input { built.now.0 ≡ part strip.old.input strip.old.next }
-        ensures goes_on { IfOk result (λ _. IsPrefix strip.old.log self.old.log) }
-        ensures log { IfOk result (λ is_kept. IsFinishedIn self.old.log strip.old.name
-            (part strip.old.input strip.old.next) built.now.1 is_kept self.new.log) }
-        ensures state { IfOk result
-            (λ is_kept. IsAfterFinish self.old.state strip.old.name strip.old.next is_kept self.new.state) }
-        ensures next { IfOk result (λ _. strip.new ≡ without_next strip.old) }
+        requires tiles { AreNext strip.old built.now }
+        ensures finished { IfOk result
+            (λ kept. AreFinishedBy strip.old built.now self.old.log strip.new kept self.new.log) }
+        ensures state { IfOk result (λ kept. IsAfterFinish self.old.state
+            (strip_taken_in strip.old.name strip.old.next strip.new.next self.old.state.held.list.items)
+            (not (kept == 0)) self.new.state) }
         ensures err { IfErr result (λ _. (strip.new ≡ strip.old) × (self.new.log ≡ self.old.log)
             × (self.new.state ≡ self.old.state)) }
         ensures refused { IfErr result (λ fault. (fault ≡ no_memory) ⊎ (fault ≡ BookFault.Gone)) }
@@ -93,13 +91,19 @@ impl<J: BookName, R: Wait + Drop> LockedBook<J, R> {
         if !self.log.has(strip.seen_log()) {
             return Err(BookFault::Gone);
         }
-        let kept = match self.log.keep(alloc, strip.name(), built) {
-            Ok(kept) => kept,
+        let last = self.log.last();
+        let before = last.seen_log.at();
+        // No command was accepted since: the layers are those of which the inputs are.
+        let are_present = last.version.number() == strip.number();
+        let count = match self.log.keep_each(alloc, strip.name(), built, are_present) {
+            Ok(count) => count,
             Err(fault) => return Err(fault),
         };
+        let kept = self.log.last().seen_log.at() - before;
+        let first = strip.next();
+        strip.go_on(count);
         self.state
-            .job_finished(strip.name(), built.input().column(), kept);
-        strip.go_on();
+            .strip_taken_in(strip.name(), first, strip.next(), kept != 0);
         Ok(kept)
     }
 
@@ -107,10 +111,11 @@ impl<J: BookName, R: Wait + Drop> LockedBook<J, R> {
     pub fn give_back_strip(&mut self, strip: StripJob)
         requires { strip.book ≡ J.book }
         ensures log { self.new.log ≡ self.old.log }
-        ensures state { HasHeld self.old.state (strip_given_back strip.name strip.next strip.input.strip.last self.old.state.held.list.items) self.new.state }
+        ensures state { HasHeld self.old.state
+            (strip_given_back strip.name strip.next (strip.input.strip.last + 1) self.old.state.held.list.items) self.new.state }
     {
-        let last = strip.input().strip().last().number();
-        self.state.give_back_strip(strip.name(), strip.next(), last);
+        let end = strip.input().strip().last().number() + 1;
+        self.state.give_back_strip(strip.name(), strip.next(), end);
         strip.end();
     }
 

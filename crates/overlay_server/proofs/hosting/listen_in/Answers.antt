@@ -1,17 +1,19 @@
-use Rattle.std.proofs.Common.{rules, ◌≡◌, ◌∙◌, length, subst, sym}
+use Rattle.std.proofs.Common.{rules, ◌≡◌, ◌∙◌, ap, length, subst, sym}
+use Rattle.book_lock.proofs.Beginning.{count_of}
 use Rattle.store_flushing.specs.Stores.{flusher_in}
 use Rattle.overlay_server.specs.Given.{bytes_of, given_by, given_to}
 use Rattle.overlay_server.specs.Hosting.{IsHosted}
 use Rattle.overlay_server.specs.Refusing.{IsRefusedFrom}
-use Rattle.overlay_server.specs.Serving.{IsLeftFrom, flusher_of, start_of}
+use Rattle.overlay_server.specs.Serving.{IsLeftFrom}
 use Rattle.overlay_server.proofs.Refusals.{passed_on}
+use Rattle.overlay_server.proofs.Reporting.{beside_any}
 use Rattle.overlay_server.proofs.StoreParts.{CountsAs}
 use Rattle.overlay_server.proofs.hosting.listen_in.Goals as goal
 
 pub returns-in_err-hosted-clause-refused : goal.returns-in_err-hosted-clause-refused
 returns-in_err-hosted-clause-refused g c =
     let all = given_by g.R.Read.remaining c.args.readers.items in
-    passed_on (IsRefusedFrom g.D.Disk (start_of c.args.engine) (flusher_of c.args.engine) all) c.from_residual.result c.in_err-hosted.field-0.0 c.from_residual.ensures.1
+    passed_on (IsRefusedFrom g.D.Disk c.args.version c.args.store.flusher all) c.from_residual.result c.in_err-hosted.field-0.0 c.from_residual.ensures.1
     (c.in_err-hosted.ensures.refused all)
 
 pub run-requires-clause-hosted : goal.run-requires-clause-hosted
@@ -19,36 +21,47 @@ run-requires-clause-hosted g c κs within =
     let count : c.len.result ≡ length c.args.readers.items = search rules in
     subst (λ n. IsHosted g.J.BookName.book n c.in_ok-hosted.hosted) (count ∙ sym c.in-Some.ensures.count) c.in_ok-hosted.ensures.hosted
 
+-- lists of bytes go on from anywhere
+pub run-requires-clause-from : goal.run-requires-clause-from
+run-requires-clause-from g c κs within =
+    let ports = c.in-Some.ports.items in
+    let count : c.len.result ≡ length c.args.readers.items = search rules in
+    let sessions = c.in_ok-hosted.ensures.hosted.sessions in
+    beside_any ports c.in_ok-hosted.hosted.sessions.items (λ port me. tt) (c.in-Some.ensures.count ∙ sym count ∙ sym (ap length sessions ∙ count_of _ c.len.result))
+
 pub run-requires-clause-meant : goal.run-requires-clause-meant
 run-requires-clause-meant g c κs within =
     let hosted = c.in_ok-hosted in
     subst (λ v. CountsAs g.D.Disk g.J.BookName.stored v (flusher_in hosted.hosted.store)) (sym hosted.ensures.version)
-    (subst (CountsAs g.D.Disk g.J.BookName.stored (start_of c.args.engine)) (sym hosted.ensures.flusher) c.requires.stored)
+    (subst (CountsAs g.D.Disk g.J.BookName.stored c.args.version) (sym hosted.ensures.flusher) c.requires.stored)
 
 pub returns-in-Ok-clause-left : goal.returns-in-Ok-clause-left
 returns-in-Ok-clause-left g c =
-    let engine = c.args.engine in
+    let version = c.args.version in
+    let flusher = c.args.store.flusher in
     let hosted = c.in_ok-hosted in
     let left = c.in-Ok.left in
     let all = given_to g.R.Read.remaining bytes_of c.in-Some.ports.items in
-    subst (λ given. IsLeftFrom bytes_of g.D.Disk (start_of engine) (flusher_of engine) given left) c.in-Some.ensures.given
-    (subst (λ v. IsLeftFrom bytes_of g.D.Disk v (flusher_of engine) all left) hosted.ensures.version
+    subst (λ given. IsLeftFrom bytes_of g.D.Disk version flusher given left) c.in-Some.ensures.given
+    (subst (λ v. IsLeftFrom bytes_of g.D.Disk v flusher all left) hosted.ensures.version
     (subst (λ f. IsLeftFrom bytes_of g.D.Disk hosted.hosted.version.value f all left) hosted.ensures.flusher c.in-Ok.ensures.left))
 
 pub returns-in-Err-clause-refused : goal.returns-in-Err-clause-refused
 returns-in-Err-clause-refused g c =
-    let engine = c.args.engine in
+    let version = c.args.version in
+    let flusher = c.args.store.flusher in
     let hosted = c.in_ok-hosted in
     let fault = c.in-Err.refused.fault in
     let all = given_to g.R.Read.remaining bytes_of c.in-Some.ports.items in
-    subst (λ given. IsRefusedFrom g.D.Disk (start_of engine) (flusher_of engine) given fault) c.in-Some.ensures.given
-    (subst (λ v. IsRefusedFrom g.D.Disk v (flusher_of engine) all fault) hosted.ensures.version
+    subst (λ given. IsRefusedFrom g.D.Disk version flusher given fault) c.in-Some.ensures.given
+    (subst (λ v. IsRefusedFrom g.D.Disk v flusher all fault) hosted.ensures.version
     (subst (λ f. IsRefusedFrom g.D.Disk hosted.hosted.version.value f all fault) hosted.ensures.flusher c.in-Err.ensures.refused.fault))
 
 pub returns-in_default-clause-refused : goal.returns-in_default-clause-refused
 returns-in_default-clause-refused g c =
-    let engine = c.args.engine in
+    let version = c.args.version in
+    let flusher = c.args.store.flusher in
     let hosted = c.in_ok-hosted in
     let all = given_by g.R.Read.remaining c.args.readers.items in
-    subst (λ v. IsRefusedFrom g.D.Disk v (flusher_of engine) all c.unserved.result) hosted.ensures.version
+    subst (λ v. IsRefusedFrom g.D.Disk v flusher all c.unserved.result) hosted.ensures.version
     (subst (λ f. IsRefusedFrom g.D.Disk hosted.hosted.version.value f all c.unserved.result) hosted.ensures.flusher (c.unserved.ensures all))

@@ -1,6 +1,7 @@
 use Rattle.std.proofs.Common.{◌≡◌, ◌+◌, ◌≤◌, refl, sym, arith, rules, ◌∙◌}
+use Rattle.version_book.specs.Store.{has_store}
 use Rattle.server_session.proofs.Endings.{begins, goes_on, ends-finished, ends-at_read, ends-past_limit, ends-stopped, reads_none, when_err, when_ok}
-use Rattle.server_session.proofs.Places.{keeps_to, may_report-on, reads_first, reads_last, reads_next, reads_on, reads_there, some_then}
+use Rattle.server_session.proofs.Left.{may_report-on, reads_first, reads_last, reads_next, reads_on, some_then}
 use Rattle.server_session.proofs.Turns.{stays_self, stays_trans}
 use Rattle.server_session.proofs.session.run.Goals as goal
 
@@ -10,7 +11,8 @@ loop-taken-init g c = record {
   room = refl;
   going = c.requires.going;
   stays = stays_self _;
-  own = some_then _ (reads_first c.args.most _ _ c.args.me.now c.requires.begun) c.requires.own;
+  from = c.requires.from;
+  own = some_then _ (reads_first c.args.most _ _ c.requires.begun) c.requires.own;
   way = begins _ _ _ _ _ _ c.requires.begun;
 }
 
@@ -62,8 +64,9 @@ loop-taken-preserved g c =
       room = search rules;
       going = c.take-told.ensures.ended ∙ works;
       stays = stays_trans _ _ _ c.loop-taken.invariant.stays c.take-told.ensures.stays;
-      own = keeps_to _ _ (reads_on c.args.most c.loop-taken.taken c.in-Ok.count c.min-allowed.result c.read_chunk.new.chunk _ _ within c.min-allowed.ensures c.in-Ok.ensures.bytes c.loop-taken.state c.loop-taken.me c.take-told.new.self c.take-told.new.me)
-          (when_ok _ c.take-told.result works c.take-told.ensures.own) c.loop-taken.invariant.own;
+      from = when_ok _ c.take-told.result works c.take-told.ensures.from;
+      own = reads_on c.args.most c.loop-taken.taken c.in-Ok.count c.min-allowed.result c.read_chunk.new.chunk _ _ within c.min-allowed.ensures c.in-Ok.ensures.bytes c.loop-taken.state c.take-told.new.self takes
+          (g.W.ReplyWriter.left c.loop-taken.writer) (g.W.ReplyWriter.left c.take-told.new.writer) (when_ok _ c.take-told.result works c.take-told.ensures.left) c.loop-taken.invariant.own;
       way =
           goes_on c.args.most _ c.args.me.now _ (g.R.Read.remaining c.loop-taken.reader) (g.R.Read.remaining c.read_chunk.new.reader) _ (g.W.ReplyWriter.contents c.loop-taken.writer) (g.W.ReplyWriter.contents c.take-told.new.writer)
           c.loop-taken.taken c.in-Ok.count c.min-allowed.result c.read_chunk.new.chunk c.loop-taken.state c.take-told.new.self c.loop-taken.me c.take-told.new.me
@@ -79,20 +82,20 @@ returns-clause-run g c =
 pub returns-clause-stays : goal.returns-clause-stays
 returns-clause-stays g c = c.loop-taken.invariant.stays
 
-pub end_by-requires-clause-own : goal.end_by-requires-clause-own
-end_by-requires-clause-own g c = some_then _ (reads_there c.args.most c.loop-taken.taken (g.R.Read.remaining c.loop-taken.reader) c.loop-taken.state c.loop-taken.me) c.loop-taken.invariant.own
+pub end_by-requires-clause-from : goal.end_by-requires-clause-from
+end_by-requires-clause-from g c = (has_store c.args.shared.now, c.loop-taken.invariant.from)
 
-pub end_by-requires-2-clause-own : goal.end_by-requires-2-clause-own
-end_by-requires-2-clause-own g c = some_then _ (reads_there c.args.most c.loop-taken.taken (g.R.Read.remaining c.loop-taken.reader) c.loop-taken.state c.loop-taken.me) c.loop-taken.invariant.own
+pub end_by-requires-2-clause-from : goal.end_by-requires-2-clause-from
+end_by-requires-2-clause-from g c = (has_store c.args.shared.now, c.loop-taken.invariant.from)
 
 pub finish-requires-clause-own : goal.finish-requires-clause-own
 finish-requires-clause-own g c κs within =
     let short : c.loop-taken.taken ≤ c.args.most = c.loop-taken-test.true in
-    some_then _ (reads_last c.args.most c.loop-taken.taken _ _ c.loop-taken.state c.loop-taken.me short
+    some_then _ (reads_last c.args.most c.loop-taken.taken _ _ c.loop-taken.state short
     (reads_none _ _ c.in-Ok-eq0.field-0 c.read_chunk.new.chunk c.in-Ok-eq0.field-0-test c.in-Ok-eq0.ensures.bytes)
     (c.in-Ok-eq0.ensures.at_end c.in-Ok-eq0.field-0-test)) c.loop-taken.invariant.own
 
 pub take-told-requires-clause-own : goal.take-told-requires-clause-own
 take-told-requires-clause-own g c κs within =
     let short : c.loop-taken.taken ≤ c.args.most = c.loop-taken-test.true in
-    some_then _ (reads_next c.args.most c.loop-taken.taken c.in-Ok.count c.min-allowed.result c.read_chunk.new.chunk _ _ short c.min-allowed.ensures c.in-Ok.ensures.bytes c.loop-taken.state c.loop-taken.me) c.loop-taken.invariant.own
+    some_then _ (reads_next c.args.most c.loop-taken.taken c.in-Ok.count c.min-allowed.result c.read_chunk.new.chunk _ _ short c.min-allowed.ensures c.in-Ok.ensures.bytes c.loop-taken.state) c.loop-taken.invariant.own

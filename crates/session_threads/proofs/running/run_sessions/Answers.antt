@@ -33,8 +33,16 @@ start_session-requires-clause-own g c κs within =
     let at = c.loop-script in
     let rest = into_iter_items c.next.new.self in
     let parts = ap (λ ss. at.yielded ++ ss) (sym c.in-Some.ensures.steps.0) ∙ at.invariant.all ∙ c.into_iter-script-iterator.ensures.into_iter_gives.0 in
-    let so : Script _ _ → Type 0 = λ script. IfSome (g.W.ReplyWriter.place script.port.writer) (IsAtStart (g.R.Read.remaining script.port.reader) script.session) in
+    let so : Script _ _ → Type 0 = λ script. IfSome (g.W.ReplyWriter.left script.port.writer) (IsAtStart (g.R.Read.remaining script.port.reader)) in
     in_middle so at.yielded c.in-Some.script rest (subst (All so) (sym parts) c.requires.own)
+
+pub start_session-requires-clause-from : goal.start_session-requires-clause-from
+start_session-requires-clause-from g c κs within =
+    let at = c.loop-script in
+    let rest = into_iter_items c.next.new.self in
+    let parts = ap (λ ss. at.yielded ++ ss) (sym c.in-Some.ensures.steps.0) ∙ at.invariant.all ∙ c.into_iter-script-iterator.ensures.into_iter_gives.0 in
+    let so : Script _ _ → Type 0 = λ script. g.W.ReplyWriter.from script.port.writer (has_store c.args.shared.now) script.session in
+    in_middle so at.yielded c.in-Some.script rest (subst (All so) (sym parts) c.requires.from)
 
 pub push_reserved-requires : goal.push_reserved-requires
 push_reserved-requires g c =

@@ -26,8 +26,8 @@ add-requires g c =
 pub returns-then-at-ge-MOST : goal.returns-then-at-ge-MOST
 returns-then-at-ge-MOST g c = record { ok = tt; room = tt; err = (refl, refl) }
 
-pub invariant_of-put_out : goal.invariant_of-put_out
-invariant_of-put_out g c =
+pub invariant_of-next : goal.invariant_of-next
+invariant_of-next g c =
     let e = entry (event_of c.args.cause) c.deref.result.now in
     record { last = sym (ap (λ (t : BookLog). newest_in t.log) c.if-not-add.ensures ∙ newest_more c.again-seen_log.result.log e ∙ c.deref.ensures) }
 

@@ -14,59 +14,59 @@ use Rattle.crossing_sweep.proofs.ahead.Ahead.take_first.Goals as goal
 pub returns-then-len-self-clause-first : goal.returns-then-len-self-clause-first
 returns-then-len-self-clause-first c =
     let known : List (HPoint × PointName) = map ranked_entry (drop c.self.inside.taken c.self.inside.known.items) in
-    let rest : List (HPoint × PointName) = c.pop_first.new.self.entries in
+    let rest : List (HPoint × PointName) = map ranked_entry c.first_found.new.found.keys in
     let none : known ≡ [] = all_taken c.self.inside.known.items c.self.inside.taken (omega (arith, c.if-len-self.true, c.len.ensures)) in
-    subst (λ (v : List (HPoint × PointName)). IfSome c.pop_first.result (λ e. v ≡ e ∷ put_all rest known)) c.self.view_is
-    (popped c.pop_first.result c.self.inside.found.entries rest known c.pop_first.ensures.removal c.pop_first.ensures.all_above (below_none c.pop_first.result known none))
+    subst (λ (v : List (HPoint × PointName)). IfSome c.first_found.result (λ e. v ≡ e ∷ put_all rest known)) c.self.view_is
+    (popped c.first_found.result (map ranked_entry c.self.inside.found.keys) rest known c.first_found.ensures.removal c.first_found.ensures.least (below_none c.first_found.result known none))
 
 pub returns-then-len-self-clause-least : goal.returns-then-len-self-clause-least
 returns-then-len-self-clause-least c =
     let known : List (HPoint × PointName) = map ranked_entry (drop c.self.inside.taken c.self.inside.known.items) in
     let none : known ≡ [] = all_taken c.self.inside.known.items c.self.inside.taken (omega (arith, c.if-len-self.true, c.len.ensures)) in
-    popped_least c.pop_first.result c.pop_first.new.self.entries known c.pop_first.ensures.all_above (below_none c.pop_first.result known none)
+    popped_least c.first_found.result (map ranked_entry c.first_found.new.found.keys) known c.first_found.ensures.least (below_none c.first_found.result known none)
 
 pub invariant_of-self-then-is_first_before : goal.invariant_of-self-then-is_first_before
 invariant_of-self-then-is_first_before c =
-    let pop = c.pop_first-then-is_first_before in
+    let pop = c.first_found-then-is_first_before in
     let known : List RankedPlace = drop c.self.inside.taken c.self.inside.known.items in
     record {
       ordered = c.self.invariant.ordered;
       few = c.self.invariant.few;
       apart =
-          popped_keeps (λ (e : HPoint × PointName). All (λ z. hpoint_cmp z.at e.0 ≡ Equal → ⊥) known) pop.result c.self.inside.found.entries pop.new.self.entries
+          popped_keeps (λ (e : HPoint × PointName). All (λ z. hpoint_cmp z.at e.0 ≡ Equal → ⊥) known) pop.result (map ranked_entry c.self.inside.found.keys) (map ranked_entry pop.new.found.keys)
           pop.ensures.removal pop.ensures.unchanged c.self.invariant.apart;
     }
 
 pub returns-then-is_first_before-clause-first : goal.returns-then-is_first_before-clause-first
 returns-then-is_first_before-clause-first c =
-    let pop = c.pop_first-then-is_first_before in
+    let pop = c.first_found-then-is_first_before in
     let items : List RankedPlace = c.self.inside.known.items in
     let taken : ℕ = c.self.inside.taken in
     let k : RankedPlace = c.index.result.now in
-    let es : List (HPoint × PointName) = c.self.inside.found.entries in
-    let rest : List (HPoint × PointName) = pop.new.self.entries in
+    let es : List (HPoint × PointName) = map ranked_entry c.self.inside.found.keys in
+    let rest : List (HPoint × PointName) = map ranked_entry pop.new.found.keys in
     let there : taken < length items = omega (arith, c.if-len-self.false, c.len.ensures) in
     let next : drop taken items ≡ k ∷ drop (taken + 1) items = next_of items taken k there c.index.ensures in
     let ordered : AllPairs (λ a b. ranked_cmp a b ≡ Less) (k ∷ drop (taken + 1) items) = subst (λ (l : List RankedPlace). AllPairs (λ a b. ranked_cmp a b ≡ Less) l) next (rest_ordered items taken c.self.invariant.ordered) in
     let before : is_first_before es k.at ≡ true = sym c.is_first_before.ensures.first ∙ c.if-is_first_before.true in
     let below = subst (λ (l : List RankedPlace). IfSome pop.result (λ p. All (λ y. hpoint_cmp p.0 y.0 ≡ Less) (map ranked_entry l))) (sym next) (first_before pop.result es rest k (drop (taken + 1) items) pop.ensures.removal before ordered) in
     subst (λ (v : List (HPoint × PointName)). IfSome pop.result (λ e. v ≡ e ∷ put_all rest (map ranked_entry (drop taken items)))) c.self.view_is
-    (popped pop.result es rest (map ranked_entry (drop taken items)) pop.ensures.removal pop.ensures.all_above below)
+    (popped pop.result es rest (map ranked_entry (drop taken items)) pop.ensures.removal pop.ensures.least below)
 
 pub returns-then-is_first_before-clause-least : goal.returns-then-is_first_before-clause-least
 returns-then-is_first_before-clause-least c =
-    let pop = c.pop_first-then-is_first_before in
+    let pop = c.first_found-then-is_first_before in
     let items : List RankedPlace = c.self.inside.known.items in
     let taken : ℕ = c.self.inside.taken in
     let k : RankedPlace = c.index.result.now in
-    let es : List (HPoint × PointName) = c.self.inside.found.entries in
-    let rest : List (HPoint × PointName) = pop.new.self.entries in
+    let es : List (HPoint × PointName) = map ranked_entry c.self.inside.found.keys in
+    let rest : List (HPoint × PointName) = map ranked_entry pop.new.found.keys in
     let there : taken < length items = omega (arith, c.if-len-self.false, c.len.ensures) in
     let next : drop taken items ≡ k ∷ drop (taken + 1) items = next_of items taken k there c.index.ensures in
     let ordered : AllPairs (λ a b. ranked_cmp a b ≡ Less) (k ∷ drop (taken + 1) items) = subst (λ (l : List RankedPlace). AllPairs (λ a b. ranked_cmp a b ≡ Less) l) next (rest_ordered items taken c.self.invariant.ordered) in
     let before : is_first_before es k.at ≡ true = sym c.is_first_before.ensures.first ∙ c.if-is_first_before.true in
     let below = subst (λ (l : List RankedPlace). IfSome pop.result (λ p. All (λ y. hpoint_cmp p.0 y.0 ≡ Less) (map ranked_entry l))) (sym next) (first_before pop.result es rest k (drop (taken + 1) items) pop.ensures.removal before ordered) in
-    popped_least pop.result rest (map ranked_entry (drop taken items)) pop.ensures.all_above below
+    popped_least pop.result rest (map ranked_entry (drop taken items)) pop.ensures.least below
 
 pub invariant_of-self-2 : goal.invariant_of-self-2
 invariant_of-self-2 c =
@@ -74,7 +74,7 @@ invariant_of-self-2 c =
     let taken : ℕ = c.self.inside.taken in
     let k : RankedPlace = c.index.result.now in
     let there : taken < length items = omega (arith, c.if-len-self.false, c.len.ensures) in
-    next_taken items taken c.self.inside.found.entries k there (next_of items taken k there c.index.ensures) c.self.invariant
+    next_taken items taken (map ranked_entry c.self.inside.found.keys) k there (next_of items taken k there c.index.ensures) c.self.invariant
 
 pub returns-clause-first : goal.returns-clause-first
 returns-clause-first c =
@@ -82,7 +82,7 @@ returns-clause-first c =
     let taken : ℕ = c.self.inside.taken in
     let k : RankedPlace = c.index.result.now in
     let ks : List RankedPlace = drop (taken + 1) items in
-    let es : List (HPoint × PointName) = c.self.inside.found.entries in
+    let es : List (HPoint × PointName) = map ranked_entry c.self.inside.found.keys in
     let there : taken < length items = omega (arith, c.if-len-self.false, c.len.ensures) in
     let next : drop taken items ≡ k ∷ ks = next_of items taken k there c.index.ensures in
     let apart = subst (λ (l : List RankedPlace). All (λ (e : HPoint × PointName). All (λ z. hpoint_cmp z.at e.0 ≡ Equal → ⊥) l) es) next c.self.invariant.apart in
@@ -95,7 +95,7 @@ returns-clause-least c =
     let taken : ℕ = c.self.inside.taken in
     let k : RankedPlace = c.index.result.now in
     let ks : List RankedPlace = drop (taken + 1) items in
-    let es : List (HPoint × PointName) = c.self.inside.found.entries in
+    let es : List (HPoint × PointName) = map ranked_entry c.self.inside.found.keys in
     let there : taken < length items = omega (arith, c.if-len-self.false, c.len.ensures) in
     let next : drop taken items ≡ k ∷ ks = next_of items taken k there c.index.ensures in
     let ordered : AllPairs (λ a b. ranked_cmp a b ≡ Less) (k ∷ ks) = subst (λ (l : List RankedPlace). AllPairs (λ a b. ranked_cmp a b ≡ Less) l) next (rest_ordered items taken c.self.invariant.ordered) in

@@ -11,7 +11,7 @@ returns c cap ended settled =
     let Found : PassState → Type 0 = λ s. (s.ahead ≡ 0) ⊎ (cap < s.rows) → s.settled ≤ cap → HasStripFound s.input cap s.listed c.sort.new.rows.items progress.names.items progress.nodes progress.search.tests.items in
     subst Found c.self.view_is
     (λ e few. ends_way c.self.inside.input.now c.self.invariant.amid.way.valid progress.search.listed c.self.invariant.amid.full c.self.invariant.amid.all_coming progress.search.ahead progress.search.tests.items progress.rows.items c.sort.new.rows.items c.self.invariant.names cap
-    c.self.invariant.amid.way (no_more progress.search.ahead e) progress.status.items progress.names.items c.self.invariant.kept progress.nodes c.self.invariant.counted few c.sort.ensures) ended settled
+    c.self.invariant.amid.way (no_more progress.search.ahead e) progress.status.items progress.names.items c.self.invariant.kept progress.nodes c.self.invariant.counted few c.in_ok-sort.ensures) ended settled
   where
     no_more : {A : Type 0} {P : Type 0} (l : List A) → (length l ≡ 0) ⊎ P → (l ≡ []) ⊎ P
     no_more [] (inl e) = inl refl

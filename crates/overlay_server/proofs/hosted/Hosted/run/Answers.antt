@@ -1,4 +1,4 @@
-use Rattle.std.proofs.Common.{◌≡◌, ◌+◌, ◌∙◌, ℕ, List, All, None, Some, MatchOption, length, map, ap, sym, subst}
+use Rattle.std.proofs.Common.{◌≡◌, ◌+◌, ◌∙◌, ℕ, List, All, None, Some, IfSome, MatchOption, length, map, ap, sym, subst}
 use Rattle.std.specs.List.{AllZip}
 use Rattle.std.specs.declared.alloc.Global.{Global}
 use Rattle.std.specs.declared.vec.Vec.{Vec}
@@ -14,12 +14,13 @@ use Rattle.session_threads.specs.Rooms.{HasRoom}
 use Rattle.session_threads.specs.Running.{IsRunOf}
 use Rattle.session_threads.specs.Seats.{ended_session}
 use Rattle.session_threads.specs.declared.port.Port.{Port}
+use Rattle.server_session.specs.Replying.{IsAtStart}
 use Rattle.server_session.specs.Stores.{store_of}
 use Rattle.overlay_server.specs.Given.{Given, given_to}
 use Rattle.overlay_server.specs.Serving.{first_log}
 use Rattle.overlay_server.proofs.Held.{runs_held}
 use Rattle.overlay_server.proofs.Refusals.{MayAnswer, refused_at_once}
-use Rattle.overlay_server.proofs.Reporting.{all_begun, may_report_all}
+use Rattle.overlay_server.proofs.Reporting.{goes_of, may_report_all, own_of}
 use Rattle.overlay_server.proofs.Parts.{AreSeated, all_of_book, as_many, begin_there, of_ended}
 use Rattle.overlay_server.proofs.Stopping.{any_of, come_to, stopped_of}
 use Rattle.overlay_server.proofs.StoreParts.{holds_first, holds_on, kept_twice, stopped_at_once}
@@ -40,8 +41,8 @@ returns-in-Err-clause-refused g c =
           refused_at_once g.D.Disk self.version.value (flusher_in self.store) (given c.args.ports.items) fault self.answer
           (record { code = c.refused.ensures.code; same = c.refused.ensures.answer; may = subst MayAnswer (sym c.requires.hosted.answer) tt })
           (ap (λ (l : BookLog). l.log) c.refused.ensures.seen_log ∙ c.requires.hosted.first) c.refused.ensures.told c.refused.ensures.sessions
-          (stopped_at_once g.D.Disk self.version.value (flusher_in self.store) fault.disk c.refused.ensures.now
-          (subst (λ o. MatchOption o (fault.disk ≡ None) (λ f. fault.disk ≡ Some f.commit.disk)) c.into_flusher.ensures c.refused.ensures.disk));
+          (stopped_at_once g.D.Disk self.version.value (flusher_in self.store) fault.disk c.requires.hosted.now
+          (subst (λ o. MatchOption (flusher_in self.store) (o ≡ None) (λ f. o ≡ Some f.commit.disk)) (sym c.refused.ensures.disk) c.into_disk.ensures));
       ports = (ap (λ (ps : Vec (Port _ _) Global). given ps.items) c.in-Err.ensures.refused, c.refused.ensures.sessions);
     }
 
@@ -58,7 +59,8 @@ run_threads-worked-requires-after_bounds g c κs within =
       scripts = all_of_book g.J.BookName.book start ports seats.scripts.items seated;
       told = may_report_all g.D.Disk c.requires.hosted.now start g.J.BookName.stored (flusher_in self.store) (λ log number. (c.requires.meant log number).0)
           g.W.ReplyWriter.may_report c.requires.told _ c.requires.hosted.stored seats.scripts.items (begin_there g.J.BookName.book start ports seats.scripts.items seated);
-      own = all_begun g.R.Read.remaining g.W.ReplyWriter.place g.J.BookName.book start ports seats.scripts.items seated c.requires.own;
+      goes_on = goes_of (λ port me. g.W.ReplyWriter.from port.writer (has_store self.shared) me) ports self.sessions.items seats.scripts.items c.in-Ok.ensures.ports c.in-Ok.ensures.sessions c.requires.from;
+      own = own_of (λ port. IfSome (g.W.ReplyWriter.left port.writer) (IsAtStart (g.R.Read.remaining port.reader))) ports seats.scripts.items c.in-Ok.ensures.ports c.requires.own;
       room = subst (HasRoom seats) (sym (as_many g.J.BookName.book start ports seats.scripts.items seated)) c.in-Ok.ensures.room;
     }
 

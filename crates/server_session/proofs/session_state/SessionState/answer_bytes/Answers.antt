@@ -1,7 +1,7 @@
-use Rattle.std.proofs.Common.{◌+◌, ◌++◌, take, drop, sym, ap, ◌∙◌, take-append-drop, arith}
-use Rattle.std.proofs.lemmas.List.{drop_all, drop_more, take_more}
+use Rattle.std.proofs.Common.{◌+◌, ◌++◌, take, drop, sym, ap, subst, ◌∙◌, take-append-drop, arith}
+use Rattle.std.proofs.lemmas.List.{drop_more, take_all, take_more}
 use Rattle.server_session.proofs.Steps.{takes_none, answers_nothing, takes_more, answers_more, stops_there, at_err}
-use Rattle.server_session.proofs.Places.{byte_next, byte_past, may_report-on, moves_all, moves_none}
+use Rattle.server_session.proofs.Left.{TakesAway, away_both, away_none, byte_next, may_report-on}
 use Rattle.server_session.proofs.Turns.{stays_self, stays_trans}
 use Rattle.server_session.proofs.session_state.SessionState.answer_bytes.Goals as goal
 
@@ -11,7 +11,8 @@ loop-byte-init g c = record {
   answers = λ taken has. answers_nothing _ _ _ taken;
   going = c.requires.going;
   stays = stays_self _;
-  own = moves_none c.args.bytes.now (g.W.ReplyWriter.place c.args.writer.now) c.args.self.now c.args.me.now;
+  from = c.requires.from;
+  left = away_none c.args.self.now (g.W.ReplyWriter.left c.args.writer.now);
 }
 
 pub take_byte-requires-clause-told : goal.take_byte-requires-clause-told
@@ -21,8 +22,8 @@ pub take_byte-requires-clause-own : goal.take_byte-requires-clause-own
 take_byte-requires-clause-own g c κs within =
     let i = c.loop-byte.byte-index in
     let bytes = c.args.bytes.now in
-    byte_next bytes (drop i bytes) (drop (i + 1) bytes) _ (drop_more bytes i _ c.loop-byte-test.true) (g.W.ReplyWriter.place c.args.writer.now) (g.W.ReplyWriter.place c.loop-byte.writer)
-    c.args.self.now c.loop-byte.self c.args.me.now c.loop-byte.me c.loop-byte.invariant.own c.requires.own
+    byte_next c.args.self.now c.loop-byte.self (take i bytes) (drop i bytes) (drop (i + 1) bytes) bytes _ (take-append-drop i bytes) (drop_more bytes i _ c.loop-byte-test.true) c.loop-byte.invariant.takes
+    (g.W.ReplyWriter.left c.args.writer.now) (g.W.ReplyWriter.left c.loop-byte.writer) c.loop-byte.invariant.left c.requires.own
 
 pub loop-byte-preserved : goal.loop-byte-preserved
 loop-byte-preserved g c =
@@ -36,8 +37,9 @@ loop-byte-preserved g c =
       answers = answers_more _ c.args.self.now c.loop-byte.self _ _ c.take_byte.new.me (take i bytes) _ _ _ _ (g.W.ReplyWriter.contents c.take_byte.new.writer) joined here.stays here.takes here.answers next.answers;
       going = next.ended;
       stays = stays_trans _ _ _ here.stays next.stays;
-      own = byte_past bytes (drop i bytes) (drop (i + 1) bytes) _ (drop_more bytes i _ c.loop-byte-test.true) (g.W.ReplyWriter.place c.args.writer.now) (g.W.ReplyWriter.place c.loop-byte.writer)
-          c.args.self.now c.loop-byte.self c.args.me.now c.loop-byte.me here.own (g.W.ReplyWriter.place c.take_byte.new.writer) c.take_byte.new.self c.take_byte.new.me next.own;
+      from = next.from;
+      left = away_both c.args.self.now c.loop-byte.self (take i bytes) here.takes _ _ (g.W.ReplyWriter.left c.args.writer.now) (g.W.ReplyWriter.left c.loop-byte.writer) (g.W.ReplyWriter.left c.take_byte.new.writer)
+          joined here.left next.left;
     }
 
 pub returns-in_err-take_byte-clause-stops : goal.returns-in_err-take_byte-clause-stops
@@ -50,9 +52,7 @@ returns-in_err-take_byte-clause-stops g c =
     (ap (λ l. l ++ drop (i + 1) bytes) (sym (take_more bytes i _ c.loop-byte-test.true)) ∙ take-append-drop (i + 1) bytes)
     here.stays here.takes here.answers c.in_err-take_byte.ensures.stops)
 
-pub returns-clause-own : goal.returns-clause-own
-returns-clause-own g c =
-    let bytes = c.args.bytes.now in
+pub returns-clause-left : goal.returns-clause-left
+returns-clause-left g c =
     let i = c.loop-byte.byte-index in
-    moves_all bytes (drop i bytes) (g.W.ReplyWriter.place c.args.writer.now) (g.W.ReplyWriter.place c.loop-byte.writer) c.args.self.now c.loop-byte.self c.args.me.now c.loop-byte.me
-    (drop_all i bytes (omega arith)) c.loop-byte.invariant.own
+    subst (λ bs. TakesAway c.args.self.now bs (g.W.ReplyWriter.left c.args.writer.now) (g.W.ReplyWriter.left c.loop-byte.writer)) (take_all i c.args.bytes.now (omega arith)) c.loop-byte.invariant.left

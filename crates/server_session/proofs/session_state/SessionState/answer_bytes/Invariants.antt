@@ -1,10 +1,10 @@
 -- The bytes so far are taken, and the turns that they end are answered.
-use Rattle.std.proofs.Common.{◌≡◌, ℕ, false, List, ◌++◌, take, drop}
+use Rattle.std.proofs.Common.{◌≡◌, ℕ, false, List, ◌++◌, take}
 use Rattle.version_book.specs.Store.{has_store}
 use Rattle.server_session.specs.Session.{Stays}
 use Rattle.server_session.specs.Stores.{store_of}
 use Rattle.server_session.specs.SessionState.{has_ended, HasTaken, turns_ended, AnswersTurns}
-use Rattle.server_session.proofs.Places.{Moves}
+use Rattle.server_session.proofs.Left.{TakesAway}
 use Rattle.server_session.proofs.session_state.SessionState.answer_bytes.Given as goal
 
 abbrev pub invariant-loop-byte : goal.invariant-loop-byte
@@ -14,5 +14,6 @@ invariant-loop-byte g l = record {
       → AnswersTurns (store_of g.J.BookName.stored (has_store l.shared)) l.initial.me (turns_ended taken (take l.byte-index l.bytes)) l.me (g.W.ReplyWriter.contents l.initial.writer) (g.W.ReplyWriter.contents l.writer);
   going : has_ended l.self ≡ false;
   stays : Stays l.initial.me l.me;
-  own : Moves l.bytes (drop l.byte-index l.bytes) (g.W.ReplyWriter.place l.initial.writer) l.initial.self l.initial.me (g.W.ReplyWriter.place l.writer) l.self l.me;
+  from : g.W.ReplyWriter.from l.writer (has_store l.shared) l.me;
+  left : TakesAway l.initial.self (take l.byte-index l.bytes) (g.W.ReplyWriter.left l.initial.writer) (g.W.ReplyWriter.left l.writer);
 }

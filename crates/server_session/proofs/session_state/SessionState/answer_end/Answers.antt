@@ -1,6 +1,7 @@
 use Rattle.std.proofs.Common.{length, ap, sym, arith}
 use Rattle.std.proofs.lemmas.Bool.{eqb-true, eqb-false}
-use Rattle.server_session.proofs.Places.{at_last_feed, at_last_line, behind_last, some_then}
+use Rattle.version_book.specs.Store.{has_store}
+use Rattle.server_session.proofs.Left.{at_last_feed, at_last_line, behind_last, some_then}
 use Rattle.server_session.proofs.Steps.{answers_empty, stops_empty, answers_last, stops_last, stops_at_last, at_err}
 use Rattle.server_session.proofs.session_state.SessionState.answer_end.Goals as goal
 
@@ -39,19 +40,23 @@ pub end_batch-requires : goal.end_batch-requires
 end_batch-requires g c =
     let same = ap length c.bytes-line.ensures in
     let none = eqb-true (length c.bytes-line.result.now) 0 (sym c.if-is_empty.ensures) in
-    record { own = some_then _ (at_last_feed c.args.self.now c.args.me.now _ c.take-waiting.ensures.value (omega arith)) c.requires.own }
+    record {
+      from = (has_store c.args.shared.now, c.requires.from);
+      own = some_then _ (at_last_feed c.args.self.now _ c.take-waiting.ensures.value (omega arith)) c.requires.own;
+    }
 
 pub answer_line-requires-clause-own : goal.answer_line-requires-clause-own
 answer_line-requires-clause-own g c κs within =
     let same = ap length c.bytes-line.ensures in
     let some = eqb-false (length c.bytes-line.result.now) 0 (sym c.if-is_empty.ensures) in
-    some_then _ (at_last_line c.args.self.now c.args.me.now _ c.take-waiting.ensures.value _ c.bytes-line.ensures (omega arith)) c.requires.own
+    some_then _ (at_last_line c.args.self.now _ c.take-waiting.ensures.value _ c.bytes-line.ensures (omega arith)) c.requires.own
 
 pub end_batch-requires-2 : goal.end_batch-requires-2
 end_batch-requires-2 g c =
     let same = ap length c.bytes-line.ensures in
     let some = eqb-false (length c.bytes-line.result.now) 0 (sym c.if-is_empty.ensures) in
     record {
-      own = behind_last c.args.self.now c.args.me.now _ c.take-waiting.ensures.value _ c.bytes-line.ensures (omega arith) (g.W.ReplyWriter.place c.args.writer.now) (g.W.ReplyWriter.place c.answer_line.new.writer)
-          c.answer_line.new.me c.answer_line.new.waiting _ _ c.in_ok-answer_line.ensures.answers c.in_ok-answer_line.ensures.own c.requires.own;
+      from = (has_store c.args.shared.now, c.in_ok-answer_line.ensures.from);
+      own = behind_last c.args.self.now _ c.take-waiting.ensures.value _ c.bytes-line.ensures (omega arith) c.args.me.now c.answer_line.new.me c.answer_line.new.waiting _ _ c.in_ok-answer_line.ensures.answers
+          (g.W.ReplyWriter.left c.args.writer.now) (g.W.ReplyWriter.left c.answer_line.new.writer) c.in_ok-answer_line.ensures.left c.requires.own;
     }

@@ -1,0 +1,1 @@
+"""What takes times: each a module that python3 -m starts."""

@@ -1,0 +1,1 @@
+"""What judges: the plain model, the judge of sessions, and a reader of files."""

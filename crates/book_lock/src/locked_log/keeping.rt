@@ -1,0 +1,134 @@
+//! Entries of tiles that are kept: of one, or of several of a layer with one publication.
+ghost use Rattle.std.specs.Prelude.{◌≡◌, ◌⊎◌, ◌<◌, ◌≤◌, length, take, All, IsTrue, IfOk, IfErr};
+ghost use Rattle.overlay_terms.specs.Tiles.{input_of};
+ghost use Rattle.book_history.specs.Fault.{no_memory};
+ghost use Rattle.book_history.specs.Logs.{newest_in};
+ghost use Rattle.book_lock.specs.Steps.{AreFinishedIn, IsFinishedIn};
+
+use crate::locked_log::{LockedLog, MOST};
+use crate::shared_version::kept_version;
+use book_history::entry::Cause;
+use book_history::fault::{BookFault, NO_MEMORY};
+use book_history::published::Published;
+use book_history::publisher::put_out;
+use book_history::seen_log::BookName;
+use layer_expr::name::Name;
+use std::alloc::Global;
+use std::slice;
+use std::sync::Wait;
+use tile_build::SharedBuilt;
+use versions::Version;
+
+impl<J: BookName, R: Wait + Drop> LockedLog<J, R> {
+    /// Keeps a built tile where it is awaited: the one entry that this adds, or nothing. The tile is shared.
+    pub fn keep(
+        &mut self,
+        alloc: Global,
+        name: &Name,
+        built: &SharedBuilt,
+    ) -> Result<bool, BookFault>
+        ensures kept { IfOk result (λ is_kept. IsFinishedIn self.old name.now built.now.0 built.now.1 is_kept self.new) }
+        ensures err { IfErr result (λ fault. (self.new ≡ self.old) × ((fault ≡ no_memory) ⊎ (fault ≡ BookFault.Gone))) }
+    {
+        let before = self.last().seen_log.at();
+        self.keep_each(alloc, name, slice::from_ref(built), false)?;
+        Ok(self.last().seen_log.at() != before)
+    }
+
+    /// Keeps built tiles of a layer one after another, each where it is awaited, by an entry of its own; the last version
+    /// is published. It says how many of the tiles are finished: not all where memory runs out. Inputs are not compared
+    /// where all are known to be the present ones.
+    pub fn keep_each(
+        &mut self,
+        alloc: Global,
+        name: &Name,
+        tiles: &[SharedBuilt],
+        are_present: bool,
+    ) -> Result<usize, BookFault>
+        requires present { IsTrue are_present
+            → All (λ built. built.0 ≡ input_of (newest_in self.old).layers name.now built.0.column) tiles.now }
+        ensures few { IfOk result (λ count. count ≤ length tiles.now) }
+        ensures some { IfOk result (λ count. 0 < length tiles.now → 0 < count) }
+        ensures finished { IfOk result (λ count. AreFinishedIn self.old name.now (take count tiles.now) self.new) }
+        ensures err { IfErr result (λ fault. (self.new ≡ self.old) × ((fault ≡ no_memory) ⊎ (fault ≡ BookFault.Gone))) }
+    {
+        let Ok(mut last) = self.last().again() else {
+            return Err(NO_MEMORY);
+        };
+        let count = self.add_tiles(alloc, &mut last, name, tiles, are_present)?;
+        put_out(&self.rt, &mut self.publisher, last);
+        Ok(count)
+    }
+
+    // Goes on from a version by built tiles, one after another, and says how many are finished.
+    fn add_tiles(
+        &self,
+        alloc: Global,
+        last: &mut Published,
+        name: &Name,
+        tiles: &[SharedBuilt],
+        are_present: bool,
+    ) -> Result<usize, BookFault>
+        requires book { last.old.seen_log.book ≡ J.book }
+        requires present { IsTrue are_present
+            → All (λ built. built.0 ≡ input_of (newest_in last.old.seen_log.log).layers name.now built.0.column) tiles.now }
+        ensures book { last.new.seen_log.book ≡ J.book }
+        ensures few { IfOk result (λ count. count ≤ length tiles.now) }
+        ensures some { IfOk result (λ count. 0 < length tiles.now → 0 < count) }
+        ensures finished { IfOk result
+            (λ count. AreFinishedIn last.old.seen_log.log name.now (take count tiles.now) last.new.seen_log.log) }
+        ensures err { IfErr result (λ fault. (fault ≡ no_memory) ⊎ (fault ≡ BookFault.Gone)) }
+    {
+        let mut count = 0;
+        for built in tiles {
+            match self.add_tile(alloc, last, name, built, are_present) {
+                Ok(_is_kept) => {}
+                Err(fault) => {
+                    if count == 0 {
+                        return Err(fault);
+                    }
+                    return Ok(count);
+                }
+            }
+            count += 1;
+        }
+        Ok(count)
+    }
+
+    // Goes on from a version by a built tile, where it is awaited: the tile's entry is added, and not published. Its
+    // input is not compared where it is known to be the present one.
+    fn add_tile(
+        &self,
+        alloc: Global,
+        last: &mut Published,
+        name: &Name,
+        built: &SharedBuilt,
+        is_present: bool,
+    ) -> Result<bool, BookFault>
+        requires book { last.old.seen_log.book ≡ J.book }
+        requires present { IsTrue is_present
+            → built.now.0 ≡ input_of (newest_in last.old.seen_log.log).layers name.now built.now.0.column }
+        ensures book { last.new.seen_log.book ≡ J.book }
+        ensures finished { IfOk result (λ is_kept. IsFinishedIn last.old.seen_log.log
+            name.now built.now.0 built.now.1 is_kept last.new.seen_log.log) }
+        ensures err { IfErr result (λ fault. (last.new.seen_log ≡ last.old.seen_log)
+            × ((fault ≡ no_memory) ⊎ (fault ≡ BookFault.Gone))) }
+    {
+        let now: &Version = &last.version;
+        let column = built.input().column();
+        let Some(version) = kept_version(alloc, now, name, built, is_present)? else {
+            // Who builds a tile has it alone, so it cannot be there.
+            if now.shared_tile(name, column).is_some() {
+                return Err(BookFault::Gone);
+            }
+            return Ok(false);
+        };
+        let mut seen_log = last.seen_log.again();
+        let kept = Cause::Kept(name, &column, built.tile());
+        if seen_log.at() >= MOST || !seen_log.add(&self.head, kept, &version) {
+            return Err(BookFault::Gone);
+        }
+        *last = Published { version, seen_log };
+        Ok(true)
+    }
+}
