@@ -21,7 +21,7 @@ finish_strip-requires g c =
     let input = subst (λ o. IfSome o (λ (built : Input × Tile). built.0 ≡ part c.tiles.strip.input c.tiles.strip.next)) c.in-Some.is c.in-Ok.ensures in
     record {
       book = c.tiles.invariant ∙ c.requires;
-      tiles = subst (AreNext c.tiles.strip) (sym c.from_ref.ensures) (one_next c.tiles.strip c.in-Some.built left input);
+      tiles = subst (AreNext c.tiles.strip) (sym c.from_ref.ensures.value) (one_next c.tiles.strip c.in-Some.built left input);
     }
 
 pub tiles-preserved : goal.tiles-preserved
@@ -31,5 +31,5 @@ pub tiles-smaller : goal.tiles-smaller
 tiles-smaller g c =
     let left = not_past c.is_spent.result c.tiles.strip.input.strip.last c.tiles.strip.next c.is_spent.ensures c.tiles-test.true in
     let finished = c.in-Ok-finish_strip.ensures.finished.1 in
-    let one : 1 ≡ length c.from_ref.result.now = sym (ap length c.from_ref.ensures) in
+    let one : 1 ≡ length c.from_ref.result.now = sym c.from_ref.ensures.len in
     omega (arith, left, finished.some (omega (arith, one)), ap (λ (s : HandedStrip). s.next) finished.spent, ap (λ (s : HandedStrip). s.input.strip.last) finished.spent)

@@ -18,7 +18,7 @@ pub returns : goal.returns
 returns g c =
     let made = c.in_ok-keep_each.ensures in
     record {
-      kept = one_finished c.args.self.now c.keep_each.new.self c.args.name.now c.args.built.now _ c.from_ref.result.now c.at-before.result c.at.result c.from_ref.ensures made.few made.some made.finished
+      kept = one_finished c.args.self.now c.keep_each.new.self c.args.name.now c.args.built.now _ c.from_ref.result.now c.at-before.result c.at.result c.from_ref.ensures.value made.few made.some made.finished
           (c.at-before.ensures.length ∙ ap (λ (t : BookLog). length t.log) c.last.ensures.seen_log)
           (c.at.ensures.length ∙ ap (λ (t : BookLog). length t.log) c.last-2.ensures.seen_log);
       err = tt;
