@@ -14,7 +14,7 @@ use Rattle.overlay_engine.specs.Covers.{Covered, Covers}
 use Rattle.overlay_engine.specs.Steps.{Submits, SubmitsBatch, Takes, Finishes, Reports}
 use Rattle.overlay_engine.specs.Devices.{Devices}
 
--- what a step makes of the engine, by its kind
+-- what a step makes of the engine, by its kind; of a call of the device rows leave `Devices` out: see `Survives`
 abbrev pub Acts : {D : Type 0} (g : Ghosts D) → Step → Engine D g → Reply → Engine D g → Type 0
 Acts g (Submit change) old reply new = Submits (command change) old reply new
 Acts g (SubmitAll batch) old reply new = SubmitsBatch batch old reply new
@@ -23,13 +23,13 @@ Acts g (Finish number) old reply new = Finishes number old reply new
 Acts g Device old reply new = Devices g old reply new
 Acts g Report old reply new = Reports old reply new
 
--- the batch that a step added, where it was accepted: a single command is a batch of one
+-- the batch that a step added, if it was accepted: of a command one of one (a batch of the code is seen as `Batch`)
 abbrev pub accepted_by : Step → Reply → List Batch
 accepted_by (Submit change) (Accepted number) = (command change ∷ []) ∷ []
 accepted_by (SubmitAll batch) (Accepted number) = batch ∷ []
 accepted_by step reply = []
 
--- a step of an engine that has accepted these batches: the store covers them, with the step's, as it ends; and a crash at any moment of the step leaves what is after the first so many batches before it, no fewer than were durable then
+-- a step of an engine that has accepted these batches: as it ends, the store covers them with the step's own; a crash at any moment of it leaves what the first so many of these batches make, no fewer than were durable as the step began
 pub record Survives {D : Type 0} (g : Ghosts D) (start : Start) (batches : List Batch) (step : Step) (old : Engine D g) (reply : Reply) (new : Engine D g) : Type 0 where
   pub covers : Covers g start new.flusher new.version (batches ++ accepted_by step reply)
   pub moments : LeavesOnly g old.flusher.commit.disk new.flusher.commit.disk (Covered start old.version.durable batches)

@@ -30,7 +30,7 @@ module _ {D : Type 0} (g : Ghosts D) (start : Start) where
     pub survives : IsCovered old → Survives g start old.batches step old.engine reply new.engine
     pub batches : new.batches ≡ old.batches ++ accepted_by step reply
 
-  -- a recovery of `disk` is cut by a crash, or refused, and leaves `next` (`end`: the disk as had it returned)
+  -- a recovery of `disk` is cut by a crash, or refused, and leaves `next` (`end`: the disk as if it had returned)
   pub record Tries (disk next : D) : Type 0 where
     pub end : D
     pub moments : (least : ℕ) (batches : List Batch) → Leaves g disk (Covered start least batches) → LeavesOnly g disk end (Covered start least batches)
@@ -41,7 +41,7 @@ module _ {D : Type 0} (g : Ghosts D) (start : Start) where
   TriesTo disk [] last = last ≡ disk
   TriesTo disk (next ∷ more) last = Tries disk next × TriesTo next more last
 
-  -- the machine crashes before or within a step (`end`: as had it returned); what that leaves is recovered, after tries that were stopped
+  -- the machine crashes before or within a step (`end`: as if it had returned); what that leaves is recovered, after tries that were stopped
   pub record CrashesTo (old new : Stage D g) : Type 0 where
     pub step : Step
     pub reply : Reply
@@ -60,7 +60,7 @@ module _ {D : Type 0} (g : Ghosts D) (start : Start) where
   Lives stage [] = Unit {0}
   Lives stage (next ∷ more) = (StepsTo stage next ⊎ CrashesTo stage next) × Lives next more
 
-  -- what was durable at one stage is so at a later one: its version is that of batches which begin with the same ones
+  -- what was durable at one stage is so at a later one, whose batches begin with those that were durable at the first
   pub record StillStands (old new : Stage D g) : Type 0 where
     pub covered : IsCovered new
     pub durable : old.engine.version.durable ≤ new.engine.version.durable

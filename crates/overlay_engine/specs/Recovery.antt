@@ -15,7 +15,7 @@ use Rattle.overlay_engine.specs.Start.{Start, layers_from, up_to}
 use Rattle.overlay_engine.specs.Covers.{Covered, Covers}
 
 module _ {D : Type 0} (g : Ghosts D) (start : Start) (disk : D) where
-  -- an engine is recovered: its version is the one after as many batches as its number says, at least `least`, and durable; a crash meanwhile leaves what recovers as well
+  -- an engine is recovered: its version is that after the batches up to its number, which is `least` or more and durable; a crash meanwhile leaves what recovers as well
   pub record Recovered (e : Engine D g) (least : ℕ) (batches : List Batch) : Type 0 where
     pub no_less : least ≤ e.version.number
     pub no_more : e.version.number ≤ start.number + length batches

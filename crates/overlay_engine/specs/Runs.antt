@@ -52,7 +52,7 @@ module _ {D : Type 0} (g : Ghosts D) where
     pub survives : (start : Start) (batches : List Batch) → Covers g start old.flusher old.version batches
         → EachSurvives start batches run × Covers g start new.flusher new.version (batches ++ accepted_in_run run)
 
-  -- a machine, or the program, stops within a step, which is taken as if it had returned. `disk` is the one opened then: it leaves only what that step may have
+  -- a machine, or the program, stops within a step, taken as if it had returned. `disk` is the one opened then: it may leave only what a crash in that step might
   pub record CrashesIn (run : List (Made D g)) (disk : D) : Type 0 where
     pub before : List (Made D g)
     pub made : Made D g

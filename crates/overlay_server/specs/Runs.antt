@@ -58,7 +58,7 @@ module _ {D : Type 0} (g : Ghosts D) (start : Start) where
   abbrev pub opened : List Batch → Engine D g → Moment D g
   opened batches e = record { before = up_to start e.version.number batches; history = record { start = e.version; entries = [] }; flusher = e.flusher }
 
-  -- the machine crashes within a call of the keeper, or after its return: what is said of the call holds as had it returned; and
+  -- the machine crashes in a call of the keeper, or after its return: what is said of the call holds as if it had returned; and
   -- what that leaves is opened in the end, after so many openings that were stopped or refused, and the next run begins
   pub record CutTo (old new : Moment D g) : Type 0 where
     pub history : History

@@ -123,7 +123,7 @@ module _ {D : Type 0} (g : Ghosts D) where
 
 -- ---- the server
 
--- a server ran from a version and its store to its book's end; its sessions alone, one a port from 0, had commands accepted
+-- a server ran from a version and its store to its book's end; its sessions alone, numbered by port from 0, had commands accepted
 pub record IsLeftFrom {W D : Type 0} (contents : W → Option (List ℕ)) (g : Ghosts D) (start : Version) (store : Option (Flusher D g)) (all : List Given) (left : Left W D) : Type 0 where
   pub version : arc_value left.closed.version ≡ newest_in left.closed.seen_log.log
   pub log : IsLog left.closed.seen_log.log

@@ -27,13 +27,13 @@ told_then moment number = record { number = number; moment = moment }
 abbrev pub told_at : ℕ → List ℕ → List Told
 told_at moment numbers = map (told_then moment) numbers
 
--- numbers that a history reports durable were written down then, and a crash at that moment or later leaves nothing older
+-- the numbers that a history reports durable are noted in order; from its note's moment on a crash leaves nothing older
 pub record StaysTold {D : Type 0} (g : Ghosts D) (history : History) (told : List Told) (old last : D) : Type 0 where
   pub each : reported_in history.entries ≡ map (λ (t : Told). t.number) told
   pub stays : All (λ (t : Told). (g.moment old ≤ t.moment) × (t.moment ≤ g.moment last)
       × ((c : List ℕ) → g.left_since last t.moment c → IsFileIn history t.number c)) told
 
--- a history, its notes and its disk are others now: no note is struck out; if all were true since `first`, they are still
+-- a history, its notes and its disk go on: no note is struck out; if all were true since `first`, they still are
 pub record TellsOn {D : Type 0} (g : Ghosts D) (was : History) (told : List Told) (old : D) (now : History) (more : List Told) (new : D) : Type 0 where
   pub goes_on : IsPrefix told more
   pub later : g.moment old ≤ g.moment new

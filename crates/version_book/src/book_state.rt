@@ -19,7 +19,7 @@ pub struct BookState {
     /// Whether the reporter waits for an accepted command.
     pub resting: bool,
     pub closing: bool,
-    /// Counts accepted commands and kept tiles, which are news to the reporter.
+    /// Changes with each accepted command and wherever tiles were kept, which is news to the reporter.
     pub news: u64,
 }
 
