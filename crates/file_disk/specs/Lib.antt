@@ -1,2 +1,3 @@
 pub mod Descriptor
+pub mod GuardedDisk
 pub mod Nowhere

@@ -3,6 +3,7 @@ ghost use Rattle.std.specs.Prelude.{[], ◌≤ℤ◌, IfOk, pos};
 ghost use Rattle.std.specs.Fd.{file_raw_fd};
 ghost use Rattle.file_disk.specs.Descriptor.{IsOwn};
 
+use crate::guarded_disk::{Access, GuardedDisk};
 use disk_model::disk::Disk;
 use disk_model::fault::DiskFault;
 use std::fs::{File, OpenOptions, TryLockError};
@@ -11,30 +12,21 @@ use std::os::unix::fs::FileExt;
 use std::rt::Files;
 use std::{fs, io};
 
-/// A plain file, which is open, and whose lock is held, as long as the disk is there. That it is honest is claimed
-/// nowhere: what it does is shown by tests.
-#[derive(Debug, Drop)]
-pub struct FileDisk {
-    file: File,
-    access: Access,
-}
+/// A plain file, which is open, and whose lock is held, as long as the disk is there. Once a write or a sync of it has
+/// failed each call fails, until the file is opened anew. No other program is to have it meanwhile.
+pub type FileDisk = GuardedDisk<OpenFile>;
 
-/// What may be done with a file.
-#[derive(Clone, Copy, Debug)]
-enum Access {
-    /// It is read and written.
-    Whole,
-    /// It is read alone: each write is an error.
-    Reading,
-    /// Nothing, once a write or a sync has failed, until the file is opened anew. After a sync that failed, what was
-    /// written may be gone although the system takes the next sync as done. No other program is to have it meanwhile.
-    Failed,
+/// An open file: each call is one of the system, of which nothing is claimed. What it does is shown by tests.
+#[derive(Debug, Drop)]
+pub struct OpenFile {
+    file: File,
+    is_read_alone: bool,
 }
 
 /// The least number of an open file that is none of a standard stream's.
 const FIRST_OWN: RawFd = 3;
 
-impl FileDisk {
+impl GuardedDisk<OpenFile> {
     /// The file at a path. Where it is absent it is made if `make` says so, and else that is an error, as is a folder,
     /// a device and whatever the system refuses. Of a link, also of one that leads to no file yet, it is the file that
     /// the link leads to. No byte of a file that is there is changed or cut off. No other program has it until it is
@@ -47,11 +39,11 @@ impl FileDisk {
         // The file has no standard stream's number.
         ensures own { IfOk result IsOwn }
     {
-        let file = opened(rt, path, make)?;
-        Ok(FileDisk {
-            file,
-            access: Access::Whole,
-        })
+        let file = OpenFile {
+            file: opened(rt, path, make)?,
+            is_read_alone: false,
+        };
+        Ok(GuardedDisk::over(file, Access::Whole))
     }
 
     /// The file at a path, to be read alone: it may be one that cannot be written. Others may read it meanwhile, and no
@@ -59,27 +51,11 @@ impl FileDisk {
     pub fn reading<R: Files<File = File>>(rt: &R, path: &str) -> io::Result<FileDisk>
         ensures own { IfOk result IsOwn }
     {
-        let file = opened_to_read(rt, path)?;
-        Ok(FileDisk {
-            file,
-            access: Access::Reading,
-        })
-    }
-
-    /// The file, as long as no write or sync has failed.
-    fn file(&self) -> Result<&File, DiskFault> {
-        match self.access {
-            Access::Whole | Access::Reading => Ok(&self.file),
-            Access::Failed => Err(DiskFault::Device),
-        }
-    }
-
-    /// The answer of a write or a sync. Where it failed, each later call fails.
-    fn after(&mut self, answer: Result<(), DiskFault>) -> Result<(), DiskFault> {
-        if answer.is_err() {
-            self.access = Access::Failed;
-        }
-        answer
+        let file = OpenFile {
+            file: opened_to_read(rt, path)?,
+            is_read_alone: true,
+        };
+        Ok(GuardedDisk::over(file, Access::Reading))
     }
 }
 
@@ -202,7 +178,7 @@ fn told<T: Drop>(answer: io::Result<T>) -> Result<T, DiskFault> {
     }
 }
 
-impl Disk for FileDisk {
+impl Disk for OpenFile {
     ghost use Rattle.file_disk.specs.Nowhere.{none_now, none_only, none_stays};
 
     ghost is_honest = { λ _. ⊥ };
@@ -226,28 +202,22 @@ impl Disk for FileDisk {
     ghost seen_may_stay = { none_stays };
 
     fn length(&mut self) -> Result<usize, DiskFault> {
-        let metadata = told(self.file()?.metadata())?;
+        let metadata = told(self.file.metadata())?;
         Ok(metadata.len() as usize)
     }
 
     fn read(&mut self, at: usize, buf: &mut [u8]) -> Result<(), DiskFault> {
-        told(self.file()?.read_exact_at(buf, at as u64))
+        told(self.file.read_exact_at(buf, at as u64))
     }
 
     fn write_at(&mut self, at: usize, bytes: &[u8]) -> Result<(), DiskFault> {
-        let answer = match self.access {
-            Access::Whole => told(written(&self.file, at as u64, bytes)),
-            Access::Reading | Access::Failed => return Err(DiskFault::Device),
-        };
-        self.after(answer)
+        told(written(&self.file, at as u64, bytes))
     }
 
     fn sync(&mut self) -> Result<(), DiskFault> {
-        let answer = match self.access {
-            Access::Whole => told(self.file.sync_data()),
-            Access::Reading => told(synced_to_read(&self.file)),
-            Access::Failed => return Err(DiskFault::Device),
-        };
-        self.after(answer)
+        if self.is_read_alone {
+            return told(synced_to_read(&self.file));
+        }
+        told(self.file.sync_data())
     }
 }

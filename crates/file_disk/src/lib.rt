@@ -2,3 +2,4 @@
 #![tactic(auto)]
 
 pub mod file_disk;
+pub mod guarded_disk;

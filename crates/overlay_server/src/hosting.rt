@@ -36,8 +36,8 @@ use tile_workers::gate::Gate;
 use version_book::seen_log::{BookName, LogWord, SeenLog};
 use versions::Version;
 
-/// Opens the book that is named by its history, for so many sessions. It begins with its engine's version, and so with the
-/// durable number that this has. Where it gives no places, the disk comes back.
+/// Opens the book that is named by its history, for so many sessions. It begins with this version, and so with the durable
+/// number that the version has. Where it gives no places, the disk comes back, shut.
 fn host<J: BookName, S: Wait + Drop, D: Disk>(
     rt: S,
     alloc: Global,

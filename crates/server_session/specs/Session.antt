@@ -26,8 +26,8 @@ pub record IsSharedRun (stored : BookStore) (was : Known) (turns : List Turn) (n
   pub told : IsTranscript stored was.session (seen was) turns (seen now) made replies
   pub only : now.made ≡ was.made ++ made
 
--- how a session ended: what it had known and knows, `taken`, `left` to the reader, `written`; `most` is its limit of
--- bytes its script ended: each line, or the batch that it is of, has its reply
+-- how a session ended: what it had known and knows, `taken`, `left` to the reader, `written`; `most`: its most bytes.
+-- Its script ended: each line, or the batch that it is of, has its reply
 pub record IsEnded (most : ℕ) (stored : BookStore) (was now : Known) (taken : List ℕ) (left : Option (List ℕ)) (written : List ℕ) : Type 0 where
   pub all_taken : IsAtEnd left
   pub short : length taken ≤ most

@@ -31,7 +31,7 @@ fn a_new_store_asks_for_an_empty_file_and_three_blocks(rt: HostRuntime) {
             Ok(_) => None,
             Err((_, code)) => Some(code),
         };
-        assert!(rt; fault == code);
+        assert!(rt; fault == code, "at most {limit} blocks");
     }
 }
 

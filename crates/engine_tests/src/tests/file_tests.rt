@@ -45,8 +45,11 @@ fn a_file_that_is_empty_or_cut_is_not_recovered(rt: HostRuntime) -> Result<(), F
     for &(length, damage, code) in &FRONTS {
         let front = file.get(0..length).unwrap_or(&[]);
         let fault = refusal(rt.alloc(), front)?;
-        assert!(rt; fault == StoreFault::Damaged(damage));
-        assert_eq!(rt; fault.code(), code);
+        assert!(rt;
+            fault == StoreFault::Damaged(damage),
+            "the first {length} bytes"
+        );
+        assert_eq!(rt; fault.code(), code, "the first {length} bytes");
     }
     Ok(())
 }

@@ -167,20 +167,21 @@ fn writes_so(alloc: Global, lines: &[Line]) -> Result<bool, Fail> {
     Ok(are_written(alloc, lines, disk.calls())? && is_recovered(alloc, &disk, &layers, has_tile)?)
 }
 
-/// Whether they do after each of the lines.
-fn write_so(alloc: Global, lines: &[Line]) -> Result<bool, Fail> {
+/// After how many of the lines the commits do not write so; 0 where they do after each.
+fn broken_after(alloc: Global, lines: &[Line]) -> Result<usize, Fail> {
     for count in 1..=lines.len() {
         if !writes_so(alloc, lines.get(..count).unwrap_or(&[]))? {
-            return Ok(false);
+            return Ok(count);
         }
     }
-    Ok(true)
+    Ok(0)
 }
 
 #[test]
 fn a_commit_writes_only_what_changed(rt: HostRuntime) -> Result<(), Fail> {
-    for lines in LISTS {
-        assert!(rt; write_so(rt.alloc(), lines)?);
+    for (list, &lines) in LISTS.iter().enumerate() {
+        let count = broken_after(rt.alloc(), lines)?;
+        assert!(rt; count == 0, "list {list}, after {count} lines");
     }
     Ok(())
 }
@@ -193,10 +194,13 @@ fn six_blocks_are_enough_for_a_layer_beside_another(rt: HostRuntime) -> Result<(
     for &(limit, calls, reply) in &LIMITS {
         let mut engine = Machine::in_memory(rt.alloc(), limit)?;
         let first = put_square(rt.alloc(), &mut engine, 8)?;
-        assert!(rt; first.last().copied() == Some(Reply::Done(1)));
+        assert!(rt;
+            first.last().copied() == Some(Reply::Done(1)),
+            "at most {limit} blocks"
+        );
         drive(rt.alloc(), &mut engine, &[Words::Put("B", SHIFTED)])?;
         let last = committed(rt.alloc(), &mut engine, calls)?;
-        assert!(rt; last == Some(reply));
+        assert!(rt; last == Some(reply), "at most {limit} blocks");
     }
     Ok(())
 }

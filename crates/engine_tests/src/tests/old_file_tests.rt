@@ -124,7 +124,10 @@ fn an_old_file_opens_with_its_layers_and_is_completed_in_its_own_format(
     for change in 0..=UNREAD.len() {
         let (is, disk) = is_left(rt.alloc(), disk_of(rt.alloc(), unread(change))?)?;
         assert!(rt; is, "with change {change}");
-        assert!(rt; stands(&disk, (16, TWIN)) && stands(&disk, (BLOCK + 16, BODY)));
+        assert!(rt;
+            stands(&disk, (16, TWIN)) && stands(&disk, (BLOCK + 16, BODY)),
+            "with change {change}"
+        );
     }
     Ok(())
 }

@@ -154,8 +154,8 @@ fn check_calls(rt: &impl Abort, replies: &[Reply], calls: usize, number: u64) {
         panic!(rt; "no call");
     };
     assert!(rt; *last == Reply::Done(number));
-    for reply in others {
-        assert!(rt; *reply == Reply::Going);
+    for (place, reply) in others.iter().enumerate() {
+        assert!(rt; *reply == Reply::Going, "call {place}");
     }
 }
 

@@ -56,9 +56,9 @@ fn found(rt: &impl Abort, alloc: Global, disk: MemDisk) -> Option<usize> {
 fn check_left(rt: &impl Abort, alloc: Global, disk: &MemDisk, left: Left) {
     let seen = found(rt, alloc, disk_of(rt, alloc, disk.bytes()));
     assert!(rt; left.contains(&seen));
-    for &choice in &CHOICES {
+    for (place, &choice) in CHOICES.iter().enumerate() {
         let image = disk.image(usize::MAX, choice).expect(rt, "memory");
-        assert!(rt; left.contains(&found(rt, alloc, image)));
+        assert!(rt; left.contains(&found(rt, alloc, image)), "choice {place}");
     }
 }
 
@@ -142,7 +142,10 @@ fn disturbed<P: Plan>(
     assert!(rt; replies.len() as u64 == 1 + COMMITTED);
     assert!(rt; replies.first().copied() == Some(Reply::Accepted(1)));
     for (place, &reply) in replies.iter().skip(1).enumerate() {
-        assert!(rt; reply == answer(place as u64, failing));
+        assert!(rt;
+            reply == answer(place as u64, failing),
+            "call {place}, {failing} fails"
+        );
     }
     engine.into_disk().into_disk()
 }

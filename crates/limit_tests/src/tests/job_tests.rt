@@ -47,7 +47,10 @@ fn check(rt: &impl Abort, alloc: Global, engine: &mut Machine<MemDisk>) {
     let steps = steps(rt, alloc);
     let replies = engine.drive(alloc, &steps).expect(rt, "memory");
     for job in 0..JOBS {
-        assert!(rt; replies.get(3 + job as usize).copied() == Some(Reply::Taken(job)));
+        assert!(rt;
+            replies.get(3 + job as usize).copied() == Some(Reply::Taken(job)),
+            "job {job}"
+        );
     }
     assert!(rt; replies.ends_with(LAST));
 }

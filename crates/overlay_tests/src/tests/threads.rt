@@ -279,7 +279,10 @@ fn share_all<R: Abort>(rt: &R, from: u64, first: &[u64], second: &[u64]) {
     assert!(rt; second.len() == 1500);
     for more in 1..3001 {
         let number = from.wrapping_add(more);
-        assert!(rt; first.contains(&number) || second.contains(&number));
+        assert!(rt;
+            first.contains(&number) || second.contains(&number),
+            "number {number}"
+        );
     }
 }
 

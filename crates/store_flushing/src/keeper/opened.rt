@@ -1,4 +1,5 @@
-//! A store until its keeper has it, and its disk from then on: both shut, so that no code between has one by value.
+//! A store before its keeper has it, and its disk once that gives it up: both shut, so that no code between has one by
+//! value.
 ghost use Rattle.std.specs.Prelude.{◌≡◌, is_some, MatchOption, None, Some};
 
 use disk_model::disk::Disk;
@@ -13,7 +14,7 @@ pub struct Opened<J: BookName, D: Disk> {
     of: PhantomData<J>,
 }
 
-/// A disk that is shut: its key alone opens it.
+/// A disk that is shut: a key alone opens it.
 #[derive(Drop)]
 pub struct Shut<D> {
     disk: D,
