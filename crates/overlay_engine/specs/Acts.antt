@@ -14,7 +14,7 @@ use Rattle.overlay_engine.specs.Covers.{Covered, Covers}
 use Rattle.overlay_engine.specs.Steps.{Submits, SubmitsBatch, Takes, Finishes, Reports}
 use Rattle.overlay_engine.specs.Devices.{Devices}
 
--- what a step makes of the engine, by its kind; of a call of the device rows leave `Devices` out: see `Survives`
+-- what a step makes of the engine, by its kind; of the device's step a row without `Devices` says only `Survives`
 abbrev pub Acts : {D : Type 0} (g : Ghosts D) → Step → Engine D g → Reply → Engine D g → Type 0
 Acts g (Submit change) old reply new = Submits (command change) old reply new
 Acts g (SubmitAll batch) old reply new = SubmitsBatch batch old reply new
@@ -23,7 +23,7 @@ Acts g (Finish number) old reply new = Finishes number old reply new
 Acts g Device old reply new = Devices g old reply new
 Acts g Report old reply new = Reports old reply new
 
--- the batch that a step added, if it was accepted: of a command one of one (a batch of the code is seen as `Batch`)
+-- the batch that a step added, if it was accepted: a single command is a batch of one; `batch` stands for its model
 abbrev pub accepted_by : Step → Reply → List Batch
 accepted_by (Submit change) (Accepted number) = (command change ∷ []) ∷ []
 accepted_by (SubmitAll batch) (Accepted number) = batch ∷ []

@@ -68,7 +68,7 @@ module _ {D : Type 0} (g : Ghosts D) (start : Start) where
   In Open f batches = UnderWay f batches
   In Finish f batches = UnderWay f batches
 
-  -- the version is the one after all the batches, its tiles are right, what is reported is stored, nothing newer is, and the disk is honest; `store` says the rest by its phase
+  -- the version is the one after all the batches, its tiles are right, what is reported is stored, nothing newer than the version is, and the disk is honest; `store` says the rest by its phase
   pub record Covers (f : Flusher D g) (version : Version) (batches : List Batch) : Type 0 where
     pub honest : g.is_honest f.commit.disk
     pub number : version.number ≡ start.number + length batches

@@ -48,7 +48,7 @@ module _ {D : Type 0} (g : Ghosts D) where
     pub err : IfErr result
         (λ refused. (start : Start) (least : ℕ) (batches : List Batch)
         → Leaves g disk (Covered start least batches) → Refused g start disk refused least batches)
-    -- the same after a crash in a step of a run: `least` is what was durable as that began; after the last step take `CoveredStays`, then `ok`
+    -- the same after a crash in a step of a run: `least` is what was durable as the step began; after the last step take `CoveredStays`, then `ok`
     pub crashed : (start : Start) (batches : List Batch) (run : List (Made D g)) → EachSurvives g start batches run
         → (crash : CrashesIn g run disk)
         → MatchResult result

@@ -60,7 +60,7 @@ module _ {D : Type 0} (g : Ghosts D) (start : Start) where
   Lives stage [] = Unit {0}
   Lives stage (next ∷ more) = (StepsTo stage next ⊎ CrashesTo stage next) × Lives next more
 
-  -- what was durable at one stage is so at a later one, whose batches begin with those that were durable at the first
+  -- what was durable at one stage is so at a later one: its version is that of batches which begin with those durable at the first
   pub record StillStands (old new : Stage D g) : Type 0 where
     pub covered : IsCovered new
     pub durable : old.engine.version.durable ≤ new.engine.version.durable

@@ -87,7 +87,7 @@ module _ {D : Type 0} {g : Ghosts D} where
   abbrev pub HasNoJob : Name → ℕ → Engine D g → Type 0
   HasNoJob name column e = IsTrue (is_some (tile_at e.version.tiles name column)) ⊎ (e.next_job ≡ jobs_max)
 
-  -- an engine hands out the input of a tile: its job is held; or no job can be had of it; or there is no such tile, or memory runs out. But for the first, nothing changes except where the jobs lie in memory
+  -- an engine hands out the input of a tile: it is pending, and its job is held; or no job can be had of it; or there is no such tile, or memory runs out, and nothing changes but where the jobs lie in memory
   abbrev pub Takes : Name → ℕ → Engine D g → Reply → Engine D g → Type 0
   Takes name column old (Taken number) new =
       (tile_refusal old.version.layers name (column_numbered column) ≡ None) × ¬ (HasNoJob name column old) × HoldsJob name column old number new
@@ -97,7 +97,7 @@ module _ {D : Type 0} {g : Ghosts D} where
       RefusedAs (tile_refusal old.version.layers name (column_numbered column)) code × (code ≡ 40 → ¬ (HasNoJob name column old)) × StaysEqual old new
   Takes name column old reply new = ⊥
 
-  -- a job that is held is given up; the store and the other jobs stay
+  -- a job that is held is given up; the store, the other jobs and the next one's number stay
   pub record GivesUp (number : ℕ) (old : Engine D g) (job : HeldJob) (new : Engine D g) : Type 0 where
     pub index : ℕ
     pub there : job_at number old.jobs.items ≡ Some index

@@ -25,7 +25,7 @@ start_of_batches version = record { number = version.number; layers = version.la
 abbrev pub VersionsAreExact : Type 0
 VersionsAreExact = (history : History) (version : Version) → IsHistory history → IsExact history.start → IsVersionIn history version → IsExact version
 
--- a file that holds a version of a history, `least` or newer, is covered: by the first of its batches, with right tiles
+-- a file that holds a version of a history, `least` or newer, is covered: by its first so many batches, its tiles right
 abbrev pub FilesAreCovered : Type 0
 FilesAreCovered =
     (history : History) (least : ℕ) (file : List ℕ) → IsHistory history → IsExact history.start → IsFileIn history least file

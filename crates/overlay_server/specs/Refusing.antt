@@ -74,8 +74,9 @@ module _ {D : Type 0} (g : Ghosts D) where
 
 -- ---- the server
 
--- a server could not run: its number is the book's as it was to be opened (44 or 40), or 40. Its history begins with the first version;
--- the sessions that come back, from 0, alone had commands accepted, of their scripts; if none does, none had. The disk comes back
+-- a server could not run: its number is the book's as it was to be opened (40, 44), else 40. Its history begins with
+-- the first version; the sessions that come back, from 0, alone had commands accepted, of their scripts; if none does,
+-- none had. The disk comes back
 pub record IsRefusedFrom {D : Type 0} (g : Ghosts D) (start : Version) (store : Option (Flusher D g)) (all : List Given) (fault : ServerFault D) : Type 0 where
   pub code : (fault.code ≡ 40) ⊎ (fault.code ≡ 44)
   pub exactly : fault.code ≡ refusal_code (answer_in fault.answer)

@@ -64,7 +64,7 @@ pub record Flushes {D : Type 0} (g : Ghosts D) (was : History) (old : Flusher D 
   pub by_device : FailsByDevice g old.commit new.commit
 
 -- a call of a store's keeper: what the reporter has seen goes on and is a history, the store is one of it, and it fails
--- by its device alone. What is reported by its end was stored as it began; a crash within it leaves none older than that
+-- by its device alone. What was stored as it began has all that is reported by its end; no crash within it leaves less
 pub record KeepsTold {D : Type 0} (g : Ghosts D) (was : History) (old : Flusher D g) (now : History) (new : Flusher D g)
     : Type 0 where
   pub goes_on : BeginsWith now was

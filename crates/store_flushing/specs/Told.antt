@@ -27,13 +27,13 @@ told_then moment number = record { number = number; moment = moment }
 abbrev pub told_at : ℕ → List ℕ → List Told
 told_at moment numbers = map (told_then moment) numbers
 
--- the numbers that a history reports durable are noted in order; from its note's moment on a crash leaves nothing older
+-- each number that a history reports durable has a note, in order; a crash at the note's moment or later leaves no less
 pub record StaysTold {D : Type 0} (g : Ghosts D) (history : History) (told : List Told) (old last : D) : Type 0 where
   pub each : reported_in history.entries ≡ map (λ (t : Told). t.number) told
   pub stays : All (λ (t : Told). (g.moment old ≤ t.moment) × (t.moment ≤ g.moment last)
       × ((c : List ℕ) → g.left_since last t.moment c → IsFileIn history t.number c)) told
 
--- a history, its notes and its disk go on: no note is struck out; if all were true since `first`, they still are
+-- from a history, its notes and its disk to later ones: no note is struck out; if all held since `first`, all do now
 pub record TellsOn {D : Type 0} (g : Ghosts D) (was : History) (told : List Told) (old : D) (now : History) (more : List Told) (new : D) : Type 0 where
   pub goes_on : IsPrefix told more
   pub later : g.moment old ≤ g.moment new
