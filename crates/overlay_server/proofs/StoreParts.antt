@@ -47,7 +47,7 @@ module _ {D : Type 0} (g : Ghosts D) where
   flushed_twice : (a b c : Store D g) → AreFlushed g a b → AreFlushed g b c → AreFlushed g a c
   flushed_twice (Kept a) (Kept b) (Kept c) first second = record {
     flushes = λ is. let one = first.flushes is in
-        then g (history_of a.reporter.log) (history_of b.reporter.log) (history_of c.reporter.log) a.flusher b.flusher c.flusher one (second.flushes one.store);
+        then g (history_of a.reporter.log) (history_of b.reporter.log) (history_of c.reporter.log) a.held.flusher b.held.flusher c.held.flusher one (second.flushes one.store);
     rests = second.rests;
     tells = telling_then g a b c first.tells (λ is. (first.flushes is).store) second.tells;
   }
@@ -70,7 +70,7 @@ module _ {D : Type 0} (g : Ghosts D) where
   pub holds_first : (stored : List Entry → ℕ → Type 0) (start : Version) (store : Store D g) → (reporter_of store).log ≡ first_log start
       → CountsAs stored start (flusher_in store) → HoldsOfStore g stored store
   holds_first stored start (Kept k) first same =
-      subst (λ (es : List Entry). HoldsOfStored g stored (history_of es) k.flusher) (sym first)
+      subst (λ (es : List Entry). HoldsOfStored g stored (history_of es) k.held.flusher) (sym first)
       (λ log h on. (same log h.commit.root.version).1 (λ is. record { store = h; followed = on is; at = refl }))
   holds_first stored start (Alone r) first same = tt
 
@@ -79,7 +79,7 @@ module _ {D : Type 0} (g : Ghosts D) where
   holds_on stored (Kept a) (Kept b) run all =
       let was = history_of a.reporter.log in
       let now = history_of b.reporter.log in
-      handed_on g stored was now a.flusher b.flusher (λ is. by_run g was now a.flusher b.flusher (run.flushes is)) all
+      handed_on g stored was now a.held.flusher b.held.flusher (λ is. by_run g was now a.held.flusher b.held.flusher (run.flushes is)) all
   holds_on stored (Kept a) (Alone b) run all = absurd run
   holds_on stored (Alone a) (Kept b) run all = absurd run
   holds_on stored (Alone a) (Alone b) run all = tt
@@ -107,7 +107,7 @@ module _ {D : Type 0} (g : Ghosts D) where
   left_by start (Alone f) (Kept l) closed first none flushed closes = absurd flushed
   left_by start (Kept f) (Alone l) closed first none flushed closes = absurd flushed
   left_by start (Kept f) (Kept l) closed first none flushed closes = record {
-    last = l.flusher;
+    last = l.held.flusher;
     disk = closes.store.1;
     stored = closes.store.0;
     rests = flushed.rests;
@@ -116,8 +116,8 @@ module _ {D : Type 0} (g : Ghosts D) where
         let now = history_of l.reporter.log in
         let log = closed.seen_log.log in
         let end = history_of log in
-        let old = f.flusher in
-        let last = l.flusher in
+        let old = f.held.flusher in
+        let last = l.held.flusher in
         let level = old.commit.root.version in
         let stored = last.commit.root.version in
         let on : BeginsWith end now = begins_with l.reporter.log log closes.begun closes.heard.longer in

@@ -18,8 +18,8 @@ returns-in-Ok-clause-flushes g c is =
     let h = history_of old.reporter.log in
     let m = history_of mid.reporter.log in
     let e = c.begin.ensures in
-    let began = kept_on d h m old.flusher mid.flusher (e.keeps is) (ap (λ (r : Heard). (newest_in r.log).durable) e.reporter) e.stored in
-    then d h m (history_of new.reporter.log) old.flusher mid.flusher new.flusher began (c.end_commit.ensures.flushes began.store)
+    let began = kept_on d h m old.held.flusher mid.held.flusher (e.keeps is) (ap (λ (r : Heard). (newest_in r.log).durable) e.reporter) e.stored in
+    then d h m (history_of new.reporter.log) old.held.flusher mid.held.flusher new.held.flusher began (c.end_commit.ensures.flushes began.store)
 
 pub returns-in-Err-clause-flushes : goal.returns-in-Err-clause-flushes
 returns-in-Err-clause-flushes g c is =
@@ -29,8 +29,8 @@ returns-in-Err-clause-flushes g c is =
     let h = history_of old.reporter.log in
     let m = history_of mid.reporter.log in
     let e = c.begin.ensures in
-    let refused = kept_on d h m old.flusher mid.flusher (e.keeps is) (ap (λ (r : Heard). (newest_in r.log).durable) e.reporter) e.stored in
-    subst (λ (k : Keeper g.row.D.Denot g.D.Disk). Flushes d h old.flusher (history_of k.reporter.log) k.flusher) (sym c.tell.ensures.nothing) refused
+    let refused = kept_on d h m old.held.flusher mid.held.flusher (e.keeps is) (ap (λ (r : Heard). (newest_in r.log).durable) e.reporter) e.stored in
+    subst (λ (k : Keeper g.row.D.Denot g.D.Disk). Flushes d h old.held.flusher (history_of k.reporter.log) k.held.flusher) (sym c.tell.ensures.nothing) refused
 
 pub returns-in-Ok-clause-tells : goal.returns-in-Ok-clause-tells
 returns-in-Ok-clause-tells g c =
@@ -47,4 +47,4 @@ end_commit-requires-clause-stored g c =
     let mid = c.begin.new.self in
     let h = history_of old.reporter.log in
     let m = history_of mid.reporter.log in
-    handed_on d g.J.BookName.stored h m old.flusher mid.flusher (λ is. by_call d h m old.flusher mid.flusher (c.begin.ensures.keeps is)) c.requires.stored
+    handed_on d g.J.BookName.stored h m old.held.flusher mid.held.flusher (λ is. by_call d h m old.held.flusher mid.held.flusher (c.begin.ensures.keeps is)) c.requires.stored
