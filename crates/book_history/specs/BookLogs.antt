@@ -6,7 +6,7 @@ use lib.ListN.{get_elem?}
 use Rattle.logbook.specs.Pages.{Book}
 use Rattle.overlay_terms.specs.Histories.{Entry}
 
--- which history, and its first entries
+-- which history, and its entries so far
 pub record BookLog : Type 0 where
   pub book : Book
   pub log : List Entry

@@ -11,7 +11,8 @@ pub record Holds (file : List ℕ) (at : ℕ) (bytes : List ℕ) : Type 0 where
   pub within : at + length bytes ≤ length file
   pub each : (i : ℕ) → i < length bytes → slice_index file (at + i) ≡ slice_index bytes i
 
--- after a write of n bytes, whole or not: anything in that range and past the old end; no byte beside it is harmed, and the file is no shorter
+-- after a write of n bytes, whole or not: any bytes in that range, and from the old end to it; others stay, and the file
+-- grows to the end of the range at most
 pub record Torn (at n : ℕ) (old new : List ℕ) : Type 0 where
   pub no_shorter : length old ≤ length new
   pub no_longer : length new ≤ max (length old) (at + n)
@@ -30,7 +31,7 @@ Fewer old new = (c : List ℕ) → new c → old c
 abbrev pub Only : List ℕ → (List ℕ → Type 0) → Type 0
 Only file outcomes = (c : List ℕ) → outcomes c → c ≡ file
 
--- over a call: a crash within it leaves what one before it might (`past`), or what one after it may
+-- what crashes up to a call's end might have left: all that those before might (`past`), and else only what one after may
 pub record Elapses (before now : ℕ) (past since : ℕ → List ℕ → Type 0) (may_leave : List ℕ → Type 0) : Type 0 where
   pub later : before ≤ now
   pub nothing_else : (t : ℕ) (c : List ℕ) → t ≤ before → since t c → past t c ⊎ may_leave c

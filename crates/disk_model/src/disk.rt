@@ -82,7 +82,7 @@ pub trait Disk {
     ghost counts_now: { (disk : Self) (t : ℕ) (c : List ℕ) → is_honest disk → t ≤ moment disk → may_leave disk c
         → left_since disk t c };
 
-    /// Since this moment there is no other.
+    /// What was left since this very moment a crash now may leave.
     ghost only_now: { (disk : Self) (c : List ℕ) → is_honest disk → left_since disk (moment disk) c
         → may_leave disk c };
 

@@ -26,6 +26,6 @@ abbrev pub batch_fault_of : BatchRefusal → BatchFault
 batch_fault_of (at place reason) = At place (code_for reason)
 batch_fault_of (whole reason) = Whole (code_for reason)
 
--- why a batch is refused, and by which fault (not written here): by the first reason that applies, else by 40
+-- the batch with this reason is refused by the fault that follows: the reason's, or where there is none, by 40
 abbrev pub RefusedAllBy : Option BatchRefusal → BatchFault → Type 0
 RefusedAllBy reason = layer.RefusedBy (Whole 40) (option_map batch_fault_of reason)

@@ -58,7 +58,7 @@ midpoint p r = record { x = (p.x *ℤ r.w) +ℤ (r.x *ℤ p.w); y = (p.y *ℤ r.
 abbrev pub below_bits : List Marked → Point → ℕ → Bool
 below_bits marked p k = count_by (λ m. (m.layer == k) && is_below m.segment p) marked % 2 == 1
 
--- which base layers have an odd number of segments below a point or on it
+-- which base layers have an odd number of segments that lie below a point or go through it
 abbrev pub over_bits : List Marked → Point → ℕ → Bool
 over_bits marked p k = count_by (λ m. (m.layer == k) && (is_below m.segment p || is_on m.segment p)) marked % 2 == 1
 
@@ -86,13 +86,14 @@ pub record IsTileOf (marked : List Marked) (steps : Steps) (k : ℕ) (tile : Lis
   pub sound : All (λ a. IsBoundary marked steps k a.0 a.1) tile
   pub complete : (p r : Point) → IsBoundary marked steps k p r → Any (λ a. IsTrue (same_place p a.0 && same_place r a.1)) tile
 
--- what decides a tile: segments in reach with a point in its column (`tile_of_input`), definitions in reach
+-- what a tile is made of: its column, segments with their base layers, and definitions
 pub record Input : Type 0 where
   pub column : ℕ
   pub marked : List Marked
   pub steps : Steps
 
--- the input of the tile of a layer and column
+-- the input of the tile of a layer and column: the segments in reach that have a point in the column, and the definitions
+-- in reach; by the law `tile_of_input` the other segments in reach change nothing
 abbrev pub input_of : List Layer → Name → ℕ → Input
 input_of layers name k =
     record { column = k; marked = filter (λ m. touches k m.segment) (segments_in_reach layers name); steps = steps_in_reach layers name }
