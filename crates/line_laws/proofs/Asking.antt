@@ -21,9 +21,9 @@ clash name is none = true≢false (sym is ∙ none)
 
 -- a line is one command
 is_one : (request : Request) (c d : Command) → IsCommandOf request c → IsCommandOf request d → c ≡ d
-is_one (put_text name text) c d a b = a.command_is ∙ ap (terms.put name) (wkt_laws.spells_one_layer text a.rings b.rings a.read b.read) ∙ sym b.command_is
-is_one (define_text name text) c d a b = a.command_is ∙ ap (terms.define name) (expr_laws.one_tree text a.tree b.tree a.read b.read) ∙ sym b.command_is
-is_one (remove_name name) c d a b = a.command_is ∙ sym b.command_is
+is_one (put_text name text) c d a b = a.3 ∙ ap (terms.put name) (wkt_laws.spells_one_layer text a.1 b.1 a.2 b.2) ∙ sym b.3
+is_one (define_text name text) c d a b = a.3 ∙ ap (terms.define name) (expr_laws.one_tree text a.1 b.1 a.2 b.2) ∙ sym b.3
+is_one (remove_name name) c d a b = a.1 ∙ sym b.1
 is_one other c d a b = absurd a
 
 are_one : (requests : List Request) (cs ds : Batch) → AreCommandsOf requests cs → AreCommandsOf requests ds → cs ≡ ds
@@ -37,11 +37,11 @@ are_one (request ∷ requests) (c ∷ cs) (d ∷ ds) a b =
 
 -- it is never a command and none
 one_or_not : (request : Request) (c : Command) (fault : CommandFault) → IsCommandOf request c → IsNoCommand request fault → ⊥
-one_or_not (put_text name text) c fault a (inl none) = clash name a.named none.0
-one_or_not (put_text name text) c fault a (inr (named, wrong, by, is)) = wkt_laws.never_both text a.rings wrong a.read by
-one_or_not (define_text name text) c fault a (inl none) = clash name a.named none.0
-one_or_not (define_text name text) c fault a (inr (named, wrong, by, is)) = expr_laws.never_both text a.tree wrong a.read by
-one_or_not (remove_name name) c fault a none = clash name a.named none.0
+one_or_not (put_text name text) c fault a (inl none) = clash name a.0 none.0
+one_or_not (put_text name text) c fault a (inr (named, wrong, by, is)) = wkt_laws.never_both text a.1 wrong a.2 by
+one_or_not (define_text name text) c fault a (inl none) = clash name a.0 none.0
+one_or_not (define_text name text) c fault a (inr (named, wrong, by, is)) = expr_laws.never_both text a.1 wrong a.2 by
+one_or_not (remove_name name) c fault a none = clash name a.0 none.0
 one_or_not other c fault a none = absurd a
 
 -- what a request asks for: a command, or none, for a fault

@@ -1,23 +1,17 @@
 -- What a turn comes to: nothing is made, or the batch that it asks for is accepted.
-use Rattle.std.proofs.Common.{◌≡◌, ℕ, ℤ, ◌⊎◌, inl, inr, Bool, true, false, List, [], ◌∷◌, Option, Some, None, refl, sym, ap, ◌∙◌, bytes_eq}
+use Rattle.std.proofs.Common.{◌≡◌, ℕ, ◌⊎◌, inl, inr, true, false, List, [], ◌∷◌, Option, Some, None, refl, sym, ap, ◌∙◌, bytes_eq}
 use Rattle.std.proofs.lemmas.Bool.{true≢false, or_left, or_right}
 use Rattle.std.specs.Option.{option_map}
 use Rattle.overlay_terms.specs.Batches.{Batch, BatchRefusal, at, whole, reason_of, batch_refusal_at}
 use Rattle.overlay_terms.specs.Commands.{Command, Refusal}
-use Rattle.overlay_terms.specs.Commands as terms
 use Rattle.overlay_terms.specs.Histories.{History, Version, newest}
 use Rattle.overlay_terms.proofs.BatchLemmas.{one_is_refused_alike}
 use Rattle.overlay_terms.proofs.NameLemmas.{name_itself}
-use Rattle.layer_expr.specs.declared.fault.ExprFault.TheVariants.{BadName}
-use Rattle.versions.specs.declared.fault.VersionFault.{VersionFault}
-use Rattle.versions.specs.Building.{wait_refusal}
-use Rattle.version_core.specs.Edges.{edges_refusal, finished_refusal}
-use Rattle.overlay_grid.specs.declared.fault.GridFault.{GridFault}
 use Rattle.script_form.specs.declared.fault.CommandFault.{CommandFault}
-use Rattle.script_form.specs.declared.fault.CommandFault.TheVariants.{Wkt, Expression, OutOfMemory, CommandSyntax, LineTooLong, Closing, Gone}
+use Rattle.script_form.specs.declared.fault.CommandFault.TheVariants.{OutOfMemory, CommandSyntax, LineTooLong, Closing, Gone}
 use Rattle.script_form.specs.Replies.{error_line}
-use Rattle.script_form.specs.Requests.{Request, nothing, too_long, malformed, put_text, define_text, remove_name, locate, grid, list_layers, edges, wait, verify, sync, batch}
-use Rattle.script_form.specs.Transcript.{BookStore, IsRefused, IsAcceptedBy, IsSubmitted, IsSubmittedAll, IsRefusedBatch, IsAnswered, IsBatchAnswered, IsTurnAnswered, IsTurn, Asked, Drawn, IsEdgesTold, IsVerdictTold, IsBuiltTold, IsWaitClosed, asked_column}
+use Rattle.script_form.specs.Requests.{Request, too_long, put_text, define_text, remove_name, sync}
+use Rattle.script_form.specs.Transcript.{BookStore, IsRefused, IsAcceptedBy, IsSubmitted, IsSubmittedAll, IsRefusedBatch, IsChanged, IsAnswered, IsBatchAnswered, IsTurnAnswered, IsTurn}
 use Rattle.script_form.specs.Turns.{Turn, alone, together, cut_off}
 use Rattle.line_laws.specs.Deciding.{is_from_outside}
 use Rattle.line_laws.proofs.Asking.{AsksFor, TurnAsks}
@@ -117,76 +111,12 @@ together_comes session before requests after made reply (inl (place, fault, firs
 together_comes session before requests after made reply (inr (commands, read, by)) =
     submitted_all session before requests commands after made reply read by
 
--- ==== Questions
-
-asked_none : (o : Option VersionFault) (made : List Batch) (reply : List ℕ) (T : Type 0) → (T → made ≡ []) → Asked o made reply T → made ≡ []
-asked_none (Some fault) made reply T then refused = refused.nothing_made
-asked_none None made reply T then answered = then answered
-
-drawn_none : (o : Option GridFault) (text : List ℕ) (made : List Batch) (reply : List ℕ) → Drawn o text made reply → made ≡ []
-drawn_none (Some fault) text made reply refused = refused.nothing_made
-drawn_none None text made reply told = told.nothing_made
-
 -- ==== Each request
 
 module _ (stored : BookStore) (session : ℕ) (before after : History) (made : List Batch) (reply : List ℕ) where
-  put_comes : (name text : List ℕ) → IsAnswered stored session before (put_text name text) after made reply → Comes session before (alone (put_text name text)) after made reply
-  put_comes name text (inl (none, refused)) = inl (idle_line (put_text name text) after made reply (Expression BadName, inl (none, refl)) refused.nothing_made)
-  put_comes name text (inr (named, inl (fault, wrong, refused))) = inl (idle_line (put_text name text) after made reply (Wkt fault, inr (named, fault, wrong, refl)) refused.nothing_made)
-  put_comes name text (inr (named, inr (rings, read, by))) =
-      submitted session before (put_text name text) (terms.put name rings) after made reply (record { named = named; rings = rings; read = read; command_is = refl }) by
-
-  define_comes : (name text : List ℕ) → IsAnswered stored session before (define_text name text) after made reply → Comes session before (alone (define_text name text)) after made reply
-  define_comes name text (inl (none, refused)) = inl (idle_line (define_text name text) after made reply (Expression BadName, inl (none, refl)) refused.nothing_made)
-  define_comes name text (inr (named, inl (fault, wrong, refused))) = inl (idle_line (define_text name text) after made reply (Expression fault, inr (named, fault, wrong, refl)) refused.nothing_made)
-  define_comes name text (inr (named, inr (tree, read, by))) =
-      submitted session before (define_text name text) (terms.define name tree) after made reply (record { named = named; tree = tree; read = read; command_is = refl }) by
-
-  remove_comes : (name : List ℕ) → IsAnswered stored session before (remove_name name) after made reply → Comes session before (alone (remove_name name)) after made reply
-  remove_comes name (inl (none, refused)) = inl (idle_line (remove_name name) after made reply (Expression BadName, (none, refl)) refused.nothing_made)
-  remove_comes name (inr (named, by)) = submitted session before (remove_name name) (terms.remove name) after made reply (record { named = named; command_is = refl }) by
-
-  locate_none : (name : List ℕ) (x y w : ℤ) → IsAnswered stored session before (locate name x y w) after made reply → made ≡ []
-  locate_none name x y w (inl (none, refused)) = refused.nothing_made
-  locate_none name x y w (inr (named, inl (out, refused))) = refused.nothing_made
-  locate_none name x y w (inr (named, inr (inl (query, refused)))) = refused.nothing_made
-  locate_none name x y w (inr (named, inr (inr (inl (query, unknown, refused))))) = refused.nothing_made
-  locate_none name x y w (inr (named, inr (inr (inr (query, there, told))))) = told.nothing_made
-
-  grid_none : (name : List ℕ) (x y step nx ny : ℤ) → IsAnswered stored session before (grid name x y step nx ny) after made reply → made ≡ []
-  grid_none name x y step nx ny (inl (none, refused)) = refused.nothing_made
-  grid_none name x y step nx ny (inr (named, inl (out, refused))) = refused.nothing_made
-  grid_none name x y step nx ny (inr (named, inr (inl (size, refused)))) = refused.nothing_made
-  grid_none name x y step nx ny (inr (named, inr (inr (size, drawn)))) = drawn_none _ _ made reply drawn
-
-  list_none : IsAnswered stored session before list_layers after made reply → made ≡ []
-  list_none (inl refused) = refused.nothing_made
-  list_none (inr told) = told.nothing_made
-
-  edges_none : (name : List ℕ) (k : ℤ) → IsAnswered stored session before (edges name k) after made reply → made ≡ []
-  edges_none name k (inl (none, refused)) = refused.nothing_made
-  edges_none name k (inr (named, inl refused)) = refused.nothing_made
-  edges_none name k (inr (named, inr asked)) =
-      let Told : Type 0 = IsEdgesTold (newest after) name (asked_column k) made reply in
-      asked_none (edges_refusal (newest after) name (asked_column k)) made reply Told (λ (told : Told). told.nothing_made) asked
-
-  built_none : (name : List ℕ) → IsBuiltTold (newest after) name made reply ⊎ IsWaitClosed (newest after) name made reply → made ≡ []
-  built_none name (inl built) = built.nothing_made
-  built_none name (inr closed) = closed.closing.nothing_made
-
-  wait_none : (name : List ℕ) → IsAnswered stored session before (wait name) after made reply → made ≡ []
-  wait_none name (inl (none, refused)) = refused.nothing_made
-  wait_none name (inr (named, inl refused)) = refused.nothing_made
-  wait_none name (inr (named, inr asked)) =
-      asked_none (wait_refusal (newest after) name) made reply (IsBuiltTold (newest after) name made reply ⊎ IsWaitClosed (newest after) name made reply)
-      (built_none name) asked
-
-  verify_none : (name : List ℕ) (k : ℤ) → IsAnswered stored session before (verify name k) after made reply → made ≡ []
-  verify_none name k (inl (none, refused)) = refused.nothing_made
-  verify_none name k (inr (named, inl refused)) = refused.nothing_made
-  verify_none name k (inr (named, inr asked)) =
-      let Told : Type 0 = IsVerdictTold (newest after) name (asked_column k) made reply in
-      asked_none (finished_refusal (newest after) name (asked_column k)) made reply Told (λ (told : Told). told.nothing_made) asked
+  changed_comes : (request : Request) → IsChanged session before request after made reply → Comes session before (alone request) after made reply
+  changed_comes request (inl (fault, none, refused)) = inl (idle_line request after made reply (fault, none) refused.nothing_made)
+  changed_comes request (inr (command, is, by)) = submitted session before request command after made reply is by
 
   sync_none : IsAnswered stored session before sync after made reply → made ≡ []
   sync_none (inl (none, refused)) = refused.nothing_made
@@ -194,21 +124,14 @@ module _ (stored : BookStore) (session : ℕ) (before after : History) (made : L
   sync_none (inr (inr (inl (some, told)))) = told.nothing_made
   sync_none (inr (inr (inr (some, told)))) = told.refused.nothing_made
 
+  -- of a question nothing is made
   answered_comes : (request : Request) → IsAnswered stored session before request after made reply → Comes session before (alone request) after made reply
-  answered_comes nothing told = inl (idle_line nothing after made reply (CommandSyntax, refl) told.nothing_made)
-  answered_comes too_long refused = inl (idle_line too_long after made reply (LineTooLong, refl) refused.nothing_made)
-  answered_comes malformed refused = inl (idle_line malformed after made reply (CommandSyntax, refl) refused.nothing_made)
-  answered_comes (put_text name text) answered = put_comes name text answered
-  answered_comes (define_text name text) answered = define_comes name text answered
-  answered_comes (remove_name name) answered = remove_comes name answered
-  answered_comes (locate name x y w) answered = inl (idle_line (locate name x y w) after made reply (CommandSyntax, refl) (locate_none name x y w answered))
-  answered_comes (grid name x y step nx ny) answered = inl (idle_line (grid name x y step nx ny) after made reply (CommandSyntax, refl) (grid_none name x y step nx ny answered))
-  answered_comes list_layers answered = inl (idle_line list_layers after made reply (CommandSyntax, refl) (list_none answered))
-  answered_comes (edges name k) answered = inl (idle_line (edges name k) after made reply (CommandSyntax, refl) (edges_none name k answered))
-  answered_comes (wait name) answered = inl (idle_line (wait name) after made reply (CommandSyntax, refl) (wait_none name answered))
-  answered_comes (verify name k) answered = inl (idle_line (verify name k) after made reply (CommandSyntax, refl) (verify_none name k answered))
+  answered_comes (put_text name text) answered = changed_comes (put_text name text) answered
+  answered_comes (define_text name text) answered = changed_comes (define_text name text) answered
+  answered_comes (remove_name name) answered = changed_comes (remove_name name) answered
   answered_comes sync answered = inl (idle_line sync after made reply (CommandSyntax, refl) (sync_none answered))
-  answered_comes (batch size) refused = inl (idle_line (batch size) after made reply (CommandSyntax, refl) refused.nothing_made)
+  answered_comes too_long answered = inl (idle_line too_long after made reply (LineTooLong, refl) answered.0)
+  answered_comes question answered = inl (idle_line question after made reply (CommandSyntax, refl) answered.0)
 
   taken_comes : (turn : Turn) → IsTurnAnswered stored session before turn after made reply → Comes session before turn after made reply
   taken_comes (alone request) (inl memory) = inl (outside (alone request) after made reply memory.1.nothing_made (memory_outside made reply memory.1))

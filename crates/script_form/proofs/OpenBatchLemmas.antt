@@ -13,7 +13,7 @@ use Rattle.script_form.specs.declared.open_batch.LinesFault.TheVariants.{Unread,
 use Rattle.script_form.specs.declared.line_turn.LineTurn.TheVariants.{Whole}
 use Rattle.script_form.specs.Fault.{code_of}
 use Rattle.script_form.specs.OpenBatch.{AreUnread, AreRead, AreReadSoFar, IsOpenBatch, IsOpen, IsLineGathered, unread}
-use Rattle.script_form.specs.Reading.{IsMemory, IsPutRefused}
+use Rattle.script_form.specs.Reading.{IsMemory}
 use Rattle.script_form.specs.Turns.{Waiting, asked_size, begun_by, is_nothing, is_full, with_line}
 use Rattle.script_form.specs.BatchLines.{IsCommandOf, IsNoCommand, AreCommandsOf, IsFirstUnread}
 use Rattle.script_form.specs.Requests.{Request, batch, put_text}
@@ -99,7 +99,7 @@ begun asked size o open_batch is value sized none read =
     subst (λ (found : Option ℕ). IsOpen (option_map (λ size. record { size = size; came = [] }) found) (Some open_batch)) (sym is ∙ value) (record { same_size = sized; as_many = none; read = read })
 
 -- the fault of a PUT
-pub put_unread : {A : Type 0} (name text : List ℕ) (result : Result A CommandFault) → IfErr result (λ fault. IsMemory name fault ⊎ IsPutRefused name text fault)
+pub put_unread : {A : Type 0} (name text : List ℕ) (result : Result A CommandFault) → IfErr result (λ fault. IsMemory name fault ⊎ IsNoCommand (put_text name text) fault)
     → IfErr result (λ fault. (code_of fault ≡ 40) ⊎ IsNoCommand (put_text name text) fault)
 put_unread name text (Ok change) refused = tt
 put_unread name text (Err fault) (inl memory) = inl memory.2

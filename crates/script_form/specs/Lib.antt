@@ -4,7 +4,6 @@ pub mod Requests
 pub mod Fault
 pub mod Replies
 pub mod Writing
-pub mod LineReply
 pub mod Turns
 pub mod Transcript
 pub mod Reading

@@ -40,9 +40,8 @@ pub record IsOpenBatch (waiting : Waiting) (open_batch : OpenBatch) : Type 0 whe
 -- the code's batch is the one that waits, if one does
 abbrev pub IsOpen : Option Waiting → Option OpenBatch → Type 0
 IsOpen None None = Unit {0}
-IsOpen None (Some open_batch) = ⊥
-IsOpen (Some waiting) None = ⊥
 IsOpen (Some waiting) (Some open_batch) = IsOpenBatch waiting open_batch
+IsOpen waiting open_batch = ⊥
 
 -- the turn that a line ended, if it ended one
 abbrev pub IsEnded : List Turn → LineTurn → Type 0

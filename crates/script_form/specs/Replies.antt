@@ -1,9 +1,13 @@
--- Replies as lines of text.
+-- Replies as lines of text, and those of the code as bytes.
 use Rattle.std.specs.Prelude.{ℕ, List, [], ◌∷◌, ◌++◌, codes, decimal}
 use Rattle.overlay_terms.specs.Layers.{Location, inside, outside, edge}
+use Rattle.layer_book.specs.Place.{location}
 use Rattle.version_core.specs.declared.verifying.Verdict.{Verdict}
 use Rattle.version_core.specs.declared.verifying.Verdict.TheVariants.{Same, Different}
 use Rattle.script_form.specs.declared.fault.CommandFault.{CommandFault}
+use Rattle.script_form.specs.declared.line_reply.LineReply.{LineReply}
+use Rattle.script_form.specs.declared.line_reply.LineReply.TheVariants.{Nothing, Accepted, Located, Built, Durable}
+use Rattle.script_form.specs.declared.line_reply.LineReply.TheVariants.{Compared, Fault, RefusedAt, Lines}
 use Rattle.script_form.specs.Fault.{code_of, text_of}
 
 -- a word and a number: `ok` and the number of an accepted command's version, `built` and the number of the version in
@@ -29,3 +33,15 @@ location_line edge = codes "edge\n"
 abbrev pub verdict_line : Verdict → List ℕ
 verdict_line Same = codes "same\n"
 verdict_line Different = codes "different\n"
+
+-- the bytes of a reply
+abbrev pub reply_text : LineReply → List ℕ
+reply_text Nothing = []
+reply_text (Accepted number) = numbered_line (codes "ok ") number
+reply_text (Located place) = location_line (location place)
+reply_text (Built number) = numbered_line (codes "built ") number
+reply_text (Durable number) = numbered_line (codes "durable ") number
+reply_text (Compared verdict) = verdict_line verdict
+reply_text (Fault fault) = error_line fault
+reply_text (RefusedAt place fault) = refused_line place fault
+reply_text (Lines text) = text.items

@@ -20,11 +20,10 @@ mod words;
 
 pub use fault::CommandFault;
 pub use line_buffer::LineBuffer;
-pub use line_reply::LineReply;
+pub use line_reply::{LineReply, write_reply};
 pub use line_turn::{LineTurn, take_line};
 pub use open_batch::{LinesFault, OpenBatch};
 pub use reading::{read_define, read_name, read_put, read_remove};
-pub use reply_bytes::write_reply;
 pub use request::{LINE_MAX, Request, request_of};
 pub use script_reader::{SCRIPT_MAX, read_chunk};
 pub use session_end::SessionEnd;

@@ -2,8 +2,9 @@
 ghost use Rattle.std.specs.Prelude.{◌≡◌, ◌⊎◌, IfOk, IfErr, IsTrue};
 ghost use Rattle.layer_expr.specs.Name.{is_name};
 ghost use Rattle.layer_book.specs.Command.{command};
-ghost use Rattle.script_form.specs.Reading.{IsMemory, IsNoName, SpellsPut, IsPutRefused};
-ghost use Rattle.script_form.specs.Reading.{IsDefine, IsDefineRefused, IsRemove};
+ghost use Rattle.script_form.specs.BatchLines.{IsCommandOf, IsNoCommand};
+ghost use Rattle.script_form.specs.Reading.{IsMemory, IsNoName};
+ghost use Rattle.script_form.specs.Requests.{define_text, put_text, remove_name};
 
 use crate::fault::CommandFault;
 use layer_book::command::Command;
@@ -23,8 +24,8 @@ pub fn read_name(alloc: Global, bytes: &[u8]) -> Result<Name, CommandFault>
 
 /// The PUT of a name and the text of rings. The name is looked at before the text.
 pub fn read_put(alloc: Global, name: &[u8], text: &[u8]) -> Result<Command, CommandFault>
-    ensures ok { IfOk result (λ change. SpellsPut name.now text.now (command change)) }
-    ensures refused { IfErr result (λ fault. IsMemory name.now fault ⊎ IsPutRefused name.now text.now fault) }
+    ensures ok { IfOk result (λ change. IsCommandOf (put_text name.now text.now) (command change)) }
+    ensures refused { IfErr result (λ fault. IsMemory name.now fault ⊎ IsNoCommand (put_text name.now text.now) fault) }
 {
     let name = read_name(alloc, name)?;
     let layer = read_wkt(alloc, text)?;
@@ -34,8 +35,8 @@ pub fn read_put(alloc: Global, name: &[u8], text: &[u8]) -> Result<Command, Comm
 
 /// The DEFINE of a name and the text of an expression. The name is looked at before the text.
 pub fn read_define(alloc: Global, name: &[u8], text: &[u8]) -> Result<Command, CommandFault>
-    ensures ok { IfOk result (λ change. IsDefine name.now text.now (command change)) }
-    ensures refused { IfErr result (λ fault. IsMemory name.now fault ⊎ IsDefineRefused name.now text.now fault) }
+    ensures ok { IfOk result (λ change. IsCommandOf (define_text name.now text.now) (command change)) }
+    ensures refused { IfErr result (λ fault. IsMemory name.now fault ⊎ IsNoCommand (define_text name.now text.now) fault) }
 {
     let defined = read_name(alloc, name)?;
     let expression = read_expr(alloc, text)?;
@@ -45,7 +46,7 @@ pub fn read_define(alloc: Global, name: &[u8], text: &[u8]) -> Result<Command, C
 
 /// The DROP of a name. It takes no memory.
 pub fn read_remove(alloc: Global, name: &[u8]) -> Result<Command, CommandFault>
-    ensures ok { IfOk result (λ change. IsRemove name.now (command change)) }
+    ensures ok { IfOk result (λ change. IsCommandOf (remove_name name.now) (command change)) }
     ensures refused { IfErr result (λ fault. IsNoName name.now fault) }
 {
     Ok(Command::Remove(read_name(alloc, name)?))

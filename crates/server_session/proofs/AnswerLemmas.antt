@@ -5,14 +5,12 @@ use Rattle.std.proofs.lemmas.Bool.{false≢true}
 use Rattle.overlay_terms.specs.Plane.{Point}
 use Rattle.overlay_terms.specs.Layers.{Location, answer_at}
 use Rattle.overlay_terms.specs.Batches.{Batch, BatchRefusal, at, whole, batch_refusal_at}
-use Rattle.overlay_terms.specs.Commands as terms
 use Rattle.overlay_terms.specs.Commands.{Command, Refusal, refusal_at, stands}
 use Rattle.overlay_terms.specs.Histories.{BeginsWith, newest}
 use Rattle.overlay_terms.specs.Histories as versions
 use Rattle.exact_point.specs.Query.{IsQuery}
 use Rattle.exact_point.specs.declared.fault.PointFault.TheVariants.{PointRange}
 use Rattle.layer_expr.specs.Name.{is_name}
-use Rattle.layer_expr.specs.declared.fault.ExprFault.TheVariants.{BadName}
 use Rattle.layer_book.specs.Fault.{RefusedBy, fault_of}
 use Rattle.layer_book.specs.BatchFault as batch_faults
 use Rattle.layer_book.specs.BatchFault.{RefusedAllBy}
@@ -31,12 +29,13 @@ use Rattle.book_history.specs.Logs.{IsAccepted}
 use Rattle.book_history.specs.declared.fault.BookFault.{BookFault}
 use Rattle.book_history.specs.declared.fault.BookFault.TheVariants as book
 use Rattle.script_form.specs.declared.fault.CommandFault.{CommandFault}
-use Rattle.script_form.specs.declared.fault.CommandFault.TheVariants.{Expression, Query, Version, OutOfMemory, Closing, Gone, GridSize}
+use Rattle.script_form.specs.declared.fault.CommandFault.TheVariants.{Query, Version, OutOfMemory, Closing, Gone, GridSize}
+use Rattle.script_form.specs.BatchLines.{IsCommandOf, IsNoCommand}
 use Rattle.script_form.specs.Fault.{of_grid}
-use Rattle.script_form.specs.Reading.{IsMemory, IsNoName, SpellsPut, IsPutRefused, IsDefine, IsDefineRefused, IsRemove}
+use Rattle.script_form.specs.Reading.{IsMemory, IsNoName}
 use Rattle.script_form.specs.Replies.{numbered_line, error_line, refused_line, location_line}
 use Rattle.script_form.specs.Requests.{Request, request, put_text, define_text, remove_name, locate, grid, list_layers, request_of}
-use Rattle.script_form.specs.Transcript.{BookStore, IsRefused, IsRefusedBatch, IsSubmitted, IsSubmittedAll, IsAnswered, IsOutOfMemory, IsTold, Drawn, WithName}
+use Rattle.script_form.specs.Transcript.{BookStore, IsRefused, IsRefusedBatch, IsSubmitted, IsSubmittedAll, IsAnswered, IsOutOfMemory, Asked, WithName}
 use Rattle.script_form.specs.Turns.{Turn, alone, together}
 use Rattle.script_form.specs.OpenBatch.{AreRead, TakesLine}
 use Rattle.script_form.specs.declared.request.Request as code
@@ -61,26 +60,20 @@ module _ (was now : Known) (stays : Stays was now) (made : now.made ≡ was.made
 
   pub answers_so : (stored : BookStore) (request : Request) (reply : List ℕ)
       → IsOutOfMemory request [] reply ⊎ IsAnswered stored was.session (seen was) request (seen now) [] reply → Answers stored was request now reply
-  answers_so stored request reply answered = record { stays = stays; answered = record { made = []; answered = answered; only = makes_nothing } }
+  answers_so stored request reply answered = record { stays = stays; made = []; answered = answered; only = makes_nothing }
 
 -- a session that was asked nothing of its book
 pub answers_there : (stored : BookStore) (me : Known) (request : Request) (reply : List ℕ)
     → IsOutOfMemory request [] reply ⊎ IsAnswered stored me.session (seen me) request (seen me) [] reply → Answers stored me request me reply
 answers_there stored me request reply answered = answers_so me me (stays_self me) refl stored request reply answered
 
--- a fault, and a fault that is reported as another
+-- a fault
 pub refused_so : (fault : CommandFault) → IsRefused fault [] (error_line fault)
 refused_so fault = record { nothing_made = refl; told = refl }
 
-pub refused_as : (fault other : CommandFault) → fault ≡ other → IsRefused other [] (error_line fault)
-refused_as fault other same = record { nothing_made = refl; told = ap error_line same }
-
-pub no_name : (name : List ℕ) (fault : CommandFault) → IsNoName name fault → (is_name name ≡ false) × IsRefused (Expression BadName) [] (error_line fault)
-no_name name fault none = (none.0, refused_as fault (Expression BadName) none.1)
-
--- a line whose name is none
-pub unnamed : (name : List ℕ) (fault : CommandFault) (T : Type 0) → IsNoName name fault → WithName name [] (error_line fault) T
-unnamed name fault T none = inl (no_name name fault none)
+-- a question whose name is none
+pub unnamed : (name : List ℕ) (fault : CommandFault) (T : Type 0) → IsNoName name fault → WithName name (error_line fault) T
+unnamed name fault T none = inl (none.0, ap error_line none.1)
 
 -- ==== Commands
 
@@ -208,76 +201,63 @@ answers_unread me fault reply is =
 -- ==== PUT, DEFINE, DROP
 
 pub answers_put : (stored : BookStore) (was now : Known) (name text : List ℕ) (command : Command) (reply : List ℕ)
-    → SpellsPut name text command → Submits was command now reply → Answers stored was (put_text name text) now reply
+    → IsCommandOf (put_text name text) command → Submits was command now reply → Answers stored was (put_text name text) now reply
 answers_put stored was now name text command reply is s = record {
   stays = s.stays;
-  answered = record {
-    made = s.made;
-    answered =
-        elim s.submitted [
-          | inl memory ↦ inl (is.named, memory)
-          | inr by ↦ inr (inr (is.named, inr (is.rings, is.read, subst (λ (c : Command). IsSubmitted was.session (seen was) c (seen now) s.made reply) is.command_is by)))
-        ];
-    only = s.only;
-  };
+  made = s.made;
+  answered =
+      elim s.submitted [
+        | inl memory ↦ inl (is.0, memory)
+        | inr by ↦ inr (inr (command, is, by))
+      ];
+  only = s.only;
 }
 
 pub answers_define : (stored : BookStore) (was now : Known) (name text : List ℕ) (command : Command) (reply : List ℕ)
-    → IsDefine name text command → Submits was command now reply → Answers stored was (define_text name text) now reply
+    → IsCommandOf (define_text name text) command → Submits was command now reply → Answers stored was (define_text name text) now reply
 answers_define stored was now name text command reply is s = record {
   stays = s.stays;
-  answered = record {
-    made = s.made;
-    answered =
-        elim s.submitted [
-          | inl memory ↦ inl (is.named, memory)
-          | inr by ↦ inr (inr (is.named, inr (is.tree, is.read, subst (λ (c : Command). IsSubmitted was.session (seen was) c (seen now) s.made reply) is.command_is by)))
-        ];
-    only = s.only;
-  };
+  made = s.made;
+  answered =
+      elim s.submitted [
+        | inl memory ↦ inl (is.0, memory)
+        | inr by ↦ inr (inr (command, is, by))
+      ];
+  only = s.only;
 }
 
 pub answers_remove : (stored : BookStore) (was now : Known) (name : List ℕ) (command : Command) (reply : List ℕ)
-    → IsRemove name command → Submits was command now reply → Answers stored was (remove_name name) now reply
+    → IsCommandOf (remove_name name) command → Submits was command now reply → Answers stored was (remove_name name) now reply
 answers_remove stored was now name command reply is s = record {
   stays = s.stays;
-  answered = record {
-    made = s.made;
-    answered =
-        elim s.submitted [
-          | inl memory ↦ inl (is.named, memory)
-          | inr by ↦ inr (inr (is.named, subst (λ (c : Command). IsSubmitted was.session (seen was) c (seen now) s.made reply) is.command_is by))
-        ];
-    only = s.only;
-  };
+  made = s.made;
+  answered =
+      elim s.submitted [
+        | inl memory ↦ inl (is.0, memory)
+        | inr by ↦ inr (inr (command, is, by))
+      ];
+  only = s.only;
 }
 
-pub put_refused : (stored : BookStore) (me : Known) (name text : List ℕ) (fault : CommandFault) → IsMemory name fault ⊎ IsPutRefused name text fault → Answers stored me (put_text name text) me (error_line fault)
+pub put_refused : (stored : BookStore) (me : Known) (name text : List ℕ) (fault : CommandFault) → IsMemory name fault ⊎ IsNoCommand (put_text name text) fault → Answers stored me (put_text name text) me (error_line fault)
 put_refused stored me name text fault refused =
     answers_there stored me (put_text name text) (error_line fault)
     (elim refused [
       | inl memory ↦ inl (memory.0, record { nothing_made = refl; told = memory.1 })
-      | inr by ↦
-          inr (elim by [
-            | inl none ↦ inl (no_name name fault none)
-            | inr wrong ↦ inr (wrong.0, inl (wrong.1, wrong.2, record { nothing_made = refl; told = ap error_line wrong.3 }))
-          ])
+      | inr by ↦ inr (inl (fault, by, refused_so fault))
     ])
 
-pub define_refused : (stored : BookStore) (me : Known) (name text : List ℕ) (fault : CommandFault) → IsMemory name fault ⊎ IsDefineRefused name text fault → Answers stored me (define_text name text) me (error_line fault)
+pub define_refused : (stored : BookStore) (me : Known) (name text : List ℕ) (fault : CommandFault) → IsMemory name fault ⊎ IsNoCommand (define_text name text) fault → Answers stored me (define_text name text) me (error_line fault)
 define_refused stored me name text fault refused =
     answers_there stored me (define_text name text) (error_line fault)
     (elim refused [
       | inl memory ↦ inl (memory.0, record { nothing_made = refl; told = memory.1 })
-      | inr by ↦
-          inr (elim by [
-            | inl none ↦ inl (no_name name fault none)
-            | inr wrong ↦ inr (wrong.0, inl (wrong.1, wrong.2, record { nothing_made = refl; told = ap error_line wrong.3 }))
-          ])
+      | inr by ↦ inr (inl (fault, by, refused_so fault))
     ])
 
 pub remove_refused : (stored : BookStore) (me : Known) (name : List ℕ) (fault : CommandFault) → IsNoName name fault → Answers stored me (remove_name name) me (error_line fault)
-remove_refused stored me name fault refused = answers_there stored me (remove_name name) (error_line fault) (inr (unnamed name fault _ refused))
+remove_refused stored me name fault refused =
+    answers_there stored me (remove_name name) (error_line fault) (inr (inl (fault, refused, refused_so fault)))
 
 -- ==== LOCATE
 
@@ -292,11 +272,11 @@ point_read x y w x' y' w' p ex ey ew is =
     subst (λ (v : ℤ). P v y w) ex (subst (λ (v : ℤ). P x' v w) ey (subst (λ (v : ℤ). P x' y' v) ew is))
 
 pub locate_unnamed : (stored : BookStore) (me : Known) (name : List ℕ) (x y w : ℤ) (fault : CommandFault) → IsNoName name fault → Answers stored me (locate name x y w) me (error_line fault)
-locate_unnamed stored me name x y w fault refused = answers_there stored me (locate name x y w) (error_line fault) (inr (unnamed name fault _ refused))
+locate_unnamed stored me name x y w fault refused = answers_there stored me (locate name x y w) (error_line fault) (inr (refl, unnamed name fault _ refused))
 
 pub locate_out_of_range : (stored : BookStore) (me : Known) (name : List ℕ) (x y w : ℤ) → IsTrue (is_name name) → ¬ (IsQuery x y w) → Answers stored me (locate name x y w) me (error_line (Query PointRange))
 locate_out_of_range stored me name x y w named out =
-    answers_there stored me (locate name x y w) (error_line (Query PointRange)) (inr (inr (named, inl (out, refused_so (Query PointRange)))))
+    answers_there stored me (locate name x y w) (error_line (Query PointRange)) (inr (refl, inr (named, inl (out, refl))))
 
 -- a test that cannot hold
 pub unknown_stands : (b : Bool) → (b ≡ true → false ≡ true) → b ≡ false
@@ -320,19 +300,19 @@ points_read x y step nx ny x' y' step' nx' ny' g ex ey es ew eh is =
 
 pub grid_unnamed : (stored : BookStore) (me : Known) (name : List ℕ) (x y step nx ny : ℤ) (fault : CommandFault) → IsNoName name fault
     → Answers stored me (grid name x y step nx ny) me (error_line fault)
-grid_unnamed stored me name x y step nx ny fault refused = answers_there stored me (grid name x y step nx ny) (error_line fault) (inr (unnamed name fault _ refused))
+grid_unnamed stored me name x y step nx ny fault refused = answers_there stored me (grid name x y step nx ny) (error_line fault) (inr (refl, unnamed name fault _ refused))
 
 pub grid_of_no_size : (stored : BookStore) (me : Known) (name : List ℕ) (x y step nx ny : ℤ) → IsTrue (is_name name) → ¬ (IsGridSize step nx ny)
     → Answers stored me (grid name x y step nx ny) me (error_line GridSize)
 grid_of_no_size stored me name x y step nx ny named out =
-    answers_there stored me (grid name x y step nx ny) (error_line GridSize) (inr (inr (named, inl (out, refused_so GridSize))))
+    answers_there stored me (grid name x y step nx ny) (error_line GridSize) (inr (refl, inr (named, inl (out, refl))))
 
--- a picture that is refused, and one that is not
-drawn_some : (o : Option GridFault) (wrong : GridFault) (text : List ℕ) → o ≡ Some wrong → Drawn o text [] (error_line (of_grid wrong))
-drawn_some o wrong text is = subst (λ r. Drawn r text [] (error_line (of_grid wrong))) (sym is) (record { nothing_made = refl; told = refl })
+-- a question that is refused, and one that is not
+pub asked_some : {F : Type 0} (as_told : F → CommandFault) (o : Option F) (wrong : F) (T : Type 0) → o ≡ Some wrong → Asked (option_map as_told o) (error_line (as_told wrong)) T
+asked_some as_told o wrong T is = subst (λ r. Asked (option_map as_told r) (error_line (as_told wrong)) T) (sym is) refl
 
-drawn_none : (o : Option GridFault) (text reply : List ℕ) → o ≡ None → IsTold text [] reply → Drawn o text [] reply
-drawn_none o text reply is told = subst (λ r. Drawn r text [] reply) (sym is) told
+pub asked_none : {F : Type 0} (as_told : F → CommandFault) (o : Option F) (reply : List ℕ) (T : Type 0) → o ≡ None → T → Asked (option_map as_told o) reply T
+asked_none as_told o reply T is answered = subst (λ r. Asked (option_map as_told r) reply T) (sym is) answered
 
 -- what holds of a version, a name and a grid holds of the newest version, of the name as it was read and of the grid as it was asked for
 pictured : (P : versions.Version → List ℕ → Grid → Type 0) (version new : versions.Version) (known name : List ℕ) (g points : Grid)
@@ -343,7 +323,7 @@ pictured P version new known name g points is same asked h =
 module _ (was now : Known) (stays : Stays was now) (made : now.made ≡ was.made) where
   pub locate_gone : (stored : BookStore) (name : List ℕ) (x y w : ℤ) (fault : CommandFault) → IsTrue (is_name name) → IsQuery x y w → fault ≡ Gone → Answers stored was (locate name x y w) now (error_line fault)
   locate_gone stored name x y w fault named query gone =
-      answers_so was now stays made stored (locate name x y w) (error_line fault) (inr (inr (named, inr (inl (query, refused_as fault Gone gone)))))
+      answers_so was now stays made stored (locate name x y w) (error_line fault) (inr (refl, inr (named, inr (inl (query, ap error_line gone)))))
 
   pub locate_refused : (stored : BookStore) (name known : List ℕ) (x y w : ℤ) (version : versions.Version) (wrong : VersionFault) → version ≡ newest (seen now)
       → known ≡ name → IsTrue (is_name name) → IsQuery x y w → (wrong ≡ Layer layer_fault.UnknownLayer) × (stands version.layers known ≡ false)
@@ -352,7 +332,7 @@ module _ (was now : Known) (stays : Stays was now) (made : now.made ≡ was.made
       let there : stands (newest (seen now)).layers name ≡ false =
       ap (λ (v : versions.Version). stands v.layers name) (sym is) ∙ ap (stands version.layers) (sym same) ∙ unknown.1 in
       answers_so was now stays made stored (locate name x y w) (error_line (Version wrong))
-      (inr (inr (named, inr (inr (inl (query, there, record { nothing_made = refl; told = ap (λ f. error_line (Version f)) unknown.0 }))))))
+      (inr (refl, inr (named, inr (inr (inl (query, there, ap (λ f. error_line (Version f)) unknown.0))))))
 
   pub locate_told : (stored : BookStore) (name known : List ℕ) (x y w : ℤ) (p : Point) (version : versions.Version) (place : Location) → version ≡ newest (seen now)
       → known ≡ name → p ≡ record { x = x; y = y; w = w } → IsTrue (is_name name) → IsQuery x y w → IsTrue (stands version.layers known)
@@ -365,14 +345,14 @@ module _ (was now : Known) (stays : Stays was now) (made : now.made ≡ was.made
       ∙ ap (λ n. answer_at version.layers n p) same ∙ ap (answer_at version.layers name) point
       ∙ ap (λ (v : versions.Version). answer_at v.layers name (record { x = x; y = y; w = w })) is in
       answers_so was now stays made stored (locate name x y w) (location_line place)
-      (inr (inr (named, inr (inr (inr (query, there, record { nothing_made = refl; place = place; right = told; told = refl }))))))
+      (inr (refl, inr (named, inr (inr (inr (query, there, ap location_line told))))))
 
   -- ==== GRID
 
   pub grid_gone : (stored : BookStore) (name : List ℕ) (x y step nx ny : ℤ) (fault : CommandFault) → IsTrue (is_name name) → IsGridSize step nx ny → fault ≡ Gone
       → Answers stored was (grid name x y step nx ny) now (error_line fault)
   grid_gone stored name x y step nx ny fault named size gone =
-      answers_so was now stays made stored (grid name x y step nx ny) (error_line fault) (inr (inr (named, inr (inl (size, refused_as fault Gone gone)))))
+      answers_so was now stays made stored (grid name x y step nx ny) (error_line fault) (inr (refl, inr (named, inr (inl (size, ap error_line gone)))))
 
   pub grid_refused : (stored : BookStore) (name known : List ℕ) (x y step nx ny : ℤ) (g : Grid) (version : versions.Version) (wrong : GridFault) → version ≡ newest (seen now)
       → known ≡ name → g ≡ grid_with x y step nx ny → IsTrue (is_name name) → IsGridSize step nx ny
@@ -383,14 +363,17 @@ module _ (was now : Known) (stays : Stays was now) (made : now.made ≡ was.made
       (elim refused [
         | inl memory ↦ inl (named, record { nothing_made = refl; told = ap (λ f. error_line (of_grid f)) memory.0 })
         | inr by ↦
-            inr (inr (
-              named,
-              inr (inr (
-                size,
-                drawn_some _ wrong _
-                    (pictured (λ v m p. grid_refusal v.layers m p ≡ Some wrong) version (newest (seen now)) known name g (grid_with x y step nx ny) is same points by),
-              )),
-            ))
+            inr (
+              refl,
+              inr (
+                named,
+                inr (inr (
+                  size,
+                  asked_some of_grid _ wrong _
+                      (pictured (λ v m p. grid_refusal v.layers m p ≡ Some wrong) version (newest (seen now)) known name g (grid_with x y step nx ny) is same points by),
+                )),
+              ),
+            )
       ])
 
   pub grid_told : (stored : BookStore) (name known : List ℕ) (x y step nx ny : ℤ) (g : Grid) (version : versions.Version) (text : List ℕ) → version ≡ newest (seen now)
@@ -400,12 +383,12 @@ module _ (was now : Known) (stays : Stays was now) (made : now.made ≡ was.made
       let there = pictured (λ v m p. grid_refusal v.layers m p ≡ None) version (newest (seen now)) known name g (grid_with x y step nx ny) is same points free in
       let drawn = pictured (λ v m p. text ≡ grid_text v.layers m p) version (newest (seen now)) known name g (grid_with x y step nx ny) is same points told in
       answers_so was now stays made stored (grid name x y step nx ny) text
-      (inr (inr (named, inr (inr (size, drawn_none _ _ text there (record { nothing_made = refl; told = drawn }))))))
+      (inr (refl, inr (named, inr (inr (size, asked_none of_grid _ text _ there drawn)))))
 
   -- ==== LAYERS
 
   pub list_gone : (stored : BookStore) (fault : CommandFault) → fault ≡ Gone → Answers stored was list_layers now (error_line fault)
-  list_gone stored fault gone = answers_so was now stays made stored list_layers (error_line fault) (inr (inl (refused_as fault Gone gone)))
+  list_gone stored fault gone = answers_so was now stays made stored list_layers (error_line fault) (inr (refl, inl (ap error_line gone)))
 
   pub list_no_memory : (stored : BookStore) → Answers stored was list_layers now (error_line OutOfMemory)
   list_no_memory stored = answers_so was now stays made stored list_layers (error_line OutOfMemory) (inl (refl, refused_so OutOfMemory))
@@ -413,7 +396,7 @@ module _ (was now : Known) (stays : Stays was now) (made : now.made ≡ was.made
   pub list_told : (stored : BookStore) (version : versions.Version) (text : List ℕ) → version ≡ newest (seen now) → text ≡ layers_text version.layers → Answers stored was list_layers now text
   list_told stored version text is told =
       answers_so was now stays made stored list_layers text
-      (inr (inr (record { nothing_made = refl; told = told ∙ ap (λ (v : versions.Version). layers_text v.layers) is })))
+      (inr (refl, inr (told ∙ ap (λ (v : versions.Version). layers_text v.layers) is)))
 
 -- ==== Lines
 
@@ -433,11 +416,10 @@ takes_alone stored was now old new line asked reply taken answers = record {
   stays = answers.stays;
   taken = λ waiting there.
       let t = taken waiting there in
-      let a = answers.answered in
       record {
         waits = t.open_then;
         answered = subst (λ (turns : List Turn). IsSharedRun stored was turns now reply) (sym t.ended)
-            (run-one stored was now (alone (request asked)) a.made reply (record { goes_on = answers.stays.goes_on; answered = a.answered }) a.only);
+            (run-one stored was now (alone (request asked)) answers.made reply (record { goes_on = answers.stays.goes_on; answered = answers.answered }) answers.only);
       };
 }
 

@@ -1,6 +1,7 @@
 -- What is answered to a request that does not ask the store is so whatever is known of the store.
 use Rattle.std.proofs.Common.{◌≡◌, ℕ, ◌⊎◌, inl, inr, Bool, true, false, List}
 use Rattle.std.proofs.lemmas.Bool.{true≢false}
+use Rattle.std.proofs.lemmas.Int.{to_z-of_z}
 use Rattle.overlay_terms.specs.Batches.{Batch}
 use Rattle.overlay_terms.specs.Histories.{History}
 use Rattle.book_history.specs.Known.{Known, seen}
@@ -23,9 +24,13 @@ pub anywhere : (stored : BookStore) (was now : Known) {request : Request} (reply
     → Answers stored was request now reply
 anywhere stored was now {request} reply is apart = record {
   stays = is.stays;
-  answered = record { made = is.answered.made; answered = either is.answered.made is.answered.answered; only = is.answered.only };
+  made = is.made;
+  answered = either is.made is.answered;
+  only = is.only;
 } where
   either : (made : List Batch) → IsOutOfMemory request made reply ⊎ IsAnswered no_store was.session (seen was) request (seen now) made reply
       → IsOutOfMemory request made reply ⊎ IsAnswered stored was.session (seen was) request (seen now) made reply
   either made (inl memory) = inl memory
   either made (inr answered) = inr (same_answer no_store stored was.session (seen was) (seen now) request made reply apart answered)
+
+pub ruleset asked = (to_z-of_z, anywhere)

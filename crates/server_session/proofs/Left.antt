@@ -10,9 +10,8 @@ use Rattle.script_form.specs.declared.fault.CommandFault.TheVariants.{CommandSyn
 use Rattle.script_form.specs.declared.line_reply.LineReply.{LineReply}
 use Rattle.script_form.specs.declared.open_batch.OpenBatch.{OpenBatch}
 use Rattle.script_form.specs.OpenBatch.{IsOpen}
-use Rattle.script_form.specs.LineReply.{reply_text}
 use Rattle.script_form.specs.Lines.{without_cr, ended_lines, unended, last_line, whole_lines}
-use Rattle.script_form.specs.Replies.{error_line}
+use Rattle.script_form.specs.Replies.{error_line, reply_text}
 use Rattle.script_form.specs.Requests.{request_of}
 use Rattle.script_form.specs.Transcript.{BookStore, store_by}
 use Rattle.script_form.specs.Turns.{Turn, Waiting, cut_off, cut_off_in, ended_by, turns_of, all_turns_of, waiting_after, waiting_behind}

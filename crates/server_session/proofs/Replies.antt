@@ -19,7 +19,7 @@ fault_right stored now fault = inl (record { fault = (fault, inl refl); nothing_
 
 -- a line that belongs to a batch has no reply
 pub nothing_right : (stored : BookStore) (now : Known) → IsReplySince stored now now []
-nothing_right stored now = inr (inl (nothing, answers_there stored now nothing [] (inr (record { nothing_made = refl; told = refl }))))
+nothing_right stored now = inr (inl (nothing, answers_there stored now nothing [] (inr (refl, refl))))
 
 pub answer_right : (stored : BookStore) (was now : Known) (request : Request) (text : List ℕ) → Answers stored was request now text → IsReplySince stored was now text
 answer_right stored was now request text answers = inr (inl (request, answers))

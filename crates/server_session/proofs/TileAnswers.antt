@@ -1,7 +1,6 @@
 -- What is answered to questions about tiles and about the store.
 use Rattle.std.specs.Prelude.{IsErrAnd}
 use Rattle.std.proofs.Common.{◌≡◌, ◌≤◌, ℕ, ℤ, Bool, true, false, IsTrue, List, [], codes, Option, Some, None, Result, Ok, Err, refl, sym, ap, subst, ◌∙◌, ◌⊎◌, inl, inr, ⊎_elim}
-use Rattle.overlay_terms.specs.Batches.{Batch}
 use Rattle.overlay_terms.specs.Histories as versions
 use Rattle.overlay_terms.specs.Histories.{History, BeginsWith, newest}
 use Rattle.layer_expr.specs.Name.{is_name}
@@ -23,18 +22,11 @@ use Rattle.script_form.specs.declared.fault.CommandFault.TheVariants.{Version, C
 use Rattle.script_form.specs.Reading.{IsNoName}
 use Rattle.script_form.specs.Replies.{error_line, numbered_line, verdict_line}
 use Rattle.script_form.specs.Requests.{edges, wait, verify, sync}
-use Rattle.script_form.specs.Transcript.{BookStore, store_by, Asked, asked_column, IsOutOfMemory, IsAnswered, IsOfStore}
+use Rattle.script_form.specs.Transcript.{BookStore, store_by, asked_column, IsOutOfMemory, IsAnswered, IsOfStore}
 use Rattle.server_session.specs.Answering.{Answers}
 use Rattle.server_session.specs.Fault.{fault_told, store_told}
 use Rattle.server_session.specs.Session.{Stays}
-use Rattle.server_session.proofs.AnswerLemmas.{answers_so, answers_there, unnamed, refused_so, refused_as}
-
--- a question that is refused, and one that is not
-asked_some : (o : Option VersionFault) (wrong : VersionFault) (T : Type 0) → o ≡ Some wrong → Asked o [] (error_line (Version wrong)) T
-asked_some o wrong T is = subst (λ r. Asked r [] (error_line (Version wrong)) T) (sym is) (record { nothing_made = refl; told = refl })
-
-asked_none : (o : Option VersionFault) (made : List Batch) (reply : List ℕ) (T : Type 0) → o ≡ None → T → Asked o made reply T
-asked_none o made reply T is answered = subst (λ r. Asked r made reply T) (sym is) answered
+use Rattle.server_session.proofs.AnswerLemmas.{answers_so, answers_there, asked_none, asked_some, unnamed, refused_so}
 
 -- what holds of a version, a name and a column holds of the newest version, of the name as it was read and of the column as it was asked for
 moved : (P : versions.Version → List ℕ → Option ℕ → Type 0) (version new : versions.Version) (known name : List ℕ) (n k : Option ℕ)
@@ -45,19 +37,19 @@ moved P version new known name n k is same number h =
 -- ==== Lines whose name is none
 
 pub edges_unnamed : (stored : BookStore) (me : Known) (name : List ℕ) (k : ℤ) (fault : CommandFault) → IsNoName name fault → Answers stored me (edges name k) me (error_line fault)
-edges_unnamed stored me name k fault refused = answers_there stored me (edges name k) (error_line fault) (inr (unnamed name fault _ refused))
+edges_unnamed stored me name k fault refused = answers_there stored me (edges name k) (error_line fault) (inr (refl, unnamed name fault _ refused))
 
 pub verify_unnamed : (stored : BookStore) (me : Known) (name : List ℕ) (k : ℤ) (fault : CommandFault) → IsNoName name fault → Answers stored me (verify name k) me (error_line fault)
-verify_unnamed stored me name k fault refused = answers_there stored me (verify name k) (error_line fault) (inr (unnamed name fault _ refused))
+verify_unnamed stored me name k fault refused = answers_there stored me (verify name k) (error_line fault) (inr (refl, unnamed name fault _ refused))
 
 pub wait_unnamed : (stored : BookStore) (me : Known) (name : List ℕ) (fault : CommandFault) → IsNoName name fault → Answers stored me (wait name) me (error_line fault)
-wait_unnamed stored me name fault refused = answers_there stored me (wait name) (error_line fault) (inr (unnamed name fault _ refused))
+wait_unnamed stored me name fault refused = answers_there stored me (wait name) (error_line fault) (inr (refl, unnamed name fault _ refused))
 
 module _ (was now : Known) (stays : Stays was now) (made : now.made ≡ was.made) where
   -- ==== EDGES
 
   pub edges_gone : (stored : BookStore) (name : List ℕ) (k : ℤ) (fault : CommandFault) → IsTrue (is_name name) → fault ≡ Gone → Answers stored was (edges name k) now (error_line fault)
-  edges_gone stored name k fault named gone = answers_so was now stays made stored (edges name k) (error_line fault) (inr (inr (named, inl (refused_as fault Gone gone))))
+  edges_gone stored name k fault named gone = answers_so was now stays made stored (edges name k) (error_line fault) (inr (refl, inr (named, inl (ap error_line gone))))
 
   pub edges_refused : (stored : BookStore) (name known : List ℕ) (k : ℤ) (n : Option ℕ) (version : versions.Version) (wrong : VersionFault) → version ≡ newest (seen now)
       → known ≡ name → n ≡ asked_column k → IsTrue (is_name name) → RefusedBy (Layer layer_fault.OutOfMemory) (edges_refusal version known n) wrong
@@ -67,23 +59,26 @@ module _ (was now : Known) (stays : Stays was now) (made : now.made ≡ was.made
       (elim refused [
         | inl memory ↦ inl (named, record { nothing_made = refl; told = ap (λ f. error_line (Version f)) memory.0 })
         | inr by ↦
-            inr (inr (named, inr (asked_some _ wrong _ (moved (λ v m c. edges_refusal v m c ≡ Some wrong) version (newest (seen now)) known name n (asked_column k) is same number by))))
+            inr (refl, inr (named, inr (asked_some Version _ wrong _ (moved (λ v m c. edges_refusal v m c ≡ Some wrong) version (newest (seen now)) known name n (asked_column k) is same number by))))
       ])
 
   pub edges_told : (stored : BookStore) (name known : List ℕ) (k : ℤ) (n : Option ℕ) (version : versions.Version) (reply : List ℕ) → version ≡ newest (seen now)
       → known ≡ name → n ≡ asked_column k → IsTrue (is_name name) → edges_refusal version known n ≡ None → AreEdges version known n reply → Answers stored was (edges name k) now reply
   edges_told stored name known k n version reply is same number named free told =
       answers_so was now stays made stored (edges name k) reply
-      (inr (inr (
-        named,
-        inr (asked_none _ [] reply _ (moved (λ v m c. edges_refusal v m c ≡ None) version (newest (seen now)) known name n (asked_column k) is same number free)
-            (record { nothing_made = refl; told = moved (λ v m c. AreEdges v m c reply) version (newest (seen now)) known name n (asked_column k) is same number told })),
-      )))
+      (inr (
+        refl,
+        inr (
+          named,
+          inr (asked_none Version _ reply _ (moved (λ v m c. edges_refusal v m c ≡ None) version (newest (seen now)) known name n (asked_column k) is same number free)
+              (moved (λ v m c. AreEdges v m c reply) version (newest (seen now)) known name n (asked_column k) is same number told)),
+        ),
+      ))
 
   -- ==== VERIFY
 
   pub verify_gone : (stored : BookStore) (name : List ℕ) (k : ℤ) (fault : CommandFault) → IsTrue (is_name name) → fault ≡ Gone → Answers stored was (verify name k) now (error_line fault)
-  verify_gone stored name k fault named gone = answers_so was now stays made stored (verify name k) (error_line fault) (inr (inr (named, inl (refused_as fault Gone gone))))
+  verify_gone stored name k fault named gone = answers_so was now stays made stored (verify name k) (error_line fault) (inr (refl, inr (named, inl (ap error_line gone))))
 
   pub verify_refused : (stored : BookStore) (name known : List ℕ) (k : ℤ) (n : Option ℕ) (version : versions.Version) (wrong : VersionFault) → version ≡ newest (seen now)
       → known ≡ name → n ≡ asked_column k → IsTrue (is_name name) → RefusedBy (Layer layer_fault.OutOfMemory) (finished_refusal version known n) wrong
@@ -93,7 +88,7 @@ module _ (was now : Known) (stays : Stays was now) (made : now.made ≡ was.made
       (elim refused [
         | inl memory ↦ inl (named, record { nothing_made = refl; told = ap (λ f. error_line (Version f)) memory.0 })
         | inr by ↦
-            inr (inr (named, inr (asked_some _ wrong _ (moved (λ v m c. finished_refusal v m c ≡ Some wrong) version (newest (seen now)) known name n (asked_column k) is same number by))))
+            inr (refl, inr (named, inr (asked_some Version _ wrong _ (moved (λ v m c. finished_refusal v m c ≡ Some wrong) version (newest (seen now)) known name n (asked_column k) is same number by))))
       ])
 
   pub verify_told : (stored : BookStore) (name known : List ℕ) (k : ℤ) (n : Option ℕ) (version : versions.Version) (verdict : Verdict) → version ≡ newest (seen now)
@@ -101,16 +96,14 @@ module _ (was now : Known) (stays : Stays was now) (made : now.made ≡ was.made
       → Answers stored was (verify name k) now (verdict_line verdict)
   verify_told stored name known k n version verdict is same number named free right =
       answers_so was now stays made stored (verify name k) (verdict_line verdict)
-      (inr (inr (
-        named,
-        inr (asked_none _ [] (verdict_line verdict) _ (moved (λ v m c. finished_refusal v m c ≡ None) version (newest (seen now)) known name n (asked_column k) is same number free)
-            (record {
-              nothing_made = refl;
-              verdict = verdict;
-              right = moved (λ v m c. IsVerdict v m c verdict) version (newest (seen now)) known name n (asked_column k) is same number right;
-              told = refl;
-            })),
-      )))
+      (inr (
+        refl,
+        inr (
+          named,
+          inr (asked_none Version _ (verdict_line verdict) _ (moved (λ v m c. finished_refusal v m c ≡ None) version (newest (seen now)) known name n (asked_column k) is same number free)
+              (verdict, moved (λ v m c. IsVerdict v m c verdict) version (newest (seen now)) known name n (asked_column k) is same number right, refl)),
+        ),
+      ))
 
 -- ==== WAIT
 
@@ -123,11 +116,11 @@ waited_stays was now on same = record { book = same.0; session = same.1; goes_on
 
 wait_refused_so : (stored : BookStore) (was now : Known) (name : List ℕ) (fault : BookFault) → IsTrue (is_name name) → IsWaitRefused true (newest (seen now)) name fault
     → IsOutOfMemory (wait name) [] (error_line (fault_told fault)) ⊎ IsAnswered stored was.session (seen was) (wait name) (seen now) [] (error_line (fault_told fault))
-wait_refused_so stored was now name (book.Version wrong) named (inl by) = inr (inr (named, inr (asked_some _ wrong _ by)))
+wait_refused_so stored was now name (book.Version wrong) named (inl by) = inr (refl, inr (named, inr (asked_some Version _ wrong _ by)))
 wait_refused_so stored was now name (book.Version wrong) named (inr memory) = inl (named, record { nothing_made = refl; told = ap (λ f. error_line (Version f)) memory.0 })
 wait_refused_so stored was now name book.Closing named refused =
-    inr (inr (named, inr (asked_none _ [] _ _ refused.1 (inr (record { pending = refused.2; closing = refused_so Closing })))))
-wait_refused_so stored was now name book.Gone named refused = inr (inr (named, inl (refused_so Gone)))
+    inr (refl, inr (named, inr (asked_none Version _ _ _ refused.1 (inr (refused.2, refl)))))
+wait_refused_so stored was now name book.Gone named refused = inr (refl, inr (named, inl refl))
 wait_refused_so stored was now name book.NoStore named refused = absurd refused
 wait_refused_so stored was now name (book.Store fault) named refused = absurd refused
 
@@ -143,7 +136,7 @@ pub wait_told : (stored : BookStore) (was now : Known) (name known : List ℕ) (
 wait_told stored was now name known number on same is named built =
     let there = subst (λ n. IsBuiltAt (newest (seen now)) n number) is built in
     answers_so was now (waited_stays was now on same) same.2 stored (wait name) (numbered_line (codes "built ") number)
-    (inr (inr (named, inr (asked_none _ [] (numbered_line (codes "built ") number) _ there.derived (inl (record { nothing_made = refl; built = there.built; told = ap (numbered_line (codes "built ")) (sym there.numbered) }))))))
+    (inr (refl, inr (named, inr (asked_none Version _ (numbered_line (codes "built ") number) _ there.derived (inl (there.built, ap (numbered_line (codes "built ")) (sym there.numbered)))))))
 
 -- ==== SYNC
 

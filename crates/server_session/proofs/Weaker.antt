@@ -5,7 +5,7 @@ use Rattle.overlay_terms.specs.Histories.{History, BeginsWith}
 use Rattle.book_history.specs.Known.{Known, seen}
 use Rattle.script_form.specs.declared.session_end.SessionEnd.{SessionEnd}
 use Rattle.script_form.specs.declared.session_end.SessionEnd.TheVariants.{End, Failed}
-use Rattle.script_form.specs.Requests.{Request, nothing, too_long, malformed, put_text, define_text, remove_name, locate, grid, list_layers, edges, wait, verify, sync, batch}
+use Rattle.script_form.specs.Requests.{Request, sync}
 use Rattle.script_form.specs.Transcript.{store_by, IsAnswered, IsOutOfMemory, IsTurnAnswered, IsTranscript}
 use Rattle.script_form.specs.Turns.{Turn, alone, together, cut_off}
 use Rattle.server_session.specs.Answering.{Answers}
@@ -15,26 +15,15 @@ use Rattle.server_session.proofs.Turns.{begins_trans}
 
 -- of a book with a store, by the histories that go on from a first one
 module _ (told more : History → Type 0) (there : Bool) (first : History) (weak : IsTrue there → (history : History) → BeginsWith history first → told history → more history) where
+  -- SYNC alone asks the store
   answered : (session : ℕ) (before after : History) (request : Request) (made : List Batch) (reply : List ℕ) → BeginsWith after first
       → IsAnswered (store_by told there) session before request after made reply → IsAnswered (store_by more there) session before request after made reply
-  answered session before after nothing made reply on is = is
-  answered session before after too_long made reply on is = is
-  answered session before after malformed made reply on is = is
-  answered session before after (put_text name text) made reply on is = is
-  answered session before after (define_text name text) made reply on is = is
-  answered session before after (remove_name name) made reply on is = is
-  answered session before after (locate name x y w) made reply on is = is
-  answered session before after (grid name x y step nx ny) made reply on is = is
-  answered session before after list_layers made reply on is = is
-  answered session before after (edges name k) made reply on is = is
-  answered session before after (wait name) made reply on is = is
-  answered session before after (verify name k) made reply on is = is
-  answered session before after (batch size) made reply on is = is
   answered session before after sync made reply on (inl none) = inl none
   answered session before after sync made reply on (inr (inl gone)) = inr (inl gone)
   answered session before after sync made reply on (inr (inr (inl (one, is)))) =
       inr (inr (inl (one, record { nothing_made = is.nothing_made; reached = is.reached; may = weak one after on is.may; told = is.told })))
   answered session before after sync made reply on (inr (inr (inr is))) = inr (inr (inr is))
+  answered session before after other made reply on is = is
 
   turn_answered : (session : ℕ) (before after : History) (turn : Turn) (made : List Batch) (reply : List ℕ) → BeginsWith after first
       → IsTurnAnswered (store_by told there) session before turn after made reply → IsTurnAnswered (store_by more there) session before turn after made reply
@@ -102,12 +91,14 @@ module _ (told more : History → Type 0) (there : Bool) (first : History) (weak
   answer : (was : Known) (request : Request) (now : Known) (reply : List ℕ) → BeginsWith (seen now) first → Answers (store_by told there) was request now reply → Answers (store_by more there) was request now reply
   answer was request now reply on is = record {
     stays = is.stays;
-    answered = record { made = is.answered.made; answered = either is.answered.answered; only = is.answered.only };
+    made = is.made;
+    answered = either is.answered;
+    only = is.only;
   } where
-    either : IsOutOfMemory request is.answered.made reply ⊎ IsAnswered (store_by told there) was.session (seen was) request (seen now) is.answered.made reply
-        → IsOutOfMemory request is.answered.made reply ⊎ IsAnswered (store_by more there) was.session (seen was) request (seen now) is.answered.made reply
+    either : IsOutOfMemory request is.made reply ⊎ IsAnswered (store_by told there) was.session (seen was) request (seen now) is.made reply
+        → IsOutOfMemory request is.made reply ⊎ IsAnswered (store_by more there) was.session (seen was) request (seen now) is.made reply
     either (inl memory) = inl memory
-    either (inr so) = inr (answered was.session (seen was) (seen now) request is.answered.made reply on so)
+    either (inr so) = inr (answered was.session (seen was) (seen now) request is.made reply on so)
 
   pub reply_since : (was now : Known) (text : List ℕ) → BeginsWith (seen now) first → IsReplySince (store_by told there) was now text → IsReplySince (store_by more there) was now text
   reply_since was now text on (inl fault) = inl fault

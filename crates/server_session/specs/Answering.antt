@@ -8,8 +8,7 @@ use Rattle.script_form.specs.declared.fault.CommandFault.TheVariants.{OutOfMemor
 use Rattle.script_form.specs.declared.line_reply.LineReply.{LineReply}
 use Rattle.script_form.specs.declared.open_batch.LinesFault.{LinesFault}
 use Rattle.script_form.specs.OpenBatch.{AreRead}
-use Rattle.script_form.specs.Replies.{error_line}
-use Rattle.script_form.specs.LineReply.{reply_text}
+use Rattle.script_form.specs.Replies.{error_line, reply_text}
 use Rattle.script_form.specs.Requests.{Request}
 use Rattle.script_form.specs.Transcript.{BookStore, IsRefused, IsSubmitted, IsSubmittedAll, IsAnswered, IsBatchAnswered, IsOutOfMemory}
 use Rattle.server_session.specs.Session.{Stays}
@@ -19,16 +18,13 @@ abbrev pub result_text : Result LineReply CommandFault → List ℕ
 result_text (Ok reply) = reply_text reply
 result_text (Err fault) = error_line fault
 
--- a request is answered, or memory ran out for it; `stored` is what is known of the book's store
-pub record IsAnswerOf (stored : BookStore) (was : Known) (request : Request) (now : Known) (reply : List ℕ) : Type 0 where
+-- the session goes on, and a request is answered at what it has seen then, or memory ran out for it; `stored` is what
+-- is known of the book's store
+pub record Answers (stored : BookStore) (was : Known) (request : Request) (now : Known) (reply : List ℕ) : Type 0 where
+  pub stays : Stays was now
   pub made : List Batch
   pub answered : IsOutOfMemory request made reply ⊎ IsAnswered stored was.session (seen was) request (seen now) made reply
   pub only : now.made ≡ was.made ++ made
-
--- the session goes on, and the request is answered at what it has seen then
-pub record Answers (stored : BookStore) (was : Known) (request : Request) (now : Known) (reply : List ℕ) : Type 0 where
-  pub stays : Stays was now
-  pub answered : IsAnswerOf stored was request now reply
 
 -- a command is submitted, or memory ran out
 pub record Submits (was : Known) (command : Command) (now : Known) (reply : List ℕ) : Type 0 where

@@ -3,7 +3,7 @@ use Rattle.std.specs.Prelude.{◌≡◌, ℕ, List, [], ◌∷◌, ◌++◌, Opt
 use Rattle.book_history.specs.Known.{Known}
 use Rattle.script_form.specs.OpenBatch.{IsOpen}
 use Rattle.script_form.specs.Requests.{request_of}
-use Rattle.script_form.specs.LineReply.{reply_text}
+use Rattle.script_form.specs.Replies.{reply_text}
 use Rattle.script_form.specs.Turns.{Turn, Waiting, waiting_after, ended_by, cut_off_in}
 use Rattle.script_form.specs.declared.line_reply.LineReply.{LineReply}
 use Rattle.script_form.specs.declared.open_batch.OpenBatch.{OpenBatch}

@@ -4,8 +4,8 @@ ghost use Rattle.std.specs.Arc.{arc_value};
 ghost use Rattle.overlay_terms.specs.Histories.{newest, IsHistory};
 ghost use Rattle.book_history.specs.Known.{seen};
 ghost use Rattle.layer_book.specs.Command.{command};
-ghost use Rattle.script_form.specs.LineReply.{reply_text};
-ghost use Rattle.script_form.specs.Requests.{request, put_text, locate, grid, list_layers, edges, wait, verify, sync};
+ghost use Rattle.script_form.specs.Replies.{reply_text};
+ghost use Rattle.script_form.specs.Requests.{request, put_text, define_text, remove_name, locate, grid, list_layers, edges, wait, verify, sync};
 ghost use Rattle.script_form.specs.Transcript.{asked_column};
 ghost use Rattle.server_session.specs.Stores.{no_store, store_of};
 ghost use Rattle.server_session.specs.Answering.{Answers, Submits, result_text};
@@ -74,6 +74,7 @@ fn answer_alone<J: BookName, S: Wait + Drop, Q: Wait + Threads + Sync>(
     }
 }
 
+#[tactic(auto, using(crate::proofs::Anywhere::asked))]
 fn answer_request<J: BookName, S: Wait + Drop, Q: Wait + Threads + Sync>(
     rt: &Q,
     alloc: Global,
@@ -89,14 +90,8 @@ fn answer_request<J: BookName, S: Wait + Drop, Q: Wait + Threads + Sync>(
         Request::TooLong => Err(CommandFault::LineTooLong),
         Request::Malformed => Err(CommandFault::CommandSyntax),
         Request::Put(name, text) => answer_put(rt, alloc, shared, me, name, text),
-        Request::Define(name, text) => {
-            let change = read_define(alloc, name, text)?;
-            submit(rt, alloc, shared, me, &change)
-        }
-        Request::Remove(name) => {
-            let change = read_remove(alloc, name)?;
-            submit(rt, alloc, shared, me, &change)
-        }
+        Request::Define(name, text) => answer_define(rt, alloc, shared, me, name, text),
+        Request::Remove(name) => answer_remove(rt, alloc, shared, me, name),
         Request::Locate(name, x, y, w) => answer_locate(alloc, me, name, x, y, w),
         Request::Grid(name, x, y, step, nx, ny) => {
             answer_grid(rt, alloc, me, name, x, y, step, nx, ny)
@@ -123,6 +118,35 @@ fn answer_put<J: BookName, S: Wait + Drop, Q: Wait>(
     ensures { Answers (store_of J.stored (has_store shared.now)) me.old (put_text name.now text.now) me.new (result_text result) }
 {
     let change = read_put(alloc, name, text)?;
+    submit(rt, alloc, shared, me, &change)
+}
+
+fn answer_define<J: BookName, S: Wait + Drop, Q: Wait>(
+    rt: &Q,
+    alloc: Global,
+    shared: &Shared<J, S>,
+    me: &mut Session,
+    name: &[u8],
+    text: &[u8],
+) -> Result<LineReply, CommandFault>
+    requires { me.old.book ≡ J.book }
+    ensures { Answers (store_of J.stored (has_store shared.now)) me.old (define_text name.now text.now) me.new (result_text result) }
+{
+    let change = read_define(alloc, name, text)?;
+    submit(rt, alloc, shared, me, &change)
+}
+
+fn answer_remove<J: BookName, S: Wait + Drop, Q: Wait>(
+    rt: &Q,
+    alloc: Global,
+    shared: &Shared<J, S>,
+    me: &mut Session,
+    name: &[u8],
+) -> Result<LineReply, CommandFault>
+    requires { me.old.book ≡ J.book }
+    ensures { Answers (store_of J.stored (has_store shared.now)) me.old (remove_name name.now) me.new (result_text result) }
+{
+    let change = read_remove(alloc, name)?;
     submit(rt, alloc, shared, me, &change)
 }
 

@@ -1,6 +1,6 @@
 //! The answer to the lines of a batch.
 ghost use Rattle.std.specs.Prelude.{◌≡◌};
-ghost use Rattle.script_form.specs.LineReply.{reply_text};
+ghost use Rattle.script_form.specs.Replies.{reply_text};
 ghost use Rattle.server_session.specs.Answering.{AnswersAll, SubmitsAll};
 ghost use Rattle.server_session.specs.Fault.{lines_told};
 ghost use Rattle.server_session.specs.Replying.{IsReplySince};

@@ -1,8 +1,7 @@
 //! Where a session's replies go.
 ghost use Rattle.std.specs.Prelude.{◌≡◌, ◌⊎◌, Bool, None, IfErr, IfSome, OnOk, drop, option_map};
 ghost use Rattle.book_history.specs.Known.{Known};
-ghost use Rattle.script_form.specs.LineReply.{reply_text};
-ghost use Rattle.script_form.specs.Replies.{error_line};
+ghost use Rattle.script_form.specs.Replies.{error_line, reply_text};
 ghost use Rattle.script_form.specs.Writing.{Writes};
 ghost use Rattle.server_session.specs.Replying.{IsNextReply, IsSomeReply};
 
