@@ -6,6 +6,7 @@ use program_store::refusal::Refusal;
 use program_store::replies::Replies;
 use program_store::source::Source;
 use program_store::store::is_store;
+use session_threads::fuse::Fuse;
 use session_threads::port::Port;
 use std::fs::{File, OpenOptions, TryLockError};
 use std::io::{ErrorKind, Stdin, Stdout};
@@ -15,8 +16,11 @@ use std::{fs, io};
 /// The most bytes of a session, 2^62: none gets there.
 const BYTES_MAX: usize = 4_611_686_018_427_387_904;
 
-/// A session's lines, from standard input or from a file.
-type Lines = Source<Stdin, File>;
+/// Where a session's lines come from: standard input, or a file.
+type LiveSource = Source<Stdin, File>;
+
+/// A session's lines, to their end.
+type Lines = Fuse<LiveSource>;
 
 /// A session's replies, to standard output or into a file. Where nobody reads any more a write is an error: no program
 /// of the kit is ended by the signal.
@@ -52,11 +56,11 @@ pub fn open_ports<'p, Q: Files<File = File> + AllocGlobal>(
 }
 
 /// A pair that is open, for a session without end.
-fn port(reader: Lines, writer: LiveReplies) -> Port<Lines, LiveReplies>
+fn port(source: LiveSource, writer: LiveReplies) -> Port<Lines, LiveReplies>
     ensures { result.most ≡ 2 ^ 62 }
 {
     Port {
-        reader,
+        reader: Fuse::new(source),
         most: BYTES_MAX,
         writer,
     }

@@ -4,7 +4,7 @@ ghost use Rattle.std.specs.List.{AllZip};
 ghost use Rattle.book_history.specs.Rules.{head_of};
 ghost use Rattle.book_lock.specs.Steps.{beginners};
 ghost use Rattle.overlay_terms.specs.Histories.{Entry, History};
-ghost use Rattle.server_session.specs.Replying.{IsAtStart};
+ghost use Rattle.server_session.specs.Replying.{IsAtStart, IsPastMost};
 ghost use Rattle.store_flushing.specs.Stores.{flusher_in};
 ghost use Rattle.version_book.specs.Store.{has_store};
 ghost use Rattle.overlay_server.specs.Given.{Given, bytes_of, given_by, given_to};
@@ -143,6 +143,7 @@ where
     // Each writer goes on from the session of its place in this book alone: no other answers it, also where this never returns.
     requires from { AllZip (λ port me. W.from port.writer (is_some store.flusher) me) ports.items (beginners opened.1 (length ports.items)) }
     requires own { All (λ port. IfSome (W.left port.writer) (IsAtStart (R.remaining port.reader))) ports.items }
+    requires limit { All (λ port. IsPastMost port.most (R.remaining port.reader) → W.may_pass_limit port.writer) ports.items }
     ensures left { IfOk result (IsLeftFrom W.contents D.Disk version store.flusher (given_to R.remaining W.contents ports.items)) }
     ensures refused { IfErr result (IsRefusedOf R.remaining W.contents D.Disk version store.flusher (given_to R.remaining W.contents ports.items)) }
 {
@@ -180,6 +181,7 @@ where
         requires told { (history : History) → IsHeldOf D.Disk self.version.value (flusher_in self.store) history → W.may_report history }
         requires from { AllZip (λ port me. W.from port.writer (has_store self.shared) me) ports.items self.sessions.items }
         requires own { All (λ port. IfSome (W.left port.writer) (IsAtStart (R.remaining port.reader))) ports.items }
+        requires limit { All (λ port. IsPastMost port.most (R.remaining port.reader) → W.may_pass_limit port.writer) ports.items }
         requires meant { (log : List Entry) (number : ℕ) → J.stored log number ↔ IsStoredOf D.Disk self.version.value (flusher_in self.store) log number }
         ensures left { IfOk result (IsLeftFrom W.contents D.Disk self.version.value (flusher_in self.store) (given_to R.remaining W.contents ports.items)) }
         ensures refused { IfErr result (IsRefusedOf R.remaining W.contents D.Disk self.version.value (flusher_in self.store) (given_to R.remaining W.contents ports.items)) }

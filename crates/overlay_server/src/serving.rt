@@ -2,7 +2,8 @@
 ghost use Rattle.std.specs.Prelude.{◌≡◌, ◌<◌, ◌≤◌, [], All, is_some, length, IfOk, IfErr, IfSome};
 ghost use Rattle.book_history.specs.Known.{Known};
 ghost use Rattle.book_history.specs.Rules.{head_of};
-ghost use Rattle.server_session.specs.Replying.{IsAtStart};
+ghost use Rattle.server_session.specs.Replying.{IsAtStart, IsPastMost};
+ghost use Rattle.session_threads.specs.Fuse.{until_end};
 ghost use Rattle.overlay_server.specs.Given.{bytes_of, given_by, given_to};
 ghost use Rattle.overlay_server.specs.Refusing.{IsRefusedFrom, IsRefusedOf};
 ghost use Rattle.overlay_terms.specs.Histories.{History};
@@ -14,6 +15,7 @@ use crate::outcome::{Left, PortsFault, ServeOptions, Served, ServerFault};
 use disk_model::disk::Disk;
 use overlay_engine::engine::Engine;
 use server_session::reply_writer::ReplyWriter;
+use session_threads::fuse::Fuse;
 use session_threads::port::Port;
 use std::alloc::Global;
 use std::io::Read;
@@ -73,15 +75,15 @@ where
 }
 
 /// The same where the replies of each session go to the writer beside its reader: each reply is written before more of the
-/// script is read.
+/// script is read, and what comes after its end is not.
 pub fn serve_ports<D, R, W, G, Q>(
     rt: &Q,
     alloc: Global,
     options: ServeOptions,
     gate: &G,
     engine: Option<Engine<D>>,
-    ports: Vec<Port<R, W>>,
-) -> Result<Left<W, D>, PortsFault<R, W, D>>
+    ports: Vec<Port<Fuse<R>, W>>,
+) -> Result<Left<W, D>, PortsFault<Fuse<R>, W, D>>
 where
     D: Disk + Send + Drop,
     R: Read + Send + Drop,
@@ -95,15 +97,17 @@ where
     // Each begins with whichever session that has made nothing, of a book with a store just where there is an engine, and has
     // all of its reader's script left, if it keeps that. Each writer of bytes meets it.
     requires from { All (λ port. (me : Known) → me.made ≡ [] → W.from port.writer (is_some engine) me) ports.items }
-    requires own { All (λ port. IfSome (W.left port.writer) (IsAtStart (R.remaining port.reader))) ports.items }
-    ensures left { IfOk result (IsLeftFrom W.contents D.Disk (start_of engine) (flusher_of engine) (given_to R.remaining W.contents ports.items)) }
+    requires own { All (λ port. IfSome (W.left port.writer) (IsAtStart (until_end R.remaining port.reader))) ports.items }
+    // And it may be told that a limit was passed, where its reader has more bytes than it may have.
+    requires limit { All (λ port. IsPastMost port.most (until_end R.remaining port.reader) → W.may_pass_limit port.writer) ports.items }
+    ensures left { IfOk result (IsLeftFrom W.contents D.Disk (start_of engine) (flusher_of engine) (given_to (until_end R.remaining) W.contents ports.items)) }
     ensures disk { IfOk result (λ left. is_some left.closed.disk ≡ is_some engine) }
     // Where it could not run, the ports come back as they were, or the writers, each with just what its session was answered.
-    ensures refused { IfErr result (IsRefusedOf R.remaining W.contents D.Disk (start_of engine) (flusher_of engine) (given_to R.remaining W.contents ports.items)) }
+    ensures refused { IfErr result (IsRefusedOf (until_end R.remaining) W.contents D.Disk (start_of engine) (flusher_of engine) (given_to (until_end R.remaining) W.contents ports.items)) }
 {
     let opened = history_of(alloc, &engine);
     let (version, store, key) = handed(alloc, engine);
-    match serve_in::<Brand, D, R, W, G, Q>(
+    match serve_in::<Brand, D, Fuse<R>, W, G, Q>(
         rt,
         alloc,
         options.workers,

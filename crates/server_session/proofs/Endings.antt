@@ -1,5 +1,5 @@
 -- How a session ends, from where it is.
-use Rattle.std.proofs.Common.{◌≡◌, ℕ, zero, suc, ◌+◌, ◌-◌, ◌≤◌, min, ◌⊎◌, inl, inr, Bool, true, false, Option, Result, Ok, Err, OnOk, OnErr, List, [], ◌∷◌, ◌++◌, length, take, refl, sym, ap, ◌∙◌, subst, append-nil, arith}
+use Rattle.std.proofs.Common.{◌≡◌, ℕ, zero, suc, ◌+◌, ◌-◌, ◌≤◌, min, ◌⊎◌, inl, inr, Bool, true, false, Option, Some, None, Result, Ok, Err, OnOk, OnErr, List, [], ◌∷◌, ◌++◌, length, take, refl, sym, ap, ◌∙◌, subst, append-nil, arith}
 use Rattle.std.proofs.lemmas.List.{take_all, take-take, length-take, length-append}
 use Rattle.std.proofs.lemmas.Bool.{cases_lt, false≢true, true≢false}
 use Rattle.std.specs.Result.{is_err}
@@ -15,6 +15,7 @@ use Rattle.script_form.specs.Replies.{error_line}
 use Rattle.script_form.specs.Writing.{IsCutShort}
 use Rattle.script_form.proofs.LongLines.{take-nil}
 use Rattle.server_session.specs.Loop.{EndsBy, Finishes}
+use Rattle.server_session.specs.Replying.{IsPastMost}
 use Rattle.server_session.specs.Session.{IsSharedRun, IsPastLimit, IsReadFault, IsCutOff, EndsSo, IsSessionWithin, Stays}
 use Rattle.server_session.specs.SessionState.{HasTaken, turns_ended, turns_at_end, AnswersTurns, AnswersInPart}
 use Rattle.server_session.specs.declared.session_state.SessionState.{SessionState}
@@ -31,6 +32,16 @@ pub record IsUnderWay (most : ℕ) (stored : BookStore) (was : Known) (input lef
   pub writes : Appends output all written
   pub told : IsSharedRun stored was (turns_of (ended_lines (take most taken))) now written
   pub stands : HasTaken state (take most taken)
+
+-- a byte too many came of a script that is longer than it may be
+past_by : (most : ℕ) (taken : List ℕ) (input left : Option (List ℕ)) → Consumes input left taken → length taken ≡ most + 1 → IsPastMost most input
+past_by most taken None left reads past = tt
+past_by most taken (Some bytes) None reads past = absurd reads
+past_by most taken (Some bytes) (Some rest) reads past = omega (arith, past, ap length reads, length-append taken rest)
+
+pub past_most : (most : ℕ) (stored : BookStore) (was : Known) (input left output all : Option (List ℕ)) (count : ℕ) (state : SessionState) (now : Known)
+    → IsUnderWay most stored was input left output all count state now → count ≡ most + 1 → IsPastMost most input
+past_most most stored was input left output all count state now way past = past_by most way.taken input left way.reads (way.as_many ∙ past)
 
 -- the front of a script that is not too long is the whole of it
 in_limit : (most : ℕ) (taken : List ℕ) → length taken ≤ most → take most taken ≡ taken

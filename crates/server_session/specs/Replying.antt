@@ -1,5 +1,5 @@
 -- What a session may write.
-use Rattle.std.specs.Prelude.{◌≡◌, ◌⊎◌, ℕ, Bool, IsTrue, List, [], ◌∷◌, Option, Some}
+use Rattle.std.specs.Prelude.{◌≡◌, ◌⊎◌, ℕ, ◌<◌, Bool, IsTrue, List, [], ◌∷◌, length, Option, Some, IfSome}
 use Rattle.overlay_terms.specs.Batches.{Batch}
 use Rattle.overlay_terms.specs.Histories.{Entry, History, BeginsWith}
 use Rattle.book_history.specs.Known.{Known, seen}
@@ -18,6 +18,10 @@ pub record IsAtStart (script : Option (List ℕ)) (left : List Turn) : Type 0 wh
   pub bytes : List ℕ
   pub known : script ≡ Some bytes
   pub all : left ≡ all_turns_of (whole_lines bytes)
+
+-- a script has more bytes than it may have, unless nobody knows them
+abbrev pub IsPastMost : ℕ → Option (List ℕ) → Type 0
+IsPastMost most script = IfSome script (λ bytes. most < length bytes)
 
 -- the next turn has its reply, from where the session goes on, of a book with or without a store; `may`: durable of what
 pub record IsNextReply (from : Bool → Known → Type 0) (may : History → Type 0) (now : Known) (text : List ℕ) (left : List Turn) : Type 0 where

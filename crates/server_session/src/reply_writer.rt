@@ -31,25 +31,29 @@ pub trait ReplyWriter {
     /// The turns of the script whose replies it takes that have none yet, if it keeps that.
     ghost left: { Self → Option (List Turn) };
 
+    /// Whether it may be told that a byte too many of its script came.
+    ghost may_pass_limit: { Self → Type 0 };
+
     /// Writes the reply to the next turn, without taking memory.
     fn reply(&mut self, me: &Session, reply: &LineReply) -> Result<(), CommandFault>
         requires right { IfSome (left self.old) (IsNextReply (from self.old) may_report me.now (reply_text reply.now)) }
         requires told { IsSomeReply (from self.old) may_report me.now (reply_text reply.now) }
         ensures from { OnOk result ((there : Bool) (was : Known) → from self.old there was → from self.new there me.now) }
         ensures left { OnOk result (left self.new ≡ option_map (drop 1) (left self.old)) }
+        ensures limit { OnOk result (may_pass_limit self.old → may_pass_limit self.new) }
         ensures writes { Writes result (contents self.old) (contents self.new) (reply_text reply.now) }
         ensures err { IfErr result (λ fault. fault ≡ CommandFault.Write) };
 
     /// Writes the line of the fault that ends the session: a read failed, or a byte too many came. No reply comes after it.
     fn end(&mut self, me: &Session, fault: CommandFault) -> Result<(), CommandFault>
-        requires fault { (fault ≡ CommandFault.Read) ⊎ (fault ≡ CommandFault.ReadLimit) }
+        requires fault { (fault ≡ CommandFault.Read) ⊎ ((fault ≡ CommandFault.ReadLimit) × may_pass_limit self.old) }
         requires from { (there : Bool) × from self.old there me.now }
         ensures writes { Writes result (contents self.old) (contents self.new) (error_line fault) }
         ensures err { IfErr result (λ fault. fault ≡ CommandFault.Write) };
 }
 
-/// Each writer of bytes is one, which may be given the durable number of any history, from anywhere, and does not keep what is
-/// left of a script.
+/// Each writer of bytes is one, which may be given the durable number of any history, from anywhere, and that a limit was
+/// passed, and does not keep what is left of a script.
 impl<W: Write> ReplyWriter for W {
     ghost contents = { W.contents };
 
@@ -58,6 +62,8 @@ impl<W: Write> ReplyWriter for W {
     ghost from = { λ writer there was. Unit {0} };
 
     ghost left = { λ writer. None };
+
+    ghost may_pass_limit = { λ writer. Unit {0} };
 
     fn reply(&mut self, _me: &Session, reply: &LineReply) -> Result<(), CommandFault> {
         write_reply(self, reply)

@@ -5,7 +5,7 @@ ghost use Rattle.book_history.specs.Known.{seen};
 ghost use Rattle.version_book.specs.Store.{has_store};
 ghost use Rattle.script_form.specs.Fault.{code_of};
 ghost use Rattle.script_form.specs.Replies.{error_line};
-ghost use Rattle.server_session.specs.Replying.{IsAtStart, MayReport};
+ghost use Rattle.server_session.specs.Replying.{IsAtStart, IsPastMost, MayReport};
 ghost use Rattle.server_session.specs.Stores.{store_of};
 ghost use Rattle.server_session.specs.Session.{IsSharedSession, IsSessionWithin, Stays};
 ghost use Rattle.server_session.specs.SessionState.{has_ended, HasTaken, IsOnWay};
@@ -68,6 +68,7 @@ pub fn session_run_within<
     requires told { MayReport J.stored (has_store shared.now) me.old W.may_report }
     requires from { W.from writer.old (has_store shared.now) me.old }
     requires own { IfSome (W.left writer.old) (IsAtStart (R.remaining reader.old)) }
+    requires limit { IsPastMost most (R.remaining reader.old) → W.may_pass_limit writer.old }
     ensures run { IsSessionWithin most (store_of J.stored (has_store shared.now)) result me.old me.new (R.remaining reader.old)
         (R.remaining reader.new) (W.contents writer.old) (W.contents writer.new) }
     ensures goes_on { BeginsWith (seen me.new) (seen me.old) }
@@ -129,6 +130,7 @@ fn run<J: BookName, S: Wait + Drop, Q: Wait + Threads + Sync, R: Read, W: ReplyW
     requires told { MayReport J.stored (has_store shared.now) me.old W.may_report }
     requires from { W.from writer.old (has_store shared.now) me.old }
     requires own { IfSome (W.left writer.old) (IsAtStart (R.remaining reader.old)) }
+    requires limit { IsPastMost most (R.remaining reader.old) → W.may_pass_limit writer.old }
     ensures run { IsSessionWithin most (store_of J.stored (has_store shared.now)) result me.old me.new (R.remaining reader.old)
         (R.remaining reader.new) (W.contents writer.old) (W.contents writer.new) }
     ensures stays { Stays me.old me.new }
@@ -176,7 +178,7 @@ fn finish<J: BookName, S: Wait + Drop, Q: Wait + Threads + Sync, W: ReplyWriter>
 
 /// Writes the line of the fault that ends the session.
 fn end_by<W: ReplyWriter>(me: &Session, fault: CommandFault, writer: &mut W) -> SessionEnd
-    requires fault { (fault ≡ CommandFault.Read) ⊎ (fault ≡ CommandFault.ReadLimit) }
+    requires fault { (fault ≡ CommandFault.Read) ⊎ ((fault ≡ CommandFault.ReadLimit) × W.may_pass_limit writer.old) }
     requires from { (there : Bool) × W.from writer.old there me.now }
     ensures ends { EndsBy result (code_of fault) (error_line fault) (W.contents writer.old) (W.contents writer.new) }
 {

@@ -78,6 +78,7 @@ impl SessionState {
         ensures from { OnOk result (W.from writer.new (has_store shared.now) me.new) }
         ensures left { OnOk result (MatchOption (W.left writer.old) (W.left writer.new ≡ None) (λ left. (taken : List ℕ) → HasTaken self.old taken
             → W.left writer.new ≡ Some (drop (length (turns_ended taken bytes.now)) left))) }
+        ensures limit { OnOk result (W.may_pass_limit writer.old → W.may_pass_limit writer.new) }
         ensures stays { Stays me.old me.new }
         // Each version that a reply reports is one of a history.
         ensures history { IsHistory (seen me.new) }
@@ -112,6 +113,7 @@ impl SessionState {
         ensures from { OnOk result (W.from writer.new (has_store shared.now) me.new) }
         ensures left { OnOk result (MatchOption (W.left writer.old) (W.left writer.new ≡ None) (λ left. (taken : List ℕ) → HasTaken self.old taken
             → W.left writer.new ≡ Some (drop (length (turns_ended taken bytes.now)) left))) }
+        ensures limit { OnOk result (W.may_pass_limit writer.old → W.may_pass_limit writer.new) }
         ensures stays { Stays me.old me.new }
     {
         for byte in bytes {
@@ -144,6 +146,7 @@ impl SessionState {
         ensures from { OnOk result (W.from writer.new (has_store shared.now) me.new) }
         ensures left { OnOk result (MatchOption (W.left writer.old) (W.left writer.new ≡ None) (λ left. (taken : List ℕ) → HasTaken self.old taken
             → W.left writer.new ≡ Some (drop (length (turns_ended taken (byte ∷ []))) left))) }
+        ensures limit { OnOk result (W.may_pass_limit writer.old → W.may_pass_limit writer.new) }
         ensures stays { Stays me.old me.new }
     {
         if byte != b'\n' {
@@ -240,6 +243,7 @@ fn answer_line<J: BookName, S: Wait + Drop, Q: Wait + Threads + Sync, W: ReplyWr
     ensures from { OnOk result (W.from writer.new (has_store shared.now) me.new) }
     ensures left { OnOk result (MatchOption (W.left writer.old) (W.left writer.new ≡ None) (λ left. (batch : Option Waiting) → IsOpen batch waiting.old
         → W.left writer.new ≡ Some (drop (length (ended_by batch (request_of line.now))) left))) }
+    ensures limit { OnOk result (W.may_pass_limit writer.old → W.may_pass_limit writer.new) }
 {
     match answer(rt, alloc, shared, me, waiting, line) {
         Some(reply) => writer.reply(me, &reply),

@@ -2,6 +2,7 @@
 #![tactic(auto)]
 
 pub mod counting;
+pub mod fuse;
 pub mod halt;
 pub mod port;
 pub mod running;

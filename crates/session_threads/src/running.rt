@@ -1,6 +1,6 @@
 //! Sessions in threads of their own, one for each reader.
 ghost use Rattle.std.specs.Prelude.{◌≡◌, ◌<◌, All, length, IfSome, MatchResult};
-ghost use Rattle.server_session.specs.Replying.{IsAtStart, MayReport};
+ghost use Rattle.server_session.specs.Replying.{IsAtStart, IsPastMost, MayReport};
 ghost use Rattle.server_session.specs.Stores.{store_of};
 ghost use Rattle.session_threads.specs.Rooms.{HasRoom, IsReserved};
 ghost use Rattle.session_threads.specs.Running.{IsNotBegunOf, IsRunOf};
@@ -91,6 +91,8 @@ where
     requires from { All (λ script. W.from script.port.writer (has_store shared.now) script.session) seats.scripts.items }
     requires own { All (λ script. IfSome (W.left script.port.writer)
         (IsAtStart (R.remaining script.port.reader))) seats.scripts.items }
+    requires limit { All (λ script. IsPastMost script.port.most (R.remaining script.port.reader)
+        → W.may_pass_limit script.port.writer) seats.scripts.items }
     requires room { HasRoom seats (length seats.scripts.items) }
     ensures { Leave (λ script ended. IsRunOf J.book
         (store_of J.stored (has_store shared.now)) R.remaining W.contents script ended) seats.scripts.items
@@ -128,6 +130,7 @@ where
     requires told { MayReport J.stored (has_store shared.now) script.session W.may_report }
     requires from { W.from script.port.writer (has_store shared.now) script.session }
     requires own { IfSome (W.left script.port.writer) (IsAtStart (R.remaining script.port.reader)) }
+    requires limit { IsPastMost script.port.most (R.remaining script.port.reader) → W.may_pass_limit script.port.writer }
     ensures { MatchResult result
         (λ h. (h.promise.begun.value ≡ script) × (h.promise.stored ≡ has_store shared.now))
         (λ back. IsRunOf J.book (store_of J.stored (has_store shared.now)) R.remaining W.contents script back) }
@@ -147,6 +150,7 @@ where
             requires told { MayReport J.stored (has_store shared.now) script.session W.may_report }
             requires from { W.from script.port.writer (has_store shared.now) script.session }
             requires own { IfSome (W.left script.port.writer) (IsAtStart (R.remaining script.port.reader)) }
+            requires limit { IsPastMost script.port.most (R.remaining script.port.reader) → W.may_pass_limit script.port.writer }
             ensures { IsRunOf J.book (store_of J.stored
                 (has_store shared.entry.now)) R.remaining W.contents script result }
         { begin_script(rt, alloc, shared, halt, script) },
@@ -214,6 +218,7 @@ fn begin_script<J: BookName, S: Wait + Drop, Q: Threads + Wait + Sync, R: Read, 
     requires told { MayReport J.stored (has_store shared.now) script.session W.may_report }
     requires from { W.from script.port.writer (has_store shared.now) script.session }
     requires own { IfSome (W.left script.port.writer) (IsAtStart (R.remaining script.port.reader)) }
+    requires limit { IsPastMost script.port.most (R.remaining script.port.reader) → W.may_pass_limit script.port.writer }
     ensures { IsRunOf J.book (store_of J.stored (has_store shared.now)) R.remaining W.contents script result }
 {
     if halt.is_set() {
@@ -248,6 +253,7 @@ fn run_script<J: BookName, S: Wait + Drop, Q: Threads + Wait + Sync, R: Read, W:
     requires told { MayReport J.stored (has_store shared.now) script.session W.may_report }
     requires from { W.from script.port.writer (has_store shared.now) script.session }
     requires own { IfSome (W.left script.port.writer) (IsAtStart (R.remaining script.port.reader)) }
+    requires limit { IsPastMost script.port.most (R.remaining script.port.reader) → W.may_pass_limit script.port.writer }
     ensures { IsRunOf J.book (store_of J.stored (has_store shared.now)) R.remaining W.contents script result }
 {
     let Script { mut session, port } = script;

@@ -8,6 +8,7 @@ use disk_model::mem_disk::MemDisk;
 use overlay_server::outcome::ServeOptions;
 use overlay_server::serving::serve_ports;
 use overlay_server::{OpenGate, SessionEnd};
+use session_threads::fuse::Fuse;
 use session_threads::port::Port;
 use std::alloc::Global;
 use std::io;
@@ -27,7 +28,7 @@ fn left_of<D, R, W, Q>(
     rt: &Q,
     alloc: Global,
     machine: Option<Machine<D>>,
-    ports: Vec<Port<R, W>>,
+    ports: Vec<Port<Fuse<R>, W>>,
 ) -> PortsRun<W, D>
 where
     D: Disk + Send + Drop,
@@ -49,11 +50,11 @@ fn port_of(
     alloc: Global,
     script: &'static [u8],
     held: &[u8],
-) -> Result<Port<&'static [u8], Vec<u8>>, Fail> {
+) -> Result<Port<Fuse<&'static [u8]>, Vec<u8>>, Fail> {
     let mut writer = Vec::new(alloc);
     writer.extend_from_slice(held)?;
     Ok(Port {
-        reader: script,
+        reader: Fuse::new(script),
         most: MANY,
         writer,
     })
@@ -102,7 +103,7 @@ fn a_port_has_its_own_limit(rt: HostRuntime) -> Result<(), Fail> {
     ] {
         let reader: &'static [u8] = b"LAYERS\nLAYERS\nLAYERS\n";
         let port = Port {
-            reader,
+            reader: Fuse::new(reader),
             most,
             writer: Vec::new(alloc),
         };
@@ -141,9 +142,13 @@ impl Write for Narrow {
 const NARROW: &[(usize, &str)] = &[(0, ""), (1, "ok 1\n"), (2, "ok 1\ndurabl")];
 
 /// A port from a script into a writer of so many writes.
-fn narrow_port(alloc: Global, script: &'static [u8], writes: usize) -> Port<&'static [u8], Narrow> {
+fn narrow_port(
+    alloc: Global,
+    script: &'static [u8],
+    writes: usize,
+) -> Port<Fuse<&'static [u8]>, Narrow> {
     Port {
-        reader: script,
+        reader: Fuse::new(script),
         most: MANY,
         writer: Narrow {
             text: Vec::new(alloc),
@@ -219,6 +224,17 @@ struct Turns {
     early: AtomicU64,
 }
 
+impl Turns {
+    /// None was taken yet.
+    fn new() -> Turns {
+        Turns {
+            asked: AtomicU64::new(0),
+            written: AtomicU64::new(0),
+            early: AtomicU64::new(0),
+        }
+    }
+}
+
 /// A reader that gives one line a read, and looks whether the lines before it are answered.
 #[derive(Drop)]
 struct Asking<'a> {
@@ -267,17 +283,13 @@ impl Write for Counting<'_> {
 #[test]
 fn a_reply_stands_before_the_next_line_is_read(rt: HostRuntime) -> Result<(), Fail> {
     let alloc = rt.alloc();
-    let turns = Turns {
-        asked: AtomicU64::new(0),
-        written: AtomicU64::new(0),
-        early: AtomicU64::new(0),
-    };
+    let turns = Turns::new();
     // Each reply, `layers 0` with its line's end, has 9 bytes.
     let port = Port {
-        reader: Asking {
+        reader: Fuse::new(Asking {
             turns: &turns,
             lines: &["LAYERS\n", "LAYERS\n", "LAYERS\n"],
-        },
+        }),
         most: MANY,
         writer: Counting { turns: &turns },
     };
@@ -286,5 +298,21 @@ fn a_reply_stands_before_the_next_line_is_read(rt: HostRuntime) -> Result<(), Fa
     drop(left);
     assert_eq!(rt; turns.asked.load(Ordering::SeqCst), 4);
     assert_eq!(rt; turns.early.load(Ordering::SeqCst), 0);
+    Ok(())
+}
+
+// Caught: `end_asked_for_twice` (in session_threads/src/fuse.rt a read of no byte is tried once more).
+#[test]
+fn an_end_is_not_read_past(rt: HostRuntime) -> Result<(), Fail> {
+    let turns = Turns::new();
+    let mut reader = Fuse::new(Asking {
+        turns: &turns,
+        lines: &["LAYERS\n", "", "LAYERS\n"],
+    });
+    let mut chunk = [0; 16];
+    for &count in &[7, 0, 0, 0] {
+        assert_eq!(rt; reader.read(&mut chunk)?, count);
+    }
+    assert_eq!(rt; turns.asked.load(Ordering::SeqCst), 2);
     Ok(())
 }

@@ -1,5 +1,6 @@
 use Rattle.std.proofs.Common.{rules, ◌≡◌, ◌∙◌, ap, length, subst, sym}
 use Rattle.book_lock.proofs.Beginning.{count_of}
+use Rattle.session_threads.specs.Fuse.{until_end}
 use Rattle.store_flushing.specs.Stores.{flusher_in}
 use Rattle.overlay_server.specs.Given.{bytes_of, given_by, given_to}
 use Rattle.overlay_server.specs.Hosting.{IsHosted}
@@ -41,7 +42,7 @@ returns-in-Ok-clause-left g c =
     let flusher = c.args.store.flusher in
     let hosted = c.in_ok-hosted in
     let left = c.in-Ok.left in
-    let all = given_to g.R.Read.remaining bytes_of c.in-Some.ports.items in
+    let all = given_to (until_end g.R.Read.remaining) bytes_of c.in-Some.ports.items in
     subst (λ given. IsLeftFrom bytes_of g.D.Disk version flusher given left) c.in-Some.ensures.given
     (subst (λ v. IsLeftFrom bytes_of g.D.Disk v flusher all left) hosted.ensures.version
     (subst (λ f. IsLeftFrom bytes_of g.D.Disk hosted.hosted.version.value f all left) hosted.ensures.flusher c.in-Ok.ensures.left))
@@ -52,7 +53,7 @@ returns-in-Err-clause-refused g c =
     let flusher = c.args.store.flusher in
     let hosted = c.in_ok-hosted in
     let fault = c.in-Err.refused.fault in
-    let all = given_to g.R.Read.remaining bytes_of c.in-Some.ports.items in
+    let all = given_to (until_end g.R.Read.remaining) bytes_of c.in-Some.ports.items in
     subst (λ given. IsRefusedFrom g.D.Disk version flusher given fault) c.in-Some.ensures.given
     (subst (λ v. IsRefusedFrom g.D.Disk v flusher all fault) hosted.ensures.version
     (subst (λ f. IsRefusedFrom g.D.Disk hosted.hosted.version.value f all fault) hosted.ensures.flusher c.in-Err.ensures.refused.fault))

@@ -1,6 +1,7 @@
-use Rattle.std.proofs.Common.{ℕ, List, Some, ap, arith}
+use Rattle.std.proofs.Common.{ℕ, List, [], Option, Some, ap, arith, ◌∙◌}
 use Rattle.std.specs.Vec.{vec_len, vec_capacity}
 use Rattle.script_form.specs.Lines.{script_max}
+use Rattle.session_threads.specs.Fuse.{until_end}
 use Rattle.session_threads.proofs.Lists.{one_less, one_longer, one_on, room_left}
 use Rattle.overlay_server.specs.Given.{bytes_of, given_at, given_from}
 use Rattle.overlay_server.proofs.Lists.{pushed}
@@ -23,6 +24,7 @@ loop-reader-preserved g c =
       grown = one_longer at.yielded reader _ _ c.push_reserved.ensures.len at.invariant.grown;
       room = omega (arith, at.invariant.room, c.push_reserved.ensures.capacity);
       given =
-          pushed (given_at g.R.Read.remaining bytes_of) (given_from g.R.Read.remaining) at.ports.items _ _ at.yielded reader c.push_reserved.ensures.items at.invariant.given
-          (ap (λ (bytes : List ℕ). record { most = script_max; script = g.R.Read.remaining reader; held = Some bytes }) c.new-writer.ensures.items);
+          pushed (given_at (until_end g.R.Read.remaining) bytes_of) (given_from g.R.Read.remaining) at.ports.items _ _ at.yielded reader c.push_reserved.ensures.items at.invariant.given
+          (ap (λ (bytes : List ℕ). record { most = script_max; script = until_end g.R.Read.remaining c.new.result; held = Some bytes }) c.new-writer.ensures.items
+          ∙ ap (λ (script : Option (List ℕ)). record { most = script_max; script = script; held = Some [] }) (c.new.ensures g.R.Read.remaining));
     }

@@ -1,6 +1,7 @@
 use Rattle.std.proofs.Common.{◌≡◌, ◌++◌, ◌≤◌, length}
 use Rattle.std.specs.Vec.{vec_len, vec_capacity}
 use Rattle.std.specs.Vec.Iter.{into_iter_items, into_iter_len}
+use Rattle.session_threads.specs.Fuse.{until_end}
 use Rattle.overlay_server.specs.Given.{bytes_of, given_by, given_to}
 use Rattle.overlay_server.proofs.listening.listened.Given as goal
 
@@ -11,5 +12,5 @@ invariant-loop-reader g l = record {
   left : into_iter_len l.reader-iterator ≡ length (into_iter_items l.reader-iterator);
   grown : vec_len l.ports ≡ length l.yielded;
   room : length (into_iter_items l.initial.reader-iterator) ≤ vec_capacity l.ports;
-  given : given_to g.R.Read.remaining bytes_of l.ports.items ≡ given_by g.R.Read.remaining l.yielded;
+  given : given_to (until_end g.R.Read.remaining) bytes_of l.ports.items ≡ given_by g.R.Read.remaining l.yielded;
 }

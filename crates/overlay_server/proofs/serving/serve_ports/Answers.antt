@@ -1,6 +1,7 @@
 use Rattle.std.proofs.Common.{◌∙◌, Bool, ap, is_some, length, refl, subst, sym}
 use Rattle.std.specs.List.{AllZip}
 use Rattle.book_lock.specs.Steps.{beginners}
+use Rattle.session_threads.specs.Fuse.{until_end}
 use Rattle.store_flushing.specs.Told.{told_in}
 use Rattle.overlay_terms.specs.Histories.{History}
 use Rattle.overlay_server.specs.Given.{given_to}
@@ -46,7 +47,7 @@ returns-in-Ok-clause-left g c =
     let engine = c.args.engine in
     let handed = c.handed-version in
     let contents = g.W.ReplyWriter.contents in
-    let all = given_to g.R.Read.remaining contents c.args.ports.items in
+    let all = given_to (until_end g.R.Read.remaining) contents c.args.ports.items in
     subst (λ left. IsLeftFrom contents g.D.Disk (start_of engine) (flusher_of engine) all left) (sym c.returned.ensures)
     (subst (λ v. IsLeftFrom contents g.D.Disk v (flusher_of engine) all c.in-Ok.left) handed.ensures.version
     (subst (λ f. IsLeftFrom contents g.D.Disk handed.result.0 f all c.in-Ok.left) handed.ensures.flusher c.in-Ok.ensures.left))
@@ -62,7 +63,7 @@ pub returns-in-Err-clause-refused : goal.returns-in-Err-clause-refused
 returns-in-Err-clause-refused g c =
     let engine = c.args.engine in
     let handed = c.handed-version in
-    let remaining = g.R.Read.remaining in
+    let remaining = until_end g.R.Read.remaining in
     let contents = g.W.ReplyWriter.contents in
     let all = given_to remaining contents c.args.ports.items in
     let was = c.in-Err.refused in

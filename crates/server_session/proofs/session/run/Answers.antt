@@ -1,6 +1,6 @@
-use Rattle.std.proofs.Common.{◌≡◌, ◌+◌, ◌≤◌, refl, sym, arith, rules, ◌∙◌}
+use Rattle.std.proofs.Common.{◌≡◌, ◌+◌, ◌≤◌, inr, refl, sym, arith, rules, ◌∙◌}
 use Rattle.version_book.specs.Store.{has_store}
-use Rattle.server_session.proofs.Endings.{begins, goes_on, ends-finished, ends-at_read, ends-past_limit, ends-stopped, reads_none, when_err, when_ok}
+use Rattle.server_session.proofs.Endings.{begins, goes_on, ends-finished, ends-at_read, ends-past_limit, ends-stopped, past_most, reads_none, when_err, when_ok}
 use Rattle.server_session.proofs.Left.{may_report-on, reads_first, reads_last, reads_next, reads_on, some_then}
 use Rattle.server_session.proofs.Turns.{stays_self, stays_trans}
 use Rattle.server_session.proofs.session.run.Goals as goal
@@ -12,6 +12,7 @@ loop-taken-init g c = record {
   going = c.requires.going;
   stays = stays_self _;
   from = c.requires.from;
+  limit = c.requires.limit;
   own = some_then _ (reads_first c.args.most _ _ c.requires.begun) c.requires.own;
   way = begins _ _ _ _ _ _ c.requires.begun;
 }
@@ -65,6 +66,7 @@ loop-taken-preserved g c =
       going = c.take-told.ensures.ended ∙ works;
       stays = stays_trans _ _ _ c.loop-taken.invariant.stays c.take-told.ensures.stays;
       from = when_ok _ c.take-told.result works c.take-told.ensures.from;
+      limit = λ past. when_ok _ c.take-told.result works c.take-told.ensures.limit (c.loop-taken.invariant.limit past);
       own = reads_on c.args.most c.loop-taken.taken c.in-Ok.count c.min-allowed.result c.read_chunk.new.chunk _ _ within c.min-allowed.ensures c.in-Ok.ensures.bytes c.loop-taken.state c.take-told.new.self takes
           (g.W.ReplyWriter.left c.loop-taken.writer) (g.W.ReplyWriter.left c.take-told.new.writer) (when_ok _ c.take-told.result works c.take-told.ensures.left) c.loop-taken.invariant.own;
       way =
@@ -84,6 +86,11 @@ returns-clause-stays g c = c.loop-taken.invariant.stays
 
 pub end_by-requires-clause-from : goal.end_by-requires-clause-from
 end_by-requires-clause-from g c = (has_store c.args.shared.now, c.loop-taken.invariant.from)
+
+pub end_by-requires-2-clause-fault : goal.end_by-requires-2-clause-fault
+end_by-requires-2-clause-fault g c =
+    let past : c.loop-taken.taken ≡ c.args.most + 1 = omega arith in
+    inr (refl, c.loop-taken.invariant.limit (past_most c.args.most _ c.args.me.now _ _ _ _ _ c.loop-taken.state c.loop-taken.me c.loop-taken.invariant.way past))
 
 pub end_by-requires-2-clause-from : goal.end_by-requires-2-clause-from
 end_by-requires-2-clause-from g c = (has_store c.args.shared.now, c.loop-taken.invariant.from)

@@ -5,7 +5,7 @@ use Rattle.std.specs.Vec.Iter.{into_iter_items}
 use Rattle.overlay_terms.proofs.Lists.{in_middle}
 use Rattle.version_book.specs.Store.{has_store}
 use Rattle.session_threads.specs.Rooms.{IsReserved}
-use Rattle.server_session.specs.Replying.{IsAtStart, MayReport}
+use Rattle.server_session.specs.Replying.{IsAtStart, IsPastMost, MayReport}
 use Rattle.server_session.specs.Stores.{store_of}
 use Rattle.session_threads.specs.declared.running.Script.{Script}
 use Rattle.session_threads.specs.Running.{IsRunOf}
@@ -35,6 +35,14 @@ start_session-requires-clause-own g c κs within =
     let parts = ap (λ ss. at.yielded ++ ss) (sym c.in-Some.ensures.steps.0) ∙ at.invariant.all ∙ c.into_iter-script-iterator.ensures.into_iter_gives.0 in
     let so : Script _ _ → Type 0 = λ script. IfSome (g.W.ReplyWriter.left script.port.writer) (IsAtStart (g.R.Read.remaining script.port.reader)) in
     in_middle so at.yielded c.in-Some.script rest (subst (All so) (sym parts) c.requires.own)
+
+pub start_session-requires-clause-limit : goal.start_session-requires-clause-limit
+start_session-requires-clause-limit g c κs within =
+    let at = c.loop-script in
+    let rest = into_iter_items c.next.new.self in
+    let parts = ap (λ ss. at.yielded ++ ss) (sym c.in-Some.ensures.steps.0) ∙ at.invariant.all ∙ c.into_iter-script-iterator.ensures.into_iter_gives.0 in
+    let so : Script _ _ → Type 0 = λ script. IsPastMost script.port.most (g.R.Read.remaining script.port.reader) → g.W.ReplyWriter.may_pass_limit script.port.writer in
+    in_middle so at.yielded c.in-Some.script rest (subst (All so) (sym parts) c.requires.limit)
 
 pub start_session-requires-clause-from : goal.start_session-requires-clause-from
 start_session-requires-clause-from g c κs within =

@@ -14,7 +14,7 @@ use Rattle.session_threads.specs.Rooms.{HasRoom}
 use Rattle.session_threads.specs.Running.{IsRunOf}
 use Rattle.session_threads.specs.Seats.{ended_session}
 use Rattle.session_threads.specs.declared.port.Port.{Port}
-use Rattle.server_session.specs.Replying.{IsAtStart}
+use Rattle.server_session.specs.Replying.{IsAtStart, IsPastMost}
 use Rattle.server_session.specs.Stores.{store_of}
 use Rattle.overlay_server.specs.Given.{Given, given_to}
 use Rattle.overlay_server.specs.Serving.{first_log}
@@ -61,6 +61,7 @@ run_threads-worked-requires-after_bounds g c κs within =
           g.W.ReplyWriter.may_report c.requires.told _ c.requires.hosted.stored seats.scripts.items (begin_there g.J.BookName.book start ports seats.scripts.items seated);
       goes_on = goes_of (λ port me. g.W.ReplyWriter.from port.writer (has_store self.shared) me) ports self.sessions.items seats.scripts.items c.in-Ok.ensures.ports c.in-Ok.ensures.sessions c.requires.from;
       own = own_of (λ port. IfSome (g.W.ReplyWriter.left port.writer) (IsAtStart (g.R.Read.remaining port.reader))) ports seats.scripts.items c.in-Ok.ensures.ports c.requires.own;
+      limit = own_of (λ port. IsPastMost port.most (g.R.Read.remaining port.reader) → g.W.ReplyWriter.may_pass_limit port.writer) ports seats.scripts.items c.in-Ok.ensures.ports c.requires.limit;
       room = subst (HasRoom seats) (sym (as_many g.J.BookName.book start ports seats.scripts.items seated)) c.in-Ok.ensures.room;
     }
 

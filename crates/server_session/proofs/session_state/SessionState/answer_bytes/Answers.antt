@@ -12,6 +12,7 @@ loop-byte-init g c = record {
   going = c.requires.going;
   stays = stays_self _;
   from = c.requires.from;
+  limit = λ may. may;
   left = away_none c.args.self.now (g.W.ReplyWriter.left c.args.writer.now);
 }
 
@@ -38,6 +39,7 @@ loop-byte-preserved g c =
       going = next.ended;
       stays = stays_trans _ _ _ here.stays next.stays;
       from = next.from;
+      limit = λ may. next.limit (here.limit may);
       left = away_both c.args.self.now c.loop-byte.self (take i bytes) here.takes _ _ (g.W.ReplyWriter.left c.args.writer.now) (g.W.ReplyWriter.left c.loop-byte.writer) (g.W.ReplyWriter.left c.take_byte.new.writer)
           joined here.left next.left;
     }

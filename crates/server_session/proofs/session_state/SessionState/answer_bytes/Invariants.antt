@@ -15,5 +15,6 @@ invariant-loop-byte g l = record {
   going : has_ended l.self ≡ false;
   stays : Stays l.initial.me l.me;
   from : g.W.ReplyWriter.from l.writer (has_store l.shared) l.me;
+  limit : g.W.ReplyWriter.may_pass_limit l.initial.writer → g.W.ReplyWriter.may_pass_limit l.writer;
   left : TakesAway l.initial.self (take l.byte-index l.bytes) (g.W.ReplyWriter.left l.initial.writer) (g.W.ReplyWriter.left l.writer);
 }
