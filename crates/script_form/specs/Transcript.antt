@@ -129,10 +129,10 @@ IsChanged session before request after made reply =
     ((fault : CommandFault) × IsNoCommand request fault × IsRefused fault made reply)
     ⊎ ((command : Command) × IsCommandOf request command × IsSubmitted session before command after made reply)
 
--- the reply to a question, by a version: none to a line that is skipped; where a point lies; a picture; all layers; the
--- pieces of a tile; that no tile of a layer is pending, or that the book closed before; whether a finished tile is that of
--- its present input. Gone: the book has not reached what was seen, or cannot show a version. A BATCH line that begins no
--- batch has no size of one. Whatever else a line asks for is no question
+-- the reply to a question, which neither changes layers nor asks the store, by a version: none to a line that is skipped;
+-- where a point lies; a picture; all layers; the pieces of a tile; that no tile of a layer is pending, or that the book
+-- closed before; whether a finished tile is that of its present input. Gone: the book has not reached what was seen, or
+-- cannot show a version. A BATCH line that begins no batch has no size of one
 abbrev pub IsReplyTo : Request → versions.Version → List ℕ → Type 0
 IsReplyTo nothing version reply = reply ≡ []
 IsReplyTo too_long version reply = reply ≡ error_line LineTooLong

@@ -15,8 +15,7 @@ use Rattle.script_form.specs.Replies.{error_line}
 use Rattle.script_form.specs.Writing.{IsCutShort}
 use Rattle.script_form.proofs.LongLines.{take-nil}
 use Rattle.server_session.specs.Loop.{EndsBy, Finishes}
-use Rattle.server_session.specs.Replying.{IsPastMost}
-use Rattle.server_session.specs.Session.{IsSharedRun, IsPastLimit, IsReadFault, IsCutOff, EndsSo, IsSessionWithin, Stays}
+use Rattle.server_session.specs.Session.{IsSharedRun, IsFaultTold, IsCutOff, EndsSo, IsSessionWithin, Stays}
 use Rattle.server_session.specs.SessionState.{HasTaken, turns_ended, turns_at_end, AnswersTurns, AnswersInPart}
 use Rattle.server_session.specs.declared.session_state.SessionState.{SessionState}
 use Rattle.server_session.proofs.Runs.{run-none, run-join, cut_behind}
@@ -121,22 +120,22 @@ ends-at_read most stored was end input left left_after output mid all count stat
     let short = subst (λ n. n ≤ most) (sym way.as_many) within in
     let told = subst (λ t. IsSharedRun stored was (turns_of (ended_lines t)) now way.written) (in_limit most way.taken short) way.told in
     let reads = Consumes-kept input left left_after way.taken way.reads kept in
-    by_line (fault_line end 48 (error_line Read) mid all ends) (λ line. record { short = short; replies = way.written; told = told; fault = refl }) reads where
+    by_line (fault_line end 48 (error_line Read) mid all ends) (λ line. (short, record { replies = way.written; told = told; fault = refl })) reads where
       by_line : ((end ≡ Failed 48) × Appends mid all (error_line Read)) ⊎ ((end ≡ Failed 49) × ((front : List ℕ) × IsCutShort (error_line Read) front × Appends mid all front))
-          → ((line : List ℕ) → IsReadFault most stored was now way.taken line (way.written ++ line)) → Consumes input left_after way.taken → IsSessionWithin most stored end was now input left_after output all
+          → ((line : List ℕ) → (length way.taken ≤ most) × IsFaultTold stored was now way.taken line (way.written ++ line)) → Consumes input left_after way.taken → IsSessionWithin most stored end was now input left_after output all
       by_line (inl (same, appended)) fault reads = record {
         taken = way.taken;
         written = way.written ++ error_line Read;
         reads = reads;
         writes = Appends-trans output mid all way.written (error_line Read) way.writes appended;
-        ended = subst (λ e. EndsSo most stored e was now way.taken left_after (way.written ++ error_line Read)) (sym same) (inr (inl (refl, fault (error_line Read))));
+        ended = subst (λ e. EndsSo most stored e was now way.taken left_after (way.written ++ error_line Read)) (sym same) (inr (inl (refl, (fault (error_line Read)).0, (fault (error_line Read)).1)));
       }
       by_line (inr (same, (front, cut, appended))) fault reads = record {
         taken = way.taken;
         written = way.written ++ front;
         reads = reads;
         writes = Appends-trans output mid all way.written front way.writes appended;
-        ended = subst (λ e. EndsSo most stored e was now way.taken left_after (way.written ++ front)) (sym same) (inr (inr (inl (refl, inr (inr (inr (front, cut, fault front)))))));
+        ended = subst (λ e. EndsSo most stored e was now way.taken left_after (way.written ++ front)) (sym same) (inr (inr (inl (refl, inr (inr (inr (front, cut, (fault front).0, (fault front).1)))))));
       }
 
 -- a byte too many was read
@@ -144,22 +143,22 @@ pub ends-past_limit : (most : ℕ) (stored : BookStore) (was : Known) (end : Ses
     → IsUnderWay most stored was input left output mid count state now → count ≡ most + 1 → EndsBy end 47 (error_line ReadLimit) mid all
     → IsSessionWithin most stored end was now input left output all
 ends-past_limit most stored was end input left output mid all count state now way past ends =
-    by_line (fault_line end 47 (error_line ReadLimit) mid all ends) (λ line. record { one_more = way.as_many ∙ past; replies = way.written; told = way.told; fault = refl }) where
+    by_line (fault_line end 47 (error_line ReadLimit) mid all ends) (λ line. (way.as_many ∙ past, record { replies = way.written; told = way.told; fault = refl })) where
       by_line : ((end ≡ Failed 47) × Appends mid all (error_line ReadLimit)) ⊎ ((end ≡ Failed 49) × ((front : List ℕ) × IsCutShort (error_line ReadLimit) front × Appends mid all front))
-          → ((line : List ℕ) → IsPastLimit most stored was now way.taken line (way.written ++ line)) → IsSessionWithin most stored end was now input left output all
+          → ((line : List ℕ) → (length way.taken ≡ most + 1) × IsFaultTold stored was now (take most way.taken) line (way.written ++ line)) → IsSessionWithin most stored end was now input left output all
       by_line (inl (same, appended)) fault = record {
         taken = way.taken;
         written = way.written ++ error_line ReadLimit;
         reads = way.reads;
         writes = Appends-trans output mid all way.written (error_line ReadLimit) way.writes appended;
-        ended = subst (λ e. EndsSo most stored e was now way.taken left (way.written ++ error_line ReadLimit)) (sym same) (inl (refl, fault (error_line ReadLimit)));
+        ended = subst (λ e. EndsSo most stored e was now way.taken left (way.written ++ error_line ReadLimit)) (sym same) (inl (refl, (fault (error_line ReadLimit)).0, (fault (error_line ReadLimit)).1));
       }
       by_line (inr (same, (front, cut, appended))) fault = record {
         taken = way.taken;
         written = way.written ++ front;
         reads = way.reads;
         writes = Appends-trans output mid all way.written front way.writes appended;
-        ended = subst (λ e. EndsSo most stored e was now way.taken left (way.written ++ front)) (sym same) (inr (inr (inl (refl, inr (inr (inl (front, cut, fault front)))))));
+        ended = subst (λ e. EndsSo most stored e was now way.taken left (way.written ++ front)) (sym same) (inr (inr (inl (refl, inr (inr (inl (front, cut, (fault front).0, (fault front).1)))))));
       }
 
 -- the front of a front
@@ -247,7 +246,7 @@ begins_not most stored was input output = record {
   written = [];
   reads = Consumes-nil input;
   writes = Appends-nil output;
-  ended = inr (inr (inr (refl, record { nothing_read = refl; nothing_written = refl; nothing_seen = refl })));
+  ended = inr (inr (inr (refl, refl, refl, refl)));
 }
 
 -- a read of no byte

@@ -83,8 +83,10 @@ cut_one stored was now turns reply front (inr (turn, one)) run short = record {
   stays = stays_self was;
   replies = [];
   whole = run-none stored was;
+  reply = reply;
+  told = subst (λ (ts : List Turn). IsSharedRun stored was ts now reply) one run;
   front = front;
-  cut = record { reply = reply; told = subst (λ (ts : List Turn). IsSharedRun stored was ts now reply) one run; cut = short };
+  cut = short;
   written_is = refl;
 }
 
@@ -100,6 +102,8 @@ cut_behind stored was mid now turns more replies written stays run cut = record 
   stays = stays_trans was mid cut.between stays cut.stays;
   replies = replies ++ cut.replies;
   whole = run-join stored was mid cut.between turns cut.before replies cut.replies stays run cut.whole;
+  reply = cut.reply;
+  told = cut.told;
   front = cut.front;
   cut = cut.cut;
   written_is = ap (λ w. replies ++ w) cut.written_is ∙ sym (append_assoc replies cut.replies cut.front);
@@ -116,6 +120,8 @@ cut_longer stored was now turns more written cut = record {
   stays = cut.stays;
   replies = cut.replies;
   whole = cut.whole;
+  reply = cut.reply;
+  told = cut.told;
   front = cut.front;
   cut = cut.cut;
   written_is = cut.written_is;

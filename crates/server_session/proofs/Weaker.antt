@@ -10,7 +10,7 @@ use Rattle.script_form.specs.Transcript.{store_by, IsAnswered, IsOutOfMemory, Is
 use Rattle.script_form.specs.Turns.{Turn, alone, together, cut_off}
 use Rattle.server_session.specs.Answering.{Answers}
 use Rattle.server_session.specs.Replying.{IsReplySince}
-use Rattle.server_session.specs.Session.{IsSharedRun, IsPastLimit, IsReadFault, IsCutOff, IsWriteFault, EndsSo, IsSessionWithin}
+use Rattle.server_session.specs.Session.{IsSharedRun, IsFaultTold, IsCutOff, IsWriteFault, EndsSo, IsSessionWithin}
 use Rattle.server_session.proofs.Turns.{begins_trans}
 
 -- of a book with a store, by the histories that go on from a first one
@@ -51,11 +51,9 @@ module _ (told more : History → Type 0) (there : Bool) (first : History) (weak
   pub run : (was : Known) (turns : List Turn) (now : Known) (replies : List ℕ) → BeginsWith (seen was) first → IsSharedRun (store_by told there) was turns now replies → IsSharedRun (store_by more there) was turns now replies
   run was turns now replies on is = record { made = is.made; told = transcript was.session (seen was) turns (seen now) is.made replies on is.told; only = is.only }
 
-  past_limit : (most : ℕ) (was now : Known) (taken line written : List ℕ) → BeginsWith (seen was) first → IsPastLimit most (store_by told there) was now taken line written → IsPastLimit most (store_by more there) was now taken line written
-  past_limit most was now taken line written on is = record { one_more = is.one_more; replies = is.replies; told = run was _ now is.replies on is.told; fault = is.fault }
-
-  read_fault : (most : ℕ) (was now : Known) (taken line written : List ℕ) → BeginsWith (seen was) first → IsReadFault most (store_by told there) was now taken line written → IsReadFault most (store_by more there) was now taken line written
-  read_fault most was now taken line written on is = record { short = is.short; replies = is.replies; told = run was _ now is.replies on is.told; fault = is.fault }
+  fault_told : (was now : Known) (bytes line written : List ℕ) → BeginsWith (seen was) first
+      → IsFaultTold (store_by told there) was now bytes line written → IsFaultTold (store_by more there) was now bytes line written
+  fault_told was now bytes line written on is = record { replies = is.replies; told = run was _ now is.replies on is.told; fault = is.fault }
 
   cut : (was now : Known) (turns : List Turn) (written : List ℕ) → BeginsWith (seen was) first → IsCutOff (store_by told there) was now turns written → IsCutOff (store_by more there) was now turns written
   cut was now turns written on is = record {
@@ -67,8 +65,10 @@ module _ (told more : History → Type 0) (there : Bool) (first : History) (weak
     stays = is.stays;
     replies = is.replies;
     whole = run was is.before is.between is.replies on is.whole;
+    reply = is.reply;
+    told = run is.between _ now is.reply (begins_trans first (seen was) (seen is.between) on is.stays.goes_on) is.told;
     front = is.front;
-    cut = record { reply = is.cut.reply; told = run is.between _ now is.cut.reply (begins_trans first (seen was) (seen is.between) on is.stays.goes_on) is.cut.told; cut = is.cut.cut };
+    cut = is.cut;
     written_is = is.written_is;
   }
 
@@ -76,14 +76,14 @@ module _ (told more : History → Type 0) (there : Bool) (first : History) (weak
       → IsWriteFault most (store_by told there) was now taken left written → IsWriteFault most (store_by more there) was now taken left written
   write_fault most was now taken left written on (inl is) = inl (cut was now _ written on is)
   write_fault most was now taken left written on (inr (inl (at_end, short, is))) = inr (inl (at_end, short, cut was now _ written on is))
-  write_fault most was now taken left written on (inr (inr (inl (front, short, is)))) = inr (inr (inl (front, short, past_limit most was now taken front written on is)))
-  write_fault most was now taken left written on (inr (inr (inr (front, short, is)))) = inr (inr (inr (front, short, read_fault most was now taken front written on is)))
+  write_fault most was now taken left written on (inr (inr (inl (front, short, more_came, is)))) = inr (inr (inl (front, short, more_came, fault_told was now _ front written on is)))
+  write_fault most was now taken left written on (inr (inr (inr (front, short, within, is)))) = inr (inr (inr (front, short, within, fault_told was now _ front written on is)))
 
   ends_so : (most : ℕ) (end : SessionEnd) (was now : Known) (taken : List ℕ) (left : Option (List ℕ)) (written : List ℕ) → BeginsWith (seen was) first
       → EndsSo most (store_by told there) end was now taken left written → EndsSo most (store_by more there) end was now taken left written
   ends_so most End was now taken left written on is = record { all_taken = is.all_taken; short = is.short; told = run was _ now written on is.told }
-  ends_so most (Failed code) was now taken left written on (inl (number, is)) = inl (number, past_limit most was now taken _ written on is)
-  ends_so most (Failed code) was now taken left written on (inr (inl (number, is))) = inr (inl (number, read_fault most was now taken _ written on is))
+  ends_so most (Failed code) was now taken left written on (inl (number, more_came, is)) = inl (number, more_came, fault_told was now _ _ written on is)
+  ends_so most (Failed code) was now taken left written on (inr (inl (number, within, is))) = inr (inl (number, within, fault_told was now _ _ written on is))
   ends_so most (Failed code) was now taken left written on (inr (inr (inl (number, is)))) = inr (inr (inl (number, write_fault most was now taken left written on is)))
   ends_so most (Failed code) was now taken left written on (inr (inr (inr is))) = inr (inr (inr is))
 

@@ -8,7 +8,7 @@ use Rattle.book_history.specs.Known.{Known, seen}
 use Rattle.script_form.specs.declared.fault.CommandFault.TheVariants.{ReadLimit, Read}
 use Rattle.script_form.specs.declared.session_end.SessionEnd.{SessionEnd}
 use Rattle.script_form.specs.declared.session_end.SessionEnd.TheVariants.{End, Failed}
-use Rattle.script_form.specs.Lines.{script_max, ended_lines, whole_lines}
+use Rattle.script_form.specs.Lines.{ended_lines, whole_lines}
 use Rattle.script_form.specs.Replies.{error_line}
 use Rattle.script_form.specs.Writing.{IsCutShort}
 use Rattle.script_form.specs.Transcript.{BookStore, IsTranscript}
@@ -33,27 +33,15 @@ pub record IsEnded (most : ℕ) (stored : BookStore) (was now : Known) (taken : 
   pub short : length taken ≤ most
   pub told : IsSharedRun stored was (all_turns_of (whole_lines taken)) now written
 
--- a byte too many came: the turns of lines ended before have replies, and then this is written; a waiting batch has none
-pub record IsPastLimit (most : ℕ) (stored : BookStore) (was now : Known) (taken line written : List ℕ) : Type 0 where
-  pub one_more : length taken ≡ most + 1
+-- before a fault: the turns of the lines that these bytes end have replies, and then `line` is written; a waiting batch
+-- has none
+pub record IsFaultTold (stored : BookStore) (was now : Known) (bytes line written : List ℕ) : Type 0 where
   pub replies : List ℕ
-  pub told : IsSharedRun stored was (turns_of (ended_lines (take most taken))) now replies
+  pub told : IsSharedRun stored was (turns_of (ended_lines bytes)) now replies
   pub fault : written ≡ replies ++ line
 
--- a read failed: the turns of the lines that were ended by then have their replies, and then this is written
-pub record IsReadFault (most : ℕ) (stored : BookStore) (was now : Known) (taken line written : List ℕ) : Type 0 where
-  pub short : length taken ≤ most
-  pub replies : List ℕ
-  pub told : IsSharedRun stored was (turns_of (ended_lines taken)) now replies
-  pub fault : written ≡ replies ++ line
-
--- a turn is run, and of its reply a front alone is written, which lacks at least the last byte
-pub record IsCutTurn (stored : BookStore) (was now : Known) (turn : Turn) (front : List ℕ) : Type 0 where
-  pub reply : List ℕ
-  pub told : IsSharedRun stored was (turn ∷ []) now reply
-  pub cut : IsCutShort reply front
-
--- a write failed on the way through some turns: those before have their replies, its own a front of one; none later is run
+-- a write failed on the way through some turns: those before have their replies; the last one is run, and of its reply
+-- a front alone is written, which lacks at least the last byte; none later is run
 pub record IsCutOff (stored : BookStore) (was now : Known) (turns : List Turn) (written : List ℕ) : Type 0 where
   pub before : List Turn
   pub last : Turn
@@ -63,8 +51,10 @@ pub record IsCutOff (stored : BookStore) (was now : Known) (turns : List Turn) (
   pub stays : Stays was between
   pub replies : List ℕ
   pub whole : IsSharedRun stored was before between replies
+  pub reply : List ℕ
+  pub told : IsSharedRun stored between (last ∷ []) now reply
   pub front : List ℕ
-  pub cut : IsCutTurn stored between now last front
+  pub cut : IsCutShort reply front
   pub written_is : written ≡ replies ++ front
 
 -- a write failed: on the way through the turns that were ended within the limit, or through those of the whole script
@@ -73,22 +63,22 @@ abbrev pub IsWriteFault : ℕ → BookStore → Known → Known → List ℕ →
 IsWriteFault most stored was now taken left written =
     IsCutOff stored was now (turns_of (ended_lines (take most taken))) written
     ⊎ (IsAtEnd left × (length taken ≤ most) × IsCutOff stored was now (all_turns_of (whole_lines taken)) written)
-    ⊎ ((front : List ℕ) × IsCutShort (error_line ReadLimit) front × IsPastLimit most stored was now taken front written)
-    ⊎ ((front : List ℕ) × IsCutShort (error_line Read) front × IsReadFault most stored was now taken front written)
+    ⊎ ((front : List ℕ) × IsCutShort (error_line ReadLimit) front × (length taken ≡ most + 1)
+    × IsFaultTold stored was now (take most taken) front written)
+    ⊎ ((front : List ℕ) × IsCutShort (error_line Read) front × (length taken ≤ most)
+    × IsFaultTold stored was now taken front written)
 
--- no memory for the session itself: it read and wrote nothing, and saw and made nothing
-pub record IsNotBegun (was now : Known) (taken written : List ℕ) : Type 0 where
-  pub nothing_read : taken ≡ []
-  pub nothing_written : written ≡ []
-  pub nothing_seen : now ≡ was
-
--- how a session ends: with its script; or by 47, 48 or 49; or by 40, before it began
+-- how a session ends: with its script; or by 47, since a byte too many came; by 48, since a read failed; by 49, since a
+-- write failed; or by 40, since there was no memory for the session itself: it read and wrote nothing, and saw and made
+-- nothing
 abbrev pub EndsSo : ℕ → BookStore → SessionEnd → Known → Known → List ℕ → Option (List ℕ) → List ℕ → Type 0
 EndsSo most stored End was now taken left written = IsEnded most stored was now taken left written
 EndsSo most stored (Failed code) was now taken left written =
-    ((code ≡ 47) × IsPastLimit most stored was now taken (error_line ReadLimit) written)
-    ⊎ ((code ≡ 48) × IsReadFault most stored was now taken (error_line Read) written)
-    ⊎ ((code ≡ 49) × IsWriteFault most stored was now taken left written) ⊎ ((code ≡ 40) × IsNotBegun was now taken written)
+    ((code ≡ 47) × (length taken ≡ most + 1)
+    × IsFaultTold stored was now (take most taken) (error_line ReadLimit) written)
+    ⊎ ((code ≡ 48) × (length taken ≤ most) × IsFaultTold stored was now taken (error_line Read) written)
+    ⊎ ((code ≡ 49) × IsWriteFault most stored was now taken left written)
+    ⊎ ((code ≡ 40) × (taken ≡ []) × (written ≡ []) × (now ≡ was))
 
 -- what was taken from the reader and put to the writer, and how the session of a script of at most so many bytes ended
 pub record IsSessionWithin (most : ℕ) (stored : BookStore) (end : SessionEnd) (was now : Known) (input left output all : Option (List ℕ)) : Type 0 where
@@ -97,7 +87,3 @@ pub record IsSessionWithin (most : ℕ) (stored : BookStore) (end : SessionEnd) 
   pub reads : Consumes input left taken
   pub writes : Appends output all written
   pub ended : EndsSo most stored end was now taken left written
-
--- the same of a script within the limit that scripts have
-abbrev pub IsSharedSession : BookStore → SessionEnd → Known → Known → Option (List ℕ) → Option (List ℕ) → Option (List ℕ) → Option (List ℕ) → Type 0
-IsSharedSession stored end was now input left output all = IsSessionWithin script_max stored end was now input left output all

@@ -4,10 +4,11 @@ ghost use Rattle.overlay_terms.specs.Histories.{BeginsWith, IsHistory};
 ghost use Rattle.book_history.specs.Known.{seen};
 ghost use Rattle.version_book.specs.Store.{has_store};
 ghost use Rattle.script_form.specs.Fault.{code_of};
+ghost use Rattle.script_form.specs.Lines.{script_max};
 ghost use Rattle.script_form.specs.Replies.{error_line};
 ghost use Rattle.server_session.specs.Replying.{IsAtStart, IsPastMost, MayReport};
 ghost use Rattle.server_session.specs.Stores.{store_of};
-ghost use Rattle.server_session.specs.Session.{IsSharedSession, IsSessionWithin, Stays};
+ghost use Rattle.server_session.specs.Session.{IsSessionWithin, Stays};
 ghost use Rattle.server_session.specs.SessionState.{has_ended, HasTaken, IsOnWay};
 ghost use Rattle.server_session.specs.Loop.{Finishes, EndsBy};
 
@@ -37,7 +38,7 @@ pub fn session_run<J: BookName, S: Wait + Drop, Q: Wait + Threads + Sync, R: Rea
     writer: &mut W,
 ) -> SessionEnd
     requires { me.old.book ≡ J.book }
-    ensures run { IsSharedSession (store_of J.stored (has_store shared.now)) result me.old me.new (R.remaining reader.old)
+    ensures run { IsSessionWithin script_max (store_of J.stored (has_store shared.now)) result me.old me.new (R.remaining reader.old)
         (R.remaining reader.new) (W.contents writer.old) (W.contents writer.new) }
     ensures goes_on { BeginsWith (seen me.new) (seen me.old) }
     // Each version that it reports is one of a history.

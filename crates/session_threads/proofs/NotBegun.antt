@@ -46,7 +46,7 @@ nothing_seen most stored (Failed code) was now taken left written ends not_run =
     let is = code_then code not_run in
     ⊎_elim (λ (h : _). absurd (omega (arith, is, h.0)))
     (λ more. ⊎_elim (λ (h : _). absurd (omega (arith, is, h.0)))
-    (λ others. ⊎_elim (λ (h : _). absurd (omega (arith, is, h.0))) (λ last. last.1.nothing_seen) others) more) ends
+    (λ others. ⊎_elim (λ (h : _). absurd (omega (arith, is, h.0))) (λ last. last.3) others) more) ends
 
 -- a session that was not begun is as it was
 pub unbegun_same : {R W : Type 0} (book : Book) (stored : BookStore) (remaining : R → Option (List ℕ)) (contents : W → Option (List ℕ)) (script : Script R W) (ended : Ended R W)
