@@ -39,7 +39,10 @@ fn count_under(status: &[Member], at: &HPoint, hint: usize) -> (usize, bool)
     if held {
         return (low, true);
     }
-    (low + status[low..high].partition_point(|member| is_under(member, at)), false)
+    (
+        low + status[low..high].partition_point(|member| is_under(member, at)),
+        false,
+    )
 }
 
 /// A range of a status that holds the end of those that pass under a place, an empty one if that is the hint; and whether
