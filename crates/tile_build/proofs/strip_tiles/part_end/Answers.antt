@@ -1,4 +1,4 @@
-use Rattle.std.proofs.Common.{◌≡◌, ℕ, ◌+◌, ◌-◌, ◌<◌, ◌≤◌, ◌/◌, length, ap, sym, ◌∙◌, arith}
+use Rattle.std.proofs.Common.{ℕ, ◌+◌, ◌-◌, ◌<◌, ◌/◌, length, ap, sym, ◌∙◌, arith}
 use Rattle.overlay_terms.specs.Column.{is_in_column}
 use Rattle.crossing_sweep.specs.NodeNames.{named_ends}
 use Rattle.crossing_sweep.specs.declared.row.Row.{Row}
