@@ -1,6 +1,6 @@
 use Rattle.std.proofs.Common.{map, ap}
 use Rattle.crossing_sweep.specs.RankedPlace.{ranked_entry}
-use Rattle.crossing_sweep.proofs.TakeLemmas.{set_before, none_left}
+use Rattle.crossing_sweep.proofs.TakeLemmas.{set_before}
 use Rattle.crossing_sweep.proofs.ahead.first_found.Goals as goal
 
 pub returns-clause-removal : goal.returns-clause-removal
