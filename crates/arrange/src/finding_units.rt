@@ -119,7 +119,7 @@ fn units_on_line(alloc: Global, run: &[LineSeg]) -> Result<Vec<Unit>, AllocError
     ensures { IfOk result (λ list. AreUnits (map line_marked run.now) list.items) }
 {
     let ends = ends_in_order(alloc, run)?;
-    let mut list = Vec::new(alloc);
+    let mut list = Vec::with_capacity(alloc, ends.len())?;
     let mut passed = PassedEnds::none();
     for i in 1..ends.len() {
         passed.add(&ends[i - 1]);
@@ -144,7 +144,7 @@ fn ends_in_order(alloc: Global, run: &[LineSeg]) -> Result<Vec<LineEnd>, AllocEr
 fn ends_of(alloc: Global, run: &[LineSeg]) -> Result<Vec<LineEnd>, AllocError>
     ensures { IfOk result (λ list. list.items ≡ both_ends (map line_marked run.now)) }
 {
-    let mut ends = Vec::new(alloc);
+    let mut ends = Vec::with_capacity(alloc, run.len().saturating_mul(2))?;
     for segment in run {
         ends.push(LineEnd::left_of(&segment.marked))?;
         ends.push(LineEnd::right_of(&segment.marked))?;

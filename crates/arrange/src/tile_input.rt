@@ -45,11 +45,20 @@ fn add_segments(
     Ok(())
 }
 
+/// How many marked segments have a point in a column: room is made for so many at once. Only memory rests on that.
+fn count_touching(column: Column, marked: &[MarkedSeg]) -> usize {
+    let mut count = 0_usize;
+    for one in marked {
+        count = count.wrapping_add(usize::from(touches(column, one.seg)));
+    }
+    count
+}
+
 /// The marked segments that have a point in a column, in their order.
 fn kept(alloc: Global, column: Column, marked: &[MarkedSeg]) -> Result<Vec<MarkedSeg>, AllocError>
     ensures { IfOk result (λ list. map marked_of list.items ≡ kept_in column (map marked_of marked.now)) }
 {
-    let mut list = Vec::new(alloc);
+    let mut list = Vec::with_capacity(alloc, count_touching(column, marked))?;
     for one in marked {
         if touches(column, one.seg) {
             list.push(*one)?;

@@ -1,11 +1,11 @@
 -- The places that some names stand for, and those that are known before a pass.
 use Rattle.std.proofs.Common.{◌≡◌, ℕ, ℤ, pos, ◌+◌, ◌-◌, ◌<◌, ◌≤◌, ◌*ℤ◌, ◌<ℤ◌, ◌≤ℤ◌, ◌-ℤ◌, ◌^◌, neg_ℤ, int_le, inl, inr, ◌⊎◌, true, false, List, [], ◌∷◌, ◌++◌, map, take, length, get_or, ap, sym, subst, ◌∙◌, append-nil, arith}
-use Rattle.std.specs.Prelude.{IsTrue, All, Any, Contains, flat_map, ◌||◌, ◌&&◌, not}
+use Rattle.std.specs.Prelude.{IsTrue, All, Any, Contains, Option, Some, None, flat_map, ◌||◌, ◌&&◌, not}
 use Rattle.std.specs.List.{list_any, range_with_len}
 use Rattle.std.specs.Ordering.{int_eq}
 use Rattle.std.proofs.lemmas.Int.{ints, by_lt_z}
 use Rattle.std.proofs.lemmas.Bool.{both_ways, and_parts, and_from, or_cases, or_left, or_right, not-true}
-use Rattle.std.proofs.lemmas.List.Elements.{All-contains, All-map, Contains-append_left, Contains-append_cases}
+use Rattle.std.proofs.lemmas.List.Elements.{All-contains, All-map, Contains-append_left, Contains-append_right, Contains-append_cases}
 use Rattle.std.proofs.lemmas.List.Folds.{Any-from_list_any}
 use Rattle.overlay_terms.specs.Plane.{Point, Segment, whole, same_place, is_on, coordinate_max, denominator_max}
 use Rattle.overlay_terms.specs.Column.{border, columns, column_count}
@@ -37,7 +37,7 @@ use Rattle.std.proofs.lemmas.Grind.{flat_map-append}
 use Rattle.crossing_sweep.specs.StripInput.{StripInput, IsStripInput, segments_in, is_in_closed_strip, Span}
 use Rattle.crossing_sweep.specs.Leaning.{IsSmall}
 use Rattle.crossing_sweep.specs.Queue.{IsUpTo, IsQueued}
-use Rattle.crossing_sweep.specs.Ahead.{points_of, cut_names, known_names, HasAdded, IsOffered, AreOffered, AreKnownPlaces}
+use Rattle.crossing_sweep.specs.Ahead.{points_of, cut_names, known_names, HasAdded, HasEnds, IsOffered, AreOffered, AreKnownPlaces}
 use Rattle.crossing_sweep.proofs.PassLemmas.{all_of}
 
 -- ---- one more name
@@ -86,6 +86,28 @@ module _ (strip : Span) (names : List PointName) (name : PointName) (old : List 
       complete : (other : PointName) (p : Point) → Contains names other ⊎ Contains (name ∷ []) other → pos 0 <ℤ p.w → IsPlaceOf other p → IsTrue (is_in_closed_strip strip p) → Any (IsAt p) old
       complete other p (inl c) hp stands within = are.complete other p c hp stands within
       complete other p (inr c) hp stands within = absurd (nowhere p hp (subst (λ n. IsPlaceOf n p) (sym (one other c)) stands) within)
+
+  -- it is one of them
+  pub offered_again : Contains names name → AreOffered strip (names ++ name ∷ []) old
+  offered_again there = record {
+    sound = all_of (IsOffered strip (names ++ name ∷ [])) old (λ e c. more_offered e (All-contains (IsOffered strip names) old e are.sound c));
+    complete = λ other p c hp stands within. complete other p (Contains-append_cases names (name ∷ []) other c) hp stands within;
+  }
+    where
+      complete : (other : PointName) (p : Point) → Contains names other ⊎ Contains (name ∷ []) other → pos 0 <ℤ p.w → IsPlaceOf other p → IsTrue (is_in_closed_strip strip p) → Any (IsAt p) old
+      complete other p (inl c) hp stands within = are.complete other p c hp stands within
+      complete other p (inr c) hp stands within = are.complete other p (subst (λ n. Contains names n) (one other c) there) hp stands within
+
+-- the ends of the segment before
+pub more_ends : (names more : List PointName) (before : Option Segment) → HasEnds names before → HasEnds (names ++ more) before
+more_ends names more None h = h
+more_ends names more (Some s) h = (Contains-append_left names more (Vertex s.left) h.0, Contains-append_left names more (Vertex s.right) h.1)
+
+pub own_ends : (k : Span) (names : List PointName) (s : Segment) → HasEnds (names ++ known_names s k) (Some s)
+own_ends k names s = (
+  Contains-append_right names (known_names s k) (Vertex s.left) (contains_first (Vertex s.left) (Vertex s.right ∷ cut_names s k)),
+  Contains-append_right names (known_names s k) (Vertex s.right) (contains_rest (Vertex s.left) (Vertex s.right ∷ cut_names s k) (Vertex s.right) (contains_first (Vertex s.right) (cut_names s k))),
+)
 
 most_alike : (b x w y v : ℤ) → pos 0 <ℤ w → pos 0 <ℤ v → x *ℤ v ≡ y *ℤ w → (b *ℤ w) ≤ℤ x → (b *ℤ v) ≤ℤ y
 most_alike b x w y v hw hv e h = most_back (b *ℤ v) y w hw (omega (arith, ints, e, most_times (b *ℤ w) x v hv h, last_turned b w v))

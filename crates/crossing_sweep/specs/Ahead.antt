@@ -1,5 +1,5 @@
 -- The places that a sweep has found ahead.
-use Rattle.std.specs.Prelude.{◌≡◌, ℕ, pos, ◌+◌, ◌-◌, ◌≤◌, ◌<ℤ◌, ◌⊎◌, ◌||◌, Bool, false, IsTrue, List, [], ◌∷◌, map, length, drop, All, AllPairs, Any, Contains}
+use Rattle.std.specs.Prelude.{◌≡◌, ℕ, pos, ◌+◌, ◌-◌, ◌≤◌, ◌<ℤ◌, ◌⊎◌, ◌||◌, Bool, false, IsTrue, List, [], ◌∷◌, map, length, drop, All, AllPairs, Any, Contains, Option, IfSome}
 use Rattle.std.specs.List.{range_with_len}
 use Rattle.std.specs.Ordering.{is_lt, match_ordering}
 use Rattle.std.specs.declared.cmp.Ordering.TheVariants.{Less, Equal}
@@ -48,6 +48,10 @@ cut_names s strip = map (λ (k : ℕ). Border s k) (range_with_len strip.first (
 -- the names that the known places on a segment may have: its own ends, and these
 abbrev pub known_names : Segment → Span → List PointName
 known_names s strip = Vertex s.left ∷ Vertex s.right ∷ cut_names s strip
+
+-- both ends of a segment, if there is one, are among some names
+abbrev pub HasEnds : List PointName → Option Segment → Type 0
+HasEnds names before = IfSome before (λ s. Contains names (Vertex s.left) × Contains names (Vertex s.right))
 
 -- a place has been added: it is there, and so is what was there; and nothing else has come
 pub record HasAdded (old : List (HPoint × PointName)) (at : HPoint) (name : PointName) (new : List (HPoint × PointName)) : Type 0 where

@@ -1,11 +1,12 @@
 -- The members of a status, and the order of those of a bundle: by direction, the vertical one last.
-use Rattle.std.specs.Prelude.{pos, ◌-ℤ◌, Bool, refl, List, map}
+use Rattle.std.specs.Prelude.{◌≡◌, ℕ, pos, ◌<◌, ◌-ℤ◌, Bool, refl, List, map, length, get_or}
 use Rattle.std.specs.Cmp.{IsTotalOrder, IsEquivalence, IsPartialEquivalence, IsPartialOrder}
 use Rattle.std.specs.Cmp.{eq_by_cmp_equiv, partial_equiv_from_equiv, partial_order_from_agreeing_total}
 use Rattle.std.specs.Ordering.{eq_by_cmp, as_partial_cmp, int_cmp, is_lt}
 use Rattle.std.specs.declared.cmp.Ordering.{Ordering}
+use Rattle.std.specs.declared.cmp.Ordering.TheVariants.{Equal}
 use Rattle.std.proofs.lemmas.Cmp.{on_total}
-use Rattle.overlay_terms.specs.Plane.{Point, Segment, whole, point_cmp}
+use Rattle.overlay_terms.specs.Plane.{Point, Segment, whole, point_cmp, side_of}
 use Rattle.exact_point.specs.Crossing.{turn_of}
 use Rattle.exact_point.proofs.OnSegment.{leads}
 use Rattle.arrange.specs.Directions.{Step, step_cmp_total}
@@ -55,3 +56,8 @@ segs_of members = map seg_of members
 -- whether a segment ends after a place
 abbrev pub ends_after : Point → Segment → Bool
 ends_after r u = is_lt (point_cmp r (whole u.right))
+
+-- a place lies on the line of the member with a number
+pub record IsHeldAt (r : Point) (status : List Member) (number : ℕ) : Type 0 where
+  pub there : number < length status
+  pub level : (d : Member) → side_of (get_or status number d).unit.seg r ≡ Equal

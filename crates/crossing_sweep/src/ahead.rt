@@ -87,8 +87,8 @@ impl Ahead {
         if self.known.len() <= self.taken {
             return first_found(&mut self.found);
         }
-        let next = self.known[self.taken];
-        if is_first_before(&self.found, &next) {
+        let next = &self.known[self.taken];
+        if is_first_before(&self.found, next) {
             return first_found(&mut self.found);
         }
         self.taken += 1;

@@ -1,12 +1,12 @@
 //! The places of a strip that are known before a pass over it: ends of segments and border places.
-ghost use Rattle.std.specs.Prelude.{◌≡◌, ◌≤◌, ◌+◌, ◌++◌, [], ◌∷◌, List, map, AllPairs, IfOk, IfSome, IsNone, OnOk};
+ghost use Rattle.std.specs.Prelude.{◌≡◌, ◌≤◌, ◌+◌, ◌++◌, [], ◌∷◌, true, List, map, AllPairs, Contains, IfOk, IfSome, IsNone, OnOk};
 ghost use Rattle.std.specs.declared.cmp.Ordering.TheVariants.{Less};
 ghost use Rattle.exact_point.specs.declared.point_name.PointName.{PointName};
 ghost use Rattle.exact_point.specs.PointName.{IsCutBy};
 ghost use Rattle.overlay_terms.specs.Column.{border};
 ghost use Rattle.overlay_terms.specs.Plane.{whole};
 ghost use Rattle.crossing_sweep.specs.StripInput.{is_in_closed_strip};
-ghost use Rattle.crossing_sweep.specs.Ahead.{AreKnownPlaces, AreOffered, cut_names, known_names};
+ghost use Rattle.crossing_sweep.specs.Ahead.{AreKnownPlaces, AreOffered, HasEnds, cut_names, known_names};
 ghost use Rattle.crossing_sweep.specs.RankedPlace.{ranked_cmp, ranked_entry};
 
 use crate::ahead::Ahead;
@@ -34,8 +34,10 @@ fn places_in_order(alloc: Global, input: &PassInput) -> Result<Vec<RankedPlace>,
 {
     // Mostly two of each segment and column: it is cut by both borders, or ends within and is cut by one.
     let mut places = Vec::with_capacity(alloc, 2 * input.marked().len())?;
+    let mut before = None;
     for m in input.marked() {
-        offer_own(&mut places, &m.seg, input.strip())?;
+        offer_own(&mut places, &m.seg, &before, input.strip())?;
+        before = Some(m.seg);
     }
     // A place is large: what is moved to and fro is where it is kept.
     let mut order = references(alloc, &places)?;
@@ -70,12 +72,17 @@ fn copied(alloc: Global, places: &[&RankedPlace]) -> Result<Vec<RankedPlace>, Al
     Ok(list)
 }
 
-/// Offers the ends of a segment and where the strip's borders cut it.
-fn offer_own(places: &mut Vec<RankedPlace>, seg: &Seg, strip: Strip) -> Result<(), AllocError>
-    ensures { OnOk result ((names : List PointName) → AreOffered strip names (map ranked_entry places.old.items) → AreOffered strip (names ++ known_names seg.now strip) (map ranked_entry places.new.items)) }
+/// Offers the ends of a segment and where the strip's borders cut it. The segment before it in a ring has one of its ends.
+fn offer_own(
+    places: &mut Vec<RankedPlace>,
+    seg: &Seg,
+    before: &Option<Seg>,
+    strip: Strip,
+) -> Result<(), AllocError>
+    ensures { OnOk result ((names : List PointName) → HasEnds names before.now → AreOffered strip names (map ranked_entry places.old.items) → AreOffered strip (names ++ known_names seg.now strip) (map ranked_entry places.new.items)) }
 {
-    offer_end(places, seg.left(), strip)?;
-    offer_end(places, seg.right(), strip)?;
+    offer_new_end(places, seg.left(), before, strip)?;
+    offer_new_end(places, seg.right(), before, strip)?;
     offer_cuts(places, seg, strip)?;
     Ok(())
 }
@@ -133,6 +140,35 @@ fn border_between(seg: &Seg, number: u8) -> Option<i64>
         return None;
     }
     Some(x)
+}
+
+/// Adds an end of a segment, unless the segment before has it too: then it has been offered.
+fn offer_new_end(
+    places: &mut Vec<RankedPlace>,
+    vertex: Pt,
+    before: &Option<Seg>,
+    strip: Strip,
+) -> Result<(), AllocError>
+    ensures { OnOk result ((names : List PointName) → HasEnds names before.now → AreOffered strip names (map ranked_entry places.old.items) → AreOffered strip (names ++ PointName.Vertex vertex ∷ []) (map ranked_entry places.new.items)) }
+{
+    if is_end_of(before, vertex) {
+        return Ok(());
+    }
+    offer_end(places, vertex, strip)?;
+    Ok(())
+}
+
+/// Whether a point is an end of a segment, if there is one.
+fn is_end_of(before: &Option<Seg>, vertex: Pt) -> bool
+    ensures { result ≡ true → (names : List PointName) → HasEnds names before.now → Contains names (PointName.Vertex vertex) }
+{
+    let Some(seg) = before else {
+        return false;
+    };
+    if seg.left() == vertex {
+        return true;
+    }
+    seg.right() == vertex
 }
 
 /// Adds an end of a segment, if it lies in the closed strip. Most do not, and no exact place is made of these.

@@ -35,7 +35,10 @@ pub(crate) fn turned(
 {
     staying(stay, bundle, at)?;
     enter(stay, entering, at, begin)?;
-    stay.sort_unstable();
+    // Mostly one goes on, and is in order.
+    if stay.len() > 1 {
+        stay.sort_unstable();
+    }
     Ok(())
 }
 

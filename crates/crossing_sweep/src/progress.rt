@@ -113,6 +113,7 @@ fn replace(
     ensures { OnOk result (status.new.items ≡ take low status.old.items ++ stay.now ++ drop high status.old.items) }
 {
     match (high - low, stay.len()) {
+        (1, 1) => status[low] = stay[0],
         (0, 1) => {
             status.insert(low, stay[0])?;
         }

@@ -59,6 +59,30 @@ module _ {X : Type 0} (ends : X → Point × Point) (rows : List X) where
     pub before : (i : ℕ) (d : X) → i < start → (left_of i d).x <ℤ (border number *ℤ (left_of i d).w)
     pub after : (i : ℕ) (d : X) → start ≤ i → i < length rows → (border number *ℤ (left_of i d).w) ≤ℤ (left_of i d).x
 
+  -- of two rows the earlier one begins no further right
+  in_order : AllPairs (λ a b. pair_cmp a b ≡ Less) (map ends rows) → (i j : ℕ) (d : X) → i < j → j < length rows
+      → ((left_of i d).x *ℤ (left_of j d).w) ≤ℤ ((left_of j d).x *ℤ (left_of i d).w)
+  in_order sorted i j d l m =
+      let a = get_or-map ends rows i d (ends d) (omega (arith, l, m)) in
+      let b = get_or-map ends rows j d (ends d) m in
+      from_left (ends (get_or rows i d)) (ends (get_or rows j d))
+      (ap (λ z. pair_cmp z (ends (get_or rows j d))) (sym a) ∙ ap (λ z. pair_cmp (get_or (map ends rows) i (ends d)) z) (sym b)
+      ∙ sorted i j (ends d) l (omega (arith, m, length-map rows ends)))
+
+  -- a row that begins from a column's left border on, before one that begins there, begins there too
+  pub begins_too : AllPairs (λ a b. pair_cmp a b ≡ Less) (map ends rows) → ((i : ℕ) (d : X) → i < length rows → pos 0 <ℤ (left_of i d).w) → (number i j : ℕ) (d : X)
+      → (border number *ℤ (left_of i d).w) ≤ℤ (left_of i d).x → i < j → j < length rows → is_in_column number (left_of j d) ≡ true → is_in_column number (left_of i d) ≡ true
+  begins_too sorted positive number i j d from l m e =
+      by_lt_z (left_of i d).x (border (number + 1) *ℤ (left_of i d).w)
+      (λ h. and_from (int_le (border number *ℤ (left_of i d).w) (left_of i d).x) (int_lt (left_of i d).x (border (number + 1) *ℤ (left_of i d).w))
+      (true_le (border number *ℤ (left_of i d).w) (left_of i d).x from) (true_lt (left_of i d).x (border (number + 1) *ℤ (left_of i d).w) h))
+      (λ h. absurd (not_less
+      (lt_true (left_of j d).x (border (number + 1) *ℤ (left_of j d).w) (and_parts (int_le (border number *ℤ (left_of j d).w) (left_of j d).x) (int_lt (left_of j d).x (border (number + 1) *ℤ (left_of j d).w)) e).1)
+      (least_through (left_of i d) (left_of j d) (border (number + 1)) (positive i d (omega (arith, l, m))) (positive j d m) (in_order sorted i j d l m) h)))
+    where
+      not_less : {a b : ℤ} → a <ℤ b → b ≤ℤ a → ⊥
+      not_less {a} {b} h k = omega (arith, ints, h, k)
+
   -- those from one to another begin in a column, and no more
   pub record IsPartOf (number start end : ℕ) : Type 0 where
     pub from : start ≤ end
@@ -68,14 +92,6 @@ module _ {X : Type 0} (ends : X → Point × Point) (rows : List X) where
 
   module _ (sorted : AllPairs (λ a b. pair_cmp a b ≡ Less) (map ends rows)) (positive : (i : ℕ) (d : X) → i < length rows → pos 0 <ℤ (left_of i d).w) (number start end : ℕ)
       (split : IsSplitAt number start) (part : IsPartOf number start end) where
-    in_order : (i j : ℕ) (d : X) → i < j → j < length rows → ((left_of i d).x *ℤ (left_of j d).w) ≤ℤ ((left_of j d).x *ℤ (left_of i d).w)
-    in_order i j d l m =
-        let a = get_or-map ends rows i d (ends d) (omega (arith, l, m)) in
-        let b = get_or-map ends rows j d (ends d) m in
-        from_left (ends (get_or rows i d)) (ends (get_or rows j d))
-        (ap (λ z. pair_cmp z (ends (get_or rows j d))) (sym a) ∙ ap (λ z. pair_cmp (get_or (map ends rows) i (ends d)) z) (sym b)
-        ∙ sorted i j (ends d) l (omega (arith, m, length-map rows ends)))
-
     rise : (w : ℤ) → pos 0 <ℤ w → (border number *ℤ w) ≤ℤ (border (number + 1) *ℤ w)
     rise w hw = most_times (border number) (border (number + 1)) w hw (next_border number)
       where
@@ -115,7 +131,7 @@ module _ {X : Type 0} (ends : X → Point × Point) (rows : List X) where
             by (inl e) = let P : ℕ → Type 0 = λ j. (border (number + 1) *ℤ (left_of j d).w) ≤ℤ (left_of j d).x in subst P e (first_after d (omega (arith, h, l)))
             by (inr m) =
                 let known : end < length rows = omega (arith, m, l) in
-                least_through (left_of end d) (left_of i d) (border (number + 1)) (positive end d known) (positive i d l) (in_order end i d m l) (first_after d known)
+                least_through (left_of end d) (left_of i d) (border (number + 1)) (positive end d known) (positive i d l) (in_order sorted end i d m l) (first_after d known)
 
     pub column_part : filter (λ a. is_in_column number a.0) (map ends rows) ≡ map ends (slice_range rows start end)
     column_part =
@@ -173,3 +189,26 @@ within_more p xs start end h one i d f l = by (which i end l)
     by : (i < end) ⊎ (end ≡ i) → p (get_or xs i d) ≡ true
     by (inl m) = h i d f m
     by (inr e) = ap (λ j. p (get_or xs j d)) (sym e) ∙ one d
+
+-- rows in their order from one on, none of which begins left of a column, beside one of them
+module _ {X : Type 0} (ends : X → Point × Point) (rows : List X) (sorted : AllPairs (λ a b. pair_cmp a b ≡ Less) (map ends rows)) (positive : (i : ℕ) (d : X) → i < length rows → pos 0 <ℤ (left_of ends rows i d).w)
+    (number start : ℕ) (after : (i : ℕ) (d : X) → start ≤ i → i < length rows → (border number *ℤ (left_of ends rows i d).w) ≤ℤ (left_of ends rows i d).x) (j : ℕ) (from : start ≤ j) (few : j < length rows) where
+  -- where it begins in the column, those before it do
+  pub all_before : ((d : X) → is_in_column number (left_of ends rows j d) ≡ true) → (i : ℕ) (d : X) → start ≤ i → i < j + 1 → is_in_column number (left_of ends rows i d) ≡ true
+  all_before e i d h l = by (which i j l)
+    where
+      by : (i < j) ⊎ (j ≡ i) → is_in_column number (left_of ends rows i d) ≡ true
+      by (inl m) = begins_too ends rows sorted positive number i j d (after i d h (omega (arith, m, few))) m few (e d)
+      by (inr n) = ap (λ k. is_in_column number (left_of ends rows k d)) (sym n) ∙ e d
+
+  -- where it does not, those after it do not
+  pub none_after : ((d : X) → is_in_column number (left_of ends rows j d) ≡ false) → (i : ℕ) (d : X) → j ≤ i → i < length rows → is_in_column number (left_of ends rows i d) ≡ false
+  none_after e i d h l = by (which j i (omega (arith, h)))
+    where
+      later : j < i → Told (is_in_column number (left_of ends rows i d)) → is_in_column number (left_of ends rows i d) ≡ false
+      later m (yes t) = absurd (both_ways (is_in_column number (left_of ends rows j d)) (e d) (begins_too ends rows sorted positive number j i d (after j d from few) m l t))
+      later m (no f) = f
+
+      by : (j < i) ⊎ (i ≡ j) → is_in_column number (left_of ends rows i d) ≡ false
+      by (inl m) = later m (told (is_in_column number (left_of ends rows i d)))
+      by (inr n) = ap (λ k. is_in_column number (left_of ends rows k d)) n ∙ e d

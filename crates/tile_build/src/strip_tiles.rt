@@ -1,9 +1,10 @@
 //! Building the tiles of neighbouring columns.
-ghost use Rattle.std.specs.Prelude.{◌≡◌, ◌+◌, ◌<◌, ◌≤◌, ℕ, true, false, map, length, get_or, All, IfOk, IfSome};
-ghost use Rattle.overlay_terms.specs.Column.{is_in_column};
+ghost use Rattle.std.specs.Prelude.{◌≡◌, ◌+◌, ◌<◌, ◌≤◌, ◌≤ℤ◌, ◌*ℤ◌, ℕ, true, false, map, length, get_or, All, AllPairs, IfOk, IfSome};
+ghost use Rattle.std.specs.declared.cmp.Ordering.TheVariants.{Less};
+ghost use Rattle.overlay_terms.specs.Column.{border, is_in_column};
 ghost use Rattle.overlay_terms.specs.Histories as terms;
 ghost use Rattle.overlay_terms.specs.Histories.{pieces_max};
-ghost use Rattle.overlay_terms.specs.Tiles.{Input};
+ghost use Rattle.overlay_terms.specs.Tiles.{Input, pair_cmp};
 ghost use Rattle.crossing_sweep.specs.Crossed.{IsRowSpan};
 ghost use Rattle.crossing_sweep.specs.NodeNames.{named_ends, AreNumbered};
 ghost use Rattle.crossing_sweep.specs.StripCrossed.{IsStripCrossed};
@@ -82,11 +83,14 @@ fn split(
     Ok(list)
 }
 
-/// Where the rows end that begin in a column, from some row on.
+/// Where the rows end that begin in a column, from some row on: they are in order, and none of these begins left of it.
 fn part_end(column: Column, names: &[NodeName], rows: &[Row], start: usize) -> usize
     requires known { start ≤ length rows.now }
     requires spans { All (IsRowSpan names.now) rows.now }
     requires numbered { AreNumbered names.now }
+    requires ordered { AllPairs (λ a b. pair_cmp a b ≡ Less) (map (named_ends names.now) rows.now) }
+    requires after { (i : ℕ) (d : _) → start ≤ i → i < length rows.now
+        → (border column *ℤ (named_ends names.now (get_or rows.now i d)).0.w) ≤ℤ (named_ends names.now (get_or rows.now i d)).0.x }
     ensures from { start ≤ result }
     ensures to { result ≤ length rows.now }
     ensures within { (i : ℕ) (d : _) → start ≤ i → i < result
@@ -94,12 +98,17 @@ fn part_end(column: Column, names: &[NodeName], rows: &[Row], start: usize) -> u
     ensures next { (d : _) → result < length rows.now
         → is_in_column column (named_ends names.now (get_or rows.now result d)).0 ≡ false }
 {
-    for end in start..rows.len() {
-        if !begins_in(column, names, &rows[end]) {
-            return end;
+    let mut low = start;
+    let mut high = rows.len();
+    while low < high {
+        let middle = low + (high - low) / 2;
+        if begins_in(column, names, &rows[middle]) {
+            low = middle + 1;
+        } else {
+            high = middle;
         }
     }
-    rows.len()
+    low
 }
 
 /// Whether a row begins in a column.

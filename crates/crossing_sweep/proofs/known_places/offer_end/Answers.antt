@@ -4,7 +4,6 @@ use Rattle.std.proofs.lemmas.Bool.{both_ways}
 use Rattle.std.proofs.lemmas.List.Elements.{Contains-push}
 use Rattle.overlay_terms.specs.Plane.{Point, whole, same_place}
 use Rattle.exact_point.specs.Place.{place}
-use Rattle.exact_point.specs.declared.point_name.PointName.{PointName}
 use Rattle.exact_point.specs.declared.point_name.PointName.TheVariants.{Vertex}
 use Rattle.exact_point.proofs.PlaceOrder.{one_positive, same_self}
 use Rattle.crossing_sweep.specs.StripInput.{is_in_closed_strip}

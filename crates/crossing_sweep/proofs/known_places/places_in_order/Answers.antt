@@ -1,5 +1,5 @@
 use Rattle.std.proofs.Common.{◌≡◌, ℕ, List, [], ◌++◌, map, take, subst, sym, ap, ◌∙◌}
-use Rattle.std.specs.Prelude.{flat_map}
+use Rattle.std.specs.Prelude.{Some, flat_map}
 use Rattle.std.specs.Borrow.{Bor}
 use Rattle.std.proofs.lemmas.List.{take_all}
 use Rattle.std.proofs.lemmas.List.Filters.{dedup_is}
@@ -12,9 +12,9 @@ use Rattle.arrange.specs.Marked.{marked_of}
 use Rattle.arrange.specs.declared.marked_seg.MarkedSeg.{MarkedSeg}
 use Rattle.crossing_sweep.specs.StripInput.{Span}
 use Rattle.crossing_sweep.specs.declared.ranked_place.RankedPlace.{RankedPlace}
-use Rattle.crossing_sweep.specs.Ahead.{known_names, AreOffered, AreKnownPlaces}
+use Rattle.crossing_sweep.specs.Ahead.{known_names, HasEnds, AreOffered, AreKnownPlaces}
 use Rattle.crossing_sweep.specs.RankedPlace.{ranked_entry, same_ranked}
-use Rattle.crossing_sweep.proofs.KnownLemmas.{own_more, known_places}
+use Rattle.crossing_sweep.proofs.KnownLemmas.{own_more, own_ends, known_places}
 use Rattle.crossing_sweep.proofs.PlacesInOrder.{in_order, offered_once, same_entries, ranked_in_order}
 use Rattle.crossing_sweep.proofs.known_places.places_in_order.Goals as goal
 
@@ -25,9 +25,13 @@ loop-m-preserved c =
     let i : ℕ = c.loop-m.m-index in
     let names : List PointName = flat_map (λ s. known_names s k) (map (λ (m : MarkedSeg). m.seg) (take i items)) in
     let new : List RankedPlace = c.offer_own.new.places.items in
-    let Step : Span → Type 0 = λ j. (names : List PointName) → AreOffered j names (map ranked_entry c.loop-m.places.items) → AreOffered j (names ++ known_names c.m-item.result.seg j) (map ranked_entry new) in
+    let Step : Span → Type 0 = λ j. (names : List PointName) → HasEnds names c.loop-m.before → AreOffered j names (map ranked_entry c.loop-m.places.items) → AreOffered j (names ++ known_names c.m-item.result.seg j) (map ranked_entry new) in
     let step : Step k = subst Step c.strip.ensures.value c.in_ok-offer_own.ensures in
-    subst (λ (names : List PointName). AreOffered k names (map ranked_entry new)) (own_more k items i c.m-item.result c.loop-m-test.true c.m-item.is) (step names c.loop-m.invariant)
+    let more = own_more k items i c.m-item.result c.loop-m-test.true c.m-item.is in
+    record {
+      offered = subst (λ (names : List PointName). AreOffered k names (map ranked_entry new)) more (step names c.loop-m.invariant.ends c.loop-m.invariant.offered);
+      ends = subst (λ (names : List PointName). HasEnds names (Some c.m-item.result.seg)) more (own_ends k names c.m-item.result.seg);
+    }
 
 pub returns-clause-known : goal.returns-clause-known
 returns-clause-known c =
@@ -39,7 +43,7 @@ returns-clause-known c =
     ∙ ap (map (λ (m : terms.Marked). m.segment)) c.marked-m-items.ensures.value in
     let names : List PointName = flat_map (λ s. known_names s k) (map (λ (m : terms.Marked). m.segment) c.args.input.now.marked) in
     let found : List RankedPlace = c.loop-m.places.items in
-    let offered : AreOffered k names (map ranked_entry found) = subst (λ (segs : List Segment). AreOffered k (flat_map (λ s. known_names s k) segs) (map ranked_entry found)) whole_list c.loop-m.invariant in
+    let offered : AreOffered k names (map ranked_entry found) = subst (λ (segs : List Segment). AreOffered k (flat_map (λ s. known_names s k) segs) (map ranked_entry found)) whole_list c.loop-m.invariant.offered in
     let order : List (Bor RankedPlace) = c.in_ok-order.order.items in
     let now : Bor RankedPlace → RankedPlace = λ z. z.now in
     let standing : map ranked_entry found ≡ map (λ z. ranked_entry (now z)) order =

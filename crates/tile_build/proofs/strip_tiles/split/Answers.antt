@@ -1,7 +1,8 @@
-use Rattle.std.proofs.Common.{◌≡◌, ℕ, ◌+◌, ◌-◌, ◌<◌, ◌≤◌, ◌<ℤ◌, pos, List, map, length, get_or, drop, ap, sym, subst, ◌∙◌, rules, arith}
+use Rattle.std.proofs.Common.{◌≡◌, ℕ, ◌+◌, ◌-◌, ◌<◌, ◌≤◌, ◌<ℤ◌, ◌≤ℤ◌, ◌*ℤ◌, pos, List, map, length, get_or, drop, ap, sym, subst, ◌∙◌, rules, arith}
 use Rattle.std.proofs.lemmas.List.{length-map}
 use Rattle.std.proofs.lemmas.List.Elements.{All-take, All-drop}
 use Rattle.overlay_terms.specs.Plane.{Point}
+use Rattle.overlay_terms.specs.Column.{border}
 use Rattle.overlay_terms.specs.Histories.{pieces, pieces_max, IsTileAt}
 use Rattle.overlay_terms.specs.Tiles.{Input}
 use Rattle.exact_point.specs.NamedPiece.{ends_of}
@@ -74,6 +75,15 @@ pieces_of-requires-clause-spans c =
 
 pub part_end-next-requires-clause-known : goal.part_end-next-requires-clause-known
 part_end-next-requires-clause-known c = c.loop-number.invariant.split.fits
+
+pub part_end-next-requires-clause-after : goal.part_end-next-requires-clause-after
+part_end-next-requires-clause-after c =
+    let same : c.in-Some.column ≡ c.loop-number.number = search rules in
+    λ i d h l. subst (λ (k : ℕ). (border k *ℤ (named_ends c.args.names.now (get_or c.args.rows.now i d)).0.w) ≤ℤ (named_ends c.args.names.now (get_or c.args.rows.now i d)).0.x) (sym same)
+    (c.loop-number.invariant.split.after i d h l)
+
+pub part_end-next-requires-clause-ordered : goal.part_end-next-requires-clause-ordered
+part_end-next-requires-clause-ordered c = c.requires.tile.are_some.ordered
 
 pub returns : goal.returns
 returns c =

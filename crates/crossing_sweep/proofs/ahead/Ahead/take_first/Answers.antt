@@ -43,11 +43,11 @@ returns-then-is_first_before-clause-first c =
     let pop = c.first_found-then-is_first_before in
     let items : List RankedPlace = c.self.inside.known.items in
     let taken : ℕ = c.self.inside.taken in
-    let k : RankedPlace = c.index.result.now in
+    let k : RankedPlace = c.index-next.result.now in
     let es : List (HPoint × PointName) = map ranked_entry c.self.inside.found.keys in
     let rest : List (HPoint × PointName) = map ranked_entry pop.new.found.keys in
     let there : taken < length items = omega (arith, c.if-len-self.false, c.len.ensures) in
-    let next : drop taken items ≡ k ∷ drop (taken + 1) items = next_of items taken k there c.index.ensures in
+    let next : drop taken items ≡ k ∷ drop (taken + 1) items = next_of items taken k there c.index-next.ensures in
     let ordered : AllPairs (λ a b. ranked_cmp a b ≡ Less) (k ∷ drop (taken + 1) items) = subst (λ (l : List RankedPlace). AllPairs (λ a b. ranked_cmp a b ≡ Less) l) next (rest_ordered items taken c.self.invariant.ordered) in
     let before : is_first_before es k.at ≡ true = sym c.is_first_before.ensures.first ∙ c.if-is_first_before.true in
     let below = subst (λ (l : List RankedPlace). IfSome pop.result (λ p. All (λ y. hpoint_cmp p.0 y.0 ≡ Less) (map ranked_entry l))) (sym next) (first_before pop.result es rest k (drop (taken + 1) items) pop.ensures.removal before ordered) in
@@ -59,11 +59,11 @@ returns-then-is_first_before-clause-least c =
     let pop = c.first_found-then-is_first_before in
     let items : List RankedPlace = c.self.inside.known.items in
     let taken : ℕ = c.self.inside.taken in
-    let k : RankedPlace = c.index.result.now in
+    let k : RankedPlace = c.index-next.result.now in
     let es : List (HPoint × PointName) = map ranked_entry c.self.inside.found.keys in
     let rest : List (HPoint × PointName) = map ranked_entry pop.new.found.keys in
     let there : taken < length items = omega (arith, c.if-len-self.false, c.len.ensures) in
-    let next : drop taken items ≡ k ∷ drop (taken + 1) items = next_of items taken k there c.index.ensures in
+    let next : drop taken items ≡ k ∷ drop (taken + 1) items = next_of items taken k there c.index-next.ensures in
     let ordered : AllPairs (λ a b. ranked_cmp a b ≡ Less) (k ∷ drop (taken + 1) items) = subst (λ (l : List RankedPlace). AllPairs (λ a b. ranked_cmp a b ≡ Less) l) next (rest_ordered items taken c.self.invariant.ordered) in
     let before : is_first_before es k.at ≡ true = sym c.is_first_before.ensures.first ∙ c.if-is_first_before.true in
     let below = subst (λ (l : List RankedPlace). IfSome pop.result (λ p. All (λ y. hpoint_cmp p.0 y.0 ≡ Less) (map ranked_entry l))) (sym next) (first_before pop.result es rest k (drop (taken + 1) items) pop.ensures.removal before ordered) in
@@ -73,19 +73,19 @@ pub invariant_of-self-2 : goal.invariant_of-self-2
 invariant_of-self-2 c =
     let items : List RankedPlace = c.self.inside.known.items in
     let taken : ℕ = c.self.inside.taken in
-    let k : RankedPlace = c.index.result.now in
+    let k : RankedPlace = c.index-next.result.now in
     let there : taken < length items = omega (arith, c.if-len-self.false, c.len.ensures) in
-    next_taken items taken (map ranked_entry c.self.inside.found.keys) k there (next_of items taken k there c.index.ensures) c.self.invariant
+    next_taken items taken (map ranked_entry c.self.inside.found.keys) k there (next_of items taken k there c.index-next.ensures) c.self.invariant
 
 pub returns-clause-first : goal.returns-clause-first
 returns-clause-first c =
     let items : List RankedPlace = c.self.inside.known.items in
     let taken : ℕ = c.self.inside.taken in
-    let k : RankedPlace = c.index.result.now in
+    let k : RankedPlace = c.index-next.result.now in
     let ks : List RankedPlace = drop (taken + 1) items in
     let es : List (HPoint × PointName) = map ranked_entry c.self.inside.found.keys in
     let there : taken < length items = omega (arith, c.if-len-self.false, c.len.ensures) in
-    let next : drop taken items ≡ k ∷ ks = next_of items taken k there c.index.ensures in
+    let next : drop taken items ≡ k ∷ ks = next_of items taken k there c.index-next.ensures in
     let apart = subst (λ (l : List RankedPlace). All (λ (e : HPoint × PointName). All (λ z. hpoint_cmp z.at e.0 ≡ Equal → ⊥) l) es) next c.self.invariant.apart in
     subst (λ (z : HPoint). c.args.self.now ≡ (z, k.name) ∷ put_all es (map ranked_entry ks)) (sym c.point.ensures)
     (sym c.self.view_is ∙ ap (λ (l : List RankedPlace). put_all es (map ranked_entry l)) next
@@ -95,11 +95,11 @@ pub returns-clause-least : goal.returns-clause-least
 returns-clause-least c =
     let items : List RankedPlace = c.self.inside.known.items in
     let taken : ℕ = c.self.inside.taken in
-    let k : RankedPlace = c.index.result.now in
+    let k : RankedPlace = c.index-next.result.now in
     let ks : List RankedPlace = drop (taken + 1) items in
     let es : List (HPoint × PointName) = map ranked_entry c.self.inside.found.keys in
     let there : taken < length items = omega (arith, c.if-len-self.false, c.len.ensures) in
-    let next : drop taken items ≡ k ∷ ks = next_of items taken k there c.index.ensures in
+    let next : drop taken items ≡ k ∷ ks = next_of items taken k there c.index-next.ensures in
     let ordered : AllPairs (λ a b. ranked_cmp a b ≡ Less) (k ∷ ks) = subst (λ (l : List RankedPlace). AllPairs (λ a b. ranked_cmp a b ≡ Less) l) next (rest_ordered items taken c.self.invariant.ordered) in
     let apart = subst (λ (l : List RankedPlace). All (λ (e : HPoint × PointName). All (λ z. hpoint_cmp z.at e.0 ≡ Equal → ⊥) l) es) next c.self.invariant.apart in
     subst (λ (z : HPoint). All (λ (other : HPoint × PointName). point_cmp (place z) (place other.0) ≡ Less) (put_all es (map ranked_entry ks))) (sym c.point.ensures)
