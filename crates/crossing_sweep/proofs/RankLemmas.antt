@@ -1,5 +1,6 @@
 -- A place with a lower rank comes first.
-use Rattle.std.proofs.Common.{◌≡◌, ℕ, ℤ, pos, neg_ℤ, inl, inr, ◌⊎◌, ◌+◌, ◌*◌, ◌/◌, ◌<◌, ◌≤◌, ◌+ℤ◌, ◌-ℤ◌, ◌*ℤ◌, ◌≤ℤ◌, ◌<ℤ◌, ap, sym, subst, ◌∙◌, arith}
+use Rattle.std.proofs.Common.{◌≡◌, ℕ, ℤ, pos, neg_ℤ, inl, inr, ◌⊎◌, ◌+◌, ◌*◌, ◌/◌, ◌<◌, ◌≤◌, ◌+ℤ◌, ◌-ℤ◌, ◌*ℤ◌, ◌≤ℤ◌, ◌<ℤ◌, unsigned_abs, to_z, of_z, ap, sym, subst, ◌∙◌, arith}
+use Rattle.std.specs.Int.{w64}
 use Rattle.std.specs.Cmp.{int_ranks}
 use Rattle.std.specs.Ordering.{int_cmp, MatchOrdering, ordering_reverse}
 use Rattle.std.specs.declared.cmp.Ordering.{Ordering}
@@ -7,7 +8,7 @@ use Rattle.std.specs.declared.cmp.Ordering.TheVariants.{Less, Equal, Greater}
 use Rattle.std.proofs.lemmas.Int.{ints, by_lt_z}
 use Rattle.std.proofs.Math.IntN.{pos-*ℤ-pos}
 use Rattle.std.proofs.Math.Nat.{div-mul-le_self, lt-div-mul-add, div-le_of_le-mul}
-use Rattle.overlay_terms.specs.Plane.{Point, point_cmp}
+use Rattle.overlay_terms.specs.Plane.{InRange, Point, point_cmp}
 use Rattle.overlay_terms.proofs.Difference.{split, differences, same, mul_pos}
 use Rattle.overlay_terms.proofs.InputNumbers.{less_times, most_times, in_order_by_x, last_turned}
 use Rattle.overlay_terms.proofs.Whole.{last_out}
@@ -113,3 +114,16 @@ floor_of x w u v n d eu ev sum f positive = record {
 -- and the whole part is a coordinate
 pub floor_small : (n d : ℕ) → 0 < d → n ≤ 2097152 * d → n / d ≤ 2097152
 floor_small n d positive most = div-le_of_le-mul d (omega (arith, most))
+
+-- what the code makes of the quotient
+pub reads : (q : ℕ) → q ≤ 2097152 → to_z w64 (of_z w64 (to_z w64 q -ℤ pos 1048576)) ≡ pos q -ℤ pos 1048576
+reads q few = omega (arith, ints)
+
+pub size_of : (w v : ℤ) → v ≡ w → pos 1 ≤ℤ w → pos (unsigned_abs v) ≡ w
+size_of w v e low = grind (arith, ints)
+
+pub positive : (w v : ℤ) → v ≡ w → pos 1 ≤ℤ w → 0 < unsigned_abs v
+positive w v e low = grind (arith, ints)
+
+pub in_range : (q : ℕ) → q ≤ 2097152 → InRange (pos q -ℤ pos 1048576)
+in_range q few = (omega (arith, ints, few), omega (arith, ints, few))

@@ -10,7 +10,7 @@ ghost use Rattle.crossing_sweep.specs.Ahead.{HasAdded, is_first_before};
 
 use crate::rank::rank;
 use crate::ranked_place::RankedPlace;
-use exact_point::{HPoint, PointName};
+use exact_point::{HPoint, NearPoint, PointName};
 use std::alloc::{AllocError, Global};
 use std::collections::BTreeSet;
 use std::marker::Model;
@@ -53,12 +53,12 @@ impl Ahead {
     }
 
     /// Adds a place, unless it is there already.
-    pub(crate) fn add(&mut self, at: HPoint, name: PointName) -> Result<(), AllocError>
+    pub(crate) fn add(&mut self, at: NearPoint, name: PointName) -> Result<(), AllocError>
         ensures { OnOk result (HasAdded self.old at name self.new) }
     {
         let place = RankedPlace {
             name,
-            rank: rank(&at),
+            rank: rank(&at.point()),
             at,
         };
         if !is_among(&self.known[self.taken..], &place) {
@@ -92,7 +92,7 @@ impl Ahead {
             return first_found(&mut self.found);
         }
         self.taken += 1;
-        Some((next.at, next.name))
+        Some((next.at.point(), next.name))
     }
 }
 
@@ -106,7 +106,7 @@ fn first_found(found: &mut BTreeSet<RankedPlace>) -> Option<(HPoint, PointName)>
     let Some(first) = found.pop_first() else {
         return None;
     };
-    Some((first.at, first.name))
+    Some((first.at.point(), first.name))
 }
 
 /// Whether a place, under any name, is one of some places in order.

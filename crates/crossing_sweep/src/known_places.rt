@@ -14,7 +14,7 @@ use crate::pass_input::PassInput;
 use crate::rank::{rank, rank_over};
 use crate::ranked_place::RankedPlace;
 use crate::strip::Strip;
-use exact_point::{HPoint, PointName};
+use exact_point::{NearPoint, PointName};
 use plane_base::{Column, Pt, Seg};
 use std::alloc::{AllocError, Global};
 
@@ -114,10 +114,10 @@ fn offer_cut(
         return Ok(());
     };
     let name = PointName::Border(*seg, number);
-    let at = name.known_point();
+    let at = NearPoint::on_border(seg, number, x);
     places.push(RankedPlace {
         name,
-        rank: rank_over(x, &at),
+        rank: rank_over(x, &at.point()),
         at,
     })?;
     Ok(())
@@ -178,10 +178,10 @@ fn offer_end(places: &mut Vec<RankedPlace>, vertex: Pt, strip: Strip) -> Result<
     if !is_end_within(strip, vertex) {
         return Ok(());
     }
-    let at = HPoint::of(vertex);
+    let at = NearPoint::whole(vertex);
     places.push(RankedPlace {
         name: PointName::Vertex(vertex),
-        rank: rank(&at),
+        rank: rank(&at.point()),
         at,
     })?;
     Ok(())

@@ -3,12 +3,16 @@ ghost use Rattle.std.specs.Prelude.{◌≡◌, ◌^◌, ◌*◌, ◌≤◌, ◌+
 ghost use Rattle.std.specs.Ordering.{int_eq};
 ghost use Rattle.overlay_terms.specs.Plane.{InRange, coordinate_max, denominator_max};
 ghost use Rattle.overlay_terms.specs.Within.{IsWithin};
+ghost use Rattle.exact_point.specs.Lines.{near_max};
 ghost use Rattle.exact_point.specs.Place.{place, hpoint_cmp};
 ghost use Rattle.crossing_sweep.specs.Rank.{IsFloor, IsRank};
 
 use exact_point::HPoint;
 use plane_base::COORD_MAX;
 use std::cmp::Ordering;
+
+/// The greatest denominator over which a coordinate is divided in 64 bits.
+const NEAR_MAX: i128 = 2199023255552;
 
 /// The rank of a place: a place with a lower one comes before it. Those with a whole x, as on the borders of a
 /// column, are ordered by y, too.
@@ -62,6 +66,10 @@ fn floor(x: i128, w: i128) -> i64
     if w == 1 {
         return whole(x);
     }
+    if w <= NEAR_MAX {
+        let (near_x, near_w) = (narrow(x), narrow(w));
+        return near_floor(near_x, near_w);
+    }
     (from_lowest(x, w) / w as u128) as i64 - COORD_MAX
 }
 
@@ -71,6 +79,38 @@ fn whole(x: i128) -> i64
     ensures { result ≡ x }
 {
     x as i64
+}
+
+/// The same number in 64 bits.
+fn narrow(z: i128) -> i64
+    requires { IsWithin (2 ^ 61) z }
+    ensures { result ≡ z }
+{
+    z as i64
+}
+
+/// As `floor`, over a denominator of at most `NEAR_MAX`.
+fn near_floor(x: i64, w: i64) -> i64
+    requires w_low { pos 1 ≤ℤ w }
+    requires w_high { w ≤ℤ pos near_max }
+    requires low { neg_ℤ (pos coordinate_max *ℤ w) ≤ℤ x }
+    requires high { x ≤ℤ (pos coordinate_max *ℤ w) }
+    ensures value { IsFloor result x w }
+    ensures small { InRange result }
+{
+    (near_from_lowest(x, w) / w as u64) as i64 - COORD_MAX
+}
+
+/// As `from_lowest`, over a denominator of at most `NEAR_MAX`.
+fn near_from_lowest(x: i64, w: i64) -> u64
+    requires w_low { pos 1 ≤ℤ w }
+    requires w_high { w ≤ℤ pos near_max }
+    requires low { neg_ℤ (pos coordinate_max *ℤ w) ≤ℤ x }
+    requires high { x ≤ℤ (pos coordinate_max *ℤ w) }
+    ensures value { pos result ≡ x +ℤ (pos coordinate_max *ℤ w) }
+    ensures small { result ≤ 2 ^ 21 * unsigned_abs w }
+{
+    (x + COORD_MAX * w) as u64
 }
 
 /// How far a coordinate lies above the lowest one, over the same denominator.

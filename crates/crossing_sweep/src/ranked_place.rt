@@ -3,7 +3,7 @@ ghost use Rattle.exact_point.specs.Place.{place};
 ghost use Rattle.crossing_sweep.specs.Rank.{IsRank};
 
 use crate::rank::ranked_cmp;
-use exact_point::{HPoint, PointName};
+use exact_point::{NearPoint, PointName};
 use std::cmp::Ordering;
 
 /// A place with a name for it and its rank. The order is that of the places alone.
@@ -11,7 +11,7 @@ use std::cmp::Ordering;
 pub(crate) struct RankedPlace {
     pub name: PointName,
     pub rank: i64,
-    pub at: HPoint,
+    pub at: NearPoint,
     pub ghost ranked: { ∥ IsRank rank (place at) ∥₁ },
 }
 
@@ -59,6 +59,6 @@ impl Ord for RankedPlace {
     ghost matches_eq = { λ p q. refl };
 
     fn cmp(&self, other: &RankedPlace) -> Ordering {
-        ranked_cmp(self.rank, &self.at, other.rank, &other.at)
+        ranked_cmp(self.rank, &self.at.point(), other.rank, &other.at.point())
     }
 }

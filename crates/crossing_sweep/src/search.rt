@@ -10,7 +10,7 @@ ghost use Rattle.crossing_sweep.specs.Testing.{AreTested, AreSeamsTested, seams_
 use crate::ahead::Ahead;
 use crate::member::Member;
 use crate::strip::Strip;
-use exact_point::{HPoint, PointName, cross_of};
+use exact_point::{HPoint, PointName, near_cross_of};
 use plane_base::Seg;
 use std::alloc::AllocError;
 
@@ -95,8 +95,8 @@ pub(crate) fn test_pair(
 ) -> Result<(), AllocError>
     ensures { OnOk result (AreTested strip (place at.now) lower.now upper.now ahead.old ahead.new) }
 {
-    if let Some(crossing) = cross_of(lower, upper) {
-        if is_ahead(strip, at, &crossing) {
+    if let Some(crossing) = near_cross_of(lower, upper) {
+        if is_ahead(strip, at, &crossing.point()) {
             ahead.add(crossing, PointName::Cross(*lower, *upper))?;
         }
     }

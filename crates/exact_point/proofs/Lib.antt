@@ -20,3 +20,4 @@ pub mod CutLemmas
 pub mod Comparing
 pub mod LowestTerms
 pub mod MiddleLemmas
+pub mod NearLemmas

@@ -9,4 +9,5 @@ pub mod CutOver
 pub mod NamedPiece
 pub mod NameCode
 pub mod Reduced
+pub mod Near
 pub use Rattle.overlay_terms.specs.Plane

@@ -1,5 +1,6 @@
 //! The names of places, from which their exact coordinates can be had again.
 ghost use Rattle.std.specs.Prelude.{◌≡◌, ◌↔◌, ◌<ℤ◌, pos, IsTrue, IsSome, IfSome};
+ghost use Rattle.overlay_terms.specs.Column.{border};
 ghost use Rattle.overlay_terms.specs.Plane.{Point, same_place};
 ghost use Rattle.exact_point.specs.Place.{place};
 ghost use Rattle.exact_point.specs.PlaceOf.{place_of, cut_place};
@@ -44,6 +45,16 @@ impl PointName {
             _ => self.point().unwrap(),
         }
     }
+}
+
+/// The place of the name `PointName::Border(seg, number)`, of one that has a place; x is that of the border.
+pub(crate) fn border_point(seg: &Seg, number: u8, x: i64) -> HPoint
+    requires cut { IsCutBy seg.now number }
+    requires over { x ≡ border number }
+    ensures value { place result ≡ place_of (PointName.Border seg.now number) }
+    ensures stands { IsPlaceOf (PointName.Border seg.now number) (place result) }
+{
+    cut_point(seg, x)
 }
 
 /// Where the border of the column with this number cuts a segment, if there is such a column.

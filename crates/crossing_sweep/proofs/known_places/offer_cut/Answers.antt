@@ -1,9 +1,11 @@
-use Rattle.std.proofs.Common.{◌≡◌, ℕ, ℤ, ◌*ℤ◌, List, [], ◌∷◌, ◌++◌, map, refl, ap, sym, subst, ◌∙◌}
+use Rattle.std.proofs.Common.{◌≡◌, ℕ, ℤ, ◌*ℤ◌, List, [], ◌∷◌, ◌++◌, map, refl, ap, sym, subst, ◌∙◌, to_z, of_z}
+use Rattle.std.specs.Int.{w64}
 use Rattle.std.proofs.lemmas.List.Elements.{Contains-push}
 use Rattle.overlay_terms.specs.Plane.{InRange, Segment}
 use Rattle.overlay_terms.specs.Column.{border}
 use Rattle.exact_point.specs.Place.{place}
 use Rattle.exact_point.specs.PointName.{IsCutBy, IsCutOf}
+use Rattle.exact_point.specs.declared.point.HPoint.{HPoint}
 use Rattle.exact_point.specs.declared.point_name.PointName.{PointName}
 use Rattle.exact_point.specs.declared.point_name.PointName.TheVariants.{Border}
 use Rattle.exact_point.proofs.BorderLemmas.{one_cut}
@@ -17,12 +19,15 @@ use Rattle.crossing_sweep.proofs.KnownEnds.{cut_within, border_known}
 use Rattle.crossing_sweep.proofs.KnownLemmas.{offered_added, offered_nowhere}
 use Rattle.crossing_sweep.proofs.known_places.offer_cut.Goals as goal
 
-pub known_point-at-requires : goal.known_point-at-requires
-known_point-at-requires c = c.in-Some.ensures.cut
-
 -- the x of a border that cuts a segment is a coordinate
 known : (k : ℕ) (s : Segment) (x : ℤ) → IsCutBy s k → x ≡ border k → InRange x
 known k s x cut e = subst (λ (z : ℤ). InRange z) (sym e) (border_known k cut.known_column)
+
+pub on_border-at-requires-clause-cut : goal.on_border-at-requires-clause-cut
+on_border-at-requires-clause-cut c = c.in-Some.ensures.cut
+
+pub on_border-at-requires-clause-over : goal.on_border-at-requires-clause-over
+on_border-at-requires-clause-over c = whole_is (known c.args.number c.args.seg.now c.in-Some.x c.in-Some.ensures.cut c.in-Some.ensures.value) c.in-Some.ensures.value
 
 pub rank_over-requires-clause-in_range : goal.rank_over-requires-clause-in_range
 rank_over-requires-clause-in_range c =
@@ -31,18 +36,18 @@ rank_over-requires-clause-in_range c =
 
 pub rank_over-requires-clause-upright : goal.rank_over-requires-clause-upright
 rank_over-requires-clause-upright c =
-    let is : IsCutOf c.args.seg.now c.args.number (place c.known_point-at.result) = c.known_point-at.ensures.stands in
-    ap (λ x. x *ℤ (place c.known_point-at.result).w) (whole_is (known c.args.number c.args.seg.now c.in-Some.x c.in-Some.ensures.cut c.in-Some.ensures.value) c.in-Some.ensures.value) ∙ sym is.on_border
+    let is : IsCutOf c.args.seg.now c.args.number (place c.on_border-at.result) = c.on_border-at.ensures.stands in
+    subst (λ (z : HPoint). to_z w64 (of_z w64 c.in-Some.x) *ℤ (place z).w ≡ (place z).x) (sym c.point.ensures) (ap (λ x. x *ℤ (place c.on_border-at.result).w) (whole_is (known c.args.number c.args.seg.now c.in-Some.x c.in-Some.ensures.cut c.in-Some.ensures.value) c.in-Some.ensures.value) ∙ sym is.on_border)
 
 pub returns : goal.returns
 returns c = λ names h.
     let k : ℕ = c.args.number in
     let name : PointName = Border c.args.seg.now k in
-    let at = c.known_point-at.result in
-    let is : IsCutOf c.args.seg.now k (place at) = c.known_point-at.ensures.stands in
+    let at = c.on_border-at.result in
+    let is : IsCutOf c.args.seg.now k (place at) = c.on_border-at.ensures.stands in
     let new : IsOffered c.args.strip (names ++ name ∷ []) (at, name) = record {
       named = c.in-Some.ensures.cut;
-      told = c.known_point-at.ensures.value;
+      told = c.on_border-at.ensures.value;
       stands = is;
       in_strip = cut_within c.args.strip k (place at) c.requires.from c.requires.to (place_positive at) is.on_border;
       offered = Contains-push names name;

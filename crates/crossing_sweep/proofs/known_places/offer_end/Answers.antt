@@ -25,8 +25,8 @@ returns-then-not-is_end_within c = λ names h.
 pub returns : goal.returns
 returns c = λ names h.
     let v = c.args.vertex in
-    let at = c.of-at.result in
-    let is : place at ≡ whole v = c.of-at.ensures in
+    let at = c.whole-at.result in
+    let is : place at ≡ whole v = c.whole-at.ensures in
     let new : IsOffered c.args.strip (names ++ Vertex v ∷ []) (at, Vertex v) = record {
       named = tt;
       told = is;

@@ -3,21 +3,8 @@ use Rattle.std.specs.Int.{w64, w128}
 use Rattle.std.proofs.lemmas.Int.{ints, to_z-of_z}
 use Rattle.overlay_terms.specs.Plane.{InRange}
 use Rattle.crossing_sweep.specs.Rank.{IsFloor}
-use Rattle.crossing_sweep.proofs.RankLemmas.{floor_of, floor_small}
+use Rattle.crossing_sweep.proofs.RankLemmas.{floor_of, floor_small, in_range, positive, reads, size_of}
 use Rattle.crossing_sweep.proofs.rank.floor.Goals as goal
-
--- what the code makes of the quotient
-reads : (q : ℕ) → q ≤ 2097152 → to_z w64 (of_z w64 (to_z w64 q -ℤ pos 1048576)) ≡ pos q -ℤ pos 1048576
-reads q few = omega (arith, ints)
-
-size_of : (w v : ℤ) → v ≡ w → pos 1 ≤ℤ w → pos (unsigned_abs v) ≡ w
-size_of w v e low = grind (arith, ints)
-
-positive : (w v : ℤ) → v ≡ w → pos 1 ≤ℤ w → 0 < unsigned_abs v
-positive w v e low = grind (arith, ints)
-
-in_range : (q : ℕ) → q ≤ 2097152 → InRange (pos q -ℤ pos 1048576)
-in_range q few = (omega (arith, ints, few), omega (arith, ints, few))
 
 pub returns-clause-value : goal.returns-clause-value
 returns-clause-value c =

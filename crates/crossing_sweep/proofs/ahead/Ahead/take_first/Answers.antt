@@ -1,7 +1,8 @@
 use Rattle.std.proofs.Common.{◌≡◌, ℕ, ◌+◌, ◌<◌, true, List, [], ◌∷◌, map, length, drop, ap, subst, sym, ◌∙◌, arith}
 use Rattle.std.specs.Prelude.{All, AllPairs, IfSome}
 use Rattle.std.specs.declared.cmp.Ordering.TheVariants.{Less, Equal}
-use Rattle.exact_point.specs.Place.{hpoint_cmp}
+use Rattle.overlay_terms.specs.Plane.{point_cmp}
+use Rattle.exact_point.specs.Place.{place, hpoint_cmp}
 use Rattle.exact_point.specs.declared.point.HPoint.{HPoint}
 use Rattle.exact_point.specs.declared.point_name.PointName.{PointName}
 use Rattle.crossing_sweep.specs.RankedPlace.{ranked_cmp, ranked_entry}
@@ -86,8 +87,9 @@ returns-clause-first c =
     let there : taken < length items = omega (arith, c.if-len-self.false, c.len.ensures) in
     let next : drop taken items ≡ k ∷ ks = next_of items taken k there c.index-next.ensures in
     let apart = subst (λ (l : List RankedPlace). All (λ (e : HPoint × PointName). All (λ z. hpoint_cmp z.at e.0 ≡ Equal → ⊥) l) es) next c.self.invariant.apart in
-    sym c.self.view_is ∙ ap (λ (l : List RankedPlace). put_all es (map ranked_entry l)) next
-    ∙ known_first es (map ranked_entry ks) (ranked_entry k) (next_first es k ks (c.is_first_before.ensures.none c.if-is_first_before.false) apart)
+    subst (λ (z : HPoint). c.args.self.now ≡ (z, k.name) ∷ put_all es (map ranked_entry ks)) (sym c.point.ensures)
+    (sym c.self.view_is ∙ ap (λ (l : List RankedPlace). put_all es (map ranked_entry l)) next
+    ∙ known_first es (map ranked_entry ks) (ranked_entry k) (next_first es k ks (c.is_first_before.ensures.none c.if-is_first_before.false) apart))
 
 pub returns-clause-least : goal.returns-clause-least
 returns-clause-least c =
@@ -100,4 +102,5 @@ returns-clause-least c =
     let next : drop taken items ≡ k ∷ ks = next_of items taken k there c.index-next.ensures in
     let ordered : AllPairs (λ a b. ranked_cmp a b ≡ Less) (k ∷ ks) = subst (λ (l : List RankedPlace). AllPairs (λ a b. ranked_cmp a b ≡ Less) l) next (rest_ordered items taken c.self.invariant.ordered) in
     let apart = subst (λ (l : List RankedPlace). All (λ (e : HPoint × PointName). All (λ z. hpoint_cmp z.at e.0 ≡ Equal → ⊥) l) es) next c.self.invariant.apart in
-    next_least es k ks (next_first es k ks (c.is_first_before.ensures.none c.if-is_first_before.false) apart) ordered
+    subst (λ (z : HPoint). All (λ (other : HPoint × PointName). point_cmp (place z) (place other.0) ≡ Less) (put_all es (map ranked_entry ks))) (sym c.point.ensures)
+    (next_least es k ks (next_first es k ks (c.is_first_before.ensures.none c.if-is_first_before.false) apart) ordered)
