@@ -52,6 +52,11 @@ impl Ahead {
         }
     }
 
+    /// How many places were known ahead, for room for what is made of them.
+    pub(crate) fn len_known(&self) -> usize {
+        self.known.len()
+    }
+
     /// Adds a place, unless it is there already.
     pub(crate) fn add(&mut self, at: NearPoint, name: PointName) -> Result<(), AllocError>
         ensures { OnOk result (HasAdded self.old at name self.new) }

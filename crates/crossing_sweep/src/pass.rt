@@ -133,8 +133,10 @@ impl<'a> Pass<'a> {
         let starts = starts(alloc, input)?;
         let ahead = known_places(alloc, input)?;
         let status = Vec::with_capacity(alloc, starts.len())?;
-        let names = Vec::with_capacity(alloc, 2 * starts.len())?;
-        let rows = Vec::with_capacity(alloc, 2 * starts.len())?;
+        // Most nodes are places known ahead, and about one row ends at each.
+        let most = ahead.len_known().saturating_add(2 * starts.len());
+        let names = Vec::with_capacity(alloc, most)?;
+        let rows = Vec::with_capacity(alloc, most)?;
         let progress = Progress {
             starts,
             entered: 0,
