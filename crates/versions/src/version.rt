@@ -34,7 +34,7 @@ pub enum VersionContent {
 pub struct Version {
     number: u64,
     durable: u64,
-    content: VersionContent,
+    pub(crate) content: VersionContent,
 }
 
 impl Model for Version {
@@ -106,6 +106,14 @@ impl Version {
                 Ok(table.clone()?)
             }
         }
+    }
+
+    /// The same version once more. It shares layers and tiles.
+    pub fn again(&self, alloc: Global) -> Result<Version, AllocError>
+        ensures { IfOk result (λ copy. copy ≡ self.now) }
+    {
+        let table = self.table(alloc)?;
+        Ok(Version::of(self.number, self.durable, table))
     }
 
     /// How many commands were accepted before it.
