@@ -223,7 +223,8 @@ impl Table {
         let place = self.layers.index_of(name);
         // A column is below their number by its type: the clauses rest on that.
         let _ = column.number();
-        put_in_row(&mut self.rows, alloc, place, column, tile)
+        put_in_row(&mut self.rows, alloc, place, column, tile)?;
+        Ok(())
     }
 }
 

@@ -1,7 +1,9 @@
 //! Keeping a built tile.
-ghost use Rattle.std.specs.Prelude.{◌≡◌, ◌↔◌, IsTrue, IfOk, IfErr};
-ghost use Rattle.overlay_terms.specs.Histories.{FollowsTile, IsTileAt, pieces_max};
+ghost use Rattle.std.specs.Prelude.{◌≡◌, ◌↔◌, ◌&&◌, ◌==◌, true, false, Some, bytes_eq, IsTrue, IfOk, IfErr, OnOk, OnErr, if◌then◌else◌};
+ghost use Rattle.overlay_terms.specs.Commands.{stands_as_derived};
+ghost use Rattle.overlay_terms.specs.Histories.{FollowsTile, IsTileAt, is_formed, pieces_max, tile_at};
 ghost use Rattle.overlay_terms.specs.Tiles.{input_of};
+ghost use Rattle.layer_tiles.specs.Table.{laid, tiles_in, IsLaid};
 ghost use Rattle.tile_build.specs.Tile.{tile_of};
 ghost use Rattle.versions.specs.Finish.{IfKept, IsAwaited, IsKept, IsPending};
 
@@ -79,13 +81,13 @@ impl Version {
         ensures stale { IfOk result (λ is_kept. is_kept ≡ false → self.new ≡ self.old) }
         ensures exactly { IfOk result (λ is_kept. IsTrue is_kept ↔ IsAwaited self.old name.now built.now.0) }
         ensures err { IfErr result (λ fault. (self.new ≡ self.old) × (fault ≡ VersionFault.Layer LayerFault.OutOfMemory)) }
+        ensures pending { IfErr result (λ _. IsPending self.old name.now built.now.0.column) }
     {
-        let input = built.input();
-        if !self.awaits(name, input, is_present) {
+        if !self.awaits_built(alloc, name, built, is_present)? {
             return Ok(false);
         }
         let tile = built.share()?;
-        self.put_tile(alloc, name, input, tile)?;
+        self.put_tile(alloc, name, built.column(), tile)?;
         Ok(true)
     }
 
@@ -93,21 +95,32 @@ impl Version {
     pub fn is_awaited(&self, name: &Name, input: &TileInput) -> bool
         ensures { IsTrue result ↔ IsAwaited self.now name.now input.now }
     {
-        self.awaits(name, input, false)
-    }
-
-    /// The same of an input that is not compared where it is known to be the present one.
-    fn awaits(&self, name: &Name, input: &TileInput, is_present: bool) -> bool
-        requires present { IsTrue is_present → input.now ≡ input_of self.now.layers name.now input.now.column }
-        ensures { IsTrue result ↔ IsAwaited self.now name.now input.now }
-    {
         if !self.is_pending(name, input.column()) {
             return false;
         }
-        if is_present {
-            return true;
-        }
         self.layers().has_input(name, input)
+    }
+
+    /// The same of a built tile, whose input is not compared where it is known to be the present one.
+    fn awaits_built(
+        &self,
+        alloc: Global,
+        name: &Name,
+        built: &SharedBuilt,
+        is_present: bool,
+    ) -> Result<bool, AllocError>
+        requires present { IsTrue is_present → built.now.0 ≡ input_of self.now.layers name.now built.now.0.column }
+        ensures exactly { IfOk result (λ is_awaited. IsTrue is_awaited ↔ IsAwaited self.now name.now built.now.0) }
+        ensures pending { IfErr result (λ _. IsPending self.now name.now built.now.0.column) }
+    {
+        if !self.is_pending(name, built.column()) {
+            return Ok(false);
+        }
+        if is_present {
+            return Ok(true);
+        }
+        let input = built.input(alloc)?;
+        Ok(self.layers().has_input(name, &input))
     }
 
     /// Whether a tile is pending, by one look at its layer. It takes no memory.
@@ -150,20 +163,22 @@ impl Version {
         &mut self,
         alloc: Global,
         name: &Name,
-        input: &TileInput,
+        column: Column,
         tile: Arc<Tile>,
     ) -> Result<(), AllocError>
-        requires awaited { IsAwaited self.old name.now input.now }
-        requires right { IsTileAt pieces_max input.now (tile_of tile.value) }
-        ensures ok { OnOk result (FollowsTile self.old name.now input.now.column (tile_of tile.value) self.new) }
+        requires pending { IsPending self.old name.now column }
+        requires right { IsTileAt pieces_max (input_of self.old.layers name.now column) (tile_of tile.value) }
+        ensures ok { OnOk result (FollowsTile self.old name.now column (tile_of tile.value) self.new) }
         ensures err { OnErr result (self.new ≡ self.old) }
     {
-        let column = input.column();
         // A column is below their number by its type: the clauses rest on that.
         let _ = column.number();
         match &mut self.content {
             VersionContent::Nothing(_) => unreachable!(),
-            VersionContent::Tiled(table) => put_in_table(table, alloc, name, column, tile),
+            VersionContent::Tiled(table) => {
+                put_in_table(table, alloc, name, column, tile)?;
+                Ok(())
+            }
         }
     }
 }

@@ -112,8 +112,7 @@ impl Version {
     pub fn again(&self, alloc: Global) -> Result<Version, AllocError>
         ensures { IfOk result (λ copy. copy ≡ self.now) }
     {
-        let table = self.table(alloc)?;
-        Ok(Version::of(self.number, self.durable, table))
+        self.with_durable(alloc, self.durable())
     }
 
     /// How many commands were accepted before it.
@@ -150,6 +149,16 @@ impl Version {
         match &self.content {
             VersionContent::Nothing(_) => None,
             VersionContent::Tiled(table) => table.at(place),
+        }
+    }
+
+    /// The row of tiles of a layer.
+    pub fn row_of(&self, name: &Name) -> Option<&TileRow>
+        ensures { IfSome result (λ row. places_in row.now ≡ row_by (tile_at self.now.tiles name.now)) }
+    {
+        match self.at(self.layers().index_of(name)) {
+            Some((_, _, row)) => Some(row),
+            None => None,
         }
     }
 

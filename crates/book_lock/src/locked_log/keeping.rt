@@ -125,11 +125,12 @@ impl<J: BookName, R: Wait + Drop> LockedLog<J, R> {
         ensures err { IfErr result (λ fault. (fault ≡ no_memory) ⊎ (fault ≡ BookFault.Gone)) }
         ensures no_memory { result ≡ Err no_memory → (version.new ≡ version.old) × (seen_log.new ≡ seen_log.old) }
     {
-        let column = built.input().column();
+        let column = built.column();
         if seen_log.at() >= MOST {
             return Err(BookFault::Gone);
         }
-        if !kept(alloc, version, name, built, is_present)? {
+        let is_kept = kept(alloc, version, name, built, is_present)?;
+        if !is_kept {
             // Who builds a tile has it alone, so it cannot be there.
             if version.shared_tile(name, column).is_some() {
                 return Err(BookFault::Gone);
