@@ -4,7 +4,7 @@ use Rattle.std.proofs.lemmas.Bool.{false≢true}
 use Rattle.overlay_terms.specs.Commands.{stands_as_derived}
 use Rattle.overlay_terms.specs.Histories.{tile_at}
 use Rattle.versions.specs.Finish.{IsAwaited, IsPending}
-use Rattle.versions.proofs.NextVersion.{awaited_by}
+use Rattle.versions.proofs.NextVersion.{awaited_by, err_all}
 use Rattle.versions.proofs.version.Version.awaits_built.Goals as goal
 
 pub returns-then-not-is_pending-clause-exactly : goal.returns-then-not-is_pending-clause-exactly
@@ -19,7 +19,8 @@ returns-then-is_present-clause-exactly c =
     (λ _. (pending, c.requires.present c.if-is_present.true), λ _. refl)
 
 pub returns-in_err-input-clause-pending : goal.returns-in_err-input-clause-pending
-returns-in_err-input-clause-pending c = ?
+returns-in_err-input-clause-pending c =
+    err_all c.from_residual.result (subst (IsPending c.args.self.now c.args.name.now) c.column.ensures.value (c.is_pending.ensures.0 c.if-not-is_pending.false))
 
 pub has_input-requires : goal.has_input-requires
 has_input-requires c =
