@@ -13,7 +13,7 @@ add_tile-requires g c =
     let stays = all_stay g.J.BookName.stored _ _ _ _ c.loop-built.invariant.finished in
     record {
       book = c.loop-built.invariant.book;
-      present = λ is. there c.args.name.now c.args.tiles.now c.loop-built.built-index c.built-item.result within c.built-item.is c.args.last.now.seen_log.log c.loop-built.last.seen_log.log stays.layers (c.requires.present is);
+      present = λ is. there c.args.name.now c.args.tiles.now c.loop-built.built-index c.built-item.result within c.built-item.is c.args.seen_log.now.log c.loop-built.seen_log.log stays.layers (c.requires.present is);
     }
 
 pub loop-built-preserved : goal.loop-built-preserved
@@ -43,8 +43,8 @@ returns-in-Err g c =
       book = c.in-Err.ensures.book;
       few = omega (arith, i.count);
       some = λ _. omega arith;
-      finished = subst (λ (t : BookLog). AreFinishedIn c.args.last.now.seen_log.log c.args.name.now (take c.loop-built.count c.args.tiles.now) t.log) (sym same)
-          (subst (λ n. AreFinishedIn c.args.last.now.seen_log.log c.args.name.now (take n c.args.tiles.now) c.loop-built.last.seen_log.log) (sym i.count) i.finished);
+      finished = subst (λ (t : BookLog). AreFinishedIn c.args.seen_log.now.log c.args.name.now (take c.loop-built.count c.args.tiles.now) t.log) (sym same)
+          (subst (λ n. AreFinishedIn c.args.seen_log.now.log c.args.name.now (take n c.args.tiles.now) c.loop-built.seen_log.log) (sym i.count) i.finished);
       err = tt;
     }
 
@@ -55,6 +55,6 @@ returns g c =
       book = i.book;
       few = omega (arith, i.count);
       some = λ some. omega (arith, i.count);
-      finished = subst (λ n. AreFinishedIn c.args.last.now.seen_log.log c.args.name.now (take n c.args.tiles.now) c.loop-built.last.seen_log.log) (sym i.count) i.finished;
+      finished = subst (λ n. AreFinishedIn c.args.seen_log.now.log c.args.name.now (take n c.args.tiles.now) c.loop-built.seen_log.log) (sym i.count) i.finished;
       err = tt;
     }

@@ -37,8 +37,8 @@ put_out-requires g c =
     let is = c.in-Ok.ensures.0 ∙ c.last.ensures.seen_log in
     let old = c.args.self.now in
     let tiles = take c.in_ok-count.count c.args.tiles.now in
-    let made = subst (λ (t : BookLog). AreFinishedIn t.log c.args.name.now tiles c.add_tiles.new.last.seen_log.log) is c.in_ok-count.ensures.finished in
-    let stays = all_stay g.J.BookName.stored old c.add_tiles.new.last.seen_log.log c.args.name.now tiles made in
+    let made = subst (λ (t : BookLog). AreFinishedIn t.log c.args.name.now tiles c.add_tiles.new.seen_log.log) is c.in_ok-count.ensures.finished in
+    let stays = all_stay g.J.BookName.stored old c.add_tiles.new.seen_log.log c.args.name.now tiles made in
     let log = c.self.view_is in
     record {
       pending = c.self.invariant.2;
@@ -55,8 +55,8 @@ invariant_of-self g c =
     let old = c.args.self.now in
     let stored = g.J.BookName.stored in
     let tiles = take c.in_ok-count.count c.args.tiles.now in
-    let made = subst (λ (t : BookLog). AreFinishedIn t.log c.args.name.now tiles c.add_tiles.new.last.seen_log.log) is c.in_ok-count.ensures.finished in
-    let stays = all_stay stored old c.add_tiles.new.last.seen_log.log c.args.name.now tiles made in
+    let made = subst (λ (t : BookLog). AreFinishedIn t.log c.args.name.now tiles c.add_tiles.new.seen_log.log) is c.in_ok-count.ensures.finished in
+    let stays = all_stay stored old c.add_tiles.new.seen_log.log c.args.name.now tiles made in
     let i = c.self.invariant in
     let log = c.self.view_is in
     let shown = c.put_out.ensures.shown in
@@ -78,6 +78,6 @@ returns g c =
       few = made.few;
       some = made.some;
       finished = subst (AreFinishedIn c.args.self.now c.args.name.now tiles) (sym after)
-          (subst (λ (t : BookLog). AreFinishedIn t.log c.args.name.now tiles c.add_tiles.new.last.seen_log.log) is made.finished);
+          (subst (λ (t : BookLog). AreFinishedIn t.log c.args.name.now tiles c.add_tiles.new.seen_log.log) is made.finished);
       err = tt;
     }
