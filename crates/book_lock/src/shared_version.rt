@@ -26,10 +26,7 @@ pub(crate) fn shared(alloc: Global, version: Version) -> Result<Arc<Version, Glo
 }
 
 /// The same version once more, for one owner alone: it shares layers and tiles.
-pub(crate) fn shared_again(
-    alloc: Global,
-    now: &Version,
-) -> Result<Arc<Version, Global>, BookFault>
+pub(crate) fn shared_again(alloc: Global, now: &Version) -> Result<Arc<Version, Global>, BookFault>
     ensures ok { IfOk result (λ v. arc_value v ≡ now.now) }
     ensures err { IfErr result (λ fault. fault ≡ no_memory) }
 {

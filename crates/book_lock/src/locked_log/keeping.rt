@@ -59,7 +59,11 @@ impl<J: BookName, R: Wait + Drop> LockedLog<J, R> {
             return Err(BookFault::Gone);
         };
         let count = self.add_tiles(alloc, own, &mut seen_log, name, tiles, are_present)?;
-        put_out(&self.rt, &mut self.publisher, Published { version, seen_log });
+        put_out(
+            &self.rt,
+            &mut self.publisher,
+            Published { version, seen_log },
+        );
         Ok(count)
     }
 
