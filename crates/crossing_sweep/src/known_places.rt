@@ -10,6 +10,7 @@ ghost use Rattle.crossing_sweep.specs.Ahead.{AreKnownPlaces, AreOffered, HasEnds
 ghost use Rattle.crossing_sweep.specs.RankedPlace.{ranked_cmp, ranked_entry};
 
 use crate::ahead::Ahead;
+use crate::by_reference::{copied, references};
 use crate::pass_input::PassInput;
 use crate::rank::{rank, rank_over};
 use crate::ranked_place::RankedPlace;
@@ -44,31 +45,6 @@ fn places_in_order(alloc: Global, input: &PassInput) -> Result<Vec<RankedPlace>,
     order.sort_unstable();
     order.dedup();
     let list = copied(alloc, &order)?;
-    Ok(list)
-}
-
-/// References to some places, in their order.
-fn references<'a>(
-    alloc: Global,
-    places: &'a [RankedPlace],
-) -> Result<Vec<&'a RankedPlace>, AllocError>
-    ensures { IfOk result (λ order. map (λ z. z.now) order.items ≡ places.now) }
-{
-    let mut order = Vec::with_capacity(alloc, places.len())?;
-    for place in places {
-        order.push(place)?;
-    }
-    Ok(order)
-}
-
-/// The places that some references are to.
-fn copied(alloc: Global, places: &[&RankedPlace]) -> Result<Vec<RankedPlace>, AllocError>
-    ensures { IfOk result (λ list. list.items ≡ map (λ z. z.now) places.now) }
-{
-    let mut list = Vec::with_capacity(alloc, places.len())?;
-    for place in places {
-        list.push(**place)?;
-    }
     Ok(list)
 }
 

@@ -3,6 +3,7 @@
 
 mod ahead;
 mod bundle;
+mod by_reference;
 mod known_places;
 pub mod laws;
 mod member;

@@ -6,6 +6,7 @@ ghost use Rattle.exact_point.specs.Place.{place};
 ghost use Rattle.crossing_sweep.specs.Passing.{IsEntry};
 ghost use Rattle.crossing_sweep.specs.Start.{AreStarts, is_met};
 
+use crate::by_reference::{copied, references};
 use crate::pass_input::PassInput;
 use crate::rank::rank;
 use crate::start::Start;
@@ -31,8 +32,11 @@ pub(crate) fn starts(alloc: Global, input: &PassInput) -> Result<Vec<Start>, All
             })?;
         }
     }
-    list.sort_unstable();
-    Ok(list)
+    // A start is large: what is moved to and fro is where it is kept.
+    let mut order = references(alloc, &list)?;
+    order.sort_unstable();
+    let sorted = copied(alloc, &order)?;
+    Ok(sorted)
 }
 
 /// Whether a segment has a place in a closed strip.

@@ -1,8 +1,12 @@
-use Rattle.std.proofs.Common.{◌≡◌, List, take, filter, subst, sym, ap, ◌∙◌, refl, rules, arith, to_z, of_z, Bool, true, false}
+use Rattle.std.proofs.Common.{◌≡◌, ◌+◌, ◌<◌, List, [], ◌∷◌, map, length, get_or, take, filter, subst, sym, ap, ◌∙◌, refl, rules, arith, to_z, of_z, Bool, true, false}
 use Rattle.std.specs.Int.{w64}
 use Rattle.std.proofs.lemmas.Int.{ints, to_z-of_z}
 use Rattle.std.specs.Prelude.{All}
-use Rattle.std.proofs.lemmas.List.{take_all}
+use Rattle.std.specs.Borrow.{Bor}
+use Rattle.std.specs.Ordering.{is_lt}
+use Rattle.std.specs.List.Sorted.{IsPermutation, IsSorted}
+use Rattle.std.proofs.lemmas.List.{take_all, get_or-map, length-map}
+use Rattle.std.proofs.lemmas.List.Sorted.{IsPermutation-map}
 use Rattle.std.proofs.lemmas.List.Elements.{All-push}
 use Rattle.exact_point.specs.Place.{place}
 use Rattle.overlay_terms.specs.Layers.{Marked}
@@ -11,11 +15,19 @@ use Rattle.arrange.specs.declared.unit.Unit.{Unit}
 use Rattle.crossing_sweep.specs.StripInput.{Span}
 use Rattle.crossing_sweep.specs.Passing.{IsEntry}
 use Rattle.crossing_sweep.specs.Rank.{IsRank}
-use Rattle.crossing_sweep.specs.Start.{is_met}
+use Rattle.crossing_sweep.specs.Start.{is_met, start_cmp, AreStarts}
 use Rattle.crossing_sweep.specs.declared.start.Start.{Start}
 use Rattle.crossing_sweep.proofs.StartLemmas.{grown, left_out, starts_from}
 use Rattle.crossing_sweep.proofs.starts.starts.Goals as goal
 use Rattle.crossing_sweep.proofs.starts.starts.Goals.{then-is_met+in_ok-push, else-is_met}
+
+-- what is in order by what it is mapped to is so there
+sorted_there : {T : Type 0} (now : T → Start) (order : List T) → IsSorted (λ a b. start_cmp (now a) (now b)) order → IsSorted start_cmp (map now order)
+sorted_there now [] up k d l m = absurd (omega (arith, m))
+sorted_there now (x ∷ xs) up k d l m =
+    let inside : k + 1 < length (x ∷ xs) = omega (arith, m, length-map xs now) in
+    ap is_lt (ap (λ s. start_cmp s (get_or (map now (x ∷ xs)) k d)) (get_or-map now (x ∷ xs) (k + 1) x d inside) ∙ ap (start_cmp (now (get_or (x ∷ xs) (k + 1) x))) (get_or-map now (x ∷ xs) k x d (omega (arith, inside))))
+    ∙ up k x l inside
 
 pub invariant_of-push : goal.invariant_of-push
 invariant_of-push c =
@@ -53,5 +65,11 @@ returns c =
     let p : Unit → Bool = λ u. is_met c.args.input.now.strip u.seg in
     let items : List Unit = c.deref-unit-items.result.now in
     let whole_list : take c.loop-unit.unit-index items ≡ c.in_ok-units.units.items = take_all c.loop-unit.unit-index items c.loop-unit-test.false ∙ c.deref-unit-items.ensures.value in
-    starts_from c.args.input.now c.in_ok-units.units.items (subst (λ (ms : List Marked). AreUnits ms c.in_ok-units.units.items) c.marked.ensures.value c.in_ok-units.ensures) c.loop-unit.list.items c.sort_unstable.new.self.items (c.loop-unit.invariant.units ∙ ap (filter p) whole_list) c.loop-unit.invariant.entries
-    c.sort_unstable.ensures.permutation c.sort_unstable.ensures.sorted
+    let now : Bor Start → Start = λ z. z.now in
+    let order : List (Bor Start) = c.sort_unstable.new.self.items in
+    let is : c.in_ok-sorted.sorted.items ≡ map now order = c.in_ok-sorted.ensures ∙ ap (map now) c.deref-2.ensures.value in
+    let moved : IsPermutation c.loop-unit.list.items (map now order) =
+    subst (λ (l : List Start). IsPermutation l (map now order)) (c.in_ok-order.ensures ∙ c.deref.ensures.value) (IsPermutation-map now c.in_ok-order.order.items order c.sort_unstable.ensures.permutation) in
+    subst (AreStarts c.args.input.now) (sym is)
+    (starts_from c.args.input.now c.in_ok-units.units.items (subst (λ (ms : List Marked). AreUnits ms c.in_ok-units.units.items) c.marked.ensures.value c.in_ok-units.ensures) c.loop-unit.list.items (map now order) (c.loop-unit.invariant.units ∙ ap (filter p) whole_list) c.loop-unit.invariant.entries
+    moved (sorted_there now order c.sort_unstable.ensures.sorted))

@@ -1,0 +1,26 @@
+//! References to elements that are large, so that a sort moves these to and fro.
+ghost use Rattle.std.specs.Prelude.{◌≡◌, map, IfOk};
+
+use std::alloc::{AllocError, Global};
+
+/// References to some elements, in their order.
+pub(crate) fn references<'a, T>(alloc: Global, elements: &'a [T]) -> Result<Vec<&'a T>, AllocError>
+    ensures { IfOk result (λ order. map (λ z. z.now) order.items ≡ elements.now) }
+{
+    let mut order = Vec::with_capacity(alloc, elements.len())?;
+    for element in elements {
+        order.push(element)?;
+    }
+    Ok(order)
+}
+
+/// The elements that some references are to.
+pub(crate) fn copied<T: Copy>(alloc: Global, elements: &[&T]) -> Result<Vec<T>, AllocError>
+    ensures { IfOk result (λ list. list.items ≡ map (λ z. z.now) elements.now) }
+{
+    let mut list = Vec::with_capacity(alloc, elements.len())?;
+    for element in elements {
+        list.push(**element)?;
+    }
+    Ok(list)
+}
