@@ -7,7 +7,7 @@ use Rattle.std.specs.declared.cmp.Ordering.{Ordering}
 use Rattle.std.specs.declared.cmp.Ordering.TheVariants.{Less, Equal, Greater}
 use Rattle.overlay_terms.specs.Plane.{same_place}
 use Rattle.overlay_terms.proofs.Lists.{any_from, any_contains, Contains-cons_cases, contains_first, contains_rest}
-use Rattle.exact_point.specs.Place.{place, hpoint_cmp}
+use Rattle.exact_point.specs.Place.{place}
 use Rattle.exact_point.specs.declared.point.HPoint.{HPoint}
 use Rattle.exact_point.specs.declared.point_name.PointName.{PointName}
 use Rattle.exact_point.proofs.PlaceOrder.{same_from_equal, same_self}

@@ -59,7 +59,10 @@ fn staying(stay: &mut Vec<Member>, bundle: &[Member], at: &HPoint) -> Result<(),
 pub(crate) fn count_entering(coming: &[Start], at: &HPoint) -> usize
     ensures { result ≡ prefix_len (λ s. same_hpoint s.at at.now) coming.now }
 {
-    coming.iter().take_while(|start| start.at == *at).count()
+    coming
+        .iter()
+        .take_while(|start| start.at.point() == *at)
+        .count()
 }
 
 /// Adds the units that enter at a place and go on after it.

@@ -7,14 +7,14 @@ ghost use Rattle.crossing_sweep.specs.Rank.{IsRank};
 
 use crate::rank::ranked_cmp;
 use arrange::unit::Unit;
-use exact_point::{HPoint, direction_cmp};
+use exact_point::{NearPoint, direction_cmp};
 use std::cmp::Ordering;
 
 /// A unit and the first place of a closed strip on it, with its rank. The order is by that place, then by
 /// direction, the vertical one first.
 #[derive(Clone, Copy, Debug)]
 pub(crate) struct Start {
-    pub at: HPoint,
+    pub at: NearPoint,
     pub rank: i64,
     pub unit: Unit,
     pub ghost ranked: { ∥ IsRank rank (place at) ∥₁ },
@@ -65,7 +65,7 @@ impl Ord for Start {
     ghost matches_eq = { λ p q. refl };
 
     fn cmp(&self, other: &Start) -> Ordering {
-        let by_place = ranked_cmp(self.rank, &self.at, other.rank, &other.at);
+        let by_place = ranked_cmp(self.rank, &self.at.point(), other.rank, &other.at.point());
         if by_place.is_ne() {
             return by_place;
         }

@@ -12,7 +12,7 @@ use crate::rank::rank;
 use crate::start::Start;
 use crate::strip::Strip;
 use arrange::units_of;
-use exact_point::{HPoint, PointName};
+use exact_point::NearPoint;
 use plane_base::Seg;
 use std::alloc::{AllocError, Global};
 
@@ -27,7 +27,7 @@ pub(crate) fn starts(alloc: Global, input: &PassInput) -> Result<Vec<Start>, All
             let at = first_place(&unit.seg, input.strip());
             list.push(Start {
                 at,
-                rank: rank(&at),
+                rank: rank(&at.point()),
                 unit: *unit,
             })?;
         }
@@ -50,16 +50,16 @@ fn is_met(seg: &Seg, strip: Strip) -> bool
 }
 
 /// The first place of a closed strip on a segment.
-fn first_place(seg: &Seg, strip: Strip) -> HPoint
+fn first_place(seg: &Seg, strip: Strip) -> NearPoint
     requires ahead { whole_cmp seg.now.left seg.now.right ≡ Less }
     requires met { IsTrue (is_met strip seg.now) }
     ensures { IsEntry strip seg.now (place result) }
 {
     if strip.border() <= seg.left().x() {
-        return HPoint::of(seg.left());
+        return NearPoint::whole(seg.left());
     }
     if seg.right().x() <= strip.border() {
-        return HPoint::of(seg.right());
+        return NearPoint::whole(seg.right());
     }
-    PointName::Border(*seg, strip.first().number()).known_point()
+    NearPoint::on_border(seg, strip.first().number(), strip.border())
 }

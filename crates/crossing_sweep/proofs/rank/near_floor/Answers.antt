@@ -1,6 +1,6 @@
-use Rattle.std.proofs.Common.{◌≡◌, ℕ, ℤ, pos, ◌-ℤ◌, ◌≤ℤ◌, ◌<◌, ◌/◌, ◌≤◌, unsigned_abs, to_z, of_z, sym, subst, arith}
+use Rattle.std.proofs.Common.{◌≡◌, ℕ, ℤ, ◌/◌, ◌≤◌, unsigned_abs, to_z, of_z, sym, subst}
 use Rattle.std.specs.Int.{w64}
-use Rattle.std.proofs.lemmas.Int.{ints, to_z-of_z}
+use Rattle.std.proofs.lemmas.Int.{to_z-of_z}
 use Rattle.overlay_terms.specs.Plane.{InRange}
 use Rattle.crossing_sweep.specs.Rank.{IsFloor}
 use Rattle.crossing_sweep.proofs.RankLemmas.{floor_of, floor_small, in_range, positive, reads, size_of}

@@ -11,7 +11,7 @@ returns-then-border-x c =
     let s = c.args.seg.now in
     let low : c.border.result ≤ℤ c.x.result = grind (arith, ints, to_z-of_z) in
     let here : border c.args.strip.first ≤ℤ s.left.x = rw (← c.border.ensures.value, ← c.left.ensures.value, ← c.x.ensures.value) low in
-    subst (λ (z : Point). IsEntry c.args.strip s z) (ap whole (sym c.left-then-border-x.ensures.value) ∙ sym c.of.ensures) (entry_left c.args.strip s c.requires.ahead here)
+    subst (λ (z : Point). IsEntry c.args.strip s z) (ap whole (sym c.left-then-border-x.ensures.value) ∙ sym c.whole.ensures) (entry_left c.args.strip s c.requires.ahead here)
 
 pub returns-then-x-border : goal.returns-then-x-border
 returns-then-x-border c =
@@ -20,4 +20,4 @@ returns-then-x-border c =
     let ends : c.x-2.result ≤ℤ c.border-2.result = grind (arith, ints, to_z-of_z) in
     let first : s.left.x <ℤ border c.args.strip.first = rw (← c.border.ensures.value, ← c.left.ensures.value, ← c.x.ensures.value) begun in
     let last : s.right.x ≤ℤ border c.args.strip.first = rw (← c.border-2.ensures.value, ← c.right.ensures.value, ← c.x-2.ensures.value) ends in
-    subst (λ (z : Point). IsEntry c.args.strip s z) (ap whole (sym c.right-then-x-border.ensures.value) ∙ sym c.of-then-x-border.ensures) (entry_right c.args.strip s c.requires.ahead first last c.requires.met)
+    subst (λ (z : Point). IsEntry c.args.strip s z) (ap whole (sym c.right-then-x-border.ensures.value) ∙ sym c.whole-then-x-border.ensures) (entry_right c.args.strip s c.requires.ahead first last c.requires.met)

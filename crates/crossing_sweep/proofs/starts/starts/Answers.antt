@@ -9,6 +9,7 @@ use Rattle.std.proofs.lemmas.List.{take_all, get_or-map, length-map}
 use Rattle.std.proofs.lemmas.List.Sorted.{IsPermutation-map}
 use Rattle.std.proofs.lemmas.List.Elements.{All-push}
 use Rattle.exact_point.specs.Place.{place}
+use Rattle.exact_point.specs.declared.point.HPoint.{HPoint}
 use Rattle.overlay_terms.specs.Layers.{Marked}
 use Rattle.arrange.specs.Units.{AreUnits}
 use Rattle.arrange.specs.declared.unit.Unit.{Unit}
@@ -32,7 +33,7 @@ sorted_there now (x ∷ xs) up k d l m =
 pub invariant_of-push : goal.invariant_of-push
 invariant_of-push c =
     let there : to_z w64 (of_z w64 c.rank.result) ≡ c.rank.result = grind (arith, ints, to_z-of_z) in
-    record { ranked = subst (λ n. ∥ IsRank n (place c.first_place-at.result) ∥₁) (sym there) c.rank.ensures; ahead = search rules }
+    record { ranked = subst (λ n. ∥ IsRank n (place c.first_place-at.result) ∥₁) (sym there) (subst (λ (z : HPoint). ∥ IsRank c.rank.result (place z) ∥₁) c.point.ensures c.rank.ensures); ahead = search rules }
 
 pub loop-unit-preserved : goal.loop-unit-preserved
 loop-unit-preserved c =
