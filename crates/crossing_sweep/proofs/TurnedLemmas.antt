@@ -1,5 +1,5 @@
 -- The units and segments of members that a sort has put in the order of their directions.
-use Rattle.std.proofs.Common.{◌≡◌, ◌⊎◌, inl, inr, Bool, cond, ℕ, ℤ, pos, neg_ℤ, ◌-◌, ◌≤◌, ◌<◌, ◌<ℤ◌, ◌≤ℤ◌, false, List, [], ◌∷◌, ◌++◌, map, take, drop, get_or, length, refl, ap, sym, subst, ◌∙◌, arith}
+use Rattle.std.proofs.Common.{◌≡◌, ◌⊎◌, inl, inr, Bool, true, cond, ℕ, zero, suc, ℤ, pos, ◌+◌, neg_ℤ, ◌-◌, ◌≤◌, ◌<◌, ◌<ℤ◌, ◌≤ℤ◌, false, List, [], ◌∷◌, ◌++◌, map, take, drop, get_or, slice_set, length, refl, ap, sym, subst, ◌∙◌, arith}
 use Rattle.std.specs.Prelude.{filter, All, Contains}
 use Rattle.std.specs.List.{AllPairs, slice_range}
 use Rattle.std.specs.List.Sorted.{IsPermutation, IsSorted}
@@ -9,13 +9,13 @@ use Rattle.std.specs.declared.cmp.Ordering.TheVariants.{Less}
 use Rattle.std.proofs.lemmas.Int.{ints, by_lt_z}
 use Rattle.std.proofs.lemmas.Bool.{both_ways}
 use Rattle.std.proofs.lemmas.List.Elements.{filter-append, Contains-append_cases, All-contains}
-use Rattle.std.proofs.lemmas.List.{map-append, length-take-le, length-drop}
+use Rattle.std.proofs.lemmas.List.{map-append, length-take-le, length-drop, length-map, drop_more}
 use Rattle.std.proofs.lemmas.Simd.{map-map}
 use Rattle.overlay_terms.proofs.Lists.{contains_map, from_map, contains_first, none_in_empty, Contains-cons_cases}
 use Rattle.arrange.specs.declared.unit.Unit.{Unit}
 use Rattle.crossing_sweep.specs.declared.start.Start.{Start}
 use Rattle.crossing_sweep.proofs.PassLemmas.{all_of, filter_contains}
-use Rattle.std.proofs.lemmas.List.Sorted.{sorted_far, ranks_by, IsPermutation-map, IsPermutation-sym, Contains-permutation, length_permutation}
+use Rattle.std.proofs.lemmas.List.Sorted.{sorted_far, ranks_by, IsPermutation-map, IsPermutation-refl, IsPermutation-sym, Contains-permutation, length_permutation}
 use Rattle.overlay_terms.specs.Plane.{Point, Segment}
 use Rattle.overlay_terms.proofs.Pairs.{pairs_map}
 use Rattle.overlay_terms.proofs.Whole.{turn_back}
@@ -162,3 +162,34 @@ pub alone_stays : (r : Point) (ms turned stay : List Member) (low high k : ℕ) 
 alone_stays r ms turned stay low high k coming few single none one moved labelled =
     alone_units r (slice_range ms low high) stay (take k coming) (length-take-le (high - low) (drop low ms) (omega (arith, few, length-drop low ms)) ∙ single) (ap (λ j. length (take j coming)) none) one
     (subst (λ (us : List Unit). IsPermutation (filter (unit_after r) (units_of (slice_range ms low high) ++ map (λ (s : Start). s.unit) (take k coming))) us) (sym labelled) moved)
+
+-- members with one of them written anew
+pub set_one : (ms : List Member) (k : ℕ) (m : Member) → k < length ms → slice_set ms k m ≡ take k ms ++ (m ∷ drop (k + 1) ms)
+set_one ms k m l = from ms k l ∙ ap (λ j. take k ms ++ (m ∷ drop j ms)) (next k)
+  where
+    next : (k : ℕ) → suc k ≡ k + 1
+    next k = omega arith
+
+    from : (ms : List Member) (k : ℕ) → k < length ms → slice_set ms k m ≡ take k ms ++ (m ∷ drop (suc k) ms)
+    from [] k l = absurd (omega (arith, l))
+    from (n ∷ ms) zero l = refl
+    from (n ∷ ms) (suc k) l = ap (λ zs. n ∷ zs) (from ms k (omega (arith, l)))
+
+-- a member that holds a place alone, and goes on where none enters
+module _ (r : Point) (ms : List Member) (low high k : ℕ) (x : Member) (coming : List Start) (few : low < length ms) (single : high - low ≡ 1) (none : k ≡ 0) (is : x ≡ get_or ms low x) where
+  pub lone_slice : slice_range ms low high ≡ x ∷ []
+  lone_slice = ap (λ n. take n (drop low ms)) single ∙ ap (take 1) (drop_more ms low x few) ∙ ap (λ y. y ∷ []) (sym is)
+
+  pub lone_moved : (stay : List Member) → ends_after r x.unit.seg ≡ true → units_of stay ≡ x.unit ∷ []
+      → IsPermutation (filter (unit_after r) (units_of (slice_range ms low high) ++ map (λ (s : Start). s.unit) (take k coming))) (units_of stay)
+  lone_moved stay goes one = subst (λ (us : List Unit). IsPermutation us (units_of stay)) (sym kept) (IsPermutation-refl (units_of stay))
+    where
+      kept : filter (unit_after r) (units_of (slice_range ms low high) ++ map (λ (s : Start). s.unit) (take k coming)) ≡ units_of stay
+      kept =
+          ap (λ xs. filter (unit_after r) (units_of xs ++ map (λ (s : Start). s.unit) (take k coming))) lone_slice
+          ∙ ap (λ j. filter (unit_after r) (x.unit ∷ map (λ (s : Start). s.unit) (take j coming))) none
+          ∙ ap (λ b. cond b (x.unit ∷ []) []) goes ∙ sym one
+
+-- it is in order
+pub lone_turned : (stay : List Member) → length stay ≡ 1 → AllPairs (λ a b. pos 0 ≤ℤ turn_of a b) (segs_of stay)
+lone_turned stay one i j d l m = absurd (omega (arith, l, m, one, length-map stay seg_of))

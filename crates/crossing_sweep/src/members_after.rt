@@ -13,7 +13,7 @@ use plane_base::Seg;
 use std::alloc::AllocError;
 
 /// Whether a segment ends after a place.
-fn ends_after(seg: &Seg, at: &HPoint) -> bool
+pub(crate) fn ends_after(seg: &Seg, at: &HPoint) -> bool
     ensures { result ≡ ends_after (place at.now) seg.now }
 {
     *at < HPoint::of(seg.right())

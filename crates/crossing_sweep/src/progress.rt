@@ -9,10 +9,10 @@ ghost use Rattle.crossing_sweep.specs.Values.{AreValues};
 
 use crate::bundle::bundle_at;
 use crate::member::Member;
-use crate::members_after::{count_entering, turned};
+use crate::members_after::{count_entering, ends_after, turned};
 use crate::node_name::NodeName;
 use crate::pass_input::PassInput;
-use crate::row::{Row, close, label, mask_over};
+use crate::row::{Row, close, go_through, label, mask_over};
 use crate::search::Search;
 use crate::start::Start;
 use exact_point::HPoint;
@@ -74,6 +74,11 @@ impl Progress {
         }
         let coming = &self.starts[self.entered..];
         let entered = count_entering(coming, at);
+        if entered == 0 && high - low == 1 && ends_after(&self.status[low].unit.seg, at) {
+            go_through(input, values, &mut self.status, low, stay, begin)?;
+            self.hint = high;
+            return Ok(());
+        }
         turned(stay, &self.status[low..high], &coming[..entered], at, begin)?;
         let under = mask_over(&self.status[..low]);
         label(input, values, stay, under, begin);

@@ -1,5 +1,5 @@
 //! Rows of a pass: the pieces of the boundary, made where they end, and what the members carry up to there.
-ghost use Rattle.std.specs.Prelude.{◌≡◌, ◌++◌, true, map, OnOk};
+ghost use Rattle.std.specs.Prelude.{◌≡◌, ◌+◌, ◌<◌, ◌++◌, [], ◌∷◌, true, map, length, take, drop, get_or, OnOk};
 ghost use Rattle.crossing_sweep.specs.Rows.{mask_over as highest_mask, row_to as row_of_member, rows_of, AreBegun, HasValue, IsBegun};
 ghost use Rattle.crossing_sweep.specs.Values.{AreValues};
 
@@ -68,6 +68,34 @@ pub(crate) fn label(
         value = begin_over(input, values, member, mask, value, begin);
         mask = member.over;
     }
+}
+
+/// Begins anew the piece of a member that goes on alone, in its place, and lists it.
+pub(crate) fn go_through(
+    input: &PassInput,
+    values: &[bool],
+    status: &mut Vec<Member>,
+    low: usize,
+    stay: &mut Vec<Member>,
+    begin: usize,
+) -> Result<(), AllocError>
+    requires known { AreValues input.now.steps values.now }
+    requires there { low < length status.old.items }
+    ensures put { OnOk result
+        (status.new.items ≡ take low status.old.items ++ stay.new.items ++ drop (low + 1) status.old.items) }
+    ensures unit { OnOk result
+        ((d : Member) → map (λ m. m.unit) stay.new.items ≡ (get_or status.old.items low d).unit ∷ []) }
+    ensures begun { OnOk result
+        (AreBegun input.now.steps (highest_mask 0 (take low status.old.items)) begin true stay.new.items) }
+{
+    let under = mask_over(&status[..low]);
+    let value = value_over(input, values, under);
+    let mut member = status[low];
+    begin_over(input, values, &mut member, under, value, begin);
+    status[low] = member;
+    stay.clear();
+    stay.push(member)?;
+    Ok(())
 }
 
 /// Begins a member's piece over what a mask says, where the value of the expression there is known, and

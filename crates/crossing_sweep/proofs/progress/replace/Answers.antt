@@ -1,16 +1,11 @@
-use Rattle.std.proofs.Common.{rules, ◌≡◌, ℕ, zero, suc, ◌+◌, ◌<◌, List, [], ◌∷◌, take, drop, get_or, slice_set, refl, ap, sym, ◌∙◌, ◌++◌, append_assoc, length, arith}
+use Rattle.std.proofs.Common.{rules, ◌≡◌, ◌+◌, List, [], ◌∷◌, take, drop, get_or, ap, sym, ◌∙◌, ◌++◌, append_assoc, length, arith}
 use Rattle.std.specs.Vec.Iter.{into_iter_len}
 use Rattle.std.proofs.lemmas.List.{map-id, nil_from_length}
 use Rattle.std.proofs.lemmas.Iterator.{items_from_drains}
 use Rattle.std.proofs.lemmas.Iterator.Adapters.{YieldsList-from_vec}
 use Rattle.crossing_sweep.specs.declared.member.Member.{Member}
+use Rattle.crossing_sweep.proofs.TurnedLemmas.{set_one}
 use Rattle.crossing_sweep.proofs.progress.replace.Goals as goal
-
--- a list with one place written anew
-set_one : (xs : List Member) (k : ℕ) (x : Member) → k < length xs → slice_set xs k x ≡ take k xs ++ (x ∷ drop (suc k) xs)
-set_one [] k x l = absurd (omega (arith, l))
-set_one (y ∷ xs) zero x l = refl
-set_one (y ∷ xs) (suc k) x l = ap (λ zs. y ∷ zs) (set_one xs k x (omega (arith, l)))
 
 -- a list of one element
 lone : (xs : List Member) (x : Member) → length xs ≡ 1 → x ≡ get_or xs 0 x → xs ≡ x ∷ []
@@ -24,9 +19,8 @@ returns-in-1-eq1 c =
     let status : List Member = c.args.status.now.items in
     let x : Member = c.index-stay-0.result in
     let next : c.args.low + 1 ≡ c.args.high = omega arith in
-    let after : suc c.args.low ≡ c.args.high = omega (arith, next) in
     let one : stay ≡ x ∷ [] = lone stay x (search rules) c.index-stay-0.is in
-    set_one status c.args.low x (omega (arith, next, c.requires.few)) ∙ ap (λ k. take c.args.low status ++ (x ∷ drop k status)) after
+    set_one status c.args.low x (omega (arith, next, c.requires.few)) ∙ ap (λ k. take c.args.low status ++ (x ∷ drop k status)) next
     ∙ ap (λ xs. take c.args.low status ++ (xs ++ drop c.args.high status)) (sym one) ∙ sym (append_assoc (take c.args.low status) stay (drop c.args.high status))
 
 pub returns-in_ok-splice-in_default-2 : goal.returns-in_ok-splice-in_default-2

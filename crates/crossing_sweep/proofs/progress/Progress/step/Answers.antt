@@ -1,7 +1,7 @@
-use Rattle.std.proofs.Common.{rules, ◌≡◌, ◌⊎◌, inr, ℕ, ◌+◌, ◌-◌, ◌≤◌, Bool, true, false, List, ◌++◌, map, length, take, drop, sym, subst, ap, refl, ◌∙◌, arith}
+use Rattle.std.proofs.Common.{rules, ◌≡◌, ◌⊎◌, inr, ℕ, ◌+◌, ◌-◌, ◌<◌, ◌≤◌, Bool, true, false, List, [], ◌∷◌, ◌++◌, map, length, take, drop, sym, subst, ap, refl, ◌∙◌, arith}
 use Rattle.std.proofs.Math.Seq.{take-append_seam}
 use Rattle.std.proofs.lemmas.Bool.{not-false}
-use Rattle.std.proofs.lemmas.List.{drop-drop, take_rest}
+use Rattle.std.proofs.lemmas.List.{drop-drop, take_rest, length-map}
 use Rattle.std.specs.Prelude.{All, filter, not}
 use Rattle.std.specs.List.{slice_range}
 use Rattle.std.specs.List.Sorted.{IsPermutation}
@@ -10,7 +10,7 @@ use Rattle.exact_point.specs.Place.{place, same_hpoint}
 use Rattle.crossing_sweep.specs.StripInput.{is_in_strip, Span}
 use Rattle.crossing_sweep.specs.Status.{SidesFallAlong}
 use Rattle.crossing_sweep.specs.Step.{IsSplitAt}
-use Rattle.crossing_sweep.specs.Member.{units_of, segs_of}
+use Rattle.crossing_sweep.specs.Member.{units_of, segs_of, ends_after}
 use Rattle.crossing_sweep.specs.Rows.{AreBegun, mask_over, rows_of}
 use Rattle.crossing_sweep.specs.Stepping.{IsStepped}
 use Rattle.crossing_sweep.specs.Testing.{AreSeamsTested, seams_at}
@@ -18,7 +18,8 @@ use Rattle.crossing_sweep.specs.declared.member.Member.{Member}
 use Rattle.crossing_sweep.specs.declared.row.Row.{Row}
 use Rattle.crossing_sweep.specs.declared.start.Start.{Start}
 use Rattle.crossing_sweep.proofs.NameLemmas.{all_begin, members_from}
-use Rattle.crossing_sweep.proofs.TurnedLemmas.{unit_after, alone_stays}
+use Rattle.crossing_sweep.proofs.SeamLemmas.{no_seams}
+use Rattle.crossing_sweep.proofs.TurnedLemmas.{unit_after, alone_stays, lone_moved, lone_turned}
 use Rattle.crossing_sweep.proofs.TakenLemmas.{stepped}
 use Rattle.crossing_sweep.proofs.Leaving.{still_few, closed_at}
 use Rattle.crossing_sweep.proofs.progress.Progress.step.Goals as goal
@@ -113,3 +114,50 @@ returns-then-not-within-clause-closed c = λ out.
     let Closed : List Member → Type 0 = λ xs. c.close.new.rows.items ≡ rows ++ rows_of c.args.begin (slice_range xs low high) in
     closed_at c.args.at.now c.args.begin ms ms low high rows c.close.new.rows.items c.bundle_at-low.ensures.in_order (subst Splits c.deref.ensures.value c.bundle_at-low.ensures.split)
     (subst Closed c.deref-2.ensures.value c.in_ok-close.ensures) refl
+
+pub returns-then-ends_after-clause-stepped : goal.returns-then-ends_after-clause-stepped
+returns-then-ends_after-clause-stepped c = λ inside.
+    let self = c.args.self.now in
+    let items : List Start = c.deref-3.result.now in
+    let value : items ≡ self.starts.items = c.deref-3.ensures.value in
+    let behind : take (length items - self.entered) (drop self.entered items) ≡ drop self.entered self.starts.items = take_rest items self.entered ∙ ap (λ (l : List Start). drop self.entered l) value in
+    let entered : ℕ = c.count_entering-entered.result in
+    let r : Point = place c.args.at.now in
+    let k : Span = c.args.input.now.strip in
+    let ms : List Member = self.status.items in
+    let after : List Member = c.go_through.new.status.items in
+    let stay : List Member = c.go_through.new.stay.items in
+    let coming : List Start = take (length items - self.entered) (drop self.entered items) in
+    let low : ℕ = c.bundle_at-low.result.0 in
+    let high : ℕ = c.bundle_at-low.result.1 in
+    let x : Member = c.index.result.now in
+    let rows : List Row = self.rows.items in
+    let Splits : List Member → Type 0 = λ xs. SidesFallAlong r (segs_of xs) → IsSplitAt r (segs_of (take low xs)) (segs_of (slice_range xs low high)) (segs_of (drop high xs)) in
+    let Begun : Bool → Type 0 = λ b. AreBegun c.args.input.now.steps (mask_over 0 (take low ms)) c.args.begin b stay in
+    let Closed : List Member → Type 0 = λ xs. c.close.new.rows.items ≡ rows ++ rows_of c.args.begin (slice_range xs low high) in
+    let few = subst (λ (xs : List Member). high ≤ length xs) c.deref.ensures.value c.bundle_at-low.ensures.few in
+    let none : entered ≡ 0 = omega arith in
+    let single : high - low ≡ 1 = omega arith in
+    let next : low + 1 ≡ high = omega (arith, single) in
+    let there : low < length ms = omega (arith, few, next) in
+    let one : units_of stay ≡ x.unit ∷ [] = c.in_ok-go_through.ensures.unit x ∙ ap (λ (m : Member). m.unit ∷ []) (sym c.index.ensures) in
+    let lone : length stay ≡ 1 = sym (length-map stay (λ m. m.unit)) ∙ ap length one in
+    let goes : ends_after r x.unit.seg ≡ true = sym c.ends_after.ensures ∙ c.if-ends_after.true in
+    let moved = lone_moved r ms low high entered x coming there single none c.index.ensures stay goes one in
+    let begun : Begun (is_in_strip k r) = subst Begun (sym inside) c.in_ok-go_through.ensures.begun in
+    let put : after ≡ take low ms ++ stay ++ drop high ms = c.in_ok-go_through.ensures.put ∙ ap (λ j. take low ms ++ stay ++ drop j ms) next in
+    let known : false ≡ false → (is_in_strip k r ≡ false) ⊎ (segs_of stay ≡ segs_of (slice_range ms low high)) = λ e. inr (alone_stays r ms stay stay low high entered coming few single none lone moved refl) in
+    let done = stepped c.args.input.now c.args.at.now c.args.begin ms after stay stay low high 1 entered coming self.search self.search rows c.close.new.rows.items c.bundle_at-low.ensures.in_order few
+    (subst Splits c.deref.ensures.value c.bundle_at-low.ensures.split) c.count_entering-entered.ensures moved (lone_turned stay lone) refl begun
+    (subst Closed c.deref-2.ensures.value c.in_ok-close.ensures) put (sym lone) false known (no_seams k r (segs_of after) self.search) in
+    let Stepped : List Start → List Start → Type 0 = λ l m. IsStepped c.args.input.now c.args.at.now c.args.begin ms after l m self.search self.search rows c.close.new.rows.items in
+    subst (λ (l : List Start). Stepped l l) behind (subst (λ j. Stepped coming (drop j coming)) none done)
+
+pub returns-then-ends_after-clause-begun : goal.returns-then-ends_after-clause-begun
+returns-then-ends_after-clause-begun c =
+    all_begin c.args.input.now.steps (mask_over 0 (take c.bundle_at-low.result.0 c.args.self.now.status.items)) c.args.begin true c.go_through.new.stay.items c.in_ok-go_through.ensures.begun
+
+pub returns-then-ends_after-clause-members : goal.returns-then-ends_after-clause-members
+returns-then-ends_after-clause-members c = λ m h.
+    let low : ℕ = c.bundle_at-low.result.0 in
+    members_from c.args.self.now.status.items c.go_through.new.stay.items c.go_through.new.status.items low (low + 1) c.in_ok-go_through.ensures.put m h
