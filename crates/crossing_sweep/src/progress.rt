@@ -74,7 +74,7 @@ impl Progress {
         }
         let coming = &self.starts[self.entered..];
         let entered = count_entering(coming, at);
-        if entered == 0 && high - low == 1 && ends_after(&self.status[low].unit.seg, at) {
+        if is_alone(high - low, entered) && ends_after(&self.status[low].unit.seg, at) {
             go_through(input, values, &mut self.status, low, stay, begin)?;
             self.hint = high;
             return Ok(());
@@ -82,26 +82,23 @@ impl Progress {
         turned(stay, &self.status[low..high], &coming[..entered], at, begin)?;
         let under = mask_over(&self.status[..low]);
         label(input, values, stay, under, begin);
-        let staying = stay.len();
-        let top = low + staying;
+        let top = low + stay.len();
         replace(alloc, &mut self.status, low, high, stay)?;
-        let alone = is_alone(high - low, entered, staying);
         self.search
-            .test_new(!alone, input.strip(), at, &self.status, low, top)?;
+            .test_new(input.strip(), at, &self.status, low, top)?;
         self.entered += entered;
         self.hint = top;
         Ok(())
     }
 }
 
-/// Whether one member alone holds a node, none enters there, and that one goes on, as at most borders between the
-/// columns of a strip: all neighbours stay, and where they cross is known.
-fn is_alone(bundle: usize, entered: usize, staying: usize) -> bool
+/// Whether one member alone holds a node, and none enters there. If that one goes on, as at most borders between the
+/// columns of a strip, all neighbours stay, and where they cross is known.
+fn is_alone(bundle: usize, entered: usize) -> bool
     ensures bundle { result ≡ true → bundle ≡ 1 }
     ensures entered { result ≡ true → entered ≡ 0 }
-    ensures staying { result ≡ true → staying ≡ 1 }
 {
-    bundle == 1 && entered == 0 && staying == 1
+    bundle == 1 && entered == 0
 }
 
 /// Puts members in the place of those of a range. Mostly as many come as go, or one comes, or one goes:

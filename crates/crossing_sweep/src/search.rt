@@ -61,10 +61,9 @@ impl Search {
         Ok(())
     }
 
-    /// Tests the neighbours at the two seams of a node in the strip, which may be one, if they are new.
+    /// Tests the neighbours at the two seams of a node in the strip, which may be one.
     pub(crate) fn test_new(
         &mut self,
-        new: bool,
         strip: Strip,
         at: &HPoint,
         status: &[Member],
@@ -72,11 +71,8 @@ impl Search {
         high: usize,
     ) -> Result<(), AllocError>
         requires in_order { low ≤ high }
-        ensures { OnOk result (AreSeamsTested strip (place at.now) (segs_of status.now) (seams_at new low high) self.old self.new) }
+        ensures { OnOk result (AreSeamsTested strip (place at.now) (segs_of status.now) (seams_at true low high) self.old self.new) }
     {
-        if !new {
-            return Ok(());
-        }
         self.test_at(strip, at, status, low)?;
         if low < high {
             self.test_at(strip, at, status, high)?;

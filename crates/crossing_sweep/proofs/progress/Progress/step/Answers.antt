@@ -1,6 +1,6 @@
 use Rattle.std.proofs.Common.{rules, ◌≡◌, ◌⊎◌, inr, ℕ, ◌+◌, ◌-◌, ◌<◌, ◌≤◌, Bool, true, false, List, [], ◌∷◌, ◌++◌, map, length, take, drop, sym, subst, ap, refl, ◌∙◌, arith}
 use Rattle.std.proofs.Math.Seq.{take-append_seam}
-use Rattle.std.proofs.lemmas.Bool.{not-false}
+use Rattle.std.proofs.lemmas.Bool.{false≢true}
 use Rattle.std.proofs.lemmas.List.{drop-drop, take_rest, length-map}
 use Rattle.std.specs.Prelude.{All, filter, not}
 use Rattle.std.specs.List.{slice_range}
@@ -58,8 +58,7 @@ returns-clause-stepped c = λ inside.
     let coming : List Start = take (length items - self.entered) (drop self.entered items) in
     let low : ℕ = c.bundle_at-low.result.0 in
     let high : ℕ = c.bundle_at-low.result.1 in
-    let len : ℕ = c.len-staying.result in
-    let alone : Bool = c.is_alone-alone.result in
+    let len : ℕ = c.len.result in
     let rows : List Row = self.rows.items in
     let Splits : List Member → Type 0 = λ xs. SidesFallAlong r (segs_of xs) → IsSplitAt r (segs_of (take low xs)) (segs_of (slice_range xs low high)) (segs_of (drop high xs)) in
     let Moved : List Member → Type 0 = λ xs. IsPermutation (filter (unit_after r) (units_of (slice_range xs low high) ++ map (λ (s : Start). s.unit) (take entered coming))) (units_of turned) in
@@ -70,19 +69,16 @@ returns-clause-stepped c = λ inside.
     let labelled : units_of stay ≡ units_of turned = search rules in
     let under : c.mask_over-under.result ≡ mask_over 0 (take low ms) = search rules in
     let begun : Begun (mask_over 0 (take low ms)) (is_in_strip k r) = subst (Begun (mask_over 0 (take low ms))) (sym inside) (subst (λ m. Begun m true) under c.label.ensures.begun) in
-    let Tested : Span → List Member → Type 0 = λ j xs. AreSeamsTested j r (segs_of xs) (seams_at (not alone) low (low + len)) self.search c.test_new.new.self in
+    let Tested : Span → List Member → Type 0 = λ j xs. AreSeamsTested j r (segs_of xs) (seams_at true low (low + len)) self.search c.test_new.new.self in
     let tested : Tested k after = subst (λ j. Tested j after) c.strip-2.ensures.value (subst (Tested c.strip-2.result) c.deref-7.ensures.value c.in_ok-test_new.ensures) in
     let size : c.turned.new.stay.len ≡ length stay = search rules in
     let whole : take c.turned.new.stay.len (stay ++ drop (length stay) turned) ≡ stay = ap (λ j. take j (stay ++ drop (length stay) turned)) size ∙ take-append_seam stay (drop (length stay) turned) in
     let put = c.in_ok-replace.ensures ∙ ap (λ (xs : List Member). take low ms ++ xs ++ drop high ms) (c.deref-6.ensures.value ∙ whole) in
     let moved : Moved ms = subst Moved c.deref-4.ensures.value c.in_ok-turned.ensures.moved in
-    let known : not alone ≡ false → (is_in_strip k r ≡ false) ⊎ (segs_of stay ≡ segs_of (slice_range ms low high)) = λ e.
-    let are = c.is_alone-alone.ensures in
-    let so = not-false alone e in
-    inr (alone_stays r ms turned stay low high entered coming few (are.bundle so) (are.entered so) (sym long ∙ are.staying so) moved labelled) in
+    let known : true ≡ false → (is_in_strip k r ≡ false) ⊎ (segs_of stay ≡ segs_of (slice_range ms low high)) = λ e. absurd (false≢true (sym e)) in
     let done = stepped c.args.input.now c.args.at.now c.args.begin ms after turned stay low high len entered coming self.search c.test_new.new.self rows c.close.new.rows.items c.bundle_at-low.ensures.in_order few
     (subst Splits c.deref.ensures.value c.bundle_at-low.ensures.split) c.count_entering-entered.ensures moved c.in_ok-turned.ensures.turned labelled begun
-    (subst Closed c.deref-2.ensures.value c.in_ok-close.ensures) put long (not alone) known tested in
+    (subst Closed c.deref-2.ensures.value c.in_ok-close.ensures) put long true known tested in
     let Stepped : List Start → List Start → Type 0 = λ l m. IsStepped c.args.input.now c.args.at.now c.args.begin ms after l m self.search c.test_new.new.self rows c.close.new.rows.items in
     subst (Stepped (drop self.entered self.starts.items)) onward (subst (λ (l : List Start). Stepped l (drop entered l)) behind done)
 
@@ -136,8 +132,8 @@ returns-then-ends_after-clause-stepped c = λ inside.
     let Begun : Bool → Type 0 = λ b. AreBegun c.args.input.now.steps (mask_over 0 (take low ms)) c.args.begin b stay in
     let Closed : List Member → Type 0 = λ xs. c.close.new.rows.items ≡ rows ++ rows_of c.args.begin (slice_range xs low high) in
     let few = subst (λ (xs : List Member). high ≤ length xs) c.deref.ensures.value c.bundle_at-low.ensures.few in
-    let none : entered ≡ 0 = omega arith in
-    let single : high - low ≡ 1 = omega arith in
+    let none : entered ≡ 0 = c.is_alone.ensures.entered c.if-is_alone.true in
+    let single : high - low ≡ 1 = c.is_alone.ensures.bundle c.if-is_alone.true in
     let next : low + 1 ≡ high = omega (arith, single) in
     let there : low < length ms = omega (arith, few, next) in
     let one : units_of stay ≡ x.unit ∷ [] = c.in_ok-go_through.ensures.unit x ∙ ap (λ (m : Member). m.unit ∷ []) (sym c.index.ensures) in

@@ -1,21 +1,13 @@
-use Rattle.std.proofs.Common.{sym, subst, arith}
+use Rattle.std.proofs.Common.{arith}
 use Rattle.exact_point.specs.Place.{place}
 use Rattle.crossing_sweep.specs.Member.{segs_of}
-use Rattle.crossing_sweep.specs.Testing.{AreSeamsTested, seams_at}
-use Rattle.crossing_sweep.proofs.SeamLemmas.{no_seams, two_seams, same_seam}
+use Rattle.crossing_sweep.proofs.SeamLemmas.{two_seams, same_seam}
 use Rattle.crossing_sweep.proofs.search.Search.test_new.Goals as goal
 
 pub returns-in_ok-test_at-2 : goal.returns-in_ok-test_at-2
 returns-in_ok-test_at-2 c =
-    subst (λ b. AreSeamsTested c.args.strip (place c.args.at.now) (segs_of c.args.status.now) (seams_at b c.args.low c.args.high) c.args.self.now c.test_at-then-low-high.new.self) (sym c.if-not-new.false)
-    (two_seams c.args.strip (place c.args.at.now) (segs_of c.args.status.now) c.args.low c.args.high c.args.self.now c.test_at.new.self c.test_at-then-low-high.new.self c.in_ok-test_at.ensures c.in_ok-test_at-2.ensures)
+    two_seams c.args.strip (place c.args.at.now) (segs_of c.args.status.now) c.args.low c.args.high c.args.self.now c.test_at.new.self c.test_at-then-low-high.new.self c.in_ok-test_at.ensures c.in_ok-test_at-2.ensures
 
 pub returns-else-low-high : goal.returns-else-low-high
 returns-else-low-high c =
-    subst (λ b. AreSeamsTested c.args.strip (place c.args.at.now) (segs_of c.args.status.now) (seams_at b c.args.low c.args.high) c.args.self.now c.test_at.new.self) (sym c.if-not-new.false)
-    (same_seam c.args.strip (place c.args.at.now) (segs_of c.args.status.now) c.args.low c.args.high c.args.self.now c.test_at.new.self (omega (arith, c.requires.in_order, c.if-low-high.false)) c.in_ok-test_at.ensures)
-
-pub returns-then-not-new : goal.returns-then-not-new
-returns-then-not-new c =
-    subst (λ b. AreSeamsTested c.args.strip (place c.args.at.now) (segs_of c.args.status.now) (seams_at b c.args.low c.args.high) c.args.self.now c.args.self.now) (sym c.if-not-new.true)
-    (no_seams c.args.strip (place c.args.at.now) (segs_of c.args.status.now) c.args.self.now)
+    same_seam c.args.strip (place c.args.at.now) (segs_of c.args.status.now) c.args.low c.args.high c.args.self.now c.test_at.new.self (omega (arith, c.requires.in_order, c.if-low-high.false)) c.in_ok-test_at.ensures
