@@ -10,6 +10,7 @@ ghost use Rattle.book_history.specs.Fault.{passes};
 ghost use Rattle.book_history.specs.Logs.{history_of, newest_in};
 ghost use Rattle.commit_plan.specs.Live.{live_content};
 ghost use Rattle.commit_plan.specs.RecordPlaces.{AreKnown};
+ghost use Rattle.store_flushing.specs.Failing.{Fails};
 ghost use Rattle.store_flushing.specs.Since.{IsRemembered};
 ghost use Rattle.store_flushing.specs.Storing.{AllReported, IsStoreOf, Keeps};
 ghost use Rattle.store_flushing.specs.ToldFaults.{told_fault_of};
@@ -134,6 +135,7 @@ impl<D: Disk> Keeper<D> {
         ensures errors { IfErr result
             (λ fault. IsReason self.old.flusher.commit.phase self.old.flusher.commit.root
             (HasNoRoomFor self.old.flusher.commit version.now) fault) }
+        ensures fails { IfErr result (λ fault. Fails self.old.flusher self.new.flusher version.now (told_fault_of fault)) }
     {
         let mark = VersionMark::of(&self.reporter, version);
         let known = self.is_known(&mark);
@@ -167,6 +169,8 @@ impl<D: Disk> Keeper<D> {
         ensures counted { IfOk result
             (λ p. Counts p (calls_left self.old.flusher.commit) (calls_left self.new.flusher.commit)) }
         ensures failed { OnErr result (self.new.flusher.commit.phase ≡ phases.Failed) }
+        ensures fails { IfErr result (λ fault. D.is_honest self.old.flusher.commit.disk
+            → Fails self.old.flusher self.new.flusher (newest_in self.old.reporter.log) (told_fault_of fault)) }
         ensures reporter { self.new.reporter ≡ self.old.reporter }
         ensures told { self.new.told ≡ self.old.told }
     {
@@ -213,7 +217,8 @@ impl<D: Disk> Keeper<D> {
         shared: &Shared<J, R>,
         fault: StoreFault,
     ) -> bool
-        requires { self.old.reporter.book ≡ J.book }
+        requires book { self.old.reporter.book ≡ J.book }
+        requires failed { J.failed self.old.reporter.log (told_fault_of fault) }
         ensures nothing { self.new ≡ self.old }
         ensures passes { result ≡ passes (told_fault_of fault) }
     {

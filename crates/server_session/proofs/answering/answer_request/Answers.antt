@@ -35,16 +35,16 @@ returns-in_ok-change-in-Remove g c =
     rw c.in-Remove.is (answers_remove _ c.args.me.now c.submit-in-Remove.new.me c.in-Remove.name.now _ _ c.in_ok-change-in-Remove.ensures.ok c.submit-in-Remove.ensures)
 
 pub returns-in-Locate : goal.returns-in-Locate
-returns-in-Locate g c = rw c.in-Locate.is (search (rules, to_z-of_z, anywhere (store_of g.J.BookName.stored (has_store c.args.shared.now)) c.args.me.now c.answer_locate.new.me _ c.answer_locate.ensures refl))
+returns-in-Locate g c = rw c.in-Locate.is (search (rules, to_z-of_z, anywhere (store_of g.J.BookName.stored g.J.BookName.failed (has_store c.args.shared.now)) c.args.me.now c.answer_locate.new.me _ c.answer_locate.ensures refl))
 
 pub returns-in-Grid : goal.returns-in-Grid
-returns-in-Grid g c = rw c.in-Grid.is (search (rules, to_z-of_z, anywhere (store_of g.J.BookName.stored (has_store c.args.shared.now)) c.args.me.now c.answer_grid.new.me _ c.answer_grid.ensures refl))
+returns-in-Grid g c = rw c.in-Grid.is (search (rules, to_z-of_z, anywhere (store_of g.J.BookName.stored g.J.BookName.failed (has_store c.args.shared.now)) c.args.me.now c.answer_grid.new.me _ c.answer_grid.ensures refl))
 
 pub returns-in-ListLayers : goal.returns-in-ListLayers
 returns-in-ListLayers g c = rw c.in-ListLayers.is (anywhere _ c.args.me.now c.answer_list.new.me _ c.answer_list.ensures refl)
 
 pub returns-in-Edges : goal.returns-in-Edges
-returns-in-Edges g c = rw c.in-Edges.is (search (rules, to_z-of_z, anywhere (store_of g.J.BookName.stored (has_store c.args.shared.now)) c.args.me.now c.answer_edges.new.me _ c.answer_edges.ensures refl))
+returns-in-Edges g c = rw c.in-Edges.is (search (rules, to_z-of_z, anywhere (store_of g.J.BookName.stored g.J.BookName.failed (has_store c.args.shared.now)) c.args.me.now c.answer_edges.new.me _ c.answer_edges.ensures refl))
 
 pub returns-in-Verify : goal.returns-in-Verify
-returns-in-Verify g c = rw c.in-Verify.is (search (rules, to_z-of_z, anywhere (store_of g.J.BookName.stored (has_store c.args.shared.now)) c.args.me.now c.answer_verify.new.me _ c.answer_verify.ensures refl))
+returns-in-Verify g c = rw c.in-Verify.is (search (rules, to_z-of_z, anywhere (store_of g.J.BookName.stored g.J.BookName.failed (has_store c.args.shared.now)) c.args.me.now c.answer_verify.new.me _ c.answer_verify.ensures refl))

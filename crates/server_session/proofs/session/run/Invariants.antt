@@ -17,7 +17,7 @@ invariant-loop-taken g l = record {
   stays : Stays l.initial.me l.me;
   from : g.W.ReplyWriter.from l.writer (has_store l.shared) l.me;
   own : IfSome (g.W.ReplyWriter.left l.writer) (IsReading l.most l.taken (g.R.Read.remaining l.reader) l.state);
-  way : IsUnderWay l.most (store_of g.J.BookName.stored (has_store l.shared)) l.initial.me (g.R.Read.remaining l.initial.reader) (g.R.Read.remaining l.reader) (g.W.ReplyWriter.contents l.initial.writer) (g.W.ReplyWriter.contents l.writer) l.taken l.state l.me;
+  way : IsUnderWay l.most (store_of g.J.BookName.stored g.J.BookName.failed (has_store l.shared)) l.initial.me (g.R.Read.remaining l.initial.reader) (g.R.Read.remaining l.reader) (g.W.ReplyWriter.contents l.initial.writer) (g.W.ReplyWriter.contents l.writer) l.taken l.state l.me;
 }
 
 abbrev pub decreases-loop-taken : goal.decreases-loop-taken

@@ -5,6 +5,9 @@ use Rattle.flush_core.specs.Stored.{stored_after}
 use Rattle.store_flushing.specs.Storing.{Flushes}
 use Rattle.store_flushing.specs.Told.{KeepsTelling}
 use Rattle.store_flushing.specs.declared.keeper.Keeper.{Keeper}
+use Rattle.store_flushing.specs.Failing.{Fails}
+use Rattle.store_flushing.specs.ToldFaults.{told_fault_of}
+use Rattle.store_flushing.proofs.FailLemmas.{failed_then}
 use Rattle.store_flushing.proofs.Following.{by_call, by_run, further}
 use Rattle.store_flushing.proofs.Storage.{begun, kept_on, then, told_all}
 use Rattle.store_flushing.proofs.ToldLemmas.{telling_self, telling_then}
@@ -114,3 +117,23 @@ report-requires-clause-stored g c =
     let was = c.calls.invariant.1 is in
     further d h m n first.flusher mid.flusher done.flusher (by_run d h m first.flusher mid.flusher was)
     (by_call d m n mid.flusher done.flusher (c.step.ensures.keeps was.store)))
+
+pub tell-requires-clause-failed : goal.tell-requires-clause-failed
+tell-requires-clause-failed g c =
+    let d = g.D.Disk in
+    let first = c.args.keeper.now in
+    let mid = c.calls.keeper in
+    let new = c.step.new.self in
+    let h = history_of first.reporter.log in
+    let m = history_of mid.reporter.log in
+    let n = history_of new.reporter.log in
+    let fault = told_fault_of c.in-Err.fault in
+    c.requires.failed new.reporter.log fault (λ is.
+    let run = c.calls.invariant.1 is in
+    let kept = c.step.ensures.keeps run.store in
+    failed_then d h m first.flusher mid.flusher new.reporter.log fault (by_run d h m first.flusher mid.flusher run, run.by_device) (record {
+      store = new.flusher;
+      followed = by_call d m n mid.flusher new.flusher kept;
+      by_device = kept.by_device;
+      fails = subst (λ (r : Heard). Fails mid.flusher new.flusher (newest_in r.log) fault) (sym c.step.ensures.reporter) (c.in-Err.ensures.fails run.store.honest);
+    }))

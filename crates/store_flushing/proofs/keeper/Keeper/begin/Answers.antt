@@ -1,6 +1,10 @@
-use Rattle.std.proofs.Common.{refl}
+use Rattle.std.proofs.Common.{◌≡◌, Err, refl, ap, sym, ◌∙◌, subst}
 use Rattle.book_history.specs.Logs.{history_of}
+use Rattle.flush_core.specs.declared.flusher.Flusher.{Flusher}
+use Rattle.store_flushing.specs.Failing.{Fails}
 use Rattle.store_flushing.specs.Told.{told_in}
+use Rattle.store_flushing.specs.ToldFaults.{told_fault_of}
+use Rattle.store_flushing.proofs.FailLemmas.{err_is, refused_fails}
 use Rattle.store_flushing.proofs.Remembered.{same_keeper}
 use Rattle.store_flushing.proofs.Storage.{begin_kept}
 use Rattle.store_flushing.proofs.ToldLemmas.{none_told}
@@ -34,3 +38,11 @@ pub returns-in-Err-clause-err : goal.returns-in-Err-clause-err
 returns-in-Err-clause-err g c =
     let k = c.args.self.now in
     same_keeper k k.reporter c.begin_known.new.self refl c.in-Err.ensures.err _ _
+
+pub returns-in-Err-clause-fails : goal.returns-in-Err-clause-fails
+returns-in-Err-clause-fails g c =
+    let s = c.args.self.now.flusher in
+    let v = c.args.version.now in
+    let fault = c.in-Err.fault in
+    subst (λ (t : Flusher g.row.D.Denot g.D.Disk). Fails s t v (told_fault_of fault)) (sym c.in-Err.ensures.err)
+    (refused_fails g.D.Disk s v fault c.requires.idle (λ at. err_is (sym c.in-Err.is ∙ c.begin_known.ensures.failed at)) c.in-Err.ensures.errors)
