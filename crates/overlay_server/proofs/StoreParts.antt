@@ -50,7 +50,7 @@ module _ {D : Type 0} (g : Ghosts D) where
   flushed_twice : (a b c : Store D g) → AreFlushed g a b → AreFlushed g b c → AreFlushed g a c
   flushed_twice (Kept a) (Kept b) (Kept c) first second = record {
     flushes = λ is. let one = first.flushes is in
-        then g (history_of a.reporter.log) (history_of b.reporter.log) (history_of c.reporter.log) a.flusher b.flusher c.flusher one (second.flushes one.store);
+        then g (history_of a.reporter.log) (history_of b.reporter.log) (history_of c.reporter.log) a.held.flusher b.held.flusher c.held.flusher one (second.flushes one.store);
     rests = second.rests;
     tells = telling_then g a b c first.tells (λ is. (first.flushes is).store) second.tells;
   }
@@ -77,9 +77,9 @@ module _ {D : Type 0} (g : Ghosts D) where
   pub holds_first : (stored : List Entry → ℕ → Type 0) (failed : List Entry → ToldFault → Type 0) (start : Version) (store : Store D g) → (reporter_of store).log ≡ first_log start
       → CountsAs stored start (flusher_in store) → FailsAs failed start (flusher_in store) → HoldsOfStore g stored failed store
   holds_first stored failed start (Kept k) first same fails = (
-    subst (λ (es : List Entry). HoldsOfStored g stored (history_of es) k.flusher) (sym first)
+    subst (λ (es : List Entry). HoldsOfStored g stored (history_of es) k.held.flusher) (sym first)
         (λ log h on. (same log h.commit.root.version).1 (λ is. record { store = h; followed = on is; at = refl })),
-    subst (λ (es : List Entry). HoldsOfFailed g failed (history_of es) k.flusher) (sym first) (λ log fault on. (fails log fault).1 on),
+    subst (λ (es : List Entry). HoldsOfFailed g failed (history_of es) k.held.flusher) (sym first) (λ log fault on. (fails log fault).1 on),
   )
   holds_first stored failed start (Alone r) first same fails = tt
 
@@ -87,9 +87,11 @@ module _ {D : Type 0} (g : Ghosts D) where
   pub holds_on : (stored : List Entry → ℕ → Type 0) (failed : List Entry → ToldFault → Type 0) (a b : Store D g) → AreFlushed g a b → HoldsOfStore g stored failed a → HoldsOfStore g stored failed b
   holds_on stored failed (Kept a) (Kept b) run all =
       let was = history_of a.reporter.log in
-      let now = history_of b.reporter.log in (
-        handed_on g stored was now a.flusher b.flusher (λ is. by_run g was now a.flusher b.flusher (run.flushes is)) all.0,
-        failed_on g failed was now a.flusher b.flusher (λ is. let ran = run.flushes is in (by_run g was now a.flusher b.flusher ran, ran.by_device)) all.1,
+      let now = history_of b.reporter.log in
+      let old = a.held.flusher in
+      let new = b.held.flusher in (
+        handed_on g stored was now old new (λ is. by_run g was now old new (run.flushes is)) all.0,
+        failed_on g failed was now old new (λ is. let ran = run.flushes is in (by_run g was now old new ran, ran.by_device)) all.1,
       )
   holds_on stored failed (Kept a) (Alone b) run all = absurd run
   holds_on stored failed (Alone a) (Kept b) run all = absurd run
@@ -118,7 +120,7 @@ module _ {D : Type 0} (g : Ghosts D) where
   left_by start (Alone f) (Kept l) closed first none flushed closes = absurd flushed
   left_by start (Kept f) (Alone l) closed first none flushed closes = absurd flushed
   left_by start (Kept f) (Kept l) closed first none flushed closes = record {
-    last = l.flusher;
+    last = l.held.flusher;
     disk = closes.store.1;
     stored = closes.store.0;
     rests = flushed.rests;
@@ -127,8 +129,8 @@ module _ {D : Type 0} (g : Ghosts D) where
         let now = history_of l.reporter.log in
         let log = closed.seen_log.log in
         let end = history_of log in
-        let old = f.flusher in
-        let last = l.flusher in
+        let old = f.held.flusher in
+        let last = l.held.flusher in
         let level = old.commit.root.version in
         let stored = last.commit.root.version in
         let on : BeginsWith end now = begins_with l.reporter.log log closes.begun closes.heard.longer in

@@ -18,8 +18,8 @@ module _ {D : Type 0} (g : Ghosts D) where
   -- the store is one of what the reporter has seen, was at each moment, and rests; reports
   -- were written down, and stay true
   pub record IsFlushed (old new : Keeper D g) : Type 0 where
-    pub flushes : IsStoreOf g (history_of old.reporter.log) old.flusher → Flushes g (history_of old.reporter.log) old.flusher (history_of new.reporter.log) new.flusher
-    pub rests : is_busy new.flusher.commit.phase ≡ false
+    pub flushes : IsStoreOf g (history_of old.reporter.log) old.held.flusher → Flushes g (history_of old.reporter.log) old.held.flusher (history_of new.reporter.log) new.held.flusher
+    pub rests : is_busy new.held.flusher.commit.phase ≡ false
     pub tells : KeepsTelling g old new
 
   -- the same where there is a store; and where there is none, the reporter has seen no more
@@ -33,8 +33,8 @@ module _ {D : Type 0} (g : Ghosts D) where
   -- a store
   abbrev pub HoldsOfStore : (List Entry → ℕ → Type 0) → (List Entry → ToldFault → Type 0) → Store D g → Type 0
   HoldsOfStore stored failed (Kept keeper) =
-      HoldsOfStored g stored (history_of keeper.reporter.log) keeper.flusher
-      × HoldsOfFailed g failed (history_of keeper.reporter.log) keeper.flusher
+      HoldsOfStored g stored (history_of keeper.reporter.log) keeper.held.flusher
+      × HoldsOfFailed g failed (history_of keeper.reporter.log) keeper.held.flusher
   HoldsOfStore stored failed (Alone reporter) = Unit {0}
 
 -- the store's thread has returned: its reporter is of this book, and it committed versions of the book alone

@@ -73,11 +73,11 @@ module _ {D : Type 0} (g : Ghosts D) where
       ⊎_elim (λ device. subst (λ (f : StoreFault). Fails s t v (told_fault_of f)) (sym (is ∙ device)) (cause (is ∙ device)))
       (λ before. subst (λ (f : StoreFault). Fails s t v (told_fault_of f)) (sym (is ∙ before)) failed) (two_faults s.commit.phase)
 
-  pub answer_fails : (s t : Flusher D g) (v : Version) (r : Result Progress StoreFault) → IfErr r (λ fault. fault ≡ fault_in s.commit.phase) → OnErr r (t.commit.phase ≡ Failed)
+  pub answer_fails : (s t : Flusher D g) (r : Result Progress StoreFault) → IfErr r (λ fault. fault ≡ fault_in s.commit.phase) → OnErr r (t.commit.phase ≡ Failed)
       → (g.is_honest s.commit.disk → r ≡ Err faults.Device → device.Failed (g.faults s.commit.disk) (g.faults t.commit.disk))
-      → IfErr r (λ fault. g.is_honest s.commit.disk → Fails s t v (told_fault_of fault))
-  answer_fails s t v (Ok progress) is failed cause = tt
-  answer_fails s t v (Err fault) is failed cause = λ honest. step_fails s t v fault is failed (λ e. cause honest (ap Err e))
+      → IfErr r (λ fault. g.is_honest s.commit.disk → (v : Version) → Fails s t v (told_fault_of fault))
+  answer_fails s t (Ok progress) is failed cause = tt
+  answer_fails s t (Err fault) is failed cause = λ honest v. step_fails s t v fault is failed (λ e. cause honest (ap Err e))
 
   -- since an earlier time
   pub fails_since : (s t u : Flusher D g) (v : Version) (fault : ToldFault) → g.faults s.commit.disk ≤ g.faults t.commit.disk → Fails t u v fault → Fails s u v fault

@@ -201,10 +201,10 @@ module _ {D : Type 0} (g : Ghosts D) where
   -- ---- calls of a keeper, one after another
 
   pub telling_self : (k : Keeper D g) → KeepsTelling g k k
-  telling_self k is = tells_self (history_of k.reporter.log) (told_in k.told) k.flusher.commit.disk
+  telling_self k is = tells_self (history_of k.reporter.log) (told_in k.told) k.held.flusher.commit.disk
 
-  pub telling_then : (a b c : Keeper D g) → KeepsTelling g a b → (IsStoreOf g (history_of a.reporter.log) a.flusher → IsStoreOf g (history_of b.reporter.log) b.flusher)
+  pub telling_then : (a b c : Keeper D g) → KeepsTelling g a b → (IsStoreOf g (history_of a.reporter.log) a.held.flusher → IsStoreOf g (history_of b.reporter.log) b.held.flusher)
       → KeepsTelling g b c → KeepsTelling g a c
   telling_then a b c one store two is =
       tells_then (history_of a.reporter.log) (history_of b.reporter.log) (history_of c.reporter.log) (told_in a.told) (told_in b.told) (told_in c.told)
-      a.flusher.commit.disk b.flusher.commit.disk c.flusher.commit.disk (one is) (two (store is))
+      a.held.flusher.commit.disk b.held.flusher.commit.disk c.held.flusher.commit.disk (one is) (two (store is))

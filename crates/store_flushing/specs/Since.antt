@@ -4,9 +4,9 @@ use Rattle.overlay_terms.specs.Layers.{Name}
 use Rattle.overlay_terms.specs.Histories.{Tile, Finished, tile_at, Version, Event, accepted}
 use Rattle.overlay_terms.specs.Histories.{kept, durable_to, Entry, AllFollow, last_version}
 use Rattle.commit_plan.specs.Staying.{LiveContent}
+use Rattle.logbook.specs.Pages.{Book}
 use Rattle.book_history.specs.BookLogs.{BookLog}
 use Rattle.book_history.specs.Logs.{newest_in}
-use Rattle.book_lock.specs.Heard.{Heard}
 
 -- the tile that an event keeps
 abbrev pub tile_kept : Event → Option Finished
@@ -54,7 +54,7 @@ pub record AreToldByNumbers (version : Version) (entries : List Entry) : Type 0 
 abbrev pub NumbersTell : Type 0
 NumbersTell = (version : Version) (entries : List Entry) → AllFollow version entries → AreToldByNumbers version entries
 
--- what a keeper remembers of a root: its tiles are those of the version that ends a log of the reporter's book
-abbrev pub IsRemembered : Heard → LiveContent → Option BookLog → Type 0
-IsRemembered reporter root None = Unit {0}
-IsRemembered reporter root (Some mark) = (mark.book ≡ reporter.book) × (root.tiles ≡ (newest_in mark.log).tiles)
+-- what is remembered of a root: its tiles are those of the version that ends a log of the store's book
+abbrev pub IsRemembered : Book → LiveContent → Option BookLog → Type 0
+IsRemembered book root None = Unit {0}
+IsRemembered book root (Some mark) = (mark.book ≡ book) × (root.tiles ≡ (newest_in mark.log).tiles)

@@ -16,7 +16,7 @@ module _ {D : Type 0} {g : Ghosts D} where
 
   -- the store, where there is one
   abbrev pub flusher_in : Store D g → Option (Flusher D g)
-  flusher_in (Kept keeper) = Some keeper.flusher
+  flusher_in (Kept keeper) = Some keeper.held.flusher
   flusher_in (Alone reporter) = None
 
   -- what was reported durable

@@ -41,6 +41,6 @@ pub record TellsOn {D : Type 0} (g : Ghosts D) (was : History) (told : List Told
 
 -- the same from a keeper to what its calls make of it, where its store is one of the history that its reporter has seen
 abbrev pub KeepsTelling : {D : Type 0} (g : Ghosts D) → Keeper D g → Keeper D g → Type 0
-KeepsTelling g old new = IsStoreOf g (history_of old.reporter.log) old.flusher
-    → TellsOn g (history_of old.reporter.log) (told_in old.told) old.flusher.commit.disk
-    (history_of new.reporter.log) (told_in new.told) new.flusher.commit.disk
+KeepsTelling g old new = IsStoreOf g (history_of old.reporter.log) old.held.flusher
+    → TellsOn g (history_of old.reporter.log) (told_in old.told) old.held.flusher.commit.disk
+    (history_of new.reporter.log) (told_in new.told) new.held.flusher.commit.disk

@@ -18,6 +18,7 @@ use disk_model::disk::Disk;
 use flush_core::flusher::Flusher;
 use std::alloc::Global;
 use std::sync::{Arc, Wait};
+use version_book::closing::ClosedBook;
 use version_book::reporter::Reporter;
 use version_book::seen_log::{BookName, SeenLog};
 use version_book::session::Session;
@@ -39,6 +40,13 @@ pub struct Closed<D> {
     pub disk: Option<D>,
     /// What was reported durable, and when.
     pub told: ToldLog,
+}
+
+/// What is left of a store: as in `Closed`.
+pub(crate) struct StoreLeft<D> {
+    pub stored: u64,
+    pub fault: Option<StoreFault>,
+    pub disk: Option<D>,
 }
 
 /// Ends a book once the threads that share it have returned, and gives up its store. The sessions are all that it began
@@ -85,19 +93,29 @@ pub fn close<J: BookName, R: Wait + Drop, D: Disk, W: Wait>(
         (λ f. IfSome result.disk (λ disk. TellsOn D.Disk (history_of reporter.log) (told_in told) f.commit.disk
         (history_of result.seen_log.log) (told_in result.told) disk)) }
 {
-    end_book(rt, alloc, shared, &reporter, flusher, told, &sessions)
+    let book = end_book(rt, shared, &reporter, &sessions);
+    let StoreLeft {
+        stored,
+        fault,
+        disk,
+    } = left_of(alloc, flusher, &book.version);
+    Closed {
+        version: book.version,
+        seen_log: book.seen_log,
+        stored,
+        fault,
+        disk,
+        told,
+    }
 }
 
-/// Ends a book, which may have a store, and gives that up.
-pub(crate) fn end_book<J: BookName, R: Wait + Drop, D: Disk, W: Wait>(
+/// Ends a book once the threads that share it have returned.
+pub(crate) fn end_book<J: BookName, R: Wait + Drop, W: Wait>(
     rt: &W,
-    alloc: Global,
     shared: Shared<J, R>,
     reporter: &Reporter,
-    flusher: Option<Flusher<D>>,
-    told: ToldLog,
     sessions: &[Session],
-) -> Closed<D>
+) -> ClosedBook
     requires reporter { reporter.now.book ≡ J.book }
     requires sessions { All (λ session. session.book ≡ J.book) sessions.now }
     ensures version { arc_value result.version ≡ newest_in result.seen_log.log }
@@ -107,37 +125,38 @@ pub(crate) fn end_book<J: BookName, R: Wait + Drop, D: Disk, W: Wait>(
     ensures sessions { All (λ session. HasAllOf result.seen_log.log session) sessions.now }
     ensures durable { All (λ entry. entry.version.durable
         ≤ (newest_in result.seen_log.log).durable) result.seen_log.log }
-    ensures none { IfNone flusher ((result.stored ≡ 0) × (result.disk ≡ None)) }
-    ensures some { IfSome flusher (λ f. (result.stored ≡ f.commit.root.version) × (result.disk ≡ Some f.commit.disk)) }
-    ensures fault { IfSome result.fault
-        (λ fault. IfSome flusher (λ f. IsUnstoredFor fault f (arc_value result.version))) }
-    ensures failed { IfSome flusher (λ f. f.commit.phase ≡ phases.Failed
-        → f.commit.root.version < (arc_value result.version).number
-        → result.fault ≡ Some StoreFault.Failed) }
-    ensures told { result.told ≡ told }
 {
     // What the reporter has seen is a log with a first entry: the clauses rest on that.
     let _ = reporter.given();
-    let book = shared.into_closed(rt, reporter, sessions);
+    shared.into_closed(rt, reporter, sessions)
+}
+
+/// What is left of a store, if there is one, with why it would not begin the commit of the newest version. It makes no
+/// device call.
+pub(crate) fn left_of<D: Disk>(
+    alloc: Global,
+    flusher: Option<Flusher<D>>,
+    version: &Version,
+) -> StoreLeft<D>
+    ensures none { IfNone flusher ((result.stored ≡ 0) × (result.disk ≡ None)) }
+    ensures some { IfSome flusher (λ f. (result.stored ≡ f.commit.root.version) × (result.disk ≡ Some f.commit.disk)) }
+    ensures fault { IfSome result.fault (λ fault. IfSome flusher (λ f. IsUnstoredFor fault f version.now)) }
+    ensures failed { IfSome flusher (λ f. f.commit.phase ≡ phases.Failed
+        → f.commit.root.version < version.now.number → result.fault ≡ Some StoreFault.Failed) }
+{
     match flusher {
         Some(mut flusher) => {
-            let fault = refusal_of(alloc, &mut flusher, &book.version);
-            Closed {
-                version: book.version,
-                seen_log: book.seen_log,
+            let fault = refusal_of(alloc, &mut flusher, version);
+            StoreLeft {
                 stored: flusher.stored(),
                 fault,
                 disk: Some(flusher.into_disk()),
-                told,
             }
         }
-        None => Closed {
-            version: book.version,
-            seen_log: book.seen_log,
+        None => StoreLeft {
             stored: 0,
             fault: None,
             disk: None,
-            told,
         },
     }
 }

@@ -33,16 +33,16 @@ pub fn flush<J: BookName, R: Wait + Drop, D: Disk, W: Wait>(
     keeper: &mut Keeper<D>,
 )
     requires book { keeper.old.reporter.book ≡ J.book }
-    requires stored { HoldsOfStored D.Disk J.stored (history_of keeper.old.reporter.log) keeper.old.flusher }
-    requires failed { HoldsOfFailed D.Disk J.failed (history_of keeper.old.reporter.log) keeper.old.flusher }
+    requires stored { HoldsOfStored D.Disk J.stored (history_of keeper.old.reporter.log) keeper.old.held.flusher }
+    requires failed { HoldsOfFailed D.Disk J.failed (history_of keeper.old.reporter.log) keeper.old.held.flusher }
     // What it stores it reports, and a crash at any moment leaves a version that the reporter has seen in the end, no
     // older than what was stored at first.
-    ensures flushes { IsStoreOf D.Disk (history_of keeper.old.reporter.log) keeper.old.flusher
-        → Flushes D.Disk (history_of keeper.old.reporter.log) keeper.old.flusher
-        (history_of keeper.new.reporter.log) keeper.new.flusher }
+    ensures flushes { IsStoreOf D.Disk (history_of keeper.old.reporter.log) keeper.old.held.flusher
+        → Flushes D.Disk (history_of keeper.old.reporter.log) keeper.old.held.flusher
+        (history_of keeper.new.reporter.log) keeper.new.held.flusher }
     ensures tells { KeepsTelling D.Disk keeper.old keeper.new }
     // No commit is left half done, unless the device failed.
-    ensures rests { is_busy keeper.new.flusher.commit.phase ≡ false }
+    ensures rests { is_busy keeper.new.held.flusher.commit.phase ≡ false }
     ensures same { keeper.new.reporter.book ≡ keeper.old.reporter.book }
 {
     'rounds: for _ in rt.forever() {
@@ -62,14 +62,14 @@ fn round<J: BookName, R: Wait + Drop, D: Disk, W: Wait>(
     keeper: &mut Keeper<D>,
 ) -> bool
     requires book { keeper.old.reporter.book ≡ J.book }
-    requires stored { HoldsOfStored D.Disk J.stored (history_of keeper.old.reporter.log) keeper.old.flusher }
-    requires failed { HoldsOfFailed D.Disk J.failed (history_of keeper.old.reporter.log) keeper.old.flusher }
-    ensures flushes { IsStoreOf D.Disk (history_of keeper.old.reporter.log) keeper.old.flusher
-        → Flushes D.Disk (history_of keeper.old.reporter.log) keeper.old.flusher
-        (history_of keeper.new.reporter.log) keeper.new.flusher }
+    requires stored { HoldsOfStored D.Disk J.stored (history_of keeper.old.reporter.log) keeper.old.held.flusher }
+    requires failed { HoldsOfFailed D.Disk J.failed (history_of keeper.old.reporter.log) keeper.old.held.flusher }
+    ensures flushes { IsStoreOf D.Disk (history_of keeper.old.reporter.log) keeper.old.held.flusher
+        → Flushes D.Disk (history_of keeper.old.reporter.log) keeper.old.held.flusher
+        (history_of keeper.new.reporter.log) keeper.new.held.flusher }
     ensures tells { KeepsTelling D.Disk keeper.old keeper.new }
-    ensures rests { is_busy keeper.new.flusher.commit.phase ≡ false }
-    ensures ends { result ≡ false → (keeper.new.flusher.commit.phase ≡ phases.Failed) ⊎ (keeper.new ≡ keeper.old) }
+    ensures rests { is_busy keeper.new.held.flusher.commit.phase ≡ false }
+    ensures ends { result ≡ false → (keeper.new.held.flusher.commit.phase ≡ phases.Failed) ⊎ (keeper.new ≡ keeper.old) }
     ensures same { keeper.new.reporter.book ≡ keeper.old.reporter.book }
 {
     if keeper.busy() {
@@ -94,17 +94,17 @@ fn commit<J: BookName, R: Wait + Drop, D: Disk, W: Wait>(
     version: &Version,
 ) -> bool
     requires book { keeper.old.reporter.book ≡ J.book }
-    requires stored { HoldsOfStored D.Disk J.stored (history_of keeper.old.reporter.log) keeper.old.flusher }
-    requires failed { HoldsOfFailed D.Disk J.failed (history_of keeper.old.reporter.log) keeper.old.flusher }
-    requires idle { is_busy keeper.old.flusher.commit.phase ≡ false }
+    requires stored { HoldsOfStored D.Disk J.stored (history_of keeper.old.reporter.log) keeper.old.held.flusher }
+    requires failed { HoldsOfFailed D.Disk J.failed (history_of keeper.old.reporter.log) keeper.old.held.flusher }
+    requires idle { is_busy keeper.old.held.flusher.commit.phase ≡ false }
     requires history { IsHistory (history_of keeper.old.reporter.log) }
     requires newest { version.now ≡ newest (history_of keeper.old.reporter.log) }
-    ensures flushes { IsStoreOf D.Disk (history_of keeper.old.reporter.log) keeper.old.flusher
-        → Flushes D.Disk (history_of keeper.old.reporter.log) keeper.old.flusher
-        (history_of keeper.new.reporter.log) keeper.new.flusher }
+    ensures flushes { IsStoreOf D.Disk (history_of keeper.old.reporter.log) keeper.old.held.flusher
+        → Flushes D.Disk (history_of keeper.old.reporter.log) keeper.old.held.flusher
+        (history_of keeper.new.reporter.log) keeper.new.held.flusher }
     ensures tells { KeepsTelling D.Disk keeper.old keeper.new }
-    ensures rests { is_busy keeper.new.flusher.commit.phase ≡ false }
-    ensures ends { result ≡ false → keeper.new.flusher.commit.phase ≡ phases.Failed }
+    ensures rests { is_busy keeper.new.held.flusher.commit.phase ≡ false }
+    ensures ends { result ≡ false → keeper.new.held.flusher.commit.phase ≡ phases.Failed }
     ensures same { keeper.new.reporter.book ≡ keeper.old.reporter.book }
 {
     match keeper.begin(alloc, version) {
@@ -122,14 +122,14 @@ fn end_commit<J: BookName, R: Wait + Drop, D: Disk, W: Wait>(
     keeper: &mut Keeper<D>,
 ) -> bool
     requires book { keeper.old.reporter.book ≡ J.book }
-    requires stored { HoldsOfStored D.Disk J.stored (history_of keeper.old.reporter.log) keeper.old.flusher }
-    requires failed { HoldsOfFailed D.Disk J.failed (history_of keeper.old.reporter.log) keeper.old.flusher }
-    ensures flushes { IsStoreOf D.Disk (history_of keeper.old.reporter.log) keeper.old.flusher
-        → Flushes D.Disk (history_of keeper.old.reporter.log) keeper.old.flusher
-        (history_of keeper.new.reporter.log) keeper.new.flusher }
+    requires stored { HoldsOfStored D.Disk J.stored (history_of keeper.old.reporter.log) keeper.old.held.flusher }
+    requires failed { HoldsOfFailed D.Disk J.failed (history_of keeper.old.reporter.log) keeper.old.held.flusher }
+    ensures flushes { IsStoreOf D.Disk (history_of keeper.old.reporter.log) keeper.old.held.flusher
+        → Flushes D.Disk (history_of keeper.old.reporter.log) keeper.old.held.flusher
+        (history_of keeper.new.reporter.log) keeper.new.held.flusher }
     ensures tells { KeepsTelling D.Disk keeper.old keeper.new }
-    ensures rests { is_busy keeper.new.flusher.commit.phase ≡ false }
-    ensures ends { result ≡ false → keeper.new.flusher.commit.phase ≡ phases.Failed }
+    ensures rests { is_busy keeper.new.held.flusher.commit.phase ≡ false }
+    ensures ends { result ≡ false → keeper.new.held.flusher.commit.phase ≡ phases.Failed }
     ensures same { keeper.new.reporter.book ≡ keeper.old.reporter.book }
 {
     'calls: for _ in rt.forever() {

@@ -1,28 +1,24 @@
 //! A store, and the one token that may report what it stores, as one value.
-ghost use Rattle.std.specs.Prelude.{◌≡◌, ◌++◌, false, IfErr, IfOk, IfSome, IfNone, IsTrue, OnErr};
+ghost use Rattle.std.specs.Prelude.{◌≡◌, ◌++◌, false, IfErr, IfOk, IfSome, IfNone, OnErr};
 ghost use Rattle.std.specs.Arc.{arc_value};
-ghost use Rattle.overlay_terms.specs.Histories.{IsHistory, newest};
+ghost use Rattle.overlay_terms.specs.Histories.{IsHistory, Version, newest};
 ghost use Rattle.root_store.specs.Beginning.{IsReason};
 ghost use Rattle.root_store.specs.Running.{Counts, calls_left, is_busy};
 ghost use Rattle.root_store.specs.declared.phase.Phase.TheVariants as phases;
 ghost use Rattle.flush_core.specs.Stored.{HasNoRoomFor, stored_after};
 ghost use Rattle.book_history.specs.Fault.{passes};
 ghost use Rattle.book_history.specs.Logs.{history_of, newest_in};
-ghost use Rattle.commit_plan.specs.Live.{live_content};
-ghost use Rattle.commit_plan.specs.RecordPlaces.{AreKnown};
 ghost use Rattle.store_flushing.specs.Failing.{Fails};
-ghost use Rattle.store_flushing.specs.Since.{IsRemembered};
 ghost use Rattle.store_flushing.specs.Storing.{AllReported, IsStoreOf, Keeps};
 ghost use Rattle.store_flushing.specs.ToldFaults.{told_fault_of};
 
 pub use crate::flusher_loop::flush;
-pub use crate::keeper::flushing::flusher_loop;
+use crate::keeper::held_store::HeldStore;
+pub use crate::keeper::held_store::flusher_loop;
 use crate::keeper::told_log::ToldLog;
-use crate::keeper::version_mark::VersionMark;
 use crate::reports;
 use commit_plan::fault::StoreFault;
 use disk_model::disk::Disk;
-use flush_core::flusher::Flusher;
 use root_store::phase::Progress;
 use std::alloc::Global;
 use std::snapshot::Snapshot;
@@ -33,7 +29,7 @@ use version_book::seen_log::BookName;
 use version_book::shared::Shared;
 use versions::Version;
 
-mod flushing;
+mod held_store;
 pub mod opened;
 pub mod store;
 pub mod told_log;
@@ -46,55 +42,47 @@ mod version_mark;
 #[derive(Drop)]
 pub struct Keeper<D: Disk> {
     reporter: Reporter,
-    flusher: Flusher<D>,
+    held: HeldStore<D>,
     told: ToldLog,
-    /// The version that the live root holds, once a commit is done.
-    live: Option<VersionMark>,
-    /// The version whose commit is under way.
-    next: Option<VersionMark>,
-    ghost live_tiles: { ∥ IsRemembered reporter (live_content flusher.commit.live) live ∥₁ },
-    ghost next_tiles: { ∥ IsRemembered reporter (live_content flusher.commit.next_live) next ∥₁ },
+    ghost same_book: { ∥ held.seen_log.book ≡ reporter.book ∥₁ },
 }
 
 impl<D: Disk> Keeper<D> {
     ghost use Rattle.store_flushing.specs.Told.{KeepsTelling, news_in, told_at, told_in};
 
     /// A keeper of a reporter, a store, and what was reported durable.
-    fn of(reporter: Reporter, flusher: Flusher<D>, told: ToldLog) -> Keeper<D>
+    fn of(reporter: Reporter, held: HeldStore<D>, told: ToldLog) -> Keeper<D>
+        requires { held.seen_log.book ≡ reporter.book }
         ensures reporter { result.reporter ≡ reporter }
-        ensures flusher { result.flusher ≡ flusher }
+        ensures held { result.held ≡ held }
         ensures told { result.told ≡ told }
     {
         Keeper {
             reporter,
-            flusher,
+            held,
             told,
-            live: None,
-            next: None,
         }
     }
 
     /// What it was made of, as its calls left it.
-    fn into_parts(self) -> (Reporter, Flusher<D>, ToldLog)
+    fn into_parts(self) -> (Reporter, HeldStore<D>, ToldLog)
         ensures reporter { result.0 ≡ self.reporter }
-        ensures flusher { result.1 ≡ self.flusher }
+        ensures held { result.1 ≡ self.held }
         ensures told { result.2 ≡ self.told }
     {
         let Keeper {
             reporter,
-            flusher,
+            held,
             told,
-            live: _,
-            next: _,
         } = self;
-        (reporter, flusher, told)
+        (reporter, held, told)
     }
 
     /// Whether a commit is under way.
     pub fn busy(&self) -> bool
-        ensures { result ≡ is_busy self.now.flusher.commit.phase }
+        ensures { result ≡ is_busy self.now.held.flusher.commit.phase }
     {
-        self.flusher.busy()
+        self.held.busy()
     }
 
     /// Waits for news, and sees the newest version. It makes no device call, and reports nothing.
@@ -104,13 +92,13 @@ impl<D: Disk> Keeper<D> {
         shared: &Shared<J, R>,
     ) -> Result<Option<Arc<Version, Global>>, BookFault>
         requires { self.old.reporter.book ≡ J.book }
-        ensures keeps { Keeps D.Disk self.old.reporter self.old.flusher self.new.reporter self.new.flusher }
+        ensures keeps { Keeps D.Disk self.old.reporter self.old.held.flusher self.new.reporter self.new.held.flusher }
         ensures tells { KeepsTelling D.Disk self.old self.new }
         ensures history { IsHistory (history_of self.new.reporter.log) }
         ensures newest { IfOk result (λ o. IfSome o (λ version. arc_value version ≡ newest_in self.new.reporter.log)) }
         ensures durable { (newest_in self.new.reporter.log).durable ≡ (newest_in self.old.reporter.log).durable }
         ensures none { IfOk result (λ o. IfNone o (self.new ≡ self.old)) }
-        ensures flusher { self.new.flusher ≡ self.old.flusher }
+        ensures held { self.new.held ≡ self.old.held }
         ensures told { self.new.told ≡ self.old.told }
         ensures same { self.new.reporter.book ≡ self.old.reporter.book }
     {
@@ -120,67 +108,44 @@ impl<D: Disk> Keeper<D> {
         looked
     }
 
-    /// Begins the commit of the newest version that was seen. It makes no device call, and reports nothing. Its tiles
-    /// are compared with those of the live root, unless they are known to be these.
+    /// Begins the commit of the newest version that was seen. It makes no device call, and reports nothing.
     pub fn begin(&mut self, alloc: Global, version: &Version) -> Result<(), StoreFault>
-        requires idle { is_busy self.old.flusher.commit.phase ≡ false }
+        requires idle { is_busy self.old.held.flusher.commit.phase ≡ false }
         requires history { IsHistory (history_of self.old.reporter.log) }
         requires newest { version.now ≡ newest (history_of self.old.reporter.log) }
-        ensures keeps { Keeps D.Disk self.old.reporter self.old.flusher self.new.reporter self.new.flusher }
+        ensures keeps { Keeps D.Disk self.old.reporter self.old.held.flusher self.new.reporter self.new.held.flusher }
         ensures tells { KeepsTelling D.Disk self.old self.new }
-        ensures stored { self.new.flusher.commit.root.version ≡ self.old.flusher.commit.root.version }
+        ensures stored { self.new.held.flusher.commit.root.version ≡ self.old.held.flusher.commit.root.version }
         ensures reporter { self.new.reporter ≡ self.old.reporter }
         ensures told { self.new.told ≡ self.old.told }
         ensures err { OnErr result (self.new ≡ self.old) }
         ensures errors { IfErr result
-            (λ fault. IsReason self.old.flusher.commit.phase self.old.flusher.commit.root
-            (HasNoRoomFor self.old.flusher.commit version.now) fault) }
-        ensures fails { IfErr result (λ fault. Fails self.old.flusher self.new.flusher version.now (told_fault_of fault)) }
+            (λ fault. IsReason self.old.held.flusher.commit.phase self.old.held.flusher.commit.root
+            (HasNoRoomFor self.old.held.flusher.commit version.now) fault) }
+        ensures fails { IfErr result
+            (λ fault. Fails self.old.held.flusher self.new.held.flusher version.now (told_fault_of fault)) }
     {
-        let mark = VersionMark::of(&self.reporter, version);
-        let known = self.is_known(&mark);
-        match self.flusher.begin_known(alloc, version, known) {
-            Ok(()) => {
-                self.next = Some(mark);
-                Ok(())
-            }
-            Err(fault) => Err(fault),
-        }
-    }
-
-    /// Whether it is known that each tile of a version is the live root's.
-    fn is_known(&self, version: &VersionMark) -> bool
-        requires { version.now.book ≡ self.now.reporter.book }
-        ensures { IsTrue result → AreKnown (live_content self.now.flusher.commit.live)
-            (newest_in version.now.log).tiles }
-    {
-        match &self.live {
-            Some(live) => live.has_tiles_of(version),
-            None => false,
-        }
+        // The store is of the reporter's book.
+        self.held.begin(alloc, &self.reporter, version)
     }
 
     /// Makes one device call; none where no commit is under way. It reports nothing.
     pub fn step(&mut self) -> Result<Progress, StoreFault>
-        ensures keeps { Keeps D.Disk self.old.reporter self.old.flusher self.new.reporter self.new.flusher }
+        ensures keeps { Keeps D.Disk self.old.reporter self.old.held.flusher self.new.reporter self.new.held.flusher }
         ensures tells { KeepsTelling D.Disk self.old self.new }
-        ensures stored { self.new.flusher.commit.root.version
-            ≡ stored_after result self.old.flusher.commit.root.version }
+        ensures stored { self.new.held.flusher.commit.root.version
+            ≡ stored_after result self.old.held.flusher.commit.root.version }
         ensures counted { IfOk result
-            (λ p. Counts p (calls_left self.old.flusher.commit) (calls_left self.new.flusher.commit)) }
-        ensures failed { OnErr result (self.new.flusher.commit.phase ≡ phases.Failed) }
-        ensures fails { IfErr result (λ fault. D.is_honest self.old.flusher.commit.disk
-            → Fails self.old.flusher self.new.flusher (newest_in self.old.reporter.log) (told_fault_of fault)) }
+            (λ p. Counts p (calls_left self.old.held.flusher.commit) (calls_left self.new.held.flusher.commit)) }
+        ensures failed { OnErr result (self.new.held.flusher.commit.phase ≡ phases.Failed) }
+        ensures fails { IfErr result (λ fault. D.is_honest self.old.held.flusher.commit.disk
+            → (version : Version) → Fails self.old.held.flusher self.new.held.flusher version (told_fault_of fault)) }
         ensures reporter { self.new.reporter ≡ self.old.reporter }
         ensures told { self.new.told ≡ self.old.told }
     {
         // What the reporter has seen is a history: the clauses rest on that.
         let _ = self.reporter.given();
-        let stepped = self.flusher.step();
-        if matches!(stepped, Ok(Progress::Done(_))) {
-            self.live = self.next.take();
-        }
-        stepped
+        self.held.step()
     }
 
     /// Reports what is stored, and writes down what it reports, with the disk's moment. It makes no device call.
@@ -191,21 +156,21 @@ impl<D: Disk> Keeper<D> {
         shared: &Shared<J, R>,
     )
         requires book { self.old.reporter.book ≡ J.book }
-        requires stored { J.stored self.old.reporter.log self.old.flusher.commit.root.version }
-        ensures keeps { Keeps D.Disk self.old.reporter self.old.flusher self.new.reporter self.new.flusher }
+        requires stored { J.stored self.old.reporter.log self.old.held.flusher.commit.root.version }
+        ensures keeps { Keeps D.Disk self.old.reporter self.old.held.flusher self.new.reporter self.new.held.flusher }
         ensures tells { KeepsTelling D.Disk self.old self.new }
         ensures history { IsHistory (history_of self.new.reporter.log) }
-        ensures reported { IsStoreOf D.Disk (history_of self.old.reporter.log) self.old.flusher
-            → AllReported (history_of self.new.reporter.log) self.new.flusher }
+        ensures reported { IsStoreOf D.Disk (history_of self.old.reporter.log) self.old.held.flusher
+            → AllReported (history_of self.new.reporter.log) self.new.held.flusher }
         ensures written { told_in self.new.told
-            ≡ told_in self.old.told ++ told_at (D.moment self.old.flusher.commit.disk)
+            ≡ told_in self.old.told ++ told_at (D.moment self.old.held.flusher.commit.disk)
             (news_in (history_of self.old.reporter.log) (history_of self.new.reporter.log)) }
-        ensures flusher { self.new.flusher ≡ self.old.flusher }
+        ensures held { self.new.held ≡ self.old.held }
         ensures same { self.new.reporter.book ≡ self.old.reporter.book }
     {
         let was = Snapshot::of(&self.reporter);
-        reports::report(rt, alloc, shared, &mut self.reporter, self.flusher.stored());
-        self.told.write(&was, &self.reporter, &self.flusher);
+        reports::report(rt, alloc, shared, &mut self.reporter, self.held.stored());
+        self.told.write(&was, &self.reporter, &self.held);
         // What the reporter has seen is a history: the clauses rest on that.
         let _ = self.reporter.given();
     }

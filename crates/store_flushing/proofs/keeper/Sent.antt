@@ -6,6 +6,7 @@ use denote.Param.Send.{IsSend, recorded_send, enum_send, struct_send, plain_send
 use Rattle.std.proofs.Crossing.{crosses}
 use Rattle.disk_model.specs.declared.disk.Disk.{Ghosts}
 use Rattle.book_history.proofs.Sent.{tiles_send, tiles_sync}
+use Rattle.book_history.proofs.seen_log.SeenLog.TheSendSync as seen_logs
 use Rattle.store_terms.proofs.catalog.Listed.TheSendSync as entries
 use Rattle.store_terms.proofs.root.Root.TheSendSync as roots
 use Rattle.commit_plan.proofs.room.Room.TheSendSync as rooms
@@ -18,6 +19,7 @@ use Rattle.version_book.proofs.Sent.{reporter_send}
 use Rattle.store_flushing.proofs.keeper.told_log.ToldLog.TheSendSync as tolds
 use Rattle.store_flushing.proofs.keeper.version_mark.VersionMark.TheSendSync as marks
 use Rattle.store_flushing.specs.contracts.keeper.Keeper as keeper
+use Rattle.store_flushing.specs.contracts.keeper.held_store.HeldStore as held
 use Rattle.store_flushing.specs.contracts.keeper.store.Store as store
 
 live_send : IsSend (live.the_field).row
@@ -45,17 +47,17 @@ module _ (D : RattleType) (g : Ghosts D.Denot) (d : IsSend D) where
     ),
   )
 
-  keeper_send : IsSend (keeper.the_field D g).row
-  keeper_send = struct_send (shape (keeper.the_type D g)) (
-    reporter_send,
+  held_send : IsSend (held.the_field D g).row
+  held_send = struct_send (shape (held.the_type D g)) (
+    struct_send (shape (flusher.the_type D g)) (commit_send, tt),
     (
-      struct_send (shape (flusher.the_type D g)) (commit_send, tt),
-      (
-        tolds.the_field_send,
-        (search (sendable, crosses, marks.the_send) depth 20, (search (sendable, crosses, marks.the_send) depth 20, tt)),
-      ),
+      seen_logs.the_send,
+      (search (sendable, crosses, marks.the_send) depth 20, (search (sendable, crosses, marks.the_send) depth 20, tt)),
     ),
   )
+
+  keeper_send : IsSend (keeper.the_field D g).row
+  keeper_send = struct_send (shape (keeper.the_type D g)) (reporter_send, (held_send, (tolds.the_field_send, tt)))
 
   pub store_send : IsSend (store.the_row D g)
   store_send =

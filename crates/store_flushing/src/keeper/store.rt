@@ -7,8 +7,9 @@ ghost use Rattle.book_lock.specs.Steps.{HasAllOf};
 ghost use Rattle.store_flushing.specs.Stores.{flusher_in, reporter_of, told_by};
 ghost use Rattle.store_flushing.specs.Told.{told_in};
 
-use crate::closed::{Closed, end_book};
+use crate::closed::{Closed, StoreLeft, end_book};
 use crate::keeper::Keeper;
+use crate::keeper::held_store::HeldStore;
 use crate::keeper::opened::{Opened, Shut};
 use crate::keeper::told_log::ToldLog;
 use disk_model::disk::Disk;
@@ -35,7 +36,10 @@ impl<D: Disk> Store<D> {
         ensures told { told_by result ≡ [] }
     {
         match opened.into_flusher() {
-            Some(flusher) => Store::Kept(Keeper::of(reporter, flusher, ToldLog::none())),
+            Some(flusher) => {
+                let held = HeldStore::of(&reporter, flusher);
+                Store::Kept(Keeper::of(reporter, held, ToldLog::none()))
+            }
             None => Store::Alone(reporter),
         }
     }
@@ -66,16 +70,34 @@ impl<D: Disk> Store<D> {
             Store::Kept(keeper) => {
                 let Keeper {
                     reporter,
-                    flusher,
+                    held,
                     told,
-                    live: _,
-                    next: _,
                 } = keeper;
-                shut(end_book(rt, alloc, shared, &reporter, Some(flusher), told, sessions))
+                let book = end_book(rt, shared, &reporter, sessions);
+                let StoreLeft {
+                    stored,
+                    fault,
+                    disk,
+                } = held.end(alloc, &book.version);
+                Closed {
+                    version: book.version,
+                    seen_log: book.seen_log,
+                    stored,
+                    fault,
+                    disk,
+                    told,
+                }
             }
             Store::Alone(reporter) => {
-                let told = ToldLog::none();
-                shut(end_book(rt, alloc, shared, &reporter, None, told, sessions))
+                let book = end_book(rt, shared, &reporter, sessions);
+                Closed {
+                    version: book.version,
+                    seen_log: book.seen_log,
+                    stored: 0,
+                    fault: None,
+                    disk: None,
+                    told: ToldLog::none(),
+                }
             }
         }
     }
@@ -88,28 +110,12 @@ impl<D: Disk> Store<D> {
             Store::Kept(keeper) => {
                 let Keeper {
                     reporter: _reporter,
-                    flusher,
+                    held,
                     told: _told,
-                    live: _,
-                    next: _,
                 } = keeper;
-                Shut::of(Some(flusher.into_disk()))
+                held.into_disk()
             }
             Store::Alone(_reporter) => None,
         }
-    }
-}
-
-/// What is left of a book and its store, with the disk shut.
-fn shut<D>(closed: Closed<D>) -> Closed<Shut<D>>
-    ensures { result ≡ closed }
-{
-    Closed {
-        version: closed.version,
-        seen_log: closed.seen_log,
-        stored: closed.stored,
-        fault: closed.fault,
-        disk: Shut::of(closed.disk),
-        told: closed.told,
     }
 }

@@ -3,8 +3,8 @@ ghost use Rattle.std.specs.Prelude.{◌≡◌, ◌++◌, []};
 ghost use Rattle.book_history.specs.Logs.{history_of};
 ghost use Rattle.store_flushing.specs.Told.{news_in, told_at, told_in};
 
+use crate::keeper::held_store::HeldStore;
 use disk_model::disk::Disk;
-use flush_core::flusher::Flusher;
 use logbook::{Opening, Rule, Seen, Start};
 use std::fmt;
 use std::snapshot::Snapshot;
@@ -53,7 +53,7 @@ struct News<'a, D: Disk> {
     told: &'a ToldLog,
     was: &'a Snapshot<Reporter>,
     reporter: &'a Reporter,
-    flusher: &'a Flusher<D>,
+    held: &'a HeldStore<D>,
 }
 
 /// What was written down, and after it the news with the disk's moment.
@@ -65,7 +65,7 @@ impl<'a, D: Disk> Opening<News<'a, D>, Told> for WithNews {
     ghost use Rattle.store_flushing.specs.Told.{news_in, told_at, told_in};
 
     ghost log = { λ n news. told_in news.told.now
-        ++ told_at (D.moment news.flusher.now.commit.disk)
+        ++ told_at (D.moment news.held.now.flusher.commit.disk)
         (news_in (history_of news.was.now.value.log) (history_of news.reporter.now.log)) };
 }
 
@@ -97,16 +97,16 @@ impl ToldLog {
         &mut self,
         was: &Snapshot<Reporter>,
         reporter: &Reporter,
-        flusher: &Flusher<D>,
+        held: &HeldStore<D>,
     )
-        ensures { told_in self.new ≡ told_in self.old ++ told_at (D.moment flusher.now.commit.disk)
+        ensures { told_in self.new ≡ told_in self.old ++ told_at (D.moment held.now.flusher.commit.disk)
             (news_in (history_of was.now.value.log) (history_of reporter.now.log)) }
     {
         let news = News {
             told: &*self,
             was,
             reporter,
-            flusher,
+            held,
         };
         let (seen, _pens) = Seen::open_row::<News<'_, D>, WithNews>(&news, Start::alone(), 0);
         self.seen = seen;

@@ -1,40 +1,39 @@
-use Rattle.std.proofs.Common.{All, IfSome, subst, sym}
+use Rattle.std.proofs.Common.{All, subst}
 use Rattle.book_history.specs.Logs.{history_of}
 use Rattle.book_history.proofs.Chains.{begins_with, is_history}
 use Rattle.book_lock.specs.Steps.{HasAllOf}
-use Rattle.store_flushing.specs.Told.{TellsOn, told_in}
+use Rattle.store_flushing.specs.Told.{told_in}
 use Rattle.store_flushing.proofs.Closings.{exactly_left, files_left, reported_left, told_left}
 use Rattle.store_flushing.proofs.closed.close.Goals as goal
 
 pub returns-clause-sessions : goal.returns-clause-sessions
-returns-clause-sessions g c = subst (λ xs. All (λ session. HasAllOf c.end_book.result.seen_log.log session) xs) c.deref.ensures.value c.end_book.ensures.sessions
+returns-clause-sessions g c = subst (λ xs. All (λ session. HasAllOf c.end_book-book.result.seen_log.log session) xs) c.deref.ensures.value c.end_book-book.ensures.sessions
 
 pub returns-clause-reported : goal.returns-clause-reported
 returns-clause-reported g c =
-    let left = c.end_book.result in
-    let ended = c.end_book.ensures in
-    reported_left c.args.flusher left.stored left.disk ended.some c.args.reporter left.seen_log.log ended.reporter ended.durable
+    let left = c.end_book-book.result in
+    let ended = c.end_book-book.ensures in
+    reported_left c.args.flusher c.left_of-stored.result.stored c.left_of-stored.result.disk c.left_of-stored.ensures.some c.args.reporter left.seen_log.log ended.reporter ended.durable
 
 pub returns-clause-files : goal.returns-clause-files
 returns-clause-files g c =
     let was = c.args.reporter.log in
-    let left = c.end_book.result in
-    let ended = c.end_book.ensures in
-    files_left g.D.Disk (history_of was) (history_of left.seen_log.log) (begins_with was left.seen_log.log ended.begun ended.reporter.longer) c.args.flusher left.stored left.disk ended.some
+    let left = c.end_book-book.result in
+    let ended = c.end_book-book.ensures in
+    files_left g.D.Disk (history_of was) (history_of left.seen_log.log) (begins_with was left.seen_log.log ended.begun ended.reporter.longer) c.args.flusher c.left_of-stored.result.stored c.left_of-stored.result.disk c.left_of-stored.ensures.some
 
 pub returns-clause-exactly : goal.returns-clause-exactly
 returns-clause-exactly g c =
     let was = c.args.reporter.log in
-    let left = c.end_book.result in
-    let ended = c.end_book.ensures in
-    exactly_left g.D.Disk (history_of was) (history_of left.seen_log.log) (begins_with was left.seen_log.log ended.begun ended.reporter.longer) c.args.flusher left.stored left.disk ended.some
+    let left = c.end_book-book.result in
+    let ended = c.end_book-book.ensures in
+    exactly_left g.D.Disk (history_of was) (history_of left.seen_log.log) (begins_with was left.seen_log.log ended.begun ended.reporter.longer) c.args.flusher c.left_of-stored.result.stored c.left_of-stored.result.disk c.left_of-stored.ensures.some
 
 pub returns-clause-told : goal.returns-clause-told
 returns-clause-told g c =
     let was = c.args.reporter.log in
-    let left = c.end_book.result in
+    let left = c.end_book-book.result in
     let now = left.seen_log.log in
-    let ended = c.end_book.ensures in
-    subst (λ t. IfSome c.args.flusher (λ f. IfSome left.disk (λ disk. TellsOn g.D.Disk (history_of was) (told_in c.args.told) f.commit.disk (history_of now) (told_in t) disk))) (sym ended.told)
-    (told_left g.D.Disk (history_of was) (history_of now) (begins_with was now ended.begun ended.reporter.longer)
-    (is_history now ended.log.1) ended.reporter.durable (told_in c.args.told) c.args.flusher left.stored left.disk ended.some)
+    let ended = c.end_book-book.ensures in
+    told_left g.D.Disk (history_of was) (history_of now) (begins_with was now ended.begun ended.reporter.longer)
+    (is_history now ended.log.1) ended.reporter.durable (told_in c.args.told) c.args.flusher c.left_of-stored.result.stored c.left_of-stored.result.disk c.left_of-stored.ensures.some

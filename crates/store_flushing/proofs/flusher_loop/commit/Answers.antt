@@ -22,8 +22,8 @@ returns-in-Ok-clause-flushes g c is =
     let h = history_of old.reporter.log in
     let m = history_of mid.reporter.log in
     let e = c.begin.ensures in
-    let began = kept_on d h m old.flusher mid.flusher (e.keeps is) (ap (λ (r : Heard). (newest_in r.log).durable) e.reporter) e.stored in
-    then d h m (history_of new.reporter.log) old.flusher mid.flusher new.flusher began (c.end_commit.ensures.flushes began.store)
+    let began = kept_on d h m old.held.flusher mid.held.flusher (e.keeps is) (ap (λ (r : Heard). (newest_in r.log).durable) e.reporter) e.stored in
+    then d h m (history_of new.reporter.log) old.held.flusher mid.held.flusher new.held.flusher began (c.end_commit.ensures.flushes began.store)
 
 pub returns-in-Err-clause-flushes : goal.returns-in-Err-clause-flushes
 returns-in-Err-clause-flushes g c is =
@@ -33,8 +33,8 @@ returns-in-Err-clause-flushes g c is =
     let h = history_of old.reporter.log in
     let m = history_of mid.reporter.log in
     let e = c.begin.ensures in
-    let refused = kept_on d h m old.flusher mid.flusher (e.keeps is) (ap (λ (r : Heard). (newest_in r.log).durable) e.reporter) e.stored in
-    subst (λ (k : Keeper g.row.D.Denot g.D.Disk). Flushes d h old.flusher (history_of k.reporter.log) k.flusher) (sym c.tell.ensures.nothing) refused
+    let refused = kept_on d h m old.held.flusher mid.held.flusher (e.keeps is) (ap (λ (r : Heard). (newest_in r.log).durable) e.reporter) e.stored in
+    subst (λ (k : Keeper g.row.D.Denot g.D.Disk). Flushes d h old.held.flusher (history_of k.reporter.log) k.held.flusher) (sym c.tell.ensures.nothing) refused
 
 pub returns-in-Ok-clause-tells : goal.returns-in-Ok-clause-tells
 returns-in-Ok-clause-tells g c =
@@ -51,7 +51,7 @@ end_commit-requires-clause-stored g c =
     let mid = c.begin.new.self in
     let h = history_of old.reporter.log in
     let m = history_of mid.reporter.log in
-    handed_on d g.J.BookName.stored h m old.flusher mid.flusher (λ is. by_call d h m old.flusher mid.flusher (c.begin.ensures.keeps is)) c.requires.stored
+    handed_on d g.J.BookName.stored h m old.held.flusher mid.held.flusher (λ is. by_call d h m old.held.flusher mid.held.flusher (c.begin.ensures.keeps is)) c.requires.stored
 
 pub end_commit-requires-clause-failed : goal.end_commit-requires-clause-failed
 end_commit-requires-clause-failed g c =
@@ -60,7 +60,8 @@ end_commit-requires-clause-failed g c =
     let mid = c.begin.new.self in
     let h = history_of old.reporter.log in
     let m = history_of mid.reporter.log in
-    failed_on d g.J.BookName.failed h m old.flusher mid.flusher (λ is. let kept = c.begin.ensures.keeps is in (by_call d h m old.flusher mid.flusher kept, kept.by_device)) c.requires.failed
+    failed_on d g.J.BookName.failed h m old.held.flusher mid.held.flusher
+    (λ is. let kept = c.begin.ensures.keeps is in (by_call d h m old.held.flusher mid.held.flusher kept, kept.by_device)) c.requires.failed
 
 pub tell-requires-clause-failed : goal.tell-requires-clause-failed
 tell-requires-clause-failed g c =
@@ -74,8 +75,8 @@ tell-requires-clause-failed g c =
     c.requires.failed mid.reporter.log fault (λ is.
     let kept = c.begin.ensures.keeps is in
     record {
-      store = mid.flusher;
-      followed = by_call d h m old.flusher mid.flusher kept;
+      store = mid.held.flusher;
+      followed = by_call d h m old.held.flusher mid.held.flusher kept;
       by_device = kept.by_device;
-      fails = subst (λ (v : Version). Fails old.flusher mid.flusher v fault) newest c.in-Err.ensures.fails;
+      fails = subst (λ (v : Version). Fails old.held.flusher mid.held.flusher v fault) newest c.in-Err.ensures.fails;
     })

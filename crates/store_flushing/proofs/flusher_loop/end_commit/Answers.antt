@@ -5,7 +5,6 @@ use Rattle.flush_core.specs.Stored.{stored_after}
 use Rattle.store_flushing.specs.Storing.{Flushes}
 use Rattle.store_flushing.specs.Told.{KeepsTelling}
 use Rattle.store_flushing.specs.declared.keeper.Keeper.{Keeper}
-use Rattle.store_flushing.specs.Failing.{Fails}
 use Rattle.store_flushing.specs.ToldFaults.{told_fault_of}
 use Rattle.store_flushing.proofs.FailLemmas.{failed_then}
 use Rattle.store_flushing.proofs.Following.{by_call, by_run, further}
@@ -15,7 +14,7 @@ use Rattle.store_flushing.proofs.flusher_loop.end_commit.Goals as goal
 
 pub calls-init : goal.calls-init
 calls-init g c =
-    let s = c.args.keeper.now.flusher in (
+    let s = c.args.keeper.now.held.flusher in (
       refl,
       λ is. begun g.D.Disk (history_of c.args.keeper.now.reporter.log) s (λ f left. g.met.D.Disk.only_now s.commit.disk f is.honest left) is,
       telling_self g.D.Disk c.args.keeper.now,
@@ -34,9 +33,9 @@ calls-preserved g c = (
       let m = history_of mid.reporter.log in
       let n = history_of new.reporter.log in
       let same = ap (λ (r : Heard). (newest_in r.log).durable) e.reporter in
-      let stored = e.stored ∙ ap (λ r. stored_after r mid.flusher.commit.root.version) (c.in-Ok-Going.is ∙ ap Ok c.in-Ok-Going.field-0-is) in
-      then d (history_of first.reporter.log) m n first.flusher mid.flusher new.flusher was
-      (kept_on d m n mid.flusher new.flusher (e.keeps was.store) same stored),
+      let stored = e.stored ∙ ap (λ r. stored_after r mid.held.flusher.commit.root.version) (c.in-Ok-Going.is ∙ ap Ok c.in-Ok-Going.field-0-is) in
+      then d (history_of first.reporter.log) m n first.held.flusher mid.held.flusher new.held.flusher was
+      (kept_on d m n mid.held.flusher new.held.flusher (e.keeps was.store) same stored),
   telling_then g.D.Disk c.args.keeper.now c.calls.keeper c.step.new.self c.calls.invariant.2 (λ is. (c.calls.invariant.1 is).store) c.step.ensures.tells,
 )
 
@@ -51,9 +50,9 @@ returns-in-Ok-Idle-clause-flushes g c is =
     let m = history_of mid.reporter.log in
     let n = history_of new.reporter.log in
     let same = ap (λ (r : Heard). (newest_in r.log).durable) e.reporter in
-    let stored = e.stored ∙ ap (λ r. stored_after r mid.flusher.commit.root.version) (c.in-Ok-Idle.is ∙ ap Ok c.in-Ok-Idle.field-0-is) in
-    then d (history_of first.reporter.log) m n first.flusher mid.flusher new.flusher was
-    (kept_on d m n mid.flusher new.flusher (e.keeps was.store) same stored)
+    let stored = e.stored ∙ ap (λ r. stored_after r mid.held.flusher.commit.root.version) (c.in-Ok-Idle.is ∙ ap Ok c.in-Ok-Idle.field-0-is) in
+    then d (history_of first.reporter.log) m n first.held.flusher mid.held.flusher new.held.flusher was
+    (kept_on d m n mid.held.flusher new.held.flusher (e.keeps was.store) same stored)
 
 pub returns-in-Ok-Done-clause-flushes : goal.returns-in-Ok-Done-clause-flushes
 returns-in-Ok-Done-clause-flushes g c is =
@@ -67,8 +66,8 @@ returns-in-Ok-Done-clause-flushes g c is =
     let k = history_of done.reporter.log in
     let n = history_of told.reporter.log in
     let one = c.step.ensures.keeps was.store in
-    then d (history_of first.reporter.log) m n first.flusher mid.flusher told.flusher was
-    (told_all d m k n mid.flusher done.flusher told.flusher one (c.report.ensures.keeps one.store) (c.report.ensures.reported one.store))
+    then d (history_of first.reporter.log) m n first.held.flusher mid.held.flusher told.held.flusher was
+    (told_all d m k n mid.held.flusher done.held.flusher told.held.flusher one (c.report.ensures.keeps one.store) (c.report.ensures.reported one.store))
 
 pub returns-in-Err-clause-flushes : goal.returns-in-Err-clause-flushes
 returns-in-Err-clause-flushes g c is =
@@ -81,10 +80,10 @@ returns-in-Err-clause-flushes g c is =
     let m = history_of mid.reporter.log in
     let n = history_of new.reporter.log in
     let same = ap (λ (r : Heard). (newest_in r.log).durable) e.reporter in
-    let stored = e.stored ∙ ap (λ r. stored_after r mid.flusher.commit.root.version) c.in-Err.is in
-    subst (λ (k : Keeper g.row.D.Denot g.D.Disk). Flushes d (history_of first.reporter.log) first.flusher (history_of k.reporter.log) k.flusher) (sym c.tell.ensures.nothing)
-    (then d (history_of first.reporter.log) m n first.flusher mid.flusher new.flusher was
-    (kept_on d m n mid.flusher new.flusher (e.keeps was.store) same stored))
+    let stored = e.stored ∙ ap (λ r. stored_after r mid.held.flusher.commit.root.version) c.in-Err.is in
+    subst (λ (k : Keeper g.row.D.Denot g.D.Disk). Flushes d (history_of first.reporter.log) first.held.flusher (history_of k.reporter.log) k.held.flusher) (sym c.tell.ensures.nothing)
+    (then d (history_of first.reporter.log) m n first.held.flusher mid.held.flusher new.held.flusher was
+    (kept_on d m n mid.held.flusher new.held.flusher (e.keeps was.store) same stored))
 
 pub returns-in-Ok-Idle-clause-tells : goal.returns-in-Ok-Idle-clause-tells
 returns-in-Ok-Idle-clause-tells g c =
@@ -112,11 +111,11 @@ report-requires-clause-stored g c =
     let h = history_of first.reporter.log in
     let m = history_of mid.reporter.log in
     let n = history_of done.reporter.log in
-    c.requires.stored done.reporter.log done.flusher
+    c.requires.stored done.reporter.log done.held.flusher
     (λ is.
     let was = c.calls.invariant.1 is in
-    further d h m n first.flusher mid.flusher done.flusher (by_run d h m first.flusher mid.flusher was)
-    (by_call d m n mid.flusher done.flusher (c.step.ensures.keeps was.store)))
+    further d h m n first.held.flusher mid.held.flusher done.held.flusher (by_run d h m first.held.flusher mid.held.flusher was)
+    (by_call d m n mid.held.flusher done.held.flusher (c.step.ensures.keeps was.store)))
 
 pub tell-requires-clause-failed : goal.tell-requires-clause-failed
 tell-requires-clause-failed g c =
@@ -131,9 +130,9 @@ tell-requires-clause-failed g c =
     c.requires.failed new.reporter.log fault (λ is.
     let run = c.calls.invariant.1 is in
     let kept = c.step.ensures.keeps run.store in
-    failed_then d h m first.flusher mid.flusher new.reporter.log fault (by_run d h m first.flusher mid.flusher run, run.by_device) (record {
-      store = new.flusher;
-      followed = by_call d m n mid.flusher new.flusher kept;
+    failed_then d h m first.held.flusher mid.held.flusher new.reporter.log fault (by_run d h m first.held.flusher mid.held.flusher run, run.by_device) (record {
+      store = new.held.flusher;
+      followed = by_call d m n mid.held.flusher new.held.flusher kept;
       by_device = kept.by_device;
-      fails = subst (λ (r : Heard). Fails mid.flusher new.flusher (newest_in r.log) fault) (sym c.step.ensures.reporter) (c.in-Err.ensures.fails run.store.honest);
+      fails = c.in-Err.ensures.fails run.store.honest (newest_in new.reporter.log);
     }))

@@ -8,7 +8,7 @@ use Rattle.store_flushing.proofs.flusher_loop.flush.Goals as goal
 
 pub rounds-init : goal.rounds-init
 rounds-init g c =
-    let s = c.args.keeper.now.flusher in (
+    let s = c.args.keeper.now.held.flusher in (
       refl,
       λ is. begun g.D.Disk (history_of c.args.keeper.now.reporter.log) s (λ f left. g.met.D.Disk.only_now s.commit.disk f is.honest left) is,
       telling_self g.D.Disk c.args.keeper.now,
@@ -22,7 +22,7 @@ rounds-preserved g c = (
       let first = c.args.keeper.now in
       let mid = c.rounds.keeper in
       let new = c.round.new.keeper in
-      then g.D.Disk (history_of first.reporter.log) (history_of mid.reporter.log) (history_of new.reporter.log) first.flusher mid.flusher new.flusher was
+      then g.D.Disk (history_of first.reporter.log) (history_of mid.reporter.log) (history_of new.reporter.log) first.held.flusher mid.held.flusher new.held.flusher was
       (c.round.ensures.flushes was.store),
   telling_then g.D.Disk c.args.keeper.now c.rounds.keeper c.round.new.keeper c.rounds.invariant.2 (λ is. (c.rounds.invariant.1 is).store) c.round.ensures.tells,
 )
@@ -33,7 +33,7 @@ returns-then-not-round-clause-flushes g c is =
     let first = c.args.keeper.now in
     let mid = c.rounds.keeper in
     let new = c.round.new.keeper in
-    then g.D.Disk (history_of first.reporter.log) (history_of mid.reporter.log) (history_of new.reporter.log) first.flusher mid.flusher new.flusher was
+    then g.D.Disk (history_of first.reporter.log) (history_of mid.reporter.log) (history_of new.reporter.log) first.held.flusher mid.held.flusher new.held.flusher was
     (c.round.ensures.flushes was.store)
 
 pub returns-then-not-round-clause-tells : goal.returns-then-not-round-clause-tells
@@ -47,7 +47,7 @@ round-requires-clause-stored g c =
     let mid = c.rounds.keeper in
     let h = history_of first.reporter.log in
     let m = history_of mid.reporter.log in
-    handed_on d g.J.BookName.stored h m first.flusher mid.flusher (λ is. by_run d h m first.flusher mid.flusher (c.rounds.invariant.1 is)) c.requires.stored
+    handed_on d g.J.BookName.stored h m first.held.flusher mid.held.flusher (λ is. by_run d h m first.held.flusher mid.held.flusher (c.rounds.invariant.1 is)) c.requires.stored
 
 pub round-requires-clause-failed : goal.round-requires-clause-failed
 round-requires-clause-failed g c =
@@ -56,4 +56,5 @@ round-requires-clause-failed g c =
     let mid = c.rounds.keeper in
     let h = history_of first.reporter.log in
     let m = history_of mid.reporter.log in
-    failed_on d g.J.BookName.failed h m first.flusher mid.flusher (λ is. let run = c.rounds.invariant.1 is in (by_run d h m first.flusher mid.flusher run, run.by_device)) c.requires.failed
+    failed_on d g.J.BookName.failed h m first.held.flusher mid.held.flusher
+    (λ is. let run = c.rounds.invariant.1 is in (by_run d h m first.held.flusher mid.held.flusher run, run.by_device)) c.requires.failed

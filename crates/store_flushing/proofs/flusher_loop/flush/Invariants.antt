@@ -8,6 +8,6 @@ use Rattle.store_flushing.proofs.flusher_loop.flush.Given as goal
 abbrev pub invariant-rounds : goal.invariant-rounds
 invariant-rounds g l =
     (l.keeper.reporter.book ≡ l.initial.keeper.reporter.book)
-    × (IsStoreOf g.D.Disk (history_of l.initial.keeper.reporter.log) l.initial.keeper.flusher
-    → Flushes g.D.Disk (history_of l.initial.keeper.reporter.log) l.initial.keeper.flusher (history_of l.keeper.reporter.log) l.keeper.flusher)
+    × (IsStoreOf g.D.Disk (history_of l.initial.keeper.reporter.log) l.initial.keeper.held.flusher
+    → Flushes g.D.Disk (history_of l.initial.keeper.reporter.log) l.initial.keeper.held.flusher (history_of l.keeper.reporter.log) l.keeper.held.flusher)
     × KeepsTelling g.D.Disk l.initial.keeper l.keeper

@@ -1,6 +1,6 @@
 use Rattle.std.proofs.Common.{ap}
-use Rattle.flush_core.specs.declared.flusher.Flusher.{Flusher}
 use Rattle.book_history.specs.Logs.{history_of}
+use Rattle.store_flushing.specs.declared.keeper.held_store.HeldStore.{HeldStore}
 use Rattle.store_flushing.proofs.FailLemmas.{failed_on}
 use Rattle.store_flushing.proofs.Following.{by_call, handed_on}
 use Rattle.store_flushing.proofs.Storage.{kept_on, then}
@@ -16,22 +16,22 @@ returns-in-Ok-Some-clause-flushes g c is =
     let h = history_of old.reporter.log in
     let m = history_of mid.reporter.log in
     let e = c.look.ensures in
-    let seen = kept_on d h m old.flusher mid.flusher (e.keeps is) e.durable (ap (λ (f : Flusher g.row.D.Denot g.D.Disk). f.commit.root.version) e.flusher) in
-    then d h m (history_of new.reporter.log) old.flusher mid.flusher new.flusher seen (c.commit.ensures.flushes seen.store)
+    let seen = kept_on d h m old.held.flusher mid.held.flusher (e.keeps is) e.durable (ap (λ (s : HeldStore g.row.D.Denot g.D.Disk). s.flusher.commit.root.version) e.held) in
+    then d h m (history_of new.reporter.log) old.held.flusher mid.held.flusher new.held.flusher seen (c.commit.ensures.flushes seen.store)
 
 pub returns-in-Ok-None-clause-flushes : goal.returns-in-Ok-None-clause-flushes
 returns-in-Ok-None-clause-flushes g c is =
     let old = c.args.keeper.now in
     let mid = c.look.new.self in
     let e = c.look.ensures in
-    kept_on g.D.Disk (history_of old.reporter.log) (history_of mid.reporter.log) old.flusher mid.flusher (e.keeps is) e.durable (ap (λ (f : Flusher g.row.D.Denot g.D.Disk). f.commit.root.version) e.flusher)
+    kept_on g.D.Disk (history_of old.reporter.log) (history_of mid.reporter.log) old.held.flusher mid.held.flusher (e.keeps is) e.durable (ap (λ (s : HeldStore g.row.D.Denot g.D.Disk). s.flusher.commit.root.version) e.held)
 
 pub returns-in-Err-clause-flushes : goal.returns-in-Err-clause-flushes
 returns-in-Err-clause-flushes g c is =
     let old = c.args.keeper.now in
     let mid = c.look.new.self in
     let e = c.look.ensures in
-    kept_on g.D.Disk (history_of old.reporter.log) (history_of mid.reporter.log) old.flusher mid.flusher (e.keeps is) e.durable (ap (λ (f : Flusher g.row.D.Denot g.D.Disk). f.commit.root.version) e.flusher)
+    kept_on g.D.Disk (history_of old.reporter.log) (history_of mid.reporter.log) old.held.flusher mid.held.flusher (e.keeps is) e.durable (ap (λ (s : HeldStore g.row.D.Denot g.D.Disk). s.flusher.commit.root.version) e.held)
 
 pub returns-in-Ok-Some-clause-tells : goal.returns-in-Ok-Some-clause-tells
 returns-in-Ok-Some-clause-tells g c =
@@ -44,7 +44,7 @@ commit-requires-clause-stored g c =
     let mid = c.look.new.self in
     let h = history_of old.reporter.log in
     let m = history_of mid.reporter.log in
-    handed_on d g.J.BookName.stored h m old.flusher mid.flusher (λ is. by_call d h m old.flusher mid.flusher (c.look.ensures.keeps is)) c.requires.stored
+    handed_on d g.J.BookName.stored h m old.held.flusher mid.held.flusher (λ is. by_call d h m old.held.flusher mid.held.flusher (c.look.ensures.keeps is)) c.requires.stored
 
 pub commit-requires-clause-failed : goal.commit-requires-clause-failed
 commit-requires-clause-failed g c =
@@ -53,4 +53,5 @@ commit-requires-clause-failed g c =
     let mid = c.look.new.self in
     let h = history_of old.reporter.log in
     let m = history_of mid.reporter.log in
-    failed_on d g.J.BookName.failed h m old.flusher mid.flusher (λ is. let kept = c.look.ensures.keeps is in (by_call d h m old.flusher mid.flusher kept, kept.by_device)) c.requires.failed
+    failed_on d g.J.BookName.failed h m old.held.flusher mid.held.flusher
+    (λ is. let kept = c.look.ensures.keeps is in (by_call d h m old.held.flusher mid.held.flusher kept, kept.by_device)) c.requires.failed

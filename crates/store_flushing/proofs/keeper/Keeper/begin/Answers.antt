@@ -1,48 +1,26 @@
-use Rattle.std.proofs.Common.{◌≡◌, Err, refl, ap, sym, ◌∙◌, subst}
+use Rattle.std.proofs.Common.{◌≡◌, refl, subst, sym}
+use Rattle.book_history.specs.BookLogs.{BookLog}
 use Rattle.book_history.specs.Logs.{history_of}
-use Rattle.flush_core.specs.declared.flusher.Flusher.{Flusher}
-use Rattle.store_flushing.specs.Failing.{Fails}
 use Rattle.store_flushing.specs.Told.{told_in}
-use Rattle.store_flushing.specs.ToldFaults.{told_fault_of}
-use Rattle.store_flushing.proofs.FailLemmas.{err_is, refused_fails}
-use Rattle.store_flushing.proofs.Remembered.{same_keeper}
-use Rattle.store_flushing.proofs.Storage.{begin_kept}
+use Rattle.store_flushing.proofs.Remembered.{of_book, refused_so, same_keeper}
 use Rattle.store_flushing.proofs.ToldLemmas.{none_told}
 use Rattle.store_flushing.proofs.keeper.Keeper.begin.Goals as goal
 
-pub returns-in-Ok-clause-keeps : goal.returns-in-Ok-clause-keeps
-returns-in-Ok-clause-keeps g c is =
-    let s = c.args.self.now.flusher in
-    let e = c.begin_known.ensures in
-    begin_kept g.D.Disk (history_of c.args.self.now.reporter.log) s c.begin_known.new.self c.args.version.now c.begin_known.result (λ k left. g.met.D.Disk.only_now s.commit.disk k is.honest left)
-    c.requires.idle c.requires.history c.requires.newest e.failed e.begun e.stored e.begins e.disk e.err is
+pub begin-requires-clause-book : goal.begin-requires-clause-book
+begin-requires-clause-book g c = of_book c.args.self.now
 
-pub returns-in-Ok-clause-tells : goal.returns-in-Ok-clause-tells
-returns-in-Ok-clause-tells g c is =
-    let h = history_of c.args.self.now.reporter.log in
-    none_told g.D.Disk h h c.args.self.now.flusher c.begin_known.new.self (told_in c.args.self.now.told) (returns-in-Ok-clause-keeps g c is) refl
-
-pub returns-in-Err-clause-keeps : goal.returns-in-Err-clause-keeps
-returns-in-Err-clause-keeps g c is =
-    let s = c.args.self.now.flusher in
-    let e = c.begin_known.ensures in
-    begin_kept g.D.Disk (history_of c.args.self.now.reporter.log) s c.begin_known.new.self c.args.version.now c.begin_known.result (λ k left. g.met.D.Disk.only_now s.commit.disk k is.honest left)
-    c.requires.idle c.requires.history c.requires.newest e.failed e.begun e.stored e.begins e.disk e.err is
-
-pub returns-in-Err-clause-tells : goal.returns-in-Err-clause-tells
-returns-in-Err-clause-tells g c is =
-    let h = history_of c.args.self.now.reporter.log in
-    none_told g.D.Disk h h c.args.self.now.flusher c.begin_known.new.self (told_in c.args.self.now.told) (returns-in-Err-clause-keeps g c is) refl
-
-pub returns-in-Err-clause-err : goal.returns-in-Err-clause-err
-returns-in-Err-clause-err g c =
+pub returns-clause-tells : goal.returns-clause-tells
+returns-clause-tells g c is =
     let k = c.args.self.now in
-    same_keeper k k.reporter c.begin_known.new.self refl c.in-Err.ensures.err _ _
+    let h = history_of k.reporter.log in
+    none_told g.D.Disk h h k.held.flusher c.begin.new.self.flusher (told_in k.told) (c.begin.ensures.keeps is) refl
 
-pub returns-in-Err-clause-fails : goal.returns-in-Err-clause-fails
-returns-in-Err-clause-fails g c =
-    let s = c.args.self.now.flusher in
-    let v = c.args.version.now in
-    let fault = c.in-Err.fault in
-    subst (λ (t : Flusher g.row.D.Denot g.D.Disk). Fails s t v (told_fault_of fault)) (sym c.in-Err.ensures.err)
-    (refused_fails g.D.Disk s v fault c.requires.idle (λ at. err_is (sym c.in-Err.is ∙ c.begin_known.ensures.failed at)) c.in-Err.ensures.errors)
+pub returns-clause-err : goal.returns-clause-err
+returns-clause-err g c =
+    let k = c.args.self.now in
+    refused_so c.begin.result (λ is. same_keeper k k.reporter c.begin.new.self refl is _) c.begin.ensures.err
+
+pub invariant_of-self : goal.invariant_of-self
+invariant_of-self g c =
+    let k = c.args.self.now in
+    record { same_book = subst (λ (l : BookLog). ∥ l.book ≡ k.reporter.book ∥₁) (sym c.begin.ensures.same) k.same_book }

@@ -1,8 +1,9 @@
-use Rattle.std.proofs.Common.{refl, arith}
+use Rattle.std.proofs.Common.{◌≡◌, refl, subst, sym, arith}
+use Rattle.logbook.specs.Pages.{Book}
 use Rattle.book_history.specs.Logs.{history_of}
 use Rattle.book_history.proofs.Chains.{is_history}
 use Rattle.store_flushing.specs.Told.{told_in}
-use Rattle.store_flushing.proofs.Remembered.{none_so, same_keeper, still}
+use Rattle.store_flushing.proofs.Remembered.{none_so, same_keeper}
 use Rattle.store_flushing.proofs.Storage.{kept, longer}
 use Rattle.store_flushing.proofs.ToldLemmas.{none_told}
 use Rattle.store_flushing.proofs.keeper.Keeper.look.Goals as goal
@@ -14,7 +15,7 @@ pub returns-clause-keeps : goal.returns-clause-keeps
 returns-clause-keeps g c is =
     let d = g.D.Disk in
     let h = history_of c.args.self.now.reporter.log in
-    let s = c.args.self.now.flusher in
+    let s = c.args.self.now.held.flusher in
     let m = history_of c.next_version-looked.new.me.log in
     let e = c.next_version-looked.ensures in
     kept d h m s s (longer d h m s (λ k left. g.met.D.Disk.only_now s.commit.disk k is.honest left) e.goes_on e.durable is)
@@ -22,7 +23,7 @@ returns-clause-keeps g c is =
 
 pub returns-clause-tells : goal.returns-clause-tells
 returns-clause-tells g c is =
-    let s = c.args.self.now.flusher in
+    let s = c.args.self.now.held.flusher in
     let log = c.next_version-looked.new.me.log in
     none_told g.D.Disk (history_of c.args.self.now.reporter.log) (history_of log) s s (told_in c.args.self.now.told) (returns-clause-keeps g c is)
     c.next_version-looked.ensures.durable
@@ -30,14 +31,9 @@ returns-clause-tells g c is =
 pub invariant_of-self : goal.invariant_of-self
 invariant_of-self g c =
     let k = c.args.self.now in
-    let roots = k.flusher.commit in
-    let looked = c.next_version-looked in
-    record {
-      live_tiles = still k.reporter looked.new.me roots.live roots.live k.live looked.ensures.same refl k.live_tiles;
-      next_tiles = still k.reporter looked.new.me roots.next_live roots.next_live k.next looked.ensures.same refl k.next_tiles;
-    }
+    record { same_book = subst (λ (b : Book). ∥ k.held.seen_log.book ≡ b ∥₁) (sym c.next_version-looked.ensures.same) k.same_book }
 
 pub returns-clause-none : goal.returns-clause-none
 returns-clause-none g c =
     let k = c.args.self.now in
-    none_so c.next_version-looked.result (λ is. same_keeper k c.next_version-looked.new.me k.flusher is refl _ _) c.next_version-looked.ensures.none
+    none_so c.next_version-looked.result (λ is. same_keeper k c.next_version-looked.new.me k.held is refl _) c.next_version-looked.ensures.none

@@ -1,9 +1,9 @@
-use Rattle.std.proofs.Common.{ℕ, ◌≡◌, ◌≤◌, ◌⊎◌, ◌++◌, refl, subst, sym}
+use Rattle.std.proofs.Common.{ℕ, ◌≡◌, ◌≤◌, ◌⊎◌, ◌++◌, subst, sym}
+use Rattle.logbook.specs.Pages.{Book}
 use Rattle.book_history.specs.Logs.{history_of, newest_in}
 use Rattle.book_history.proofs.Chains.{is_history}
 use Rattle.book_lock.specs.Heard.{Heard}
 use Rattle.store_flushing.specs.Told.{news_in, told_at, told_in}
-use Rattle.store_flushing.proofs.Remembered.{still}
 use Rattle.store_flushing.proofs.Storage.{all_told, report_kept, stored_level}
 use Rattle.store_flushing.proofs.ToldLemmas.{news_told}
 use Rattle.store_flushing.proofs.keeper.Keeper.report.Goals as goal
@@ -19,7 +19,7 @@ returns-clause-keeps g c is =
     let d = g.D.Disk in
     let h = history_of c.args.self.now.reporter.log in
     let n = history_of c.report.new.me.log in
-    let s = c.args.self.now.flusher in
+    let s = c.args.self.now.held.flusher in
     let e = c.report.ensures in
     let told = subst (λ (k : ℕ). ((newest_in c.report.new.me.log).durable ≡ k) ⊎ ((newest_in c.report.new.me.log).durable ≡ (newest_in c.args.self.now.reporter.log).durable)) c.stored.ensures e.reported in
     report_kept d h n s (λ k left. g.met.D.Disk.only_now s.commit.disk k is.honest left) e.goes_on told is (returns-clause-history g c)
@@ -29,7 +29,7 @@ returns-clause-reported g c is =
     let d = g.D.Disk in
     let h = history_of c.args.self.now.reporter.log in
     let n = history_of c.report.new.me.log in
-    let s = c.args.self.now.flusher in
+    let s = c.args.self.now.held.flusher in
     let e = c.report.ensures in
     let told = subst (λ (k : ℕ). ((newest_in c.report.new.me.log).durable ≡ k) ⊎ ((newest_in c.report.new.me.log).durable ≡ (newest_in c.args.self.now.reporter.log).durable)) c.stored.ensures e.reported in
     let reached = subst (λ (k : ℕ). k ≤ (newest_in c.args.self.now.reporter.log).number → k ≤ (newest_in c.report.new.me.log).durable) c.stored.ensures e.reached in
@@ -37,7 +37,7 @@ returns-clause-reported g c is =
 
 pub returns-clause-tells : goal.returns-clause-tells
 returns-clause-tells g c is =
-    let s = c.args.self.now.flusher in
+    let s = c.args.self.now.held.flusher in
     let log = c.report.new.me.log in
     news_told g.D.Disk (history_of c.args.self.now.reporter.log) (history_of log) s (told_in c.args.self.now.told) (told_in c.write.new.self)
     (λ k left. g.met.D.Disk.only_now s.commit.disk k is.honest left) (returns-clause-keeps g c is)
@@ -47,8 +47,4 @@ returns-clause-tells g c is =
 pub invariant_of-self : goal.invariant_of-self
 invariant_of-self g c =
     let k = c.args.self.now in
-    let roots = k.flusher.commit in
-    record {
-      live_tiles = still k.reporter c.report.new.me roots.live roots.live k.live c.report.ensures.same refl k.live_tiles;
-      next_tiles = still k.reporter c.report.new.me roots.next_live roots.next_live k.next c.report.ensures.same refl k.next_tiles;
-    }
+    record { same_book = subst (λ (b : Book). ∥ k.held.seen_log.book ≡ b ∥₁) (sym c.report.ensures.same) k.same_book }

@@ -5,4 +5,4 @@ use Rattle.store_flushing.proofs.keeper.Keeper.tell.Goals as goal
 pub returns-clause-nothing : goal.returns-clause-nothing
 returns-clause-nothing g c =
     let k = c.args.self.now in
-    same_keeper k c.tell.new.me k.flusher c.tell.ensures.nothing refl _ _
+    same_keeper k c.tell.new.me k.held c.tell.ensures.nothing refl _

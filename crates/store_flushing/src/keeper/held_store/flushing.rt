@@ -8,6 +8,7 @@ ghost use Rattle.store_flushing.specs.Told.{TellsOn, told_in};
 
 use crate::flusher_loop::flush;
 use crate::keeper::Keeper;
+use crate::keeper::held_store::HeldStore;
 use crate::keeper::told_log::ToldLog;
 use disk_model::disk::Disk;
 use flush_core::flusher::Flusher;
@@ -41,7 +42,9 @@ pub fn flusher_loop<J: BookName, R: Wait + Drop, D: Disk, W: Wait>(
         → TellsOn D.Disk (history_of reporter.log) (told_in told) flusher.commit.disk
         (history_of result.0.log) (told_in result.2) result.1.commit.disk }
 {
-    let mut keeper = Keeper::of(reporter, flusher, told);
+    let held = HeldStore::of(&reporter, flusher);
+    let mut keeper = Keeper::of(reporter, held, told);
     flush(rt, alloc, shared, &mut keeper);
-    keeper.into_parts()
+    let (reporter, held, told) = keeper.into_parts();
+    (reporter, held.into_flusher(), told)
 }

@@ -7,18 +7,18 @@ use Rattle.overlay_terms.specs.InputCode.{tile_code}
 use Rattle.overlay_terms.specs.Histories.{tile_at}
 use Rattle.commit_plan.specs.Live.{live_content}
 use Rattle.store_flushing.specs.Since.{IsRemembered}
-use Rattle.store_flushing.proofs.keeper.Keeper.is_known.Goals as goal
+use Rattle.store_flushing.proofs.keeper.held_store.HeldStore.is_known.Goals as goal
 
 pub has_tiles_of-requires : goal.has_tiles_of-requires
 has_tiles_of-requires g c =
-    let k = c.args.self.now in
-    ∥∥₁_elim k.live_tiles (Coded-set book_coded _ _)
-    (λ known. c.requires ∙ sym (subst (IsRemembered k.reporter (live_content k.flusher.commit.live)) c.in-Some.is known).0)
+    let h = c.args.self.now in
+    ∥∥₁_elim h.live_tiles (Coded-set book_coded _ _)
+    (λ known. c.requires ∙ sym (subst (IsRemembered h.seen_log.book (live_content h.flusher.commit.live)) c.in-Some.is known).0)
 
 pub returns-in-Some : goal.returns-in-Some
 returns-in-Some g c told name column tile there =
-    let k = c.args.self.now in
-    ∥∥₁_elim k.live_tiles (Coded-set (coded_option tile_code) _ _)
+    let h = c.args.self.now in
+    ∥∥₁_elim h.live_tiles (Coded-set (coded_option tile_code) _ _)
     (λ known.
-    let is = subst (IsRemembered k.reporter (live_content k.flusher.commit.live)) c.in-Some.is known in
+    let is = subst (IsRemembered h.seen_log.book (live_content h.flusher.commit.live)) c.in-Some.is known in
     ap (λ ts. tile_at ts name column) is.1 ∙ c.has_tiles_of.ensures.known told name column tile there)
