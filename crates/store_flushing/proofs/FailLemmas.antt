@@ -1,6 +1,5 @@
 -- For what a store fails, over the calls of its keeper.
-use Rattle.std.proofs.Common.{◌≡◌, ◌≤◌, ◌⊎◌, ⊎_elim, inl, inr, ℕ, List, Result, Ok, Err, IfErr, true, false, refl, sym, ap, subst, ◌∙◌}
-use Rattle.std.specs.Prelude.{OnErr}
+use Rattle.std.proofs.Common.{◌≡◌, ◌≤◌, ◌⊎◌, inl, inr, ℕ, List, Result, Ok, Err, IfErr, true, false, refl, sym, ap, subst, ◌∙◌}
 use mathlib.Core.Bool.{false≢true}
 use Rattle.disk_model.specs.declared.disk.Disk.{Ghosts}
 use Rattle.disk_model.specs.Disk as device
@@ -33,6 +32,10 @@ err_of fault = Err fault
 
 pub err_is : {T E : Type 0} {a b : E} → err_of {T} a ≡ Err b → a ≡ b
 err_is {T} {E} {a} {b} is = ap (λ (r : Result T E). value_in a r) is
+
+-- what holds of a refusal
+pub on_err : {T E : Type 0} (P : E → Type 0) (r : Result T E) (fault : E) → r ≡ Err fault → IfErr r P → P fault
+on_err P r fault is holds = subst (λ (r : Result _ _). IfErr r P) is holds
 
 -- no commit is under way, and the device did not fail
 idle_of : (p : Phase) → is_busy p ≡ false → (p ≡ Failed → ⊥) → p ≡ Idle
@@ -67,17 +70,23 @@ module _ {D : Type 0} (g : Ghosts D) where
   refused_fails s v faults.OutOfMemory rests only is = tt
 
   -- a device call that fails
-  step_fails : (s t : Flusher D g) (v : Version) (fault : StoreFault) → fault ≡ fault_in s.commit.phase → t.commit.phase ≡ Failed
-      → (fault ≡ faults.Device → device.Failed (g.faults s.commit.disk) (g.faults t.commit.disk)) → Fails s t v (told_fault_of fault)
-  step_fails s t v fault is failed cause =
-      ⊎_elim (λ device. subst (λ (f : StoreFault). Fails s t v (told_fault_of f)) (sym (is ∙ device)) (cause (is ∙ device)))
-      (λ before. subst (λ (f : StoreFault). Fails s t v (told_fault_of f)) (sym (is ∙ before)) failed) (two_faults s.commit.phase)
+  pub step_fails : (s t : Flusher D g) (v : Version) (fault : StoreFault) → t.commit.phase ≡ Failed
+      → (fault ≡ faults.Failed) ⊎ ((fault ≡ faults.Device) × device.Failed (g.faults s.commit.disk) (g.faults t.commit.disk)) → Fails s t v (told_fault_of fault)
+  step_fails s t v fault failed (inl before) = subst (λ (f : StoreFault). Fails s t v (told_fault_of f)) (sym before) failed
+  step_fails s t v fault failed (inr (device, rose)) = subst (λ (f : StoreFault). Fails s t v (told_fault_of f)) (sym device) rose
 
-  pub answer_fails : (s t : Flusher D g) (r : Result Progress StoreFault) → IfErr r (λ fault. fault ≡ fault_in s.commit.phase) → OnErr r (t.commit.phase ≡ Failed)
-      → (g.is_honest s.commit.disk → r ≡ Err faults.Device → device.Failed (g.faults s.commit.disk) (g.faults t.commit.disk))
-      → IfErr r (λ fault. g.is_honest s.commit.disk → (v : Version) → Fails s t v (told_fault_of fault))
-  answer_fails s t (Ok progress) is failed cause = tt
-  answer_fails s t (Err fault) is failed cause = λ honest v. step_fails s t v fault is failed (λ e. cause honest (ap Err e))
+  by_phase : (s t : Flusher D g) (fault : StoreFault) → fault ≡ fault_in s.commit.phase → (fault ≡ faults.Device → device.Failed (g.faults s.commit.disk) (g.faults t.commit.disk))
+      → (fault_in s.commit.phase ≡ faults.Device) ⊎ (fault_in s.commit.phase ≡ faults.Failed)
+      → (fault ≡ faults.Failed) ⊎ ((fault ≡ faults.Device) × device.Failed (g.faults s.commit.disk) (g.faults t.commit.disk))
+  by_phase s t fault is cause (inl device) = inr (is ∙ device, cause (is ∙ device))
+  by_phase s t fault is cause (inr before) = inl (is ∙ before)
+
+  -- why it fails
+  pub step_cause : (s t : Flusher D g) (r : Result Progress StoreFault) → IfErr r (λ fault. fault ≡ fault_in s.commit.phase)
+      → (r ≡ Err faults.Device → device.Failed (g.faults s.commit.disk) (g.faults t.commit.disk))
+      → IfErr r (λ fault. (fault ≡ faults.Failed) ⊎ ((fault ≡ faults.Device) × device.Failed (g.faults s.commit.disk) (g.faults t.commit.disk)))
+  step_cause s t (Ok progress) is cause = tt
+  step_cause s t (Err fault) is cause = by_phase s t fault is (λ e. cause (ap Err e)) (two_faults s.commit.phase)
 
   -- since an earlier time
   pub fails_since : (s t u : Flusher D g) (v : Version) (fault : ToldFault) → g.faults s.commit.disk ≤ g.faults t.commit.disk → Fails t u v fault → Fails s u v fault

@@ -1,14 +1,14 @@
 //! A store, and the one token that may report what it stores, as one value.
-ghost use Rattle.std.specs.Prelude.{◌≡◌, ◌++◌, false, IfErr, IfOk, IfSome, IfNone, OnErr};
+ghost use Rattle.std.specs.Prelude.{◌≡◌, ◌⊎◌, ◌++◌, false, Err, IfErr, IfOk, IfSome, IfNone, OnErr};
 ghost use Rattle.std.specs.Arc.{arc_value};
-ghost use Rattle.overlay_terms.specs.Histories.{IsHistory, Version, newest};
+ghost use Rattle.overlay_terms.specs.Histories.{IsHistory, newest};
+ghost use Rattle.disk_model.specs.Disk.{Failed};
 ghost use Rattle.root_store.specs.Beginning.{IsReason};
 ghost use Rattle.root_store.specs.Running.{Counts, calls_left, is_busy};
 ghost use Rattle.root_store.specs.declared.phase.Phase.TheVariants as phases;
 ghost use Rattle.flush_core.specs.Stored.{HasNoRoomFor, stored_after};
 ghost use Rattle.book_history.specs.Fault.{passes};
 ghost use Rattle.book_history.specs.Logs.{history_of, newest_in};
-ghost use Rattle.store_flushing.specs.Failing.{Fails};
 ghost use Rattle.store_flushing.specs.Storing.{AllReported, IsStoreOf, Keeps};
 ghost use Rattle.store_flushing.specs.ToldFaults.{told_fault_of};
 
@@ -122,8 +122,7 @@ impl<D: Disk> Keeper<D> {
         ensures errors { IfErr result
             (λ fault. IsReason self.old.held.flusher.commit.phase self.old.held.flusher.commit.root
             (HasNoRoomFor self.old.held.flusher.commit version.now) fault) }
-        ensures fails { IfErr result
-            (λ fault. Fails self.old.held.flusher self.new.held.flusher version.now (told_fault_of fault)) }
+        ensures failed { self.old.held.flusher.commit.phase ≡ phases.Failed → result ≡ Err StoreFault.Failed }
     {
         // The store is of the reporter's book.
         self.held.begin(alloc, &self.reporter, version)
@@ -138,8 +137,9 @@ impl<D: Disk> Keeper<D> {
         ensures counted { IfOk result
             (λ p. Counts p (calls_left self.old.held.flusher.commit) (calls_left self.new.held.flusher.commit)) }
         ensures failed { OnErr result (self.new.held.flusher.commit.phase ≡ phases.Failed) }
-        ensures fails { IfErr result (λ fault. D.is_honest self.old.held.flusher.commit.disk
-            → (version : Version) → Fails self.old.held.flusher self.new.held.flusher version (told_fault_of fault)) }
+        // It had failed before, or its device did now.
+        ensures cause { D.is_honest self.old.held.flusher.commit.disk → IfErr result (λ fault. (fault ≡ StoreFault.Failed)
+            ⊎ ((fault ≡ StoreFault.Device) × Failed (D.faults self.old.held.flusher.commit.disk) (D.faults self.new.held.flusher.commit.disk))) }
         ensures reporter { self.new.reporter ≡ self.old.reporter }
         ensures told { self.new.told ≡ self.old.told }
     {

@@ -14,6 +14,7 @@ use Rattle.book_history.specs.declared.fault.BookFault.TheVariants as fault
 use Rattle.version_book.specs.Failing.{HasFailed, IsToldFault}
 use Rattle.book_history.specs.declared.fault.ToldFault.{ToldFault}
 use Rattle.book_history.proofs.Fronts.{prefix_self, prefix_trans}
+use Rattle.book_lock.specs.Heard.{Heard}
 use Rattle.book_lock.specs.Steps.{IsFinishedIn, IsReportedIn}
 use Rattle.book_lock.proofs.Growing.{report_longer}
 use Rattle.version_book.specs.BookState.{left_over, told}
@@ -23,10 +24,10 @@ pub kept_longer : (log after : List Entry) (name : Name) (input : Input) (tile :
 kept_longer log after name input tile true (awaited, follows, is) = (entry (kept name input.column tile) (newest_in after) ∷ [], sym is)
 kept_longer log after name input tile false (not_awaited, absent, is) = subst (IsPrefix log) (sym is) (prefix_self log)
 
-pub told_longer : (A : ℕ → Type 0) (C : BookFault → Type 0) (r : Result ℕ BookFault) (log after : List Entry) (n : ℕ) → IfOk r (λ m. IsReportedIn log n after × A m)
-    → IfErr r (λ f. (after ≡ log) × C f) → IsPrefix log after
-told_longer A C (Ok m) log after n ok err = report_longer log after n ok.0
-told_longer A C (Err f) log after n ok err = subst (IsPrefix log) (sym err.0) (prefix_self log)
+pub told_longer : (me new : Heard) (A : ℕ → Type 0) (E : BookFault → Type 0) (r : Result ℕ BookFault) (log after : List Entry) (n : ℕ)
+    → IfOk r (λ m. IsReportedIn log n after × A m) → IfErr r (λ f. (after ≡ log) × (new ≡ me) × E f) → IsPrefix log after
+told_longer me new A E (Ok m) log after n ok err = report_longer log after n ok.0
+told_longer me new A E (Err f) log after n ok err = subst (IsPrefix log) (sym err.0) (prefix_self log)
 
 module _ (failed : List Entry → ToldFault → Type 0) where
   later : (log more : List Entry) (fault : Option ToldFault) → IsPrefix log more → IfSome fault (MayTell failed log) → IfSome fault (MayTell failed more)

@@ -1,6 +1,7 @@
 //! A store as its keeper holds it: none of its calls waits, and its keeper gets no flusher and no open disk of it.
-ghost use Rattle.std.specs.Prelude.{◌≡◌, false, Some, IfErr, IfOk, IsTrue, OnErr};
-ghost use Rattle.overlay_terms.specs.Histories.{History, IsHistory, Version, newest};
+ghost use Rattle.std.specs.Prelude.{◌≡◌, ◌⊎◌, false, Err, Some, IfErr, IfOk, IsTrue, OnErr};
+ghost use Rattle.overlay_terms.specs.Histories.{History, IsHistory, newest};
+ghost use Rattle.disk_model.specs.Disk.{Failed};
 ghost use Rattle.root_store.specs.Beginning.{IsReason};
 ghost use Rattle.root_store.specs.Running.{Counts, calls_left, is_busy};
 ghost use Rattle.root_store.specs.declared.phase.Phase.TheVariants as phases;
@@ -8,10 +9,8 @@ ghost use Rattle.flush_core.specs.Stored.{HasNoRoomFor, stored_after};
 ghost use Rattle.book_history.specs.Logs.{history_of, newest_in};
 ghost use Rattle.commit_plan.specs.Live.{live_content};
 ghost use Rattle.commit_plan.specs.RecordPlaces.{AreKnown};
-ghost use Rattle.store_flushing.specs.Failing.{Fails};
 ghost use Rattle.store_flushing.specs.Since.{IsRemembered};
 ghost use Rattle.store_flushing.specs.Storing.{IsStoreOf, Keeps, KeepsTold};
-ghost use Rattle.store_flushing.specs.ToldFaults.{told_fault_of};
 
 use crate::closed::{StoreLeft, left_of};
 pub use crate::keeper::held_store::flushing::flusher_loop;
@@ -92,8 +91,7 @@ impl<D: Disk> HeldStore<D> {
         ensures errors { IfErr result
             (λ fault. IsReason self.old.flusher.commit.phase self.old.flusher.commit.root
             (HasNoRoomFor self.old.flusher.commit version.now) fault) }
-        ensures fails { IfErr result
-            (λ fault. Fails self.old.flusher self.new.flusher version.now (told_fault_of fault)) }
+        ensures failed { self.old.flusher.commit.phase ≡ phases.Failed → result ≡ Err StoreFault.Failed }
     {
         let mark = VersionMark::of(reporter, version);
         let known = self.is_known(&mark);
@@ -127,8 +125,9 @@ impl<D: Disk> HeldStore<D> {
         ensures counted { IfOk result
             (λ p. Counts p (calls_left self.old.flusher.commit) (calls_left self.new.flusher.commit)) }
         ensures failed { OnErr result (self.new.flusher.commit.phase ≡ phases.Failed) }
-        ensures fails { IfErr result (λ fault. D.is_honest self.old.flusher.commit.disk
-            → (version : Version) → Fails self.old.flusher self.new.flusher version (told_fault_of fault)) }
+        // It had failed before, or its device did now.
+        ensures cause { D.is_honest self.old.flusher.commit.disk → IfErr result (λ fault. (fault ≡ StoreFault.Failed)
+            ⊎ ((fault ≡ StoreFault.Device) × Failed (D.faults self.old.flusher.commit.disk) (D.faults self.new.flusher.commit.disk))) }
         ensures same { self.new.seen_log ≡ self.old.seen_log }
     {
         let stepped = self.flusher.step();

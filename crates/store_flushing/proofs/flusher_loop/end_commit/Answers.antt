@@ -1,4 +1,6 @@
-use Rattle.std.proofs.Common.{Ok, refl, ap, sym, ◌∙◌, subst}
+use Rattle.disk_model.specs.Disk as device
+use Rattle.commit_plan.specs.declared.fault.StoreFault.TheVariants as faults
+use Rattle.std.proofs.Common.{◌≡◌, ◌⊎◌, Ok, refl, ap, sym, ◌∙◌, subst}
 use Rattle.book_history.specs.Logs.{history_of, newest_in}
 use Rattle.book_lock.specs.Heard.{Heard}
 use Rattle.flush_core.specs.Stored.{stored_after}
@@ -6,7 +8,7 @@ use Rattle.store_flushing.specs.Storing.{Flushes}
 use Rattle.store_flushing.specs.Told.{KeepsTelling}
 use Rattle.store_flushing.specs.declared.keeper.Keeper.{Keeper}
 use Rattle.store_flushing.specs.ToldFaults.{told_fault_of}
-use Rattle.store_flushing.proofs.FailLemmas.{failed_then}
+use Rattle.store_flushing.proofs.FailLemmas.{failed_then, on_err, step_fails}
 use Rattle.store_flushing.proofs.Following.{by_call, by_run, further}
 use Rattle.store_flushing.proofs.Storage.{begun, kept_on, then, told_all}
 use Rattle.store_flushing.proofs.ToldLemmas.{telling_self, telling_then}
@@ -134,5 +136,7 @@ tell-requires-clause-failed g c =
       store = new.held.flusher;
       followed = by_call d m n mid.held.flusher new.held.flusher kept;
       by_device = kept.by_device;
-      fails = c.in-Err.ensures.fails run.store.honest (newest_in new.reporter.log);
+      fails = step_fails d mid.held.flusher new.held.flusher (newest_in new.reporter.log) c.in-Err.fault c.in-Err.ensures.failed
+          (on_err (λ f. (f ≡ faults.Failed) ⊎ ((f ≡ faults.Device) × device.Failed (d.faults mid.held.flusher.commit.disk) (d.faults new.held.flusher.commit.disk))) c.step.result c.in-Err.fault c.in-Err.is
+          (c.step.ensures.cause run.store.honest));
     }))

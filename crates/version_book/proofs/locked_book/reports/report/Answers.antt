@@ -5,8 +5,9 @@ use Rattle.version_book.proofs.locked_book.reports.report.Goals as goal
 pub invariant_of-locked : goal.invariant_of-locked
 invariant_of-locked g c =
     let old = c.args.locked.now in
-    let e = c.report-durable.ensures in
-    record {
-      failed = still_failed g.J.BookName.failed old.log c.report-durable.new.self old.state.fault old.state.fault (told_longer _ _ c.report-durable.result old.log c.report-durable.new.self c.args.number e.ok e.err) refl
-          old.failed;
-    }
+    let s = c.report-durable in
+    let me = c.args.me.now in
+    let after = s.new.self in
+    let r = s.result in
+    let e = s.ensures in
+    record { failed = still_failed g.J.BookName.failed old.log after old.state.fault old.state.fault (told_longer me s.new.me _ _ r old.log after c.args.number e.ok e.err) refl old.failed }
