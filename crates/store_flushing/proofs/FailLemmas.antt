@@ -4,7 +4,7 @@ use mathlib.Core.Bool.{false≢true}
 use Rattle.disk_model.specs.declared.disk.Disk.{Ghosts}
 use Rattle.disk_model.specs.Disk as device
 use Rattle.overlay_terms.specs.Histories.{Version, Entry, History}
-use Rattle.book_history.specs.Logs.{history_of}
+use Rattle.book_history.specs.Logs.{history_of, newest_in}
 use Rattle.book_history.specs.declared.fault.ToldFault.{ToldFault}
 use Rattle.book_history.specs.declared.fault.ToldFault.TheVariants as told
 use Rattle.commit_plan.specs.declared.fault.StoreFault.{StoreFault}
@@ -27,11 +27,8 @@ value_in : {T E : Type 0} → E → Result T E → E
 value_in other (Ok value) = other
 value_in other (Err fault) = fault
 
-abbrev err_of : {T E : Type 0} → E → Result T E
-err_of fault = Err fault
-
-pub err_is : {T E : Type 0} {a b : E} → err_of {T} a ≡ Err b → a ≡ b
-err_is {T} {E} {a} {b} is = ap (λ (r : Result T E). value_in a r) is
+pub err_is : {T E : Type 0} (r : Result T E) (a b : E) → r ≡ Err a → r ≡ Err b → a ≡ b
+err_is r a b is too = ap (value_in a) (sym is ∙ too)
 
 -- what holds of a refusal
 pub on_err : {T E : Type 0} (P : E → Type 0) (r : Result T E) (fault : E) → r ≡ Err fault → IfErr r P → P fault
@@ -105,7 +102,7 @@ module _ {D : Type 0} (g : Ghosts D) where
     store = is.store;
     followed = further g was now (history_of log) s t is.store first is.followed;
     by_device = fails_twice g s.commit t.commit is.store.commit by is.by_device;
-    fails = fails_since s t is.store _ fault by.no_less is.fails;
+    fails = fails_since s t is.store (newest_in log) fault by.no_less is.fails;
   }
 
   -- what holds of all for which a store fails holds of that from a later moment on

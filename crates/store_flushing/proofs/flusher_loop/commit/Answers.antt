@@ -73,7 +73,7 @@ tell-requires-clause-failed g c =
     let fault = told_fault_of c.in-Err.fault in
     let newest = c.requires.newest ∙ sym (ap (λ (r : Heard). newest_in r.log) c.begin.ensures.reporter) in
     let refused : Fails old.held.flusher old.held.flusher c.args.version.now fault =
-    refused_fails d old.held.flusher c.args.version.now c.in-Err.fault c.requires.idle (λ at. err_is (sym c.in-Err.is ∙ c.begin.ensures.failed at)) c.in-Err.ensures.errors in
+    refused_fails d old.held.flusher c.args.version.now c.in-Err.fault c.requires.idle (λ at. err_is c.begin.result _ _ c.in-Err.is (c.begin.ensures.failed at)) c.in-Err.ensures.errors in
     c.requires.failed mid.reporter.log fault (λ is.
     let kept = c.begin.ensures.keeps is in
     record {
