@@ -23,7 +23,7 @@ use Rattle.store_flushing.proofs.Following.{further}
 use Rattle.store_flushing.proofs.Storage.{fails_twice, rose_after}
 
 -- equal refusals are of one fault
-value_in : {T E : Type 0} → E → Result T E → E
+abbrev value_in : {T E : Type 0} → E → Result T E → E
 value_in other (Ok value) = other
 value_in other (Err fault) = fault
 
