@@ -4,11 +4,11 @@ use mathlib.Core.List.{IsPrefix}
 use Rattle.overlay_terms.specs.Histories.{Entry}
 use Rattle.book_history.specs.Logs.{history_of, newest_in}
 
--- a number was stored of a beginning of a log
-pub record MayTell (stored : List Entry → ℕ → Type 0) (log : List Entry) (number : ℕ) : Type 0 where
+-- what may be reported of a beginning of a log: a number that was stored, or a fault for which a store failed
+pub record MayTell {A : Type 0} (stored : List Entry → A → Type 0) (log : List Entry) (told : A) : Type 0 where
   pub was : List Entry
   pub longer : IsPrefix was log
-  pub holds : stored was number
+  pub holds : stored was told
 
 -- the number that a log reports durable is that of its first version, or was stored
 abbrev pub IsToldIn : (List Entry → ℕ → Type 0) → List Entry → Type 0

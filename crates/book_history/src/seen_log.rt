@@ -79,12 +79,16 @@ pub trait BookName {
     ghost use Rattle.std.specs.Prelude.{ℕ, List};
     ghost use Rattle.logbook.specs.Pages.{Book};
     ghost use Rattle.overlay_terms.specs.Histories as terms;
+    ghost use Rattle.book_history.specs.declared.fault.ToldFault as told;
 
     ghost book: { Book };
 
     /// What to prove of a log and a number before that is reported; who opens the
     /// book picks it (`serve`: `IsStoredOf`).
     ghost stored: { List terms.Entry → ℕ → Type 0 };
+
+    /// What to prove of a log and a fault before it is reported that the store failed so (`serve`: `IsFailedOf`).
+    ghost failed: { List terms.Entry → told.ToldFault → Type 0 };
 
     /// How many sessions it may be begun for: who begins it for more cannot prove that it has them.
     ghost seats: { ℕ };
@@ -93,8 +97,10 @@ pub trait BookName {
 impl BookName for Brand {
     ghost book = { record { number = 0; log_name = 0; cells_name = 0 } };
 
-    // Where a call picks nothing, nothing is stored.
+    // Where a call picks nothing, nothing is stored, and no store failed.
     ghost stored = { λ log number. ⊥ };
+
+    ghost failed = { λ log fault. ⊥ };
 
     ghost seats = { 4 };
 }

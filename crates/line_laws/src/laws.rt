@@ -6,16 +6,17 @@ ghost use Rattle.line_laws.specs.Deciding.{LinesDecide, TranscriptsHaveTurns};
 
 use std::marker::Brand;
 
-/// Of which history the transcripts of a law may report the durable number. A call that passes `Brand` picks it.
+/// What the transcripts of a law may report of a store, at which history. A call that passes `Brand` picks it.
 pub trait Tells {
     ghost use Rattle.overlay_terms.specs.Histories.{History};
+    ghost use Rattle.script_form.specs.Transcript.{StoreReport};
 
-    ghost told: { History → Type 0 };
+    ghost told: { History → StoreReport → Type 0 };
 }
 
 impl Tells for Brand {
     // Where a call picks nothing, nothing is asked.
-    ghost told = { λ history. Unit {0} };
+    ghost told = { λ history report. Unit {0} };
 }
 
 /// Where no one else's command was accepted meanwhile, the number and the layers of the version after each line or

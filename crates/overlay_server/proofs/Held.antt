@@ -1,5 +1,7 @@
--- What a book may report durable was held by the store of the version that it began with.
+-- What a book may report durable was held by the store of the version that it began with, which failed for the faults that it
+-- may report.
 use Rattle.std.proofs.Common.{◌≡◌, inl, inr, ℕ, ◌≤◌, IsTrue, List, [], ◌∷◌, Option, Some, None, is_some, refl, sym, ap, subst, arith}
+use Rattle.std.proofs.Math.Logic.{∥∥₁_map}
 use mathlib.Core.List.{IsPrefix}
 use Rattle.std.specs.List.{AllByRecursion, AllZip}
 use Rattle.std.proofs.lemmas.Bool.{false≢true}
@@ -10,8 +12,11 @@ use Rattle.flush_core.specs.declared.flusher.Flusher.{Flusher}
 use Rattle.book_history.specs.Known.{seen}
 use Rattle.book_history.specs.Logs.{history_of, newest_in}
 use Rattle.book_history.proofs.Chains.{begins_with}
-use Rattle.script_form.specs.Transcript.{store_by}
-use Rattle.server_session.specs.Stores.{IsToldOf, store_of}
+use Rattle.book_history.specs.declared.fault.ToldFault.{ToldFault}
+use Rattle.script_form.specs.declared.fault.CommandFault.{CommandFault}
+use Rattle.script_form.specs.Transcript.{StoreReport, of_number, of_fault, store_by}
+use Rattle.server_session.specs.Stores.{IsFaultOf, IsReportOf, IsToldOf, store_of}
+use Rattle.store_flushing.specs.Failing.{IsFailed}
 use Rattle.store_flushing.specs.Storing.{IsStoreOf, IsStored}
 use Rattle.store_flushing.proofs.Following.{by_run}
 use Rattle.store_flushing.proofs.Storage.{begun}
@@ -19,10 +24,11 @@ use Rattle.session_threads.specs.Running.{IsRunOf}
 use Rattle.session_threads.specs.declared.running.Script.{Script}
 use Rattle.session_threads.specs.declared.running.Ended.{Ended}
 use Rattle.overlay_server.specs.Moments.{HasOnlyNow}
-use Rattle.overlay_server.specs.Serving.{IsHeldOf, IsStoredOf, WasHeld, first_log}
+use Rattle.overlay_server.specs.Serving.{HadFailed, IsFailedOf, IsFailureOf, IsHeldOf, IsReportedOf, IsStoredOf, WasHeld, first_log}
+use Rattle.server_session.specs.Fault.{store_told}
 use Rattle.server_session.proofs.Weaker.{session_weaker}
 
-module _ {D : Type 0} (g : Ghosts D) (now : HasOnlyNow g) (start : Version) (stored : List Entry → ℕ → Type 0) where
+module _ {D : Type 0} (g : Ghosts D) (now : HasOnlyNow g) (start : Version) (stored : List Entry → ℕ → Type 0) (failed : List Entry → ToldFault → Type 0) where
   -- a history that goes on from a log goes on from each beginning of it to which the first version's store was followed
   before : (was log : List Entry) (history : History) → IsPrefix was log → history_of log ≡ history → BeginsWith history (history_of (first_log start))
       → BeginsWith (history_of was) (history_of (first_log start)) → BeginsWith history (history_of was)
@@ -56,7 +62,7 @@ module _ {D : Type 0} (g : Ghosts D) (now : HasOnlyNow g) (start : Version) (sto
     stored = is;
   }
 
-  pub was_held : (store : Option (Flusher D g)) → ((log : List Entry) (number : ℕ) → stored log number → IsStoredOf g start store log number) → IsTrue (is_some store)
+  was_held : (store : Option (Flusher D g)) → ((log : List Entry) (number : ℕ) → stored log number → IsStoredOf g start store log number) → IsTrue (is_some store)
       → (history : History) → BeginsWith history (history_of (first_log start)) → IsToldOf stored history → IsHeldOf g start store history
   was_held None meant there history on told = absurd (false≢true there)
   was_held (Some old) meant there history on (log, same, inl first) =
@@ -64,12 +70,32 @@ module _ {D : Type 0} (g : Ghosts D) (now : HasOnlyNow g) (start : Version) (sto
   was_held (Some old) meant there history on (log, same, inr may) = λ is.
       later_held old may.was log history on same may.longer (meant may.was (newest_in log).durable may.holds is)
 
-  -- the sessions of a book, by what its store held
+  failed_before : (old : Flusher D g) (was log : List Entry) (history : History) (fault : CommandFault) → BeginsWith history (history_of (first_log start)) → history_of log ≡ history → IsPrefix was log
+      → (told : ToldFault) → fault ≡ store_told told → IsFailed g (history_of (first_log start)) old was told → HadFailed g start old history fault
+  failed_before old was log history fault on same longer told is fails =
+      record { log = was; before = before was log history longer same on fails.followed.goes_on; told = told; same = is; failed = fails }
+
+  had_failed : (store : Option (Flusher D g)) → ((log : List Entry) (fault : ToldFault) → failed log fault → IsFailedOf g start store log fault) → IsTrue (is_some store)
+      → (history : History) (fault : CommandFault) → BeginsWith history (history_of (first_log start)) → IsFaultOf failed history fault → IsFailureOf g start store history fault
+  had_failed None meant there history fault on is = absurd (false≢true there)
+  had_failed (Some old) meant there history fault on is = λ store.
+      ∥∥₁_map is.failed_so (λ may. failed_before old may.was is.log history fault on is.of may.longer is.told is.same (meant may.was is.told may.holds store))
+
+  -- what the words of a book's name mean
+  pub record Means (store : Option (Flusher D g)) : Type 0 where
+    pub stored_is : (log : List Entry) (number : ℕ) → stored log number → IsStoredOf g start store log number
+    pub failed_is : (log : List Entry) (fault : ToldFault) → failed log fault → IsFailedOf g start store log fault
+
+  pub was_reported : (store : Option (Flusher D g)) → Means store → IsTrue (is_some store) → (history : History) (report : StoreReport) → BeginsWith history (history_of (first_log start))
+      → IsReportOf stored failed history report → IsReportedOf g start store history report
+  was_reported store means there history of_number on is = was_held store means.stored_is there history on is
+  was_reported store means there history (of_fault fault) on is = had_failed store means.failed_is there history fault on is
+
+  -- the sessions of a book, by what its store held and for what it failed
   pub runs_held : {R W : Type 0} (book : Book) (store : Option (Flusher D g)) (remaining : R → Option (List ℕ)) (contents : W → Option (List ℕ))
-      → ((log : List Entry) (number : ℕ) → stored log number → IsStoredOf g start store log number)
-      → (ss : List (Script R W)) (es : List (Ended R W)) → AllByRecursion (λ (s : Script R W). BeginsWith (seen s.session) (history_of (first_log start))) ss
-      → AllZip (IsRunOf book (store_of stored (is_some store)) remaining contents) ss es
-      → AllZip (IsRunOf book (store_by (IsHeldOf g start store) (is_some store)) remaining contents) ss es
+      → Means store → (ss : List (Script R W)) (es : List (Ended R W)) → AllByRecursion (λ (s : Script R W). BeginsWith (seen s.session) (history_of (first_log start))) ss
+      → AllZip (IsRunOf book (store_of stored failed (is_some store)) remaining contents) ss es
+      → AllZip (IsRunOf book (store_by (IsReportedOf g start store) (is_some store)) remaining contents) ss es
   runs_held book store remaining contents meant [] [] begin ran = tt
   runs_held book store remaining contents meant [] (e ∷ es) begin ran = absurd ran
   runs_held book store remaining contents meant (s ∷ ss) [] begin ran = absurd ran
@@ -80,7 +106,7 @@ module _ {D : Type 0} (g : Ghosts D) (now : HasOnlyNow g) (start : Version) (sto
           same = one.same;
           begun = one.begun;
           goes_on = one.goes_on;
-          ran = session_weaker (IsToldOf stored) (IsHeldOf g start store) (is_some store) (history_of (first_log start)) (was_held store meant) s.port.most e.end s.session e.session
+          ran = session_weaker (IsReportOf stored failed) (IsReportedOf g start store) (is_some store) (history_of (first_log start)) (was_reported store meant) s.port.most e.end s.session e.session
               _ _ _ _ begin.0 one.ran;
         },
         runs_held book store remaining contents meant ss es begin.1 ran.1,

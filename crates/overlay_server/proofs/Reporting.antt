@@ -13,26 +13,28 @@ use Rattle.book_lock.proofs.Beginning.{count_of}
 use Rattle.book_history.specs.BookLogs.{BookLog}
 use Rattle.book_history.specs.Known.{Known, seen}
 use Rattle.book_history.specs.Logs.{history_of}
+use Rattle.book_history.specs.declared.fault.ToldFault.{ToldFault}
+use Rattle.script_form.specs.Transcript.{StoreReport}
 use Rattle.server_session.specs.Replying.{MayReport}
 use Rattle.session_threads.specs.Seats.{port_of, session_of}
 use Rattle.session_threads.specs.declared.port.Port.{Port}
 use Rattle.session_threads.specs.declared.running.Script.{Script}
 use Rattle.store_flushing.proofs.Histories.{begins_trans}
 use Rattle.overlay_server.specs.Moments.{HasOnlyNow}
-use Rattle.overlay_server.specs.Serving.{IsHeldOf, IsStoredOf, first_log, flusher_of}
-use Rattle.overlay_server.proofs.Held.{was_held}
+use Rattle.overlay_server.specs.Serving.{IsReportedOf, first_log, flusher_of}
+use Rattle.overlay_server.proofs.Held.{Means, was_reported}
 
-module _ {D : Type 0} (g : Ghosts D) (now : HasOnlyNow g) (start : Version) (stored : List Entry → ℕ → Type 0) (store : Option (Flusher D g))
-    (meant : (log : List Entry) (number : ℕ) → stored log number → IsStoredOf g start store log number) (may : History → Type 0)
-    (held : (history : History) → IsHeldOf g start store history → may history) (there : Bool) (same : there ≡ is_some store) where
+module _ {D : Type 0} (g : Ghosts D) (now : HasOnlyNow g) (start : Version) (stored : List Entry → ℕ → Type 0) (failed : List Entry → ToldFault → Type 0) (store : Option (Flusher D g))
+    (means : Means g now start stored failed store) (may : History → StoreReport → Type 0)
+    (held : (history : History) (report : StoreReport) → IsReportedOf g start store history report → may history report) (there : Bool) (same : there ≡ is_some store) where
   -- to those of sessions that have seen how the book began
   pub may_report_all : {R W : Type 0} (ss : List (Script R W)) → AllByRecursion (λ (s : Script R W). BeginsWith (seen s.session) (history_of (first_log start))) ss
-      → All (λ (s : Script R W). MayReport stored there s.session may) ss
-  may_report_all [] begin = All-nil (λ s. MayReport stored there s.session may)
+      → All (λ (s : Script R W). MayReport stored failed there s.session may) ss
+  may_report_all [] begin = All-nil (λ s. MayReport stored failed there s.session may)
   may_report_all (s ∷ ss) begin =
-      All-cons (λ s. MayReport stored there s.session may) s ss
-      (λ one history on told.
-      held history (was_held g now start stored store meant (sym same ∙ one) history (begins_trans (history_of (first_log start)) (seen s.session) history begin.0 on) told))
+      All-cons (λ s. MayReport stored failed there s.session may) s ss
+      (λ one history report on told.
+      held history report (was_reported g now start stored failed store means (sym same ∙ one) history report (begins_trans (history_of (first_log start)) (seen s.session) history begin.0 on) told))
       (may_report_all ss begin.1)
 
 -- ports' writers that have all of their scripts left are those of the scripts

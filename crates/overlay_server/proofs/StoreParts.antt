@@ -10,9 +10,11 @@ use Rattle.root_store.specs.declared.phase.Phase.TheVariants.{Idle, Close, Settl
 use Rattle.root_store.specs.Running.{is_busy}
 use Rattle.flush_core.specs.declared.flusher.Flusher.{Flusher}
 use Rattle.book_history.specs.Logs.{history_of, newest_in, IsLog}
+use Rattle.book_history.specs.declared.fault.ToldFault.{ToldFault}
 use Rattle.book_history.proofs.Chains.{begins_with, is_history}
 use Rattle.book_lock.specs.Heard.{HasHeard}
 use Rattle.store_flushing.specs.Among.{IsFileIn}
+use Rattle.store_flushing.specs.Failing.{HoldsOfFailed}
 use Rattle.store_flushing.specs.Storing.{IsStoreOf, HoldsOfStored}
 use Rattle.store_flushing.specs.Stores.{flusher_in, reporter_of, told_by}
 use Rattle.store_flushing.specs.Told.{StaysTold, TellsOn, told_in}
@@ -22,6 +24,7 @@ use Rattle.store_flushing.specs.declared.keeper.store.Store.{Store}
 use Rattle.store_flushing.specs.declared.keeper.store.Store.TheVariants.{Kept, Alone}
 use Rattle.store_flushing.specs.declared.keeper.told_log.Told.{Told}
 use Rattle.store_flushing.proofs.Closings.{exactly_on}
+use Rattle.store_flushing.proofs.FailLemmas.{failed_on}
 use Rattle.store_flushing.proofs.Following.{by_run, handed_on}
 use Rattle.store_flushing.proofs.Histories.{file_more}
 use Rattle.store_flushing.proofs.Storage.{begun, store_leaves, then}
@@ -29,7 +32,7 @@ use Rattle.store_flushing.proofs.ToldLemmas.{none_yet, telling_then, tells_then,
 use Rattle.overlay_server.specs.Moments.{HasOnlyNow}
 use Rattle.overlay_server.specs.Keeping.{AreFlushed, HoldsOfStore, IsStoreKept}
 use Rattle.overlay_server.specs.Refusing.{StoreComesBack}
-use Rattle.overlay_server.specs.Serving.{IsLeftOfStore, IsStoredOf, first_log}
+use Rattle.overlay_server.specs.Serving.{IsFailedOf, IsLeftOfStore, IsStoredOf, first_log}
 
 -- no commit is under way
 at_rest : (p : Phase) → is_busy p ≡ false → (p ≡ Idle) ⊎ (p ≡ Failed)
@@ -66,23 +69,33 @@ module _ {D : Type 0} (g : Ghosts D) where
   abbrev pub CountsAs : (List Entry → ℕ → Type 0) → Version → Option (Flusher D g) → Type 0
   CountsAs stored start store = (log : List Entry) (number : ℕ) → stored log number ↔ IsStoredOf g start store log number
 
-  -- what holds of all that the store of a book comes to hold
-  pub holds_first : (stored : List Entry → ℕ → Type 0) (start : Version) (store : Store D g) → (reporter_of store).log ≡ first_log start
-      → CountsAs stored start (flusher_in store) → HoldsOfStore g stored store
-  holds_first stored start (Kept k) first same =
-      subst (λ (es : List Entry). HoldsOfStored g stored (history_of es) k.held.flusher) (sym first)
-      (λ log h on. (same log h.commit.root.version).1 (λ is. record { store = h; followed = on is; at = refl }))
-  holds_first stored start (Alone r) first same = tt
+  -- it failed for what the store of a version did
+  abbrev pub FailsAs : (List Entry → ToldFault → Type 0) → Version → Option (Flusher D g) → Type 0
+  FailsAs failed start store = (log : List Entry) (fault : ToldFault) → failed log fault ↔ IsFailedOf g start store log fault
+
+  -- what holds of all that the store of a book comes to hold, and of all for which it fails
+  pub holds_first : (stored : List Entry → ℕ → Type 0) (failed : List Entry → ToldFault → Type 0) (start : Version) (store : Store D g) → (reporter_of store).log ≡ first_log start
+      → CountsAs stored start (flusher_in store) → FailsAs failed start (flusher_in store) → HoldsOfStore g stored failed store
+  holds_first stored failed start (Kept k) first same fails = (
+    subst (λ (es : List Entry). HoldsOfStored g stored (history_of es) k.held.flusher) (sym first)
+        (λ log h on. (same log h.commit.root.version).1 (λ is. record { store = h; followed = on is; at = refl })),
+    subst (λ (es : List Entry). HoldsOfFailed g failed (history_of es) k.held.flusher) (sym first) (λ log fault on. (fails log fault).1 on),
+  )
+  holds_first stored failed start (Alone r) first same fails = tt
 
   -- it holds after a run too
-  pub holds_on : (stored : List Entry → ℕ → Type 0) (a b : Store D g) → AreFlushed g a b → HoldsOfStore g stored a → HoldsOfStore g stored b
-  holds_on stored (Kept a) (Kept b) run all =
+  pub holds_on : (stored : List Entry → ℕ → Type 0) (failed : List Entry → ToldFault → Type 0) (a b : Store D g) → AreFlushed g a b → HoldsOfStore g stored failed a → HoldsOfStore g stored failed b
+  holds_on stored failed (Kept a) (Kept b) run all =
       let was = history_of a.reporter.log in
       let now = history_of b.reporter.log in
-      handed_on g stored was now a.held.flusher b.held.flusher (λ is. by_run g was now a.held.flusher b.held.flusher (run.flushes is)) all
-  holds_on stored (Kept a) (Alone b) run all = absurd run
-  holds_on stored (Alone a) (Kept b) run all = absurd run
-  holds_on stored (Alone a) (Alone b) run all = tt
+      let old = a.held.flusher in
+      let new = b.held.flusher in (
+        handed_on g stored was now old new (λ is. by_run g was now old new (run.flushes is)) all.0,
+        failed_on g failed was now old new (λ is. let ran = run.flushes is in (by_run g was now old new ran, ran.by_device)) all.1,
+      )
+  holds_on stored failed (Kept a) (Alone b) run all = absurd run
+  holds_on stored failed (Alone a) (Kept b) run all = absurd run
+  holds_on stored failed (Alone a) (Alone b) run all = tt
 
   -- ---- at the end of a book
 

@@ -5,6 +5,8 @@ use Rattle.disk_model.specs.declared.disk.Disk.{Ghosts}
 use Rattle.overlay_terms.specs.Histories.{Entry}
 use Rattle.root_store.specs.Running.{is_busy}
 use Rattle.book_history.specs.Logs.{history_of}
+use Rattle.book_history.specs.declared.fault.ToldFault.{ToldFault}
+use Rattle.store_flushing.specs.Failing.{HoldsOfFailed}
 use Rattle.store_flushing.specs.Storing.{IsStoreOf, Flushes, HoldsOfStored}
 use Rattle.store_flushing.specs.Stores.{reporter_of}
 use Rattle.store_flushing.specs.Told.{KeepsTelling}
@@ -27,10 +29,13 @@ module _ {D : Type 0} (g : Ghosts D) where
   AreFlushed (Kept old) (Alone new) = ⊥
   AreFlushed (Alone old) (Kept new) = ⊥
 
-  -- a predicate holds of each number that a store comes to hold, where there is a store
-  abbrev pub HoldsOfStore : (List Entry → ℕ → Type 0) → Store D g → Type 0
-  HoldsOfStore stored (Kept keeper) = HoldsOfStored g stored (history_of keeper.reporter.log) keeper.held.flusher
-  HoldsOfStore stored (Alone reporter) = Unit {0}
+  -- a predicate holds of each number that a store comes to hold, and one of each fault for which it fails, where there is
+  -- a store
+  abbrev pub HoldsOfStore : (List Entry → ℕ → Type 0) → (List Entry → ToldFault → Type 0) → Store D g → Type 0
+  HoldsOfStore stored failed (Kept keeper) =
+      HoldsOfStored g stored (history_of keeper.reporter.log) keeper.held.flusher
+      × HoldsOfFailed g failed (history_of keeper.reporter.log) keeper.held.flusher
+  HoldsOfStore stored failed (Alone reporter) = Unit {0}
 
 -- the store's thread has returned: its reporter is of this book, and it committed versions of the book alone
 pub record IsStoreKept {D : Type 0} (book : Book) (g : Ghosts D) (old new : Store D g) : Type 0 where

@@ -14,9 +14,13 @@ use Rattle.overlay_engine.specs.declared.engine.Engine.{Engine}
 use Rattle.book_history.specs.Known.{Known, seen}
 use Rattle.book_history.specs.Logs.{entry, no_event, history_of, newest_in, IsLog}
 use Rattle.book_lock.specs.Steps.{beginners, HasAllOf}
-use Rattle.script_form.specs.Transcript.{BookStore, store_by}
+use Rattle.book_history.specs.declared.fault.ToldFault.{ToldFault}
+use Rattle.script_form.specs.declared.fault.CommandFault.{CommandFault}
+use Rattle.script_form.specs.Transcript.{BookStore, StoreReport, of_number, of_fault, store_by}
+use Rattle.server_session.specs.Fault.{store_told}
 use Rattle.server_session.specs.Session.{IsSessionWithin}
 use Rattle.store_flushing.specs.Among.{IsFileIn, IsFileExactlyIn}
+use Rattle.store_flushing.specs.Failing.{IsFailed}
 use Rattle.store_flushing.specs.Storing.{IsStoreOf, IsStored}
 use Rattle.store_flushing.specs.Told.{StaysTold, told_in}
 use Rattle.store_flushing.specs.declared.closed.Closed.{Closed}
@@ -39,7 +43,7 @@ flusher_of (Some engine) = Some engine.flusher
 abbrev pub first_log : Version → List Entry
 first_log start = entry no_event start ∷ []
 
--- ---- what is stored, and what may be reported durable
+-- ---- what is stored, for what the store failed, and what may be reported of it
 
 -- which number of which log is stored: what the first version's store held, followed to that log; without a store, none
 abbrev pub IsStoredOf : {D : Type 0} (g : Ghosts D) → Version → Option (Flusher D g) → List Entry → ℕ → Type 0
@@ -61,9 +65,34 @@ IsHeldOf g start None history = ⊥
 IsHeldOf g start (Some old) history =
     IsStoreOf g (history_of (first_log start)) old → WasHeld g start old history (newest history).durable
 
+-- for which fault of which log the store failed: the first version's store, followed to that log; without a store, for none
+abbrev pub IsFailedOf : {D : Type 0} (g : Ghosts D) → Version → Option (Flusher D g) → List Entry → ToldFault → Type 0
+IsFailedOf g start None log fault = ⊥
+IsFailedOf g start (Some old) log fault =
+    IsStoreOf g (history_of (first_log start)) old → IsFailed g (history_of (first_log start)) old log fault
+
+-- a fault was reported for which the store failed: the first version's store, followed to a beginning of the history
+pub record HadFailed {D : Type 0} (g : Ghosts D) (start : Version) (old : Flusher D g) (history : History) (fault : CommandFault) : Type 0 where
+  pub log : List Entry
+  pub before : BeginsWith history (history_of log)
+  pub told : ToldFault
+  pub same : fault ≡ store_told told
+  pub failed : IsFailed g (history_of (first_log start)) old log told
+
+-- which fault of its store a server reports to a session at which history: one for which that failed
+abbrev pub IsFailureOf : {D : Type 0} (g : Ghosts D) → Version → Option (Flusher D g) → History → CommandFault → Type 0
+IsFailureOf g start None history fault = ⊥
+IsFailureOf g start (Some old) history fault =
+    IsStoreOf g (history_of (first_log start)) old → ∥ HadFailed g start old history fault ∥₁
+
+-- what a server reports to a session of its store
+abbrev pub IsReportedOf : {D : Type 0} (g : Ghosts D) → Version → Option (Flusher D g) → History → StoreReport → Type 0
+IsReportedOf g start store history of_number = IsHeldOf g start store history
+IsReportedOf g start store history (of_fault fault) = IsFailureOf g start store history fault
+
 -- what the sessions of a server know of its store
 abbrev pub store_from : {D : Type 0} (g : Ghosts D) → Version → Option (Flusher D g) → BookStore
-store_from g start store = store_by (IsHeldOf g start store) (is_some store)
+store_from g start store = store_by (IsReportedOf g start store) (is_some store)
 
 -- ---- sessions
 

@@ -4,7 +4,8 @@ use Rattle.logbook.specs.Pages.{Book}
 use Rattle.disk_model.specs.declared.disk.Disk.{Ghosts}
 use Rattle.overlay_terms.specs.Histories.{Entry, History}
 use Rattle.book_history.specs.Known.{Known}
-use Rattle.script_form.specs.Transcript.{BookStore}
+use Rattle.book_history.specs.declared.fault.ToldFault.{ToldFault}
+use Rattle.script_form.specs.Transcript.{BookStore, StoreReport}
 use Rattle.script_form.specs.Turns.{Turn}
 use Rattle.store_flushing.specs.Stores.{reporter_of}
 use Rattle.server_session.specs.Replying.{IsAtStart, IsPastMost, MayReport}
@@ -16,15 +17,15 @@ use Rattle.overlay_server.specs.Keeping.{HoldsOfStore, IsStoreKept}
 use Rattle.overlay_server.specs.declared.threads.Work.{Work}
 use Rattle.overlay_server.specs.declared.threads.Worked.{Worked}
 
--- store and sessions are of this book, what the store comes to hold may be reported durable, what was stored may be
--- reported to the writers, each of which goes on from what its session knows, has all of its script left, if it keeps
--- that, and may be told of a limit that the script passes, and there is room for what the sessions leave; `there` says
--- whether the book has a store
-pub record IsReady {J R W D : Type 0} {g : Ghosts D} (book : Book) (stored : List Entry → ℕ → Type 0) (there : Bool) (may : History → Type 0) (from : W → Bool → Known → Type 0) (remaining : R → Option (List ℕ)) (left : W → Option (List Turn)) (may_pass : W → Type 0) (work : Work J R W D g) : Type 0 where
+-- store and sessions are of this book, what the store comes to hold and for what it fails may be reported to the book,
+-- what was may be to the writers, each of which goes on from what its session knows, has all of its script left, if it
+-- keeps that, and may be told of a limit that the script passes, and there is room for what the sessions leave; `there`
+-- says whether the book has a store
+pub record IsReady {J R W D : Type 0} {g : Ghosts D} (book : Book) (stored : List Entry → ℕ → Type 0) (failed : List Entry → ToldFault → Type 0) (there : Bool) (may : History → StoreReport → Type 0) (from : W → Bool → Known → Type 0) (remaining : R → Option (List ℕ)) (left : W → Option (List Turn)) (may_pass : W → Type 0) (work : Work J R W D g) : Type 0 where
   pub store : (reporter_of work.store).book ≡ book
-  pub durable : HoldsOfStore g stored work.store
+  pub durable : HoldsOfStore g stored failed work.store
   pub scripts : All (λ (script : Script R W). script.session.book ≡ book) work.seats.scripts.items
-  pub told : All (λ (script : Script R W). MayReport stored there script.session may) work.seats.scripts.items
+  pub told : All (λ (script : Script R W). MayReport stored failed there script.session may) work.seats.scripts.items
   pub goes_on : All (λ (script : Script R W). from script.port.writer there script.session) work.seats.scripts.items
   pub own : All (λ (script : Script R W). IfSome (left script.port.writer) (IsAtStart (remaining script.port.reader))) work.seats.scripts.items
   pub limit : All (λ (script : Script R W). IsPastMost script.port.most (remaining script.port.reader) → may_pass script.port.writer) work.seats.scripts.items

@@ -41,7 +41,7 @@ where
     Q: Threads + Wait + Sync,
     D: Disk + Send + Drop + 's,
     requires book { (reporter_of store).book ≡ J.book }
-    requires stored { HoldsOfStore D.Disk J.stored store }
+    requires stored { HoldsOfStore D.Disk J.stored J.failed store }
     ensures { MatchResult result (λ h. h.promise.begun.value ≡ store) (λ after. IsStoreKept J.book D.Disk store after) }
 {
     let promise = KeepsStore {
@@ -52,7 +52,7 @@ where
         promise,
         move || -> Store<D>
             requires book { (reporter_of store).book ≡ J.book }
-            requires stored { HoldsOfStore D.Disk J.stored store }
+            requires stored { HoldsOfStore D.Disk J.stored J.failed store }
             ensures { IsStoreKept J.book D.Disk store result }
         { keep_store(rt, alloc, shared, store) },
     );
@@ -75,7 +75,7 @@ pub fn keep_store<J: BookName, S: Wait + Drop, Q: Wait, D: Disk>(
 ) -> Store<D>
     requires book { (reporter_of store).book ≡ J.book }
     // What the store comes to hold may be reported durable.
-    requires stored { HoldsOfStore D.Disk J.stored store }
+    requires stored { HoldsOfStore D.Disk J.stored J.failed store }
     ensures { IsStoreKept J.book D.Disk store result }
 {
     match store {

@@ -57,15 +57,15 @@ where
     R: Read + Send + Drop,
     W: ReplyWriter + Send + Drop,
     D: Disk + Send + Drop,
-    requires { IsReady J.book J.stored (has_store shared.now) W.may_report W.from R.remaining W.left W.may_pass_limit work }
-    ensures { HasWorked J.book (store_of J.stored (has_store shared.now)) R.remaining W.contents D.Disk work result }
+    requires { IsReady J.book J.stored J.failed (has_store shared.now) W.may_report W.from R.remaining W.left W.may_pass_limit work }
+    ensures { HasWorked J.book (store_of J.stored J.failed (has_store shared.now)) R.remaining W.contents D.Disk work result }
 {
     thread::scope(
         thread::scope_env(),
         rt,
         |scope| -> Worked<W, D>
-            requires { IsReady J.book J.stored (has_store shared.now) W.may_report W.from R.remaining W.left W.may_pass_limit work }
-            ensures { HasWorked J.book (store_of J.stored (has_store shared.entry.now)) R.remaining W.contents D.Disk work result }
+            requires { IsReady J.book J.stored J.failed (has_store shared.now) W.may_report W.from R.remaining W.left W.may_pass_limit work }
+            ensures { HasWorked J.book (store_of J.stored J.failed (has_store shared.entry.now)) R.remaining W.contents D.Disk work result }
         { run_in(scope, rt, alloc, gate, shared, halt, work) },
     )
 }
@@ -88,8 +88,8 @@ where
     R: Read + Send + Drop + 's,
     W: ReplyWriter + Send + Drop + 's,
     D: Disk + Send + Drop + 's,
-    requires { IsReady J.book J.stored (has_store shared.now) W.may_report W.from R.remaining W.left W.may_pass_limit work }
-    ensures { HasWorked J.book (store_of J.stored (has_store shared.now)) R.remaining W.contents D.Disk work result }
+    requires { IsReady J.book J.stored J.failed (has_store shared.now) W.may_report W.from R.remaining W.left W.may_pass_limit work }
+    ensures { HasWorked J.book (store_of J.stored J.failed (has_store shared.now)) R.remaining W.contents D.Disk work result }
 {
     let Work {
         workers,

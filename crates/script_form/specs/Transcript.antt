@@ -34,13 +34,18 @@ use Rattle.script_form.specs.Requests.{remove_name, locate, grid, list_layers, e
 use Rattle.script_form.specs.Turns.{Turn, alone, together, cut_off}
 use Rattle.script_form.specs.Replies.{numbered_line, error_line, refused_line, location_line, verdict_line}
 
--- what is known of the store of a book: whether there is one, and of which history the durable number may be reported
+-- what a session reports of a store: the durable number, or the fault for which the newest version is not durable
+pub data StoreReport : Type 0 where
+  of_number : StoreReport
+  of_fault : CommandFault → StoreReport
+
+-- what is known of the store of a book: whether there is one, and what may be reported of it at which history
 pub record BookStore : Type 1 where
   pub there : Bool
-  pub told : History → Type 0
+  pub told : History → StoreReport → Type 0
 
 -- a store, by what may be reported of it and whether it is there
-abbrev pub store_by : (History → Type 0) → Bool → BookStore
+abbrev pub store_by : (History → StoreReport → Type 0) → Bool → BookStore
 store_by told there = record { there = there; told = told }
 
 -- what is told without a change: nothing is made, and the reply is this text
@@ -105,14 +110,15 @@ IsOfStore fault =
 pub record IsDurableTold (stored : BookStore) (asked : ℕ) (after : History) (made : List Batch) (reply : List ℕ) : Type 0 where
   pub nothing_made : made ≡ []
   pub reached : asked ≤ (newest after).durable
-  pub may : stored.told after
+  pub may : stored.told after of_number
   pub told : reply ≡ numbered_line (codes "durable ") (newest after).durable
 
--- the version that had been seen is not durable, for what the store says
-pub record IsNotDurable (asked : ℕ) (durable : ℕ) (made : List Batch) (reply : List ℕ) : Type 0 where
-  pub behind : durable < asked
+-- the version that had been seen is not durable, for what the store says, which may be reported
+pub record IsNotDurable (stored : BookStore) (asked : ℕ) (after : History) (made : List Batch) (reply : List ℕ) : Type 0 where
+  pub behind : (newest after).durable < asked
   pub fault : CommandFault
   pub of_store : IsOfStore fault
+  pub may : (fault ≡ Closing) ⊎ stored.told after (of_fault fault)
   pub refused : IsRefused fault made reply
 
 -- whether the version that a session had seen is durable: where the book has no store, nobody can say
@@ -121,7 +127,7 @@ IsSynced stored asked after made reply =
     ((stored.there ≡ false) × IsRefused NoStore made reply)
     ⊎ IsRefused Gone made reply
     ⊎ (IsTrue stored.there × IsDurableTold stored asked after made reply)
-    ⊎ (IsTrue stored.there × IsNotDurable asked (newest after).durable made reply)
+    ⊎ (IsTrue stored.there × IsNotDurable stored asked after made reply)
 
 -- a PUT, a DEFINE or a DROP: refused where it is no command, else submitted
 abbrev pub IsChanged : ℕ → History → Request → History → List Batch → List ℕ → Type 0

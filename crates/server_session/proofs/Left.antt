@@ -13,14 +13,15 @@ use Rattle.script_form.specs.OpenBatch.{IsOpen}
 use Rattle.script_form.specs.Lines.{without_cr, ended_lines, unended, last_line, whole_lines}
 use Rattle.script_form.specs.Replies.{error_line, reply_text}
 use Rattle.script_form.specs.Requests.{request_of}
-use Rattle.script_form.specs.Transcript.{BookStore, store_by}
+use Rattle.book_history.specs.declared.fault.ToldFault.{ToldFault}
+use Rattle.script_form.specs.Transcript.{BookStore, StoreReport, store_by}
 use Rattle.script_form.specs.Turns.{Turn, Waiting, cut_off, cut_off_in, ended_by, turns_of, all_turns_of, waiting_after, waiting_behind}
 use Rattle.script_form.proofs.LongLines.{request_of-cut, request_of-cut_ended}
 use Rattle.script_form.proofs.Pieces.{ended_lines-more}
 use Rattle.server_session.specs.Replying.{IsAtStart, IsNextReply, MayReport}
 use Rattle.server_session.specs.Session.{IsSharedRun, Stays}
 use Rattle.server_session.specs.SessionState.{AreNext, HasTaken, IsOnWay, turns_ended, turns_at_end}
-use Rattle.server_session.specs.Stores.{IsToldOf, store_of}
+use Rattle.server_session.specs.Stores.{IsReportOf, store_of}
 use Rattle.server_session.specs.Turn.{EndsTurn, IsAtLast, IsAtLine, TakesTurn}
 use Rattle.server_session.specs.declared.session_state.SessionState.{SessionState}
 use Rattle.server_session.proofs.Endings.{take_of_take}
@@ -29,8 +30,8 @@ use Rattle.server_session.proofs.Turns.{begins_self, begins_trans, stays_self}
 use Rattle.server_session.proofs.Weaker.{run}
 
 -- what may be reported of all that goes on from a history may be of all that goes on from a later one
-pub may_report-on : (stored : List Entry → ℕ → Type 0) (there : Bool) (may : History → Type 0) (was now : Known) → Stays was now → MayReport stored there was may → MayReport stored there now may
-may_report-on stored there may was now stays all one history goes_on = all one history (begins_trans (seen was) (seen now) history stays.goes_on goes_on)
+pub may_report-on : (stored : List Entry → ℕ → Type 0) (failed : List Entry → ToldFault → Type 0) (there : Bool) (may : History → StoreReport → Type 0) (was now : Known) → Stays was now → MayReport stored failed there was may → MayReport stored failed there now may
+may_report-on stored failed there may was now stays all one history report goes_on = all one history report (begins_trans (seen was) (seen now) history stays.goes_on goes_on)
 
 pub some_then : {P Q : List Turn → Type 0} (left : Option (List Turn)) → ((l : List Turn) → P l → Q l) → IfSome left P → IfSome left Q
 some_then None f here = tt
@@ -118,10 +119,10 @@ module _ (first state : SessionState) (bytes : List ℕ) (takes : (taken : List 
 -- ==== A line
 
 -- its reply is that to the next turn
-pub next_reply : (from : Bool → Known → Type 0) (stored : List Entry → ℕ → Type 0) (there : Bool) (may : History → Type 0) (was now : Known) (before after : Option OpenBatch) (line : List ℕ) (reply : LineReply)
-    → from there was → MayReport stored there was may → TakesTurn (store_of stored there) was before line now after (reply_text reply) → EndsTurn before line was now (Some reply)
+pub next_reply : (from : Bool → Known → Type 0) (stored : List Entry → ℕ → Type 0) (failed : List Entry → ToldFault → Type 0) (there : Bool) (may : History → StoreReport → Type 0) (was now : Known) (before after : Option OpenBatch) (line : List ℕ) (reply : LineReply)
+    → from there was → MayReport stored failed there was may → TakesTurn (store_of stored failed there) was before line now after (reply_text reply) → EndsTurn before line was now (Some reply)
     → (l : List Turn) → IsAtLine before line l → IsNextReply from may now (reply_text reply) l
-next_reply from stored there may was now before after line reply goes_on reports takes ends l is =
+next_reply from stored failed there may was now before after line reply goes_on reports takes ends l is =
     let (turn, one) = ends is.waiting is.is_open in
     record {
       has_store = there;
@@ -131,8 +132,8 @@ next_reply from stored there may was now before after line reply goes_on reports
       turn = turn;
       later = is.later;
       next = is.parts ∙ ap (λ (ts : List Turn). ts ++ is.later) one;
-      answered = run (IsToldOf stored) may there (seen was) reports was (turn ∷ []) now (reply_text reply) (begins_self (seen was))
-          (subst (λ (ts : List Turn). IsSharedRun (store_of stored there) was ts now (reply_text reply)) one (takes.taken is.waiting is.is_open).answered);
+      answered = run (IsReportOf stored failed) may there (seen was) reports was (turn ∷ []) now (reply_text reply) (begins_self (seen was))
+          (subst (λ (ts : List Turn). IsSharedRun (store_of stored failed there) was ts now (reply_text reply)) one (takes.taken is.waiting is.is_open).answered);
     }
 
 -- and takes it away
@@ -242,7 +243,7 @@ module _ (state : SessionState) (before : Option OpenBatch) (same : before ≡ s
         })
 
 -- the batch that waits is refused
-cut_off_reply : (from : Bool → Known → Type 0) (there : Bool) (may : History → Type 0) (me : Known) (open_batch : OpenBatch) → from there me → (l : List Turn) → IsAtLast (Some open_batch) l
+cut_off_reply : (from : Bool → Known → Type 0) (there : Bool) (may : History → StoreReport → Type 0) (me : Known) (open_batch : OpenBatch) → from there me → (l : List Turn) → IsAtLast (Some open_batch) l
     → IsNextReply from may me (error_line CommandSyntax) l
 cut_off_reply from there may me open_batch goes_on l is = by_waiting is.waiting is.is_open is.last where
   by_waiting : (waiting : Option Waiting) → IsOpen waiting (Some open_batch) → l ≡ cut_off_in waiting → IsNextReply from may me (error_line CommandSyntax) l
@@ -258,7 +259,7 @@ cut_off_reply from there may me open_batch goes_on l is = by_waiting is.waiting 
     answered = cut_off_run (store_by may there) me (Some waiting) open_batch waits;
   }
 
-pub cut_off_some : (from : Bool → Known → Type 0) (there : Bool) (may : History → Type 0) (me : Known) (before : Option OpenBatch) → is_some before ≡ true → from there me → (l : List Turn) → IsAtLast before l
+pub cut_off_some : (from : Bool → Known → Type 0) (there : Bool) (may : History → StoreReport → Type 0) (me : Known) (before : Option OpenBatch) → is_some before ≡ true → from there me → (l : List Turn) → IsAtLast before l
     → IsNextReply from may me (error_line CommandSyntax) l
 cut_off_some from there may me None some goes_on l is = absurd (false≢true some)
 cut_off_some from there may me (Some open_batch) some goes_on l is = cut_off_reply from there may me open_batch goes_on l is

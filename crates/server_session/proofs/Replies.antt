@@ -2,8 +2,7 @@
 use Rattle.std.proofs.Common.{◌≡◌, ℕ, inl, inr, List, [], refl}
 use Rattle.overlay_terms.specs.Batches.{Batch}
 use Rattle.book_history.specs.Known.{Known}
-use Rattle.script_form.specs.declared.fault.CommandFault.{CommandFault}
-use Rattle.script_form.specs.declared.fault.CommandFault.TheVariants.{OutOfMemory}
+use Rattle.script_form.specs.declared.fault.CommandFault.TheVariants.{CommandSyntax}
 use Rattle.script_form.specs.declared.open_batch.LinesFault.{LinesFault}
 use Rattle.script_form.specs.declared.open_batch.LinesFault.TheVariants as lines
 use Rattle.script_form.specs.Replies.{error_line}
@@ -14,8 +13,9 @@ use Rattle.server_session.specs.Fault.{lines_told}
 use Rattle.server_session.specs.Replying.{IsReplySince}
 use Rattle.server_session.proofs.AnswerLemmas.{answers_there}
 
-pub fault_right : (stored : BookStore) (now : Known) (fault : CommandFault) → IsReplySince stored now now (error_line fault)
-fault_right stored now fault = inl (record { fault = (fault, inl refl); nothing_made = refl })
+-- a batch that is cut off
+pub cut_off_right : (stored : BookStore) (now : Known) → IsReplySince stored now now (error_line CommandSyntax)
+cut_off_right stored now = inl (record { fault = inr (inl refl); nothing_made = refl })
 
 -- a line that belongs to a batch has no reply
 pub nothing_right : (stored : BookStore) (now : Known) → IsReplySince stored now now []
@@ -28,5 +28,5 @@ pub batch_right : (stored : BookStore) (was now : Known) (commands : Batch) (tex
 batch_right stored was now commands text submits = inr (inr (commands, submits))
 
 pub unread_right : (stored : BookStore) (now : Known) (fault : LinesFault) (text : List ℕ) → text ≡ lines_told fault → IsReplySince stored now now text
-unread_right stored now (lines.Unread place fault) text is = inl (record { fault = (fault, inr (place, is)); nothing_made = refl })
-unread_right stored now lines.OutOfMemory text is = inl (record { fault = (OutOfMemory, inl is); nothing_made = refl })
+unread_right stored now (lines.Unread place fault) text is = inl (record { fault = inl (place, fault, is); nothing_made = refl })
+unread_right stored now lines.OutOfMemory text is = inl (record { fault = inr (inr is); nothing_made = refl })

@@ -2,7 +2,7 @@
 use Rattle.std.specs.Prelude.{IsErrAnd}
 use Rattle.std.proofs.Common.{◌≡◌, ◌≤◌, ℕ, ℤ, Bool, true, false, IsTrue, List, [], codes, Option, Some, None, Result, Ok, Err, refl, sym, ap, subst, ◌∙◌, ◌⊎◌, inl, inr, ⊎_elim}
 use Rattle.overlay_terms.specs.Histories as versions
-use Rattle.overlay_terms.specs.Histories.{History, BeginsWith, newest}
+use Rattle.overlay_terms.specs.Histories.{Entry, History, BeginsWith, newest}
 use Rattle.layer_expr.specs.Name.{is_name}
 use Rattle.layer_book.specs.Fault.{RefusedBy}
 use Rattle.layer_book.specs.declared.fault.LayerFault.TheVariants as layer_fault
@@ -16,16 +16,18 @@ use Rattle.book_history.specs.declared.fault.BookFault.{BookFault}
 use Rattle.book_history.specs.declared.fault.BookFault.TheVariants as book
 use Rattle.book_history.specs.declared.fault.ToldFault.{ToldFault}
 use Rattle.book_history.specs.declared.fault.ToldFault.TheVariants as store
+use Rattle.version_book.specs.Failing.{IsToldFault}
 use Rattle.version_book.specs.Waits.{IsBuiltAt, IsSyncRefused, IsWaitRefused}
 use Rattle.script_form.specs.declared.fault.CommandFault.{CommandFault}
 use Rattle.script_form.specs.declared.fault.CommandFault.TheVariants.{Version, Closing, Gone, NoStore}
 use Rattle.script_form.specs.Reading.{IsNoName}
 use Rattle.script_form.specs.Replies.{error_line, numbered_line, verdict_line}
 use Rattle.script_form.specs.Requests.{edges, wait, verify, sync}
-use Rattle.script_form.specs.Transcript.{BookStore, store_by, asked_column, IsOutOfMemory, IsAnswered, IsOfStore}
+use Rattle.script_form.specs.Transcript.{BookStore, StoreReport, of_number, of_fault, store_by, asked_column, IsOutOfMemory, IsAnswered, IsOfStore}
 use Rattle.server_session.specs.Answering.{Answers}
 use Rattle.server_session.specs.Fault.{fault_told, store_told}
 use Rattle.server_session.specs.Session.{Stays}
+use Rattle.server_session.specs.Stores.{IsReportOf}
 use Rattle.server_session.proofs.AnswerLemmas.{answers_so, answers_there, asked_none, asked_some, unnamed, refused_so}
 
 -- what holds of a version, a name and a column holds of the newest version, of the name as it was read and of the column as it was asked for
@@ -147,29 +149,43 @@ of_store store.Failed = inr (inr (inl refl))
 of_store store.SequenceLimit = inr (inr (inr (inl refl)))
 of_store store.OutOfMemory = inr (inr (inr (inr (inl refl))))
 
+-- a refusal by a store's fault may be reported
+abbrev pub MayTellFault : (History → StoreReport → Type 0) → History → BookFault → Type 0
+MayTellFault told history (book.Store fault) = told history (of_fault (store_told fault))
+MayTellFault told history fault = Unit {0}
+
+-- what the book says of it is said of what the session has seen
+pub may_tell : (stored : List Entry → ℕ → Type 0) (failed : List Entry → ToldFault → Type 0) (now : Known) (fault : BookFault)
+    → IsToldFault failed now.log fault → MayTellFault (IsReportOf stored failed) (seen now) fault
+may_tell stored failed now (book.Version wrong) is = tt
+may_tell stored failed now book.Closing is = tt
+may_tell stored failed now book.Gone is = tt
+may_tell stored failed now book.NoStore is = tt
+may_tell stored failed now (book.Store fault) is = record { log = now.log; of = refl; told = fault; same = refl; failed_so = is }
+
 -- why a wait for a durable number is refused, and what that says of the store
-sync_refused_so : (told : History → Type 0) (there : Bool) (was now : Known) (fault : BookFault) → IsSyncRefused (newest (seen was)).number (newest (seen now)) fault
-    → (fault ≡ book.NoStore → there ≡ false) → (there ≡ false → (fault ≡ book.NoStore) ⊎ (fault ≡ book.Gone))
+sync_refused_so : (told : History → StoreReport → Type 0) (there : Bool) (was now : Known) (fault : BookFault) → IsSyncRefused (newest (seen was)).number (newest (seen now)) fault
+    → MayTellFault told (seen now) fault → (fault ≡ book.NoStore → there ≡ false) → (there ≡ false → (fault ≡ book.NoStore) ⊎ (fault ≡ book.Gone))
     → IsOutOfMemory sync [] (error_line (fault_told fault)) ⊎ IsAnswered (store_by told there) was.session (seen was) sync (seen now) [] (error_line (fault_told fault))
-sync_refused_so told there was now (book.Version wrong) refused only without = absurd refused
-sync_refused_so told true was now book.Closing refused only without =
-    inr (inr (inr (inr (refl, record { behind = refused; fault = Closing; of_store = inr (inr (inr (inr (inr refl)))); refused = refused_so Closing }))))
-sync_refused_so told false was now book.Closing refused only without = absurd (⊎_elim (λ e. absurd (cc)) (λ e. absurd (cc)) (without refl))
-sync_refused_so told there was now book.Gone refused only without = inr (inr (inl (refused_so Gone)))
-sync_refused_so told there was now book.NoStore refused only without = inr (inl (only refl, refused_so NoStore))
-sync_refused_so told true was now (book.Store fault) refused only without =
-    inr (inr (inr (inr (refl, record { behind = refused; fault = store_told fault; of_store = of_store fault; refused = refused_so (store_told fault) }))))
-sync_refused_so told false was now (book.Store fault) refused only without = absurd (⊎_elim (λ e. absurd (cc)) (λ e. absurd (cc)) (without refl))
+sync_refused_so told there was now (book.Version wrong) refused may only without = absurd refused
+sync_refused_so told true was now book.Closing refused may only without =
+    inr (inr (inr (inr (refl, record { behind = refused; fault = Closing; of_store = inr (inr (inr (inr (inr refl)))); may = inl refl; refused = refused_so Closing }))))
+sync_refused_so told false was now book.Closing refused may only without = absurd (⊎_elim (λ e. absurd (cc)) (λ e. absurd (cc)) (without refl))
+sync_refused_so told there was now book.Gone refused may only without = inr (inr (inl (refused_so Gone)))
+sync_refused_so told there was now book.NoStore refused may only without = inr (inl (only refl, refused_so NoStore))
+sync_refused_so told true was now (book.Store fault) refused may only without =
+    inr (inr (inr (inr (refl, record { behind = refused; fault = store_told fault; of_store = of_store fault; may = inr may; refused = refused_so (store_told fault) }))))
+sync_refused_so told false was now (book.Store fault) refused may only without = absurd (⊎_elim (λ e. absurd (cc)) (λ e. absurd (cc)) (without refl))
 
 pub sync_refused : (stored : BookStore) (was now : Known) (result : Result ℕ BookFault) (fault : BookFault) → result ≡ Err fault → BeginsWith (seen now) (seen was) → Waited was now
-    → IsSyncRefused (newest (seen was)).number (newest (seen now)) fault → (result ≡ Err book.NoStore → stored.there ≡ false)
+    → IsSyncRefused (newest (seen was)).number (newest (seen now)) fault → MayTellFault stored.told (seen now) fault → (result ≡ Err book.NoStore → stored.there ≡ false)
     → (stored.there ≡ false → IsErrAnd result (λ f. (f ≡ book.NoStore) ⊎ (f ≡ book.Gone)))
     → (told : CommandFault) → told ≡ fault_told fault → Answers stored was sync now (error_line told)
-sync_refused stored was now result fault is on same refused only without told same_told =
+sync_refused stored was now result fault is on same refused may only without told same_told =
     let P : BookFault → Type 0 = λ f. (f ≡ book.NoStore) ⊎ (f ≡ book.Gone) in
     subst (λ (f : CommandFault). Answers stored was sync now (error_line f)) (sym same_told)
     (answers_so was now (waited_stays was now on same) same.2 stored sync (error_line (fault_told fault))
-    (sync_refused_so stored.told stored.there was now fault refused (λ e. only (is ∙ ap Err e)) (λ none. subst (λ (r : Result ℕ BookFault). IsErrAnd r P) is (without none))))
+    (sync_refused_so stored.told stored.there was now fault refused may (λ e. only (is ∙ ap Err e)) (λ none. subst (λ (r : Result ℕ BookFault). IsErrAnd r P) is (without none))))
 
 -- a book that reports a durable number has a store
 has_one : (there : Bool) (result : Result ℕ BookFault) (number : ℕ) → result ≡ Ok number
@@ -181,7 +197,7 @@ has_one false result number is without =
 
 pub sync_told : (stored : BookStore) (was now : Known) (result : Result ℕ BookFault) (number : ℕ) → result ≡ Ok number → BeginsWith (seen now) (seen was) → Waited was now
     → (stored.there ≡ false → IsErrAnd result (λ f. (f ≡ book.NoStore) ⊎ (f ≡ book.Gone)))
-    → ((newest (seen now)).durable ≡ number) × ((newest (seen was)).number ≤ number) → stored.told (seen now) → Answers stored was sync now (numbered_line (codes "durable ") number)
+    → ((newest (seen now)).durable ≡ number) × ((newest (seen was)).number ≤ number) → stored.told (seen now) of_number → Answers stored was sync now (numbered_line (codes "durable ") number)
 sync_told stored was now result number is on same without reached may =
     answers_so was now (waited_stays was now on same) same.2 stored sync (numbered_line (codes "durable ") number)
     (inr (inr (inr (inl (

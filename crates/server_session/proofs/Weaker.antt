@@ -1,12 +1,12 @@
 -- What is said of a book's store may be said by another measure.
-use Rattle.std.proofs.Common.{ℕ, ◌⊎◌, Bool, IsTrue, List, Option, inl, inr, [], ◌∷◌}
+use Rattle.std.proofs.Common.{ℕ, ◌⊎◌, ⊎_elim, Bool, IsTrue, List, Option, inl, inr, [], ◌∷◌}
 use Rattle.overlay_terms.specs.Batches.{Batch}
 use Rattle.overlay_terms.specs.Histories.{History, BeginsWith}
 use Rattle.book_history.specs.Known.{Known, seen}
 use Rattle.script_form.specs.declared.session_end.SessionEnd.{SessionEnd}
 use Rattle.script_form.specs.declared.session_end.SessionEnd.TheVariants.{End, Failed}
 use Rattle.script_form.specs.Requests.{Request, sync}
-use Rattle.script_form.specs.Transcript.{store_by, IsAnswered, IsOutOfMemory, IsTurnAnswered, IsTranscript}
+use Rattle.script_form.specs.Transcript.{StoreReport, of_number, of_fault, store_by, IsAnswered, IsOutOfMemory, IsTurnAnswered, IsTranscript}
 use Rattle.script_form.specs.Turns.{Turn, alone, together, cut_off}
 use Rattle.server_session.specs.Answering.{Answers}
 use Rattle.server_session.specs.Replying.{IsReplySince}
@@ -14,15 +14,19 @@ use Rattle.server_session.specs.Session.{IsSharedRun, IsFaultTold, IsCutOff, IsW
 use Rattle.server_session.proofs.Turns.{begins_trans}
 
 -- of a book with a store, by the histories that go on from a first one
-module _ (told more : History → Type 0) (there : Bool) (first : History) (weak : IsTrue there → (history : History) → BeginsWith history first → told history → more history) where
+module _ (told more : History → StoreReport → Type 0) (there : Bool) (first : History)
+    (weak : IsTrue there → (history : History) (report : StoreReport) → BeginsWith history first → told history report → more history report) where
   -- SYNC alone asks the store
   answered : (session : ℕ) (before after : History) (request : Request) (made : List Batch) (reply : List ℕ) → BeginsWith after first
       → IsAnswered (store_by told there) session before request after made reply → IsAnswered (store_by more there) session before request after made reply
   answered session before after sync made reply on (inl none) = inl none
   answered session before after sync made reply on (inr (inl gone)) = inr (inl gone)
   answered session before after sync made reply on (inr (inr (inl (one, is)))) =
-      inr (inr (inl (one, record { nothing_made = is.nothing_made; reached = is.reached; may = weak one after on is.may; told = is.told })))
-  answered session before after sync made reply on (inr (inr (inr is))) = inr (inr (inr is))
+      inr (inr (inl (one, record { nothing_made = is.nothing_made; reached = is.reached; may = weak one after of_number on is.may; told = is.told })))
+  answered session before after sync made reply on (inr (inr (inr (one, is)))) = inr (inr (inr (
+    one,
+    record { behind = is.behind; fault = is.fault; of_store = is.of_store; may = ⊎_elim inl (λ told. inr (weak one after (of_fault is.fault) on told)) is.may; refused = is.refused },
+  )))
   answered session before after other made reply on is = is
 
   turn_answered : (session : ℕ) (before after : History) (turn : Turn) (made : List Batch) (reply : List ℕ) → BeginsWith after first

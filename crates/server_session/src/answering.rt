@@ -45,10 +45,10 @@ pub fn answer<J: BookName, S: Wait + Drop, Q: Wait + Threads + Sync>(
     line: &[u8],
 ) -> Option<LineReply>
     requires { me.old.book ≡ J.book }
-    ensures takes { TakesTurn (store_of J.stored (has_store shared.now)) me.old waiting.old line.now me.new waiting.new (told_text result) }
+    ensures takes { TakesTurn (store_of J.stored J.failed (has_store shared.now)) me.old waiting.old line.now me.new waiting.new (told_text result) }
     ensures ends { EndsTurn waiting.old line.now me.old me.new result }
     // So much is owed before it is written, wherever in a script.
-    ensures right { IfSome result (λ reply. IsReplySince (store_of J.stored (has_store shared.now)) me.old me.new (reply_text reply)) }
+    ensures right { IfSome result (λ reply. IsReplySince (store_of J.stored J.failed (has_store shared.now)) me.old me.new (reply_text reply)) }
 {
     match take_line(alloc, waiting, line) {
         LineTurn::Waits => None,
@@ -66,7 +66,7 @@ fn answer_alone<J: BookName, S: Wait + Drop, Q: Wait + Threads + Sync>(
     asked: Request<'_>,
 ) -> LineReply
     requires { me.old.book ≡ J.book }
-    ensures { Answers (store_of J.stored (has_store shared.now)) me.old (request asked.entry) me.new (reply_text result) }
+    ensures { Answers (store_of J.stored J.failed (has_store shared.now)) me.old (request asked.entry) me.new (reply_text result) }
 {
     match answer_request(rt, alloc, shared, me, asked) {
         Ok(reply) => reply,
@@ -83,7 +83,7 @@ fn answer_request<J: BookName, S: Wait + Drop, Q: Wait + Threads + Sync>(
     asked: Request<'_>,
 ) -> Result<LineReply, CommandFault>
     requires { me.old.book ≡ J.book }
-    ensures { Answers (store_of J.stored (has_store shared.now)) me.old (request asked.entry) me.new (result_text result) }
+    ensures { Answers (store_of J.stored J.failed (has_store shared.now)) me.old (request asked.entry) me.new (result_text result) }
 {
     match asked {
         Request::Nothing => Ok(LineReply::Nothing),
@@ -115,7 +115,7 @@ fn answer_put<J: BookName, S: Wait + Drop, Q: Wait>(
     text: &[u8],
 ) -> Result<LineReply, CommandFault>
     requires { me.old.book ≡ J.book }
-    ensures { Answers (store_of J.stored (has_store shared.now)) me.old (put_text name.now text.now) me.new (result_text result) }
+    ensures { Answers (store_of J.stored J.failed (has_store shared.now)) me.old (put_text name.now text.now) me.new (result_text result) }
 {
     let change = read_put(alloc, name, text)?;
     submit(rt, alloc, shared, me, &change)
@@ -130,7 +130,7 @@ fn answer_define<J: BookName, S: Wait + Drop, Q: Wait>(
     text: &[u8],
 ) -> Result<LineReply, CommandFault>
     requires { me.old.book ≡ J.book }
-    ensures { Answers (store_of J.stored (has_store shared.now)) me.old (define_text name.now text.now) me.new (result_text result) }
+    ensures { Answers (store_of J.stored J.failed (has_store shared.now)) me.old (define_text name.now text.now) me.new (result_text result) }
 {
     let change = read_define(alloc, name, text)?;
     submit(rt, alloc, shared, me, &change)
@@ -144,7 +144,7 @@ fn answer_remove<J: BookName, S: Wait + Drop, Q: Wait>(
     name: &[u8],
 ) -> Result<LineReply, CommandFault>
     requires { me.old.book ≡ J.book }
-    ensures { Answers (store_of J.stored (has_store shared.now)) me.old (remove_name name.now) me.new (result_text result) }
+    ensures { Answers (store_of J.stored J.failed (has_store shared.now)) me.old (remove_name name.now) me.new (result_text result) }
 {
     let change = read_remove(alloc, name)?;
     submit(rt, alloc, shared, me, &change)
@@ -251,7 +251,7 @@ fn answer_wait<J: BookName, S: Wait + Drop, Q: Wait>(
     name: &[u8],
 ) -> Result<LineReply, CommandFault>
     requires { me.old.book ≡ J.book }
-    ensures { Answers (store_of J.stored (has_store shared.now)) me.old (wait name.now) me.new (result_text result) }
+    ensures { Answers (store_of J.stored J.failed (has_store shared.now)) me.old (wait name.now) me.new (result_text result) }
 {
     let name = read_name(alloc, name)?;
     match shared.wait_built(rt, me, &name) {
@@ -282,7 +282,7 @@ fn answer_sync<J: BookName, S: Wait + Drop, Q: Wait>(
     me: &mut Session,
 ) -> Result<LineReply, CommandFault>
     requires { me.old.book ≡ J.book }
-    ensures { Answers (store_of J.stored (has_store shared.now)) me.old sync me.new (result_text result) }
+    ensures { Answers (store_of J.stored J.failed (has_store shared.now)) me.old sync me.new (result_text result) }
 {
     match shared.wait_durable(rt, me) {
         Ok(number) => Ok(LineReply::Durable(number)),

@@ -27,7 +27,7 @@ pub(crate) fn answer_batch<J: BookName, S: Wait + Drop, Q: Wait>(
 ) -> LineReply
     requires { me.old.book ≡ J.book }
     ensures answers { AnswersAll me.old read me.new (reply_text result) }
-    ensures right { IsReplySince (store_of J.stored (has_store shared.now)) me.old me.new (reply_text result) }
+    ensures right { IsReplySince (store_of J.stored J.failed (has_store shared.now)) me.old me.new (reply_text result) }
 {
     match read {
         Ok(batch) => submit_all(rt, alloc, shared, me, &batch),

@@ -16,13 +16,14 @@ pub trait ReplyWriter {
     ghost use Rattle.std.specs.Prelude.{ℕ, Bool, List, Option};
     ghost use Rattle.overlay_terms.specs.Histories as terms;
     ghost use Rattle.book_history.specs.Known.{Known};
+    ghost use Rattle.script_form.specs.Transcript.{StoreReport};
     ghost use Rattle.script_form.specs.Turns.{Turn};
 
     /// The bytes that it has been given, where they are known.
     ghost contents: { Self → Option (List ℕ) };
 
-    /// Of which history it may be given the durable number.
-    ghost may_report: { terms.History → Type 0 };
+    /// What it may be given of the store at which history: the durable number, or a fault of the store.
+    ghost may_report: { terms.History → StoreReport → Type 0 };
 
     /// From where it may be given the next reply: of a book with or without a store, by a session that knew this at the reply
     /// before, or as it began. A reply that was written says it anew, and nothing else.
@@ -52,12 +53,12 @@ pub trait ReplyWriter {
         ensures err { IfErr result (λ fault. fault ≡ CommandFault.Write) };
 }
 
-/// Each writer of bytes is one, which may be given the durable number of any history, from anywhere, and that a limit was
-/// passed, and does not keep what is left of a script.
+/// Each writer of bytes is one, which may be given any report of a store, from anywhere, and that a limit was passed, and
+/// does not keep what is left of a script.
 impl<W: Write> ReplyWriter for W {
     ghost contents = { W.contents };
 
-    ghost may_report = { λ history. Unit {0} };
+    ghost may_report = { λ history report. Unit {0} };
 
     ghost from = { λ writer there was. Unit {0} };
 

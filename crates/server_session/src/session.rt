@@ -38,7 +38,7 @@ pub fn session_run<J: BookName, S: Wait + Drop, Q: Wait + Threads + Sync, R: Rea
     writer: &mut W,
 ) -> SessionEnd
     requires { me.old.book ≡ J.book }
-    ensures run { IsSessionWithin script_max (store_of J.stored (has_store shared.now)) result me.old me.new (R.remaining reader.old)
+    ensures run { IsSessionWithin script_max (store_of J.stored J.failed (has_store shared.now)) result me.old me.new (R.remaining reader.old)
         (R.remaining reader.new) (W.contents writer.old) (W.contents writer.new) }
     ensures goes_on { BeginsWith (seen me.new) (seen me.old) }
     // Each version that it reports is one of a history.
@@ -66,11 +66,11 @@ pub fn session_run_within<
 ) -> SessionEnd
     requires book { me.old.book ≡ J.book }
     requires countable { most < 2 ^ 63 }
-    requires told { MayReport J.stored (has_store shared.now) me.old W.may_report }
+    requires told { MayReport J.stored J.failed (has_store shared.now) me.old W.may_report }
     requires from { W.from writer.old (has_store shared.now) me.old }
     requires own { IfSome (W.left writer.old) (IsAtStart (R.remaining reader.old)) }
     requires limit { IsPastMost most (R.remaining reader.old) → W.may_pass_limit writer.old }
-    ensures run { IsSessionWithin most (store_of J.stored (has_store shared.now)) result me.old me.new (R.remaining reader.old)
+    ensures run { IsSessionWithin most (store_of J.stored J.failed (has_store shared.now)) result me.old me.new (R.remaining reader.old)
         (R.remaining reader.new) (W.contents writer.old) (W.contents writer.new) }
     ensures goes_on { BeginsWith (seen me.new) (seen me.old) }
     // Each version that it reports is one of a history.
@@ -128,11 +128,11 @@ fn run<J: BookName, S: Wait + Drop, Q: Wait + Threads + Sync, R: Read, W: ReplyW
     requires going { has_ended state.old ≡ false }
     requires room { 0 < length chunk.old }
     requires countable { most < 2 ^ 63 }
-    requires told { MayReport J.stored (has_store shared.now) me.old W.may_report }
+    requires told { MayReport J.stored J.failed (has_store shared.now) me.old W.may_report }
     requires from { W.from writer.old (has_store shared.now) me.old }
     requires own { IfSome (W.left writer.old) (IsAtStart (R.remaining reader.old)) }
     requires limit { IsPastMost most (R.remaining reader.old) → W.may_pass_limit writer.old }
-    ensures run { IsSessionWithin most (store_of J.stored (has_store shared.now)) result me.old me.new (R.remaining reader.old)
+    ensures run { IsSessionWithin most (store_of J.stored J.failed (has_store shared.now)) result me.old me.new (R.remaining reader.old)
         (R.remaining reader.new) (W.contents writer.old) (W.contents writer.new) }
     ensures stays { Stays me.old me.new }
 {
@@ -164,10 +164,10 @@ fn finish<J: BookName, S: Wait + Drop, Q: Wait + Threads + Sync, W: ReplyWriter>
 ) -> SessionEnd
     requires book { me.old.book ≡ J.book }
     requires going { has_ended state.old ≡ false }
-    requires told { MayReport J.stored (has_store shared.now) me.old W.may_report }
+    requires told { MayReport J.stored J.failed (has_store shared.now) me.old W.may_report }
     requires from { W.from writer.old (has_store shared.now) me.old }
     requires own { IfSome (W.left writer.old) (IsOnWay state.old []) }
-    ensures finishes { Finishes (store_of J.stored (has_store shared.now)) result state.old me.old me.new (W.contents writer.old)
+    ensures finishes { Finishes (store_of J.stored J.failed (has_store shared.now)) result state.old me.old me.new (W.contents writer.old)
         (W.contents writer.new) }
     ensures stays { Stays me.old me.new }
 {

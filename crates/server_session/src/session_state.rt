@@ -65,14 +65,14 @@ impl SessionState {
     ) -> Result<(), CommandFault>
         requires book { me.old.book ≡ J.book }
         requires going { has_ended self.old ≡ false }
-        requires told { MayReport J.stored (has_store shared.now) me.old W.may_report }
+        requires told { MayReport J.stored J.failed (has_store shared.now) me.old W.may_report }
         requires from { W.from writer.old (has_store shared.now) me.old }
         requires own { IfSome (W.left writer.old) (AreNext self.old bytes.now) }
         ensures takes { OnOk result ((taken : List ℕ) → HasTaken self.old taken → HasTaken self.new (taken ++ bytes.now)) }
         ensures answers { OnOk result ((taken : List ℕ) → HasTaken self.old taken
-            → AnswersTurns (store_of J.stored (has_store shared.now)) me.old (turns_ended taken bytes.now) me.new (W.contents writer.old) (W.contents writer.new)) }
+            → AnswersTurns (store_of J.stored J.failed (has_store shared.now)) me.old (turns_ended taken bytes.now) me.new (W.contents writer.old) (W.contents writer.new)) }
         ensures stops { OnErr result ((taken : List ℕ) → HasTaken self.old taken
-            → AnswersInPart (store_of J.stored (has_store shared.now)) me.old (turns_ended taken bytes.now) me.new (W.contents writer.old) (W.contents writer.new)) }
+            → AnswersInPart (store_of J.stored J.failed (has_store shared.now)) me.old (turns_ended taken bytes.now) me.new (W.contents writer.old) (W.contents writer.new)) }
         ensures fault { IfErr result (λ fault. fault ≡ CommandFault.Write) }
         ensures ended { has_ended self.new ≡ is_err result }
         ensures from { OnOk result (W.from writer.new (has_store shared.now) me.new) }
@@ -100,14 +100,14 @@ impl SessionState {
     ) -> Result<(), CommandFault>
         requires book { me.old.book ≡ J.book }
         requires going { has_ended self.old ≡ false }
-        requires told { MayReport J.stored (has_store shared.now) me.old W.may_report }
+        requires told { MayReport J.stored J.failed (has_store shared.now) me.old W.may_report }
         requires from { W.from writer.old (has_store shared.now) me.old }
         requires own { IfSome (W.left writer.old) (AreNext self.old bytes.now) }
         ensures takes { OnOk result ((taken : List ℕ) → HasTaken self.old taken → HasTaken self.new (taken ++ bytes.now)) }
         ensures answers { OnOk result ((taken : List ℕ) → HasTaken self.old taken
-            → AnswersTurns (store_of J.stored (has_store shared.now)) me.old (turns_ended taken bytes.now) me.new (W.contents writer.old) (W.contents writer.new)) }
+            → AnswersTurns (store_of J.stored J.failed (has_store shared.now)) me.old (turns_ended taken bytes.now) me.new (W.contents writer.old) (W.contents writer.new)) }
         ensures stops { OnErr result ((taken : List ℕ) → HasTaken self.old taken
-            → AnswersInPart (store_of J.stored (has_store shared.now)) me.old (turns_ended taken bytes.now) me.new (W.contents writer.old) (W.contents writer.new)) }
+            → AnswersInPart (store_of J.stored J.failed (has_store shared.now)) me.old (turns_ended taken bytes.now) me.new (W.contents writer.old) (W.contents writer.new)) }
         ensures fault { IfErr result (λ fault. fault ≡ CommandFault.Write) }
         ensures ended { has_ended self.new ≡ is_err result }
         ensures from { OnOk result (W.from writer.new (has_store shared.now) me.new) }
@@ -133,14 +133,14 @@ impl SessionState {
     ) -> Result<(), CommandFault>
         requires book { me.old.book ≡ J.book }
         requires going { has_ended self.old ≡ false }
-        requires told { MayReport J.stored (has_store shared.now) me.old W.may_report }
+        requires told { MayReport J.stored J.failed (has_store shared.now) me.old W.may_report }
         requires from { W.from writer.old (has_store shared.now) me.old }
         requires own { IfSome (W.left writer.old) (AreNext self.old (byte ∷ [])) }
         ensures takes { OnOk result ((taken : List ℕ) → HasTaken self.old taken → HasTaken self.new (taken ++ byte ∷ [])) }
         ensures answers { OnOk result ((taken : List ℕ) → HasTaken self.old taken
-            → AnswersTurns (store_of J.stored (has_store shared.now)) me.old (turns_ended taken (byte ∷ [])) me.new (W.contents writer.old) (W.contents writer.new)) }
+            → AnswersTurns (store_of J.stored J.failed (has_store shared.now)) me.old (turns_ended taken (byte ∷ [])) me.new (W.contents writer.old) (W.contents writer.new)) }
         ensures stops { OnErr result ((taken : List ℕ) → HasTaken self.old taken
-            → AnswersInPart (store_of J.stored (has_store shared.now)) me.old (turns_ended taken (byte ∷ [])) me.new (W.contents writer.old) (W.contents writer.new)) }
+            → AnswersInPart (store_of J.stored J.failed (has_store shared.now)) me.old (turns_ended taken (byte ∷ [])) me.new (W.contents writer.old) (W.contents writer.new)) }
         ensures fault { IfErr result (λ fault. fault ≡ CommandFault.Write) }
         ensures ended { has_ended self.new ≡ is_err result }
         ensures from { OnOk result (W.from writer.new (has_store shared.now) me.new) }
@@ -174,13 +174,13 @@ impl SessionState {
     ) -> Result<(), CommandFault>
         requires book { me.old.book ≡ J.book }
         requires going { has_ended self.old ≡ false }
-        requires told { MayReport J.stored (has_store shared.now) me.old W.may_report }
+        requires told { MayReport J.stored J.failed (has_store shared.now) me.old W.may_report }
         requires from { W.from writer.old (has_store shared.now) me.old }
         requires own { IfSome (W.left writer.old) (IsOnWay self.old []) }
         ensures answers { OnOk result ((taken : List ℕ) → HasTaken self.old taken
-            → AnswersTurns (store_of J.stored (has_store shared.now)) me.old (turns_at_end taken) me.new (W.contents writer.old) (W.contents writer.new)) }
+            → AnswersTurns (store_of J.stored J.failed (has_store shared.now)) me.old (turns_at_end taken) me.new (W.contents writer.old) (W.contents writer.new)) }
         ensures stops { OnErr result ((taken : List ℕ) → HasTaken self.old taken
-            → AnswersInPart (store_of J.stored (has_store shared.now)) me.old (turns_at_end taken) me.new (W.contents writer.old) (W.contents writer.new)) }
+            → AnswersInPart (store_of J.stored J.failed (has_store shared.now)) me.old (turns_at_end taken) me.new (W.contents writer.old) (W.contents writer.new)) }
         ensures fault { IfErr result (λ fault. fault ≡ CommandFault.Write) }
         ensures ended { has_ended self.new ≡ true }
         ensures stays { Stays me.old me.new }
@@ -201,13 +201,13 @@ impl SessionState {
     ) -> Result<(), CommandFault>
         requires book { me.old.book ≡ J.book }
         requires going { has_ended self.old ≡ false }
-        requires told { MayReport J.stored (has_store shared.now) me.old W.may_report }
+        requires told { MayReport J.stored J.failed (has_store shared.now) me.old W.may_report }
         requires from { W.from writer.old (has_store shared.now) me.old }
         requires own { IfSome (W.left writer.old) (IsOnWay self.old []) }
         ensures answers { OnOk result ((taken : List ℕ) → HasTaken self.old taken
-            → AnswersTurns (store_of J.stored (has_store shared.now)) me.old (turns_at_end taken) me.new (W.contents writer.old) (W.contents writer.new)) }
+            → AnswersTurns (store_of J.stored J.failed (has_store shared.now)) me.old (turns_at_end taken) me.new (W.contents writer.old) (W.contents writer.new)) }
         ensures stops { OnErr result ((taken : List ℕ) → HasTaken self.old taken
-            → AnswersInPart (store_of J.stored (has_store shared.now)) me.old (turns_at_end taken) me.new (W.contents writer.old) (W.contents writer.new)) }
+            → AnswersInPart (store_of J.stored J.failed (has_store shared.now)) me.old (turns_at_end taken) me.new (W.contents writer.old) (W.contents writer.new)) }
         ensures fault { IfErr result (λ fault. fault ≡ CommandFault.Write) }
         ensures ended { has_ended self.new ≡ true }
         ensures stays { Stays me.old me.new }
@@ -234,10 +234,10 @@ fn answer_line<J: BookName, S: Wait + Drop, Q: Wait + Threads + Sync, W: ReplyWr
     writer: &mut W,
 ) -> Result<(), CommandFault>
     requires book { me.old.book ≡ J.book }
-    requires told { MayReport J.stored (has_store shared.now) me.old W.may_report }
+    requires told { MayReport J.stored J.failed (has_store shared.now) me.old W.may_report }
     requires from { W.from writer.old (has_store shared.now) me.old }
     requires own { IfSome (W.left writer.old) (IsAtLine waiting.old line.now) }
-    ensures answers { AnswersLine (store_of J.stored (has_store shared.now)) result me.old waiting.old line.now me.new waiting.new
+    ensures answers { AnswersLine (store_of J.stored J.failed (has_store shared.now)) result me.old waiting.old line.now me.new waiting.new
         (W.contents writer.old) (W.contents writer.new) }
     ensures fault { IfErr result (λ fault. fault ≡ CommandFault.Write) }
     ensures from { OnOk result (W.from writer.new (has_store shared.now) me.new) }
@@ -259,7 +259,7 @@ fn end_batch<J: BookName, W: ReplyWriter>(
 ) -> Result<(), CommandFault>
     requires from { (there : Bool) × W.from writer.old there me.now }
     requires own { IfSome (W.left writer.old) (IsAtLast waiting.now) }
-    ensures ends { (there : Bool) → EndsBatch (store_of J.stored there) result waiting.now (W.contents writer.old) (W.contents writer.new) }
+    ensures ends { (there : Bool) → EndsBatch (store_of J.stored J.failed there) result waiting.now (W.contents writer.old) (W.contents writer.new) }
     ensures fault { IfErr result (λ fault. fault ≡ CommandFault.Write) }
 {
     if waiting.is_none() {

@@ -50,7 +50,7 @@ impl<J: BookName, R: Read, W: ReplyWriter> Promise<Ended<R, W>> for RunsScript<J
     ghost use Rattle.server_session.specs.Stores.{store_of};
     ghost use Rattle.session_threads.specs.Running.{IsRunOf};
 
-    ghost kept_by = { λ p r. IsRunOf J.book (store_of J.stored p.stored) R.remaining W.contents p.begun.value r };
+    ghost kept_by = { λ p r. IsRunOf J.book (store_of J.stored J.failed p.stored) R.remaining W.contents p.begun.value r };
 }
 
 /// A thread that runs a script.
@@ -86,7 +86,7 @@ where
     R: Read + Send + Drop + 's,
     W: ReplyWriter + Send + Drop + 's,
     requires scripts { All (λ script. script.session.book ≡ J.book) seats.scripts.items }
-    requires told { All (λ script. MayReport J.stored
+    requires told { All (λ script. MayReport J.stored J.failed
         (has_store shared.now) script.session W.may_report) seats.scripts.items }
     requires from { All (λ script. W.from script.port.writer (has_store shared.now) script.session) seats.scripts.items }
     requires own { All (λ script. IfSome (W.left script.port.writer)
@@ -95,7 +95,7 @@ where
         → W.may_pass_limit script.port.writer) seats.scripts.items }
     requires room { HasRoom seats (length seats.scripts.items) }
     ensures { Leave (λ script ended. IsRunOf J.book
-        (store_of J.stored (has_store shared.now)) R.remaining W.contents script ended) seats.scripts.items
+        (store_of J.stored J.failed (has_store shared.now)) R.remaining W.contents script ended) seats.scripts.items
         result.0.items result.1.items }
 {
     let Seats {
@@ -127,13 +127,13 @@ where
     R: Read + Send + Drop + 's,
     W: ReplyWriter + Send + Drop + 's,
     requires book { script.session.book ≡ J.book }
-    requires told { MayReport J.stored (has_store shared.now) script.session W.may_report }
+    requires told { MayReport J.stored J.failed (has_store shared.now) script.session W.may_report }
     requires from { W.from script.port.writer (has_store shared.now) script.session }
     requires own { IfSome (W.left script.port.writer) (IsAtStart (R.remaining script.port.reader)) }
     requires limit { IsPastMost script.port.most (R.remaining script.port.reader) → W.may_pass_limit script.port.writer }
     ensures { MatchResult result
         (λ h. (h.promise.begun.value ≡ script) × (h.promise.stored ≡ has_store shared.now))
-        (λ back. IsRunOf J.book (store_of J.stored (has_store shared.now)) R.remaining W.contents script back) }
+        (λ back. IsRunOf J.book (store_of J.stored J.failed (has_store shared.now)) R.remaining W.contents script back) }
 {
     if halt.is_set() {
         return Err(not_begun(script));
@@ -147,11 +147,11 @@ where
         promise,
         move || -> Ended<R, W>
             requires book { script.session.book ≡ J.book }
-            requires told { MayReport J.stored (has_store shared.now) script.session W.may_report }
+            requires told { MayReport J.stored J.failed (has_store shared.now) script.session W.may_report }
             requires from { W.from script.port.writer (has_store shared.now) script.session }
             requires own { IfSome (W.left script.port.writer) (IsAtStart (R.remaining script.port.reader)) }
             requires limit { IsPastMost script.port.most (R.remaining script.port.reader) → W.may_pass_limit script.port.writer }
-            ensures { IsRunOf J.book (store_of J.stored
+            ensures { IsRunOf J.book (store_of J.stored J.failed
                 (has_store shared.entry.now)) R.remaining W.contents script result }
         { begin_script(rt, alloc, shared, halt, script) },
     );
@@ -175,7 +175,7 @@ fn join_sessions<J: BookName, Q: Threads, R: Read + Drop, W: ReplyWriter + Drop>
 ) -> (Vec<Session>, Vec<Finished<W>>)
     requires { IsReserved sessions (length running.items) × IsReserved finished (length running.items) }
     ensures { Leave (λ begun ended. MatchResult begun
-        (λ h. IsRunOf J.book (store_of J.stored h.promise.stored) R.remaining W.contents h.promise.begun.value ended)
+        (λ h. IsRunOf J.book (store_of J.stored J.failed h.promise.stored) R.remaining W.contents h.promise.begun.value ended)
         (λ back. ended ≡ back)) running.items result.0.items result.1.items }
 {
     for begun in running {
@@ -197,7 +197,7 @@ fn join_session<J: BookName, Q: Threads, R: Read + Drop, W: ReplyWriter + Drop>(
     begun: Begun<J, R, W>,
 ) -> Ended<R, W>
     ensures { MatchResult begun
-        (λ h. IsRunOf J.book (store_of J.stored h.promise.stored) R.remaining W.contents h.promise.begun.value result)
+        (λ h. IsRunOf J.book (store_of J.stored J.failed h.promise.stored) R.remaining W.contents h.promise.begun.value result)
         (λ back. result ≡ back) }
 {
     match begun {
@@ -215,11 +215,11 @@ fn begin_script<J: BookName, S: Wait + Drop, Q: Threads + Wait + Sync, R: Read, 
     script: Script<R, W>,
 ) -> Ended<R, W>
     requires book { script.session.book ≡ J.book }
-    requires told { MayReport J.stored (has_store shared.now) script.session W.may_report }
+    requires told { MayReport J.stored J.failed (has_store shared.now) script.session W.may_report }
     requires from { W.from script.port.writer (has_store shared.now) script.session }
     requires own { IfSome (W.left script.port.writer) (IsAtStart (R.remaining script.port.reader)) }
     requires limit { IsPastMost script.port.most (R.remaining script.port.reader) → W.may_pass_limit script.port.writer }
-    ensures { IsRunOf J.book (store_of J.stored (has_store shared.now)) R.remaining W.contents script result }
+    ensures { IsRunOf J.book (store_of J.stored J.failed (has_store shared.now)) R.remaining W.contents script result }
 {
     if halt.is_set() {
         not_begun(script)
@@ -250,11 +250,11 @@ fn run_script<J: BookName, S: Wait + Drop, Q: Threads + Wait + Sync, R: Read, W:
     script: Script<R, W>,
 ) -> Ended<R, W>
     requires book { script.session.book ≡ J.book }
-    requires told { MayReport J.stored (has_store shared.now) script.session W.may_report }
+    requires told { MayReport J.stored J.failed (has_store shared.now) script.session W.may_report }
     requires from { W.from script.port.writer (has_store shared.now) script.session }
     requires own { IfSome (W.left script.port.writer) (IsAtStart (R.remaining script.port.reader)) }
     requires limit { IsPastMost script.port.most (R.remaining script.port.reader) → W.may_pass_limit script.port.writer }
-    ensures { IsRunOf J.book (store_of J.stored (has_store shared.now)) R.remaining W.contents script result }
+    ensures { IsRunOf J.book (store_of J.stored J.failed (has_store shared.now)) R.remaining W.contents script result }
 {
     let Script { mut session, port } = script;
     let Port {

@@ -125,10 +125,10 @@ module _ {D : Type 0} (g : Ghosts D) where
   rose_before : (a b c : ℕ) → device.Failed a b → b ≤ c → device.Failed a c
   rose_before a b c rose on = omega (arith, rose, on)
 
-  rose_after : (a b c : ℕ) → a ≤ b → device.Failed b c → device.Failed a c
+  pub rose_after : (a b c : ℕ) → a ≤ b → device.Failed b c → device.Failed a c
   rose_after a b c on rose = omega (arith, on, rose)
 
-  fails_twice : (s t u : Commit D g) → FailsByDevice g s t → FailsByDevice g t u → FailsByDevice g s u
+  pub fails_twice : (s t u : Commit D g) → FailsByDevice g s t → FailsByDevice g t u → FailsByDevice g s u
   fails_twice s t u first second = record {
     no_less = omega (arith, first.no_less, second.no_less);
     failed = λ at. ⊎_elim

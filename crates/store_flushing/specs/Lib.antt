@@ -6,3 +6,4 @@ pub mod Storing
 pub mod ToldFaults
 pub mod Told
 pub mod Unstored
+pub mod Failing

@@ -4,6 +4,7 @@ ghost use Rattle.overlay_terms.specs.Histories.{IsHistory, newest};
 ghost use Rattle.root_store.specs.Running.{is_busy};
 ghost use Rattle.root_store.specs.declared.phase.Phase.TheVariants as phases;
 ghost use Rattle.book_history.specs.Logs.{history_of};
+ghost use Rattle.store_flushing.specs.Failing.{HoldsOfFailed};
 ghost use Rattle.store_flushing.specs.Storing.{HoldsOfStored, IsStoreOf, Flushes};
 ghost use Rattle.store_flushing.specs.Told.{KeepsTelling};
 
@@ -33,6 +34,7 @@ pub fn flush<J: BookName, R: Wait + Drop, D: Disk, W: Wait>(
 )
     requires book { keeper.old.reporter.book ≡ J.book }
     requires stored { HoldsOfStored D.Disk J.stored (history_of keeper.old.reporter.log) keeper.old.held.flusher }
+    requires failed { HoldsOfFailed D.Disk J.failed (history_of keeper.old.reporter.log) keeper.old.held.flusher }
     // What it stores it reports, and a crash at any moment leaves a version that the reporter has seen in the end, no
     // older than what was stored at first.
     ensures flushes { IsStoreOf D.Disk (history_of keeper.old.reporter.log) keeper.old.held.flusher
@@ -61,6 +63,7 @@ fn round<J: BookName, R: Wait + Drop, D: Disk, W: Wait>(
 ) -> bool
     requires book { keeper.old.reporter.book ≡ J.book }
     requires stored { HoldsOfStored D.Disk J.stored (history_of keeper.old.reporter.log) keeper.old.held.flusher }
+    requires failed { HoldsOfFailed D.Disk J.failed (history_of keeper.old.reporter.log) keeper.old.held.flusher }
     ensures flushes { IsStoreOf D.Disk (history_of keeper.old.reporter.log) keeper.old.held.flusher
         → Flushes D.Disk (history_of keeper.old.reporter.log) keeper.old.held.flusher
         (history_of keeper.new.reporter.log) keeper.new.held.flusher }
@@ -92,6 +95,7 @@ fn commit<J: BookName, R: Wait + Drop, D: Disk, W: Wait>(
 ) -> bool
     requires book { keeper.old.reporter.book ≡ J.book }
     requires stored { HoldsOfStored D.Disk J.stored (history_of keeper.old.reporter.log) keeper.old.held.flusher }
+    requires failed { HoldsOfFailed D.Disk J.failed (history_of keeper.old.reporter.log) keeper.old.held.flusher }
     requires idle { is_busy keeper.old.held.flusher.commit.phase ≡ false }
     requires history { IsHistory (history_of keeper.old.reporter.log) }
     requires newest { version.now ≡ newest (history_of keeper.old.reporter.log) }
@@ -119,6 +123,7 @@ fn end_commit<J: BookName, R: Wait + Drop, D: Disk, W: Wait>(
 ) -> bool
     requires book { keeper.old.reporter.book ≡ J.book }
     requires stored { HoldsOfStored D.Disk J.stored (history_of keeper.old.reporter.log) keeper.old.held.flusher }
+    requires failed { HoldsOfFailed D.Disk J.failed (history_of keeper.old.reporter.log) keeper.old.held.flusher }
     ensures flushes { IsStoreOf D.Disk (history_of keeper.old.reporter.log) keeper.old.held.flusher
         → Flushes D.Disk (history_of keeper.old.reporter.log) keeper.old.held.flusher
         (history_of keeper.new.reporter.log) keeper.new.held.flusher }

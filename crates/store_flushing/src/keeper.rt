@@ -1,7 +1,8 @@
 //! A store, and the one token that may report what it stores, as one value.
-ghost use Rattle.std.specs.Prelude.{◌≡◌, ◌++◌, false, IfErr, IfOk, IfSome, IfNone, OnErr};
+ghost use Rattle.std.specs.Prelude.{◌≡◌, ◌⊎◌, ◌++◌, false, Err, IfErr, IfOk, IfSome, IfNone, OnErr};
 ghost use Rattle.std.specs.Arc.{arc_value};
 ghost use Rattle.overlay_terms.specs.Histories.{IsHistory, newest};
+ghost use Rattle.disk_model.specs.Disk.{Failed};
 ghost use Rattle.root_store.specs.Beginning.{IsReason};
 ghost use Rattle.root_store.specs.Running.{Counts, calls_left, is_busy};
 ghost use Rattle.root_store.specs.declared.phase.Phase.TheVariants as phases;
@@ -121,6 +122,7 @@ impl<D: Disk> Keeper<D> {
         ensures errors { IfErr result
             (λ fault. IsReason self.old.held.flusher.commit.phase self.old.held.flusher.commit.root
             (HasNoRoomFor self.old.held.flusher.commit version.now) fault) }
+        ensures failed { self.old.held.flusher.commit.phase ≡ phases.Failed → result ≡ Err StoreFault.Failed }
     {
         // The store is of the reporter's book.
         self.held.begin(alloc, &self.reporter, version)
@@ -135,6 +137,9 @@ impl<D: Disk> Keeper<D> {
         ensures counted { IfOk result
             (λ p. Counts p (calls_left self.old.held.flusher.commit) (calls_left self.new.held.flusher.commit)) }
         ensures failed { OnErr result (self.new.held.flusher.commit.phase ≡ phases.Failed) }
+        // It had failed before, or its device did now.
+        ensures cause { D.is_honest self.old.held.flusher.commit.disk → IfErr result (λ fault. (fault ≡ StoreFault.Failed)
+            ⊎ ((fault ≡ StoreFault.Device) × Failed (D.faults self.old.held.flusher.commit.disk) (D.faults self.new.held.flusher.commit.disk))) }
         ensures reporter { self.new.reporter ≡ self.old.reporter }
         ensures told { self.new.told ≡ self.old.told }
     {
@@ -177,7 +182,8 @@ impl<D: Disk> Keeper<D> {
         shared: &Shared<J, R>,
         fault: StoreFault,
     ) -> bool
-        requires { self.old.reporter.book ≡ J.book }
+        requires book { self.old.reporter.book ≡ J.book }
+        requires failed { J.failed self.old.reporter.log (told_fault_of fault) }
         ensures nothing { self.new ≡ self.old }
         ensures passes { result ≡ passes (told_fault_of fault) }
     {

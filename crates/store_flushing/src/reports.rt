@@ -51,7 +51,8 @@ pub(crate) fn tell<J: BookName, R: Wait + Drop, W: Wait>(
     me: &mut Reporter,
     fault: StoreFault,
 ) -> bool
-    requires { me.old.book ≡ J.book }
+    requires book { me.old.book ≡ J.book }
+    requires failed { J.failed me.old.log (told_fault_of fault) }
     ensures nothing { me.new ≡ me.old }
     ensures passes { result ≡ passes (told_fault_of fault) }
 {

@@ -6,3 +6,4 @@ pub mod Marking
 pub mod HandingOut
 pub mod StripLemmas
 mod RowLooks
+pub mod Failures

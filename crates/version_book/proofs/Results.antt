@@ -86,6 +86,11 @@ module _ (was now : Known) (log : List Entry) where
   looks_told (Ok n) P h told = subst (λ (k : Known). P k.log) (sym h.knows) told
   looks_told (Err f) P h told = tt
 
+  pub looks_failed : (r : Result ℕ BookFault) (P : List Entry → BookFault → Type 0) → ((l : List Entry) → P l fault.Gone) → Looks r was log now → IfErr r (P log) → IfErr r (P now.log)
+  looks_failed (Ok n) P gone h failed = tt
+  looks_failed (Err f) P gone (inl h) failed = subst (P now.log) (sym h.0) (gone now.log)
+  looks_failed (Err f) P gone (inr h) failed = subst (λ (k : Known). P k.log f) (sym h.1.knows) failed
+
   pub looks_history : (r : Result ℕ BookFault) → IsLog was.log → Looks r was log now → IsHistory (seen now)
   looks_history (Ok n) valid h = looked_history was now log h
   looks_history (Err f) valid (inl h) = same_history was now valid h.1

@@ -3,6 +3,7 @@ pub mod Jobs
 pub mod Strips
 pub mod Store
 pub mod Waits
+pub mod Failing
 pub use Rattle.book_lock.specs.Steps
 pub use Rattle.book_history.specs.Fault
 pub use Rattle.book_history.specs.Known

@@ -3,6 +3,7 @@ ghost use Rattle.std.specs.Prelude.{◌≡◌, ◌⊎◌, IsTrue, Err, IfOk, IfE
 ghost use mathlib.Core.List.{IsPrefix};
 ghost use Rattle.book_history.specs.Fault.{no_memory};
 ghost use Rattle.book_history.specs.Logs.{IsLog};
+ghost use Rattle.version_book.specs.Failing.{HasFailed};
 ghost use Rattle.version_book.specs.BookState.{IsAfterCommand, IsAfterFinish};
 ghost use Rattle.version_book.specs.HeldTiles.{taken_in};
 ghost use Rattle.book_lock.specs.Steps.{IsAcceptedIn, IsFinishedIn, IsRefusedIn};
@@ -39,6 +40,7 @@ pub struct LockedBook<J: BookName, R: Wait + Drop> {
     near: (usize, u8),
     /// Memory for the next report: what is stored can be reported where there is none any more.
     room: Room,
+    ghost failed: { HasFailed J.failed log state.fault },
 }
 
 impl<J: BookName, R: Wait + Drop> LockedBook<J, R> {

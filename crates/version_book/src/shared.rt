@@ -9,6 +9,7 @@ ghost use Rattle.book_history.specs.Known.{seen, IsOwn, LeavesSession};
 ghost use Rattle.book_history.specs.Logs.{entry, history_of, newest_in, no_event, IsAccepted, IsLog};
 ghost use Rattle.book_history.specs.Rules.{head_of};
 ghost use Rattle.book_history.specs.Telling.{IsToldIn};
+ghost use Rattle.version_book.specs.Failing.{IsToldFault};
 ghost use Rattle.book_lock.specs.Steps.{beginners, HasAllOf, IsAcceptedIn, IsRefusedIn};
 ghost use Rattle.book_lock.specs.Heard.{HasHeard, IsReportedBy};
 ghost use Rattle.version_book.specs.Jobs.{IsFinishedBy, IsJob};
@@ -329,6 +330,7 @@ impl<J: BookName, R: Wait + Drop> Shared<J, R> {
         ensures err { IfErr result (LeavesSession BookFault.Gone me.old me.new) }
         ensures refused { IfErr result
             (λ fault. IsSyncRefused (newest (seen me.old)).number (newest (seen me.new)) fault) }
+        ensures failed { IfErr result (IsToldFault J.failed me.new.log) }
         ensures only_without { result ≡ Err BookFault.NoStore → has_store self.now ≡ false }
         ensures without { has_store self.now ≡ false
             → IsErrAnd result (λ fault. (fault ≡ BookFault.NoStore) ⊎ (fault ≡ BookFault.Gone)) }
@@ -398,13 +400,14 @@ impl<J: BookName, R: Wait + Drop> Shared<J, R> {
 
     /// The store reported a fault: the reporter rests until a command is accepted.
     pub fn store_failed<W: Wait>(&self, rt: &W, me: &mut Reporter, fault: ToldFault)
-        requires { me.old.book ≡ J.book }
+        requires book { me.old.book ≡ J.book }
+        requires failed { J.failed me.old.log fault }
         ensures { me.new ≡ me.old }
     {
         // What the reporter has seen is a log with a first entry: the clauses rest on that.
         let _ = me.given();
         let mut turn = self.turns.next(rt, TurnKind::StoreFailed);
-        store_failed(&mut turn.book, fault);
+        store_failed(&mut turn.book, me, fault);
     }
 
     /// From now on commands are refused, no job is handed out, and no call waits for long.

@@ -134,6 +134,7 @@ fn play_in<J: BookName + Send + Sync, R: Threads + Wait + Clock + Abort + Sync>(
     requires begun { opened.1.log ≡ entry no_event opened.2 ∷ [] }
     requires seats { 2 ≤ J.seats }
     requires anything { (log : _) (number : _) → J.stored log number }
+    requires any_fault { (log : _) (fault : _) → J.failed log fault }
 {
     let (head, seen_log, version) = opened;
     let started = Shared::<J, &R>::start(rt, alloc, head, seen_log, version, store, 2);
@@ -164,6 +165,7 @@ fn play_lists<J: BookName + Send + Sync, R: Threads + Wait + Clock + Abort + Syn
 )
     requires book { tokens.old.reporter.book ≡ J.book }
     requires anything { (log : _) (number : _) → J.stored log number }
+    requires any_fault { (log : _) (fault : _) → J.failed log fault }
     ensures { tokens.new.reporter.book ≡ tokens.old.reporter.book }
 {
     'lists: for rows in lists {
@@ -182,6 +184,7 @@ fn play_rows<J: BookName + Send + Sync, R: Threads + Wait + Clock + Abort + Sync
 )
     requires book { tokens.old.reporter.book ≡ J.book }
     requires anything { (log : _) (number : _) → J.stored log number }
+    requires any_fault { (log : _) (fault : _) → J.failed log fault }
     ensures { tokens.new.reporter.book ≡ tokens.old.reporter.book }
 {
     let Some(row) = rows.get(at) else {
@@ -205,6 +208,7 @@ fn play_row<J: BookName + Send + Sync, R: Threads + Wait + Clock + Abort + Sync>
 ) -> Option<(Job, bool)>
     requires book { tokens.old.reporter.book ≡ J.book }
     requires anything { (log : _) (number : _) → J.stored log number }
+    requires any_fault { (log : _) (fault : _) → J.failed log fault }
     ensures same { tokens.new.reporter.book ≡ tokens.old.reporter.book }
     ensures job { IfSome result (λ taken. taken.0.book ≡ J.book) }
 {
@@ -293,6 +297,7 @@ fn ask_beside_stale<J: BookName + Send + Sync, R: Threads + Wait + Clock + Abort
 ) -> Answer
     requires book { tokens.old.reporter.book ≡ J.book }
     requires anything { (log : _) (number : _) → J.stored log number }
+    requires any_fault { (log : _) (fault : _) → J.failed log fault }
     ensures { tokens.new.reporter.book ≡ tokens.old.reporter.book }
 {
     let job = take(rt, alloc, shared).expect(rt, "no tile");
@@ -335,6 +340,7 @@ pub fn answer<J: BookName, R: Wait + Abort>(
 ) -> Answer
     requires book { (reporter.old.book ≡ J.book) × (me.old.book ≡ J.book) }
     requires anything { (log : _) (number : _) → J.stored log number }
+    requires any_fault { (log : _) (fault : _) → J.failed log fault }
     ensures { (reporter.new.book ≡ reporter.old.book) × (me.new.book ≡ me.old.book) }
 {
     match asked {

@@ -34,6 +34,7 @@ pub fn build_late<J: BookName, R: Wait + Abort>(
 ) -> (usize, u64)
     requires book { tokens.old.reporter.book ≡ J.book }
     requires anything { (log : _) (number : _) → J.stored log number }
+    requires any_fault { (log : _) (fault : _) → J.failed log fault }
     ensures { tokens.new.reporter.book ≡ tokens.old.reporter.book }
 {
     let Some(strip) = take_strip(rt, alloc, shared) else {

@@ -218,6 +218,7 @@ pub fn wait_beside<J: BookName + Send + Sync, R: Threads + Wait + Clock + Abort 
 ) -> (Result<Vec<u64>, BookFault>, Answer)
     requires book { tokens.old.reporter.book ≡ J.book }
     requires anything { (log : _) (number : _) → J.stored log number }
+    requires any_fault { (log : _) (fault : _) → J.failed log fault }
     ensures { tokens.new.reporter.book ≡ tokens.old.reporter.book }
 {
     let Tokens {
@@ -243,6 +244,7 @@ fn late<J: BookName, R: Wait + Clock + Abort>(
 ) -> Answer
     requires book { (reporter.old.book ≡ J.book) × (other.old.book ≡ J.book) }
     requires anything { (log : _) (number : _) → J.stored log number }
+    requires any_fault { (log : _) (fault : _) → J.failed log fault }
     ensures { (reporter.new.book ≡ reporter.old.book) × (other.new.book ≡ other.old.book) }
 {
     sleep(rt, Duration::from_millis(100));
@@ -258,6 +260,7 @@ fn report_all<J: BookName, R: Wait + Abort>(
 ) -> Answer
     requires book { reporter.old.book ≡ J.book }
     requires anything { (log : _) (number : _) → J.stored log number }
+    requires any_fault { (log : _) (fault : _) → J.failed log fault }
     ensures { reporter.new.book ≡ reporter.old.book }
 {
     let mut last = None;
@@ -316,6 +319,7 @@ pub fn submit_beside<J: BookName + Send + Sync, R: Threads + Wait + Clock + Abor
 ) -> (u64, Answer)
     requires book { tokens.old.reporter.book ≡ J.book }
     requires anything { (log : _) (number : _) → J.stored log number }
+    requires any_fault { (log : _) (fault : _) → J.failed log fault }
     ensures { tokens.new.reporter.book ≡ tokens.old.reporter.book }
 {
     let Tokens {

@@ -1,6 +1,7 @@
 //! A store as its keeper holds it: none of its calls waits, and its keeper gets no flusher and no open disk of it.
-ghost use Rattle.std.specs.Prelude.{◌≡◌, false, Some, IfErr, IfOk, IsTrue, OnErr};
+ghost use Rattle.std.specs.Prelude.{◌≡◌, ◌⊎◌, false, Err, Some, IfErr, IfOk, IsTrue, OnErr};
 ghost use Rattle.overlay_terms.specs.Histories.{History, IsHistory, newest};
+ghost use Rattle.disk_model.specs.Disk.{Failed};
 ghost use Rattle.root_store.specs.Beginning.{IsReason};
 ghost use Rattle.root_store.specs.Running.{Counts, calls_left, is_busy};
 ghost use Rattle.root_store.specs.declared.phase.Phase.TheVariants as phases;
@@ -90,6 +91,7 @@ impl<D: Disk> HeldStore<D> {
         ensures errors { IfErr result
             (λ fault. IsReason self.old.flusher.commit.phase self.old.flusher.commit.root
             (HasNoRoomFor self.old.flusher.commit version.now) fault) }
+        ensures failed { self.old.flusher.commit.phase ≡ phases.Failed → result ≡ Err StoreFault.Failed }
     {
         let mark = VersionMark::of(reporter, version);
         let known = self.is_known(&mark);
@@ -123,6 +125,9 @@ impl<D: Disk> HeldStore<D> {
         ensures counted { IfOk result
             (λ p. Counts p (calls_left self.old.flusher.commit) (calls_left self.new.flusher.commit)) }
         ensures failed { OnErr result (self.new.flusher.commit.phase ≡ phases.Failed) }
+        // It had failed before, or its device did now.
+        ensures cause { D.is_honest self.old.flusher.commit.disk → IfErr result (λ fault. (fault ≡ StoreFault.Failed)
+            ⊎ ((fault ≡ StoreFault.Device) × Failed (D.faults self.old.flusher.commit.disk) (D.faults self.new.flusher.commit.disk))) }
         ensures same { self.new.seen_log ≡ self.old.seen_log }
     {
         let stepped = self.flusher.step();

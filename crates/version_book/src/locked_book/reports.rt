@@ -42,13 +42,20 @@ pub(crate) fn report<J: BookName, R: Wait + Drop>(
     durable
 }
 
-/// The store reported a fault.
+/// The store reported a fault, by the reporter, who has seen no more than what is locked. Were it otherwise, which cannot
+/// come, nothing changes.
 pub(crate) fn store_failed<J: BookName, R: Wait + Drop>(
     locked: &mut LockedBook<J, R>,
+    me: &Reporter,
     fault: ToldFault,
 )
+    requires book { me.now.book ≡ J.book }
+    requires failed { J.failed me.now.log fault }
     ensures log { locked.new.log ≡ locked.old.log }
-    ensures state { IsAfterFailure locked.old.state fault locked.new.state }
+    ensures state { HasHeard locked.old.log me.now → IsAfterFailure locked.old.state fault locked.new.state }
+    ensures behind { ¬ (HasHeard locked.old.log me.now) → locked.new.state ≡ locked.old.state }
 {
-    locked.state.store_failed(fault);
+    if locked.log.has_heard(me) {
+        locked.state.store_failed(fault);
+    }
 }

@@ -4,6 +4,7 @@ ghost use Rattle.std.specs.Arc.{arc_value};
 ghost use Rattle.book_history.specs.Fault.{no_memory};
 ghost use Rattle.book_history.specs.Logs.{newest_in, IsLog};
 ghost use Rattle.book_history.specs.Telling.{IsToldIn};
+ghost use Rattle.version_book.specs.Failing.{IsToldFault};
 ghost use Rattle.book_lock.specs.Steps.{IsLevel};
 ghost use Rattle.book_lock.specs.Heard.{HasHeard};
 ghost use Rattle.version_book.specs.Waits.{IsAfterTold, IsBuilding, IsBuiltAt, IsIdle, IsQuiet, IsSyncRefusedAt};
@@ -124,6 +125,7 @@ pub(crate) fn tell_durable<J: BookName, R: Wait + Drop>(
     ensures told { IfOk result (λ _. IsToldIn J.stored locked.now.log) }
     ensures refused { IfErr result
         (λ fault. IsSyncRefusedAt locked.now.state (newest_in locked.now.log) number fault) }
+    ensures failed { IfErr result (IsToldFault J.failed locked.now.log) }
     ensures seen { Looks result me.old locked.now.log me.new }
     ensures gone { result ≡ Err BookFault.Gone → ¬ (IsLevel locked.now.log me.old) }
 {

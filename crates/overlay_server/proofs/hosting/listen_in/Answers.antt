@@ -8,7 +8,7 @@ use Rattle.overlay_server.specs.Refusing.{IsRefusedFrom}
 use Rattle.overlay_server.specs.Serving.{IsLeftFrom}
 use Rattle.overlay_server.proofs.Refusals.{passed_on}
 use Rattle.overlay_server.proofs.Reporting.{beside_any}
-use Rattle.overlay_server.proofs.StoreParts.{CountsAs}
+use Rattle.overlay_server.proofs.StoreParts.{CountsAs, FailsAs}
 use Rattle.overlay_server.proofs.hosting.listen_in.Goals as goal
 
 pub returns-in_err-hosted-clause-refused : goal.returns-in_err-hosted-clause-refused
@@ -35,6 +35,12 @@ run-requires-clause-meant g c κs within =
     let hosted = c.in_ok-hosted in
     subst (λ v. CountsAs g.D.Disk g.J.BookName.stored v (flusher_in hosted.hosted.store)) (sym hosted.ensures.version)
     (subst (CountsAs g.D.Disk g.J.BookName.stored c.args.version) (sym hosted.ensures.flusher) c.requires.stored)
+
+pub run-requires-clause-failed : goal.run-requires-clause-failed
+run-requires-clause-failed g c κs within =
+    let hosted = c.in_ok-hosted in
+    subst (λ v. FailsAs g.D.Disk g.J.BookName.failed v (flusher_in hosted.hosted.store)) (sym hosted.ensures.version)
+    (subst (FailsAs g.D.Disk g.J.BookName.failed c.args.version) (sym hosted.ensures.flusher) c.requires.failed)
 
 pub returns-in-Ok-clause-left : goal.returns-in-Ok-clause-left
 returns-in-Ok-clause-left g c =

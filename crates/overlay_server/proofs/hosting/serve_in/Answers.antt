@@ -3,13 +3,14 @@ use Rattle.std.specs.List.{AllZip}
 use Rattle.book_history.specs.Known.{Known}
 use Rattle.book_lock.specs.Steps.{beginners}
 use Rattle.overlay_terms.specs.Histories.{History}
+use Rattle.script_form.specs.Transcript.{StoreReport}
 use Rattle.store_flushing.specs.Stores.{flusher_in}
 use Rattle.overlay_server.specs.Given.{given_to}
 use Rattle.overlay_server.specs.Hosting.{IsHosted}
 use Rattle.overlay_server.specs.Refusing.{IsRefusedOf}
-use Rattle.overlay_server.specs.Serving.{IsHeldOf, IsLeftFrom, first_log}
+use Rattle.overlay_server.specs.Serving.{IsLeftFrom, IsReportedOf, first_log}
 use Rattle.overlay_server.proofs.Reporting.{log_is}
-use Rattle.overlay_server.proofs.StoreParts.{CountsAs}
+use Rattle.overlay_server.proofs.StoreParts.{CountsAs, FailsAs}
 use Rattle.overlay_server.proofs.hosting.serve_in.Goals as goal
 
 pub run-requires-clause-hosted : goal.run-requires-clause-hosted
@@ -23,12 +24,18 @@ run-requires-clause-meant g c κs within =
     subst (λ v. CountsAs g.D.Disk g.J.BookName.stored v (flusher_in hosted.hosted.store)) (sym hosted.ensures.version)
     (subst (CountsAs g.D.Disk g.J.BookName.stored c.args.version) (sym hosted.ensures.flusher) c.requires.stored)
 
+pub run-requires-clause-failed : goal.run-requires-clause-failed
+run-requires-clause-failed g c κs within =
+    let hosted = c.in-Ok in
+    subst (λ v. FailsAs g.D.Disk g.J.BookName.failed v (flusher_in hosted.hosted.store)) (sym hosted.ensures.version)
+    (subst (FailsAs g.D.Disk g.J.BookName.failed c.args.version) (sym hosted.ensures.flusher) c.requires.failed)
+
 pub run-requires-clause-told : goal.run-requires-clause-told
 run-requires-clause-told g c κs within =
     let hosted = c.in-Ok in
     let may = g.W.ReplyWriter.may_report in
-    subst (λ v. (history : History) → IsHeldOf g.D.Disk v (flusher_in hosted.hosted.store) history → may history) (sym hosted.ensures.version)
-    (subst (λ f. (history : History) → IsHeldOf g.D.Disk c.args.version f history → may history) (sym hosted.ensures.flusher) c.requires.told)
+    subst (λ v. (history : History) (report : StoreReport) → IsReportedOf g.D.Disk v (flusher_in hosted.hosted.store) history report → may history report) (sym hosted.ensures.version)
+    (subst (λ f. (history : History) (report : StoreReport) → IsReportedOf g.D.Disk c.args.version f history report → may history report) (sym hosted.ensures.flusher) c.requires.told)
 
 pub run-requires-clause-from : goal.run-requires-clause-from
 run-requires-clause-from g c κs within =

@@ -4,9 +4,10 @@ use Rattle.book_lock.specs.Steps.{beginners}
 use Rattle.session_threads.specs.Fuse.{until_end}
 use Rattle.store_flushing.specs.Told.{told_in}
 use Rattle.overlay_terms.specs.Histories.{History}
+use Rattle.script_form.specs.Transcript.{StoreReport}
 use Rattle.overlay_server.specs.Given.{given_to}
 use Rattle.overlay_server.specs.Refusing.{IsRefusedOf}
-use Rattle.overlay_server.specs.Serving.{IsHeldOf, IsLeftFrom, first_log, flusher_of, start_of}
+use Rattle.overlay_server.specs.Serving.{IsLeftFrom, IsReportedOf, first_log, flusher_of, start_of}
 use Rattle.overlay_server.proofs.Disks.{disk_back, disk_left}
 use Rattle.overlay_server.proofs.Reporting.{has_engine, with_beginners}
 use Rattle.overlay_server.proofs.serving.serve_ports.Goals as goal
@@ -19,8 +20,8 @@ serve_in-requires-clause-told g c κs within =
     let engine = c.args.engine in
     let handed = c.handed-version in
     let may = g.W.ReplyWriter.may_report in
-    subst (λ v. (history : History) → IsHeldOf g.D.Disk v handed.result.1.flusher history → may history) (sym handed.ensures.version)
-    (subst (λ f. (history : History) → IsHeldOf g.D.Disk (start_of engine) f history → may history) (sym handed.ensures.flusher) c.requires.told)
+    subst (λ v. (history : History) (report : StoreReport) → IsReportedOf g.D.Disk v handed.result.1.flusher history report → may history report) (sym handed.ensures.version)
+    (subst (λ f. (history : History) (report : StoreReport) → IsReportedOf g.D.Disk (start_of engine) f history report → may history report) (sym handed.ensures.flusher) c.requires.told)
 
 pub serve_in-requires-clause-from : goal.serve_in-requires-clause-from
 serve_in-requires-clause-from g c κs within =

@@ -5,7 +5,10 @@ use Rattle.overlay_server.specs.Keeping.{HoldsOfStore, IsStoreKept}
 use Rattle.overlay_server.proofs.storing.keep_store.Goals as goal
 
 pub flush-requires-clause-stored : goal.flush-requires-clause-stored
-flush-requires-clause-stored g c = subst (HoldsOfStore g.D.Disk g.J.BookName.stored) c.in-Kept.is c.requires.stored
+flush-requires-clause-stored g c = (subst (HoldsOfStore g.D.Disk g.J.BookName.stored g.J.BookName.failed) c.in-Kept.is c.requires.stored).0
+
+pub flush-requires-clause-failed : goal.flush-requires-clause-failed
+flush-requires-clause-failed g c = (subst (HoldsOfStore g.D.Disk g.J.BookName.stored g.J.BookName.failed) c.in-Kept.is c.requires.stored).1
 
 pub returns-in-Kept : goal.returns-in-Kept
 returns-in-Kept g c =

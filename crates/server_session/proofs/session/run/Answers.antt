@@ -27,10 +27,10 @@ pub returns-in-Err-clause-stays : goal.returns-in-Err-clause-stays
 returns-in-Err-clause-stays g c = c.loop-taken.invariant.stays
 
 pub finish-requires-clause-told : goal.finish-requires-clause-told
-finish-requires-clause-told g c κs within = may_report-on _ _ _ c.args.me.now c.loop-taken.me c.loop-taken.invariant.stays c.requires.told
+finish-requires-clause-told g c κs within = may_report-on _ _ _ _ c.args.me.now c.loop-taken.me c.loop-taken.invariant.stays c.requires.told
 
 pub take-told-requires-clause-told : goal.take-told-requires-clause-told
-take-told-requires-clause-told g c κs within = may_report-on _ _ _ c.args.me.now c.loop-taken.me c.loop-taken.invariant.stays c.requires.told
+take-told-requires-clause-told g c κs within = may_report-on _ _ _ _ c.args.me.now c.loop-taken.me c.loop-taken.invariant.stays c.requires.told
 
 pub returns-in-Ok-eq0-clause-run : goal.returns-in-Ok-eq0-clause-run
 returns-in-Ok-eq0-clause-run g c =

@@ -20,7 +20,7 @@ invariant-loop-taken g l = record {
   from : g.W.ReplyWriter.from l.writer (has_store l.shared) l.me;
   limit : IsPastMost l.most (g.R.Read.remaining l.initial.reader) → g.W.ReplyWriter.may_pass_limit l.writer;
   own : IfSome (g.W.ReplyWriter.left l.writer) (IsReading l.most l.taken (g.R.Read.remaining l.reader) l.state);
-  way : IsUnderWay l.most (store_of g.J.BookName.stored (has_store l.shared)) l.initial.me (g.R.Read.remaining l.initial.reader) (g.R.Read.remaining l.reader) (g.W.ReplyWriter.contents l.initial.writer) (g.W.ReplyWriter.contents l.writer) l.taken l.state l.me;
+  way : IsUnderWay l.most (store_of g.J.BookName.stored g.J.BookName.failed (has_store l.shared)) l.initial.me (g.R.Read.remaining l.initial.reader) (g.R.Read.remaining l.reader) (g.W.ReplyWriter.contents l.initial.writer) (g.W.ReplyWriter.contents l.writer) l.taken l.state l.me;
 }
 
 abbrev pub decreases-loop-taken : goal.decreases-loop-taken

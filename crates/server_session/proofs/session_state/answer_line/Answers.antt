@@ -2,7 +2,7 @@ use Rattle.std.proofs.Common.{[], subst, sym}
 use Rattle.std.proofs.KnownBytes.{Appends-nil}
 use Rattle.book_history.specs.Known.{seen}
 use Rattle.version_book.specs.Store.{has_store}
-use Rattle.server_session.specs.Stores.{IsToldOf}
+use Rattle.server_session.specs.Stores.{IsReportOf}
 use Rattle.server_session.proofs.Left.{next_reply, none_ended, ok_then, reply_ended, some_then}
 use Rattle.server_session.proofs.Weaker.{reply_since}
 use Rattle.server_session.proofs.session_state.answer_line.Goals as goal
@@ -12,17 +12,18 @@ reply-requires g c =
     let was = c.in-Some.ensures in
     let there = has_store c.args.shared.now in
     let stored = g.J.BookName.stored in
+    let failed = g.J.BookName.failed in
     let may = g.W.ReplyWriter.may_report in
     record {
       right =
-          some_then _ (next_reply (g.W.ReplyWriter.from c.args.writer.now) stored there may c.args.me.now c.answer.new.me c.args.waiting.now c.answer.new.waiting c.args.line.now c.in-Some.reply
+          some_then _ (next_reply (g.W.ReplyWriter.from c.args.writer.now) stored failed there may c.args.me.now c.answer.new.me c.args.waiting.now c.answer.new.waiting c.args.line.now c.in-Some.reply
           c.requires.from c.requires.told was.takes was.ends) c.requires.own;
       told = (
         there,
         c.args.me.now,
         c.requires.from,
         was.takes.stays,
-        reply_since (IsToldOf stored) may there (seen c.args.me.now) c.requires.told c.args.me.now c.answer.new.me _ was.takes.stays.goes_on was.right,
+        reply_since (IsReportOf stored failed) may there (seen c.args.me.now) c.requires.told c.args.me.now c.answer.new.me _ was.takes.stays.goes_on was.right,
       );
     }
 

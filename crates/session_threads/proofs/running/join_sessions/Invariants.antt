@@ -16,6 +16,6 @@ invariant-loop-begun g l = record {
   finished_grown : vec_len l.finished ≡ length l.yielded;
   finished_room : length (into_iter_items l.initial.begun-iterator) ≤ vec_capacity l.finished;
   leave : Leave (λ begun ended. MatchResult begun
-      (λ h. IsRunOf g.J.BookName.book (store_of g.J.BookName.stored h.promise.stored) g.R.Read.remaining g.W.ReplyWriter.contents h.promise.begun.value ended)
+      (λ h. IsRunOf g.J.BookName.book (store_of g.J.BookName.stored g.J.BookName.failed h.promise.stored) g.R.Read.remaining g.W.ReplyWriter.contents h.promise.begun.value ended)
       (λ back. ended ≡ back)) l.yielded l.sessions.items l.finished.items;
 }

@@ -25,7 +25,7 @@ start_session-requires-clause-told g c κs within =
     let at = c.loop-script in
     let rest = into_iter_items c.next.new.self in
     let parts = ap (λ ss. at.yielded ++ ss) (sym c.in-Some.ensures.steps.0) ∙ at.invariant.all ∙ c.into_iter-script-iterator.ensures.into_iter_gives.0 in
-    let may : Script _ _ → Type 0 = λ script. MayReport g.J.BookName.stored (has_store c.args.shared.now) script.session g.W.ReplyWriter.may_report in
+    let may : Script _ _ → Type 0 = λ script. MayReport g.J.BookName.stored g.J.BookName.failed (has_store c.args.shared.now) script.session g.W.ReplyWriter.may_report in
     in_middle may at.yielded c.in-Some.script rest (subst (All may) (sym parts) c.requires.told)
 
 pub start_session-requires-clause-own : goal.start_session-requires-clause-own
@@ -67,7 +67,7 @@ loop-script-preserved g c =
       left = one_less _ _ script _ _ c.in-Some.ensures.steps.0 c.in-Some.ensures.steps.1 at.invariant.left;
       grown = one_longer at.yielded script _ _ c.push_reserved.ensures.len at.invariant.grown;
       room = omega (arith, at.invariant.room, c.push_reserved.ensures.capacity);
-      begun = beside_pushed (λ script begun. MatchResult begun (λ h. (h.promise.begun.value ≡ script) × (h.promise.stored ≡ has_store c.args.shared.now)) (λ back. IsRunOf g.J.BookName.book (store_of g.J.BookName.stored (has_store c.args.shared.now)) g.R.Read.remaining g.W.ReplyWriter.contents script back))
+      begun = beside_pushed (λ script begun. MatchResult begun (λ h. (h.promise.begun.value ≡ script) × (h.promise.stored ≡ has_store c.args.shared.now)) (λ back. IsRunOf g.J.BookName.book (store_of g.J.BookName.stored g.J.BookName.failed (has_store c.args.shared.now)) g.R.Read.remaining g.W.ReplyWriter.contents script back))
           at.yielded at.running.items _ script c.start_session.result c.push_reserved.ensures.items at.invariant.begun c.start_session.ensures;
     }
 
@@ -79,9 +79,9 @@ join_sessions-requires g c =
     let stored = has_store c.args.shared.now in
     let all = gone_by_count _ scripts at.yielded (into_iter_items at.script-iterator) _ at.invariant.all
     c.into_iter-script-iterator.ensures.into_iter_gives.0 at.invariant.left c.in-None.ensures.steps.0 in
-    let begun = subst (λ ss. AllZip (λ script begun. MatchResult begun (λ h. (h.promise.begun.value ≡ script) × (h.promise.stored ≡ stored)) (λ back. IsRunOf g.J.BookName.book (store_of g.J.BookName.stored stored) g.R.Read.remaining g.W.ReplyWriter.contents script back)) ss running.items) all at.invariant.begun in
+    let begun = subst (λ ss. AllZip (λ script begun. MatchResult begun (λ h. (h.promise.begun.value ≡ script) × (h.promise.stored ≡ stored)) (λ back. IsRunOf g.J.BookName.book (store_of g.J.BookName.stored g.J.BookName.failed stored) g.R.Read.remaining g.W.ReplyWriter.contents script back)) ss running.items) all at.invariant.begun in
     subst (λ n. IsReserved c.args.seats.sessions n × IsReserved c.args.seats.finished n)
-    (beside_length (λ script begun. MatchResult begun (λ h. (h.promise.begun.value ≡ script) × (h.promise.stored ≡ stored)) (λ back. IsRunOf g.J.BookName.book (store_of g.J.BookName.stored stored) g.R.Read.remaining g.W.ReplyWriter.contents script back)) scripts running.items begun)
+    (beside_length (λ script begun. MatchResult begun (λ h. (h.promise.begun.value ≡ script) × (h.promise.stored ≡ stored)) (λ back. IsRunOf g.J.BookName.book (store_of g.J.BookName.stored g.J.BookName.failed stored) g.R.Read.remaining g.W.ReplyWriter.contents script back)) scripts running.items begun)
     (c.requires.room.sessions, c.requires.room.finished)
 
 pub returns : goal.returns
@@ -92,20 +92,20 @@ returns g c =
     let stored = has_store c.args.shared.now in
     let all = gone_by_count _ scripts at.yielded (into_iter_items at.script-iterator) _ at.invariant.all
     c.into_iter-script-iterator.ensures.into_iter_gives.0 at.invariant.left c.in-None.ensures.steps.0 in
-    let begun = subst (λ ss. AllZip (λ script begun. MatchResult begun (λ h. (h.promise.begun.value ≡ script) × (h.promise.stored ≡ stored)) (λ back. IsRunOf g.J.BookName.book (store_of g.J.BookName.stored stored) g.R.Read.remaining g.W.ReplyWriter.contents script back)) ss running.items) all at.invariant.begun in
+    let begun = subst (λ ss. AllZip (λ script begun. MatchResult begun (λ h. (h.promise.begun.value ≡ script) × (h.promise.stored ≡ stored)) (λ back. IsRunOf g.J.BookName.book (store_of g.J.BookName.stored g.J.BookName.failed stored) g.R.Read.remaining g.W.ReplyWriter.contents script back)) ss running.items) all at.invariant.begun in
     let joined = c.join_sessions.ensures in
     record {
       ended = joined.ended;
       each =
-          beside_through (λ script begun. MatchResult begun (λ h. (h.promise.begun.value ≡ script) × (h.promise.stored ≡ stored)) (λ back. IsRunOf g.J.BookName.book (store_of g.J.BookName.stored stored) g.R.Read.remaining g.W.ReplyWriter.contents script back))
-          (λ begun ended. MatchResult begun (λ h. IsRunOf g.J.BookName.book (store_of g.J.BookName.stored h.promise.stored) g.R.Read.remaining g.W.ReplyWriter.contents h.promise.begun.value ended) (λ back. ended ≡ back))
-          (λ script ended. IsRunOf g.J.BookName.book (store_of g.J.BookName.stored stored) g.R.Read.remaining g.W.ReplyWriter.contents script ended)
-          (λ script begun ended. elim begun as (λ b. MatchResult b (λ h. (h.promise.begun.value ≡ script) × (h.promise.stored ≡ stored)) (λ back. IsRunOf g.J.BookName.book (store_of g.J.BookName.stored stored) g.R.Read.remaining g.W.ReplyWriter.contents script back)
-          → MatchResult b (λ h. IsRunOf g.J.BookName.book (store_of g.J.BookName.stored h.promise.stored) g.R.Read.remaining g.W.ReplyWriter.contents h.promise.begun.value ended) (λ back. ended ≡ back)
-          → IsRunOf g.J.BookName.book (store_of g.J.BookName.stored stored) g.R.Read.remaining g.W.ReplyWriter.contents script ended) [
-            | Ok h ↦ λ same ran. subst (λ b. IsRunOf g.J.BookName.book (store_of g.J.BookName.stored b) g.R.Read.remaining g.W.ReplyWriter.contents script ended) same.1
-                (subst (λ s. IsRunOf g.J.BookName.book (store_of g.J.BookName.stored h.promise.stored) g.R.Read.remaining g.W.ReplyWriter.contents s ended) same.0 ran)
-            | Err back ↦ λ ran is. subst (λ e. IsRunOf g.J.BookName.book (store_of g.J.BookName.stored stored) g.R.Read.remaining g.W.ReplyWriter.contents script e) (sym is) ran
+          beside_through (λ script begun. MatchResult begun (λ h. (h.promise.begun.value ≡ script) × (h.promise.stored ≡ stored)) (λ back. IsRunOf g.J.BookName.book (store_of g.J.BookName.stored g.J.BookName.failed stored) g.R.Read.remaining g.W.ReplyWriter.contents script back))
+          (λ begun ended. MatchResult begun (λ h. IsRunOf g.J.BookName.book (store_of g.J.BookName.stored g.J.BookName.failed h.promise.stored) g.R.Read.remaining g.W.ReplyWriter.contents h.promise.begun.value ended) (λ back. ended ≡ back))
+          (λ script ended. IsRunOf g.J.BookName.book (store_of g.J.BookName.stored g.J.BookName.failed stored) g.R.Read.remaining g.W.ReplyWriter.contents script ended)
+          (λ script begun ended. elim begun as (λ b. MatchResult b (λ h. (h.promise.begun.value ≡ script) × (h.promise.stored ≡ stored)) (λ back. IsRunOf g.J.BookName.book (store_of g.J.BookName.stored g.J.BookName.failed stored) g.R.Read.remaining g.W.ReplyWriter.contents script back)
+          → MatchResult b (λ h. IsRunOf g.J.BookName.book (store_of g.J.BookName.stored g.J.BookName.failed h.promise.stored) g.R.Read.remaining g.W.ReplyWriter.contents h.promise.begun.value ended) (λ back. ended ≡ back)
+          → IsRunOf g.J.BookName.book (store_of g.J.BookName.stored g.J.BookName.failed stored) g.R.Read.remaining g.W.ReplyWriter.contents script ended) [
+            | Ok h ↦ λ same ran. subst (λ b. IsRunOf g.J.BookName.book (store_of g.J.BookName.stored g.J.BookName.failed b) g.R.Read.remaining g.W.ReplyWriter.contents script ended) same.1
+                (subst (λ s. IsRunOf g.J.BookName.book (store_of g.J.BookName.stored g.J.BookName.failed h.promise.stored) g.R.Read.remaining g.W.ReplyWriter.contents s ended) same.0 ran)
+            | Err back ↦ λ ran is. subst (λ e. IsRunOf g.J.BookName.book (store_of g.J.BookName.stored g.J.BookName.failed stored) g.R.Read.remaining g.W.ReplyWriter.contents script e) (sym is) ran
           ])
           scripts running.items joined.ended begun joined.each;
       sessions_are = joined.sessions_are;

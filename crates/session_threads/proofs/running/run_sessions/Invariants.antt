@@ -16,5 +16,5 @@ invariant-loop-script g l = record {
   room : length (into_iter_items l.initial.script-iterator) ≤ vec_capacity l.running;
   begun : AllZip (λ script begun. MatchResult begun
       (λ h. (h.promise.begun.value ≡ script) × (h.promise.stored ≡ has_store l.shared))
-      (λ back. IsRunOf g.J.BookName.book (store_of g.J.BookName.stored (has_store l.shared)) g.R.Read.remaining g.W.ReplyWriter.contents script back)) l.yielded l.running.items;
+      (λ back. IsRunOf g.J.BookName.book (store_of g.J.BookName.stored g.J.BookName.failed (has_store l.shared)) g.R.Read.remaining g.W.ReplyWriter.contents script back)) l.yielded l.running.items;
 }

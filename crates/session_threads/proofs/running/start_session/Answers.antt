@@ -18,4 +18,4 @@ spawn_with-started-requires-send-T g c κs within = param_send 3 _ (arg_send _ n
 
 pub returns-then-is_set : goal.returns-then-is_set
 returns-then-is_set g c =
-    not_begun_run g.J.BookName.book (store_of g.J.BookName.stored (has_store c.args.shared.now)) g.R.Read.remaining g.W.ReplyWriter.contents c.args.script c.not_begun.result c.requires.book c.not_begun.ensures
+    not_begun_run g.J.BookName.book (store_of g.J.BookName.stored g.J.BookName.failed (has_store c.args.shared.now)) g.R.Read.remaining g.W.ReplyWriter.contents c.args.script c.not_begun.result c.requires.book c.not_begun.ensures

@@ -1,9 +1,13 @@
-use Rattle.std.proofs.Common.{ap, subst, sym}
+use Rattle.std.proofs.Common.{◌≡◌, ap, subst, sym, ◌∙◌}
 use Rattle.book_history.specs.Logs.{history_of, newest_in}
 use Rattle.book_lock.specs.Heard.{Heard}
 use Rattle.store_flushing.specs.Storing.{Flushes}
 use Rattle.store_flushing.specs.declared.keeper.Keeper.{Keeper}
 use Rattle.store_flushing.specs.Told.{KeepsTelling}
+use Rattle.overlay_terms.specs.Histories.{Version}
+use Rattle.store_flushing.specs.Failing.{Fails}
+use Rattle.store_flushing.specs.ToldFaults.{told_fault_of}
+use Rattle.store_flushing.proofs.FailLemmas.{err_is, failed_on, refused_fails}
 use Rattle.store_flushing.proofs.Following.{by_call, handed_on}
 use Rattle.store_flushing.proofs.Storage.{kept_on, then}
 use Rattle.store_flushing.proofs.ToldLemmas.{telling_then}
@@ -48,3 +52,33 @@ end_commit-requires-clause-stored g c =
     let h = history_of old.reporter.log in
     let m = history_of mid.reporter.log in
     handed_on d g.J.BookName.stored h m old.held.flusher mid.held.flusher (λ is. by_call d h m old.held.flusher mid.held.flusher (c.begin.ensures.keeps is)) c.requires.stored
+
+pub end_commit-requires-clause-failed : goal.end_commit-requires-clause-failed
+end_commit-requires-clause-failed g c =
+    let d = g.D.Disk in
+    let old = c.args.keeper.now in
+    let mid = c.begin.new.self in
+    let h = history_of old.reporter.log in
+    let m = history_of mid.reporter.log in
+    failed_on d g.J.BookName.failed h m old.held.flusher mid.held.flusher
+    (λ is. let kept = c.begin.ensures.keeps is in (by_call d h m old.held.flusher mid.held.flusher kept, kept.by_device)) c.requires.failed
+
+pub tell-requires-clause-failed : goal.tell-requires-clause-failed
+tell-requires-clause-failed g c =
+    let d = g.D.Disk in
+    let old = c.args.keeper.now in
+    let mid = c.begin.new.self in
+    let h = history_of old.reporter.log in
+    let m = history_of mid.reporter.log in
+    let fault = told_fault_of c.in-Err.fault in
+    let newest = c.requires.newest ∙ sym (ap (λ (r : Heard). newest_in r.log) c.begin.ensures.reporter) in
+    let refused : Fails old.held.flusher old.held.flusher c.args.version.now fault =
+    refused_fails d old.held.flusher c.args.version.now c.in-Err.fault c.requires.idle (λ at. err_is c.begin.result _ _ c.in-Err.is (c.begin.ensures.failed at)) c.in-Err.ensures.errors in
+    c.requires.failed mid.reporter.log fault (λ is.
+    let kept = c.begin.ensures.keeps is in
+    record {
+      store = mid.held.flusher;
+      followed = by_call d h m old.held.flusher mid.held.flusher kept;
+      by_device = kept.by_device;
+      fails = subst (λ (v : Version). Fails old.held.flusher mid.held.flusher v fault) newest (subst (λ (k : Keeper g.row.D.Denot g.D.Disk). Fails old.held.flusher k.held.flusher c.args.version.now fault) (sym c.in-Err.ensures.err) refused);
+    })

@@ -1,10 +1,14 @@
-use Rattle.std.proofs.Common.{Ok, refl, ap, sym, ◌∙◌, subst}
+use Rattle.disk_model.specs.Disk as device
+use Rattle.commit_plan.specs.declared.fault.StoreFault.TheVariants as faults
+use Rattle.std.proofs.Common.{◌≡◌, ◌⊎◌, Ok, refl, ap, sym, ◌∙◌, subst}
 use Rattle.book_history.specs.Logs.{history_of, newest_in}
 use Rattle.book_lock.specs.Heard.{Heard}
 use Rattle.flush_core.specs.Stored.{stored_after}
 use Rattle.store_flushing.specs.Storing.{Flushes}
 use Rattle.store_flushing.specs.Told.{KeepsTelling}
 use Rattle.store_flushing.specs.declared.keeper.Keeper.{Keeper}
+use Rattle.store_flushing.specs.ToldFaults.{told_fault_of}
+use Rattle.store_flushing.proofs.FailLemmas.{failed_then, on_err, step_fails}
 use Rattle.store_flushing.proofs.Following.{by_call, by_run, further}
 use Rattle.store_flushing.proofs.Storage.{begun, kept_on, then, told_all}
 use Rattle.store_flushing.proofs.ToldLemmas.{telling_self, telling_then}
@@ -114,3 +118,25 @@ report-requires-clause-stored g c =
     let was = c.calls.invariant.1 is in
     further d h m n first.held.flusher mid.held.flusher done.held.flusher (by_run d h m first.held.flusher mid.held.flusher was)
     (by_call d m n mid.held.flusher done.held.flusher (c.step.ensures.keeps was.store)))
+
+pub tell-requires-clause-failed : goal.tell-requires-clause-failed
+tell-requires-clause-failed g c =
+    let d = g.D.Disk in
+    let first = c.args.keeper.now in
+    let mid = c.calls.keeper in
+    let new = c.step.new.self in
+    let h = history_of first.reporter.log in
+    let m = history_of mid.reporter.log in
+    let n = history_of new.reporter.log in
+    let fault = told_fault_of c.in-Err.fault in
+    c.requires.failed new.reporter.log fault (λ is.
+    let run = c.calls.invariant.1 is in
+    let kept = c.step.ensures.keeps run.store in
+    failed_then d h m first.held.flusher mid.held.flusher new.reporter.log fault (by_run d h m first.held.flusher mid.held.flusher run, run.by_device) (record {
+      store = new.held.flusher;
+      followed = by_call d m n mid.held.flusher new.held.flusher kept;
+      by_device = kept.by_device;
+      fails = step_fails d mid.held.flusher new.held.flusher (newest_in new.reporter.log) c.in-Err.fault c.in-Err.ensures.failed
+          (on_err (λ f. (f ≡ faults.Failed) ⊎ ((f ≡ faults.Device) × device.Failed (d.faults mid.held.flusher.commit.disk) (d.faults new.held.flusher.commit.disk))) c.step.result c.in-Err.fault c.in-Err.is
+          (c.step.ensures.cause run.store.honest));
+    }))

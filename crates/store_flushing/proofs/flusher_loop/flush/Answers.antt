@@ -1,5 +1,6 @@
 use Rattle.std.proofs.Common.{refl, ◌∙◌}
 use Rattle.book_history.specs.Logs.{history_of}
+use Rattle.store_flushing.proofs.FailLemmas.{failed_on}
 use Rattle.store_flushing.proofs.Following.{by_run, handed_on}
 use Rattle.store_flushing.proofs.Storage.{begun, then}
 use Rattle.store_flushing.proofs.ToldLemmas.{telling_self, telling_then}
@@ -47,3 +48,13 @@ round-requires-clause-stored g c =
     let h = history_of first.reporter.log in
     let m = history_of mid.reporter.log in
     handed_on d g.J.BookName.stored h m first.held.flusher mid.held.flusher (λ is. by_run d h m first.held.flusher mid.held.flusher (c.rounds.invariant.1 is)) c.requires.stored
+
+pub round-requires-clause-failed : goal.round-requires-clause-failed
+round-requires-clause-failed g c =
+    let d = g.D.Disk in
+    let first = c.args.keeper.now in
+    let mid = c.rounds.keeper in
+    let h = history_of first.reporter.log in
+    let m = history_of mid.reporter.log in
+    failed_on d g.J.BookName.failed h m first.held.flusher mid.held.flusher
+    (λ is. let run = c.rounds.invariant.1 is in (by_run d h m first.held.flusher mid.held.flusher run, run.by_device)) c.requires.failed

@@ -1,6 +1,7 @@
 use Rattle.std.proofs.Common.{ap}
 use Rattle.book_history.specs.Logs.{history_of}
 use Rattle.store_flushing.specs.declared.keeper.held_store.HeldStore.{HeldStore}
+use Rattle.store_flushing.proofs.FailLemmas.{failed_on}
 use Rattle.store_flushing.proofs.Following.{by_call, handed_on}
 use Rattle.store_flushing.proofs.Storage.{kept_on, then}
 use Rattle.store_flushing.proofs.ToldLemmas.{telling_then}
@@ -44,3 +45,13 @@ commit-requires-clause-stored g c =
     let h = history_of old.reporter.log in
     let m = history_of mid.reporter.log in
     handed_on d g.J.BookName.stored h m old.held.flusher mid.held.flusher (λ is. by_call d h m old.held.flusher mid.held.flusher (c.look.ensures.keeps is)) c.requires.stored
+
+pub commit-requires-clause-failed : goal.commit-requires-clause-failed
+commit-requires-clause-failed g c =
+    let d = g.D.Disk in
+    let old = c.args.keeper.now in
+    let mid = c.look.new.self in
+    let h = history_of old.reporter.log in
+    let m = history_of mid.reporter.log in
+    failed_on d g.J.BookName.failed h m old.held.flusher mid.held.flusher
+    (λ is. let kept = c.look.ensures.keeps is in (by_call d h m old.held.flusher mid.held.flusher kept, kept.by_device)) c.requires.failed

@@ -2,6 +2,7 @@
 ghost use Rattle.std.specs.Prelude.{◌≡◌, false};
 ghost use Rattle.root_store.specs.Running.{is_busy};
 ghost use Rattle.book_history.specs.Logs.{history_of};
+ghost use Rattle.store_flushing.specs.Failing.{HoldsOfFailed};
 ghost use Rattle.store_flushing.specs.Storing.{HoldsOfStored, IsStoreOf, Flushes};
 ghost use Rattle.store_flushing.specs.Told.{TellsOn, told_in};
 
@@ -30,6 +31,8 @@ pub fn flusher_loop<J: BookName, R: Wait + Drop, D: Disk, W: Wait>(
     requires book { reporter.book ≡ J.book }
     // What this store holds may be reported durable, whenever it is reported.
     requires stored { HoldsOfStored D.Disk J.stored (history_of reporter.log) flusher }
+    // For what it fails may be reported, too.
+    requires failed { HoldsOfFailed D.Disk J.failed (history_of reporter.log) flusher }
     ensures flushes { IsStoreOf D.Disk (history_of reporter.log) flusher
         → Flushes D.Disk (history_of reporter.log) flusher (history_of result.0.log) result.1 }
     ensures rests { is_busy result.1.commit.phase ≡ false }

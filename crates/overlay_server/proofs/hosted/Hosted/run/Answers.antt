@@ -55,9 +55,10 @@ run_threads-worked-requires-after_bounds g c κs within =
     let seated : AreSeated g.J.BookName.book start ports seats.scripts.items = record { sessions = c.in-Ok.ensures.sessions ∙ c.requires.hosted.sessions; ports_are = c.in-Ok.ensures.ports } in
     record {
       store = c.requires.hosted.of;
-      durable = holds_first g.D.Disk g.J.BookName.stored start self.store c.requires.hosted.begun c.requires.meant;
+      durable = holds_first g.D.Disk g.J.BookName.stored g.J.BookName.failed start self.store c.requires.hosted.begun c.requires.meant c.requires.failed;
       scripts = all_of_book g.J.BookName.book start ports seats.scripts.items seated;
-      told = may_report_all g.D.Disk c.requires.hosted.now start g.J.BookName.stored (flusher_in self.store) (λ log number. (c.requires.meant log number).0)
+      told = may_report_all g.D.Disk c.requires.hosted.now start g.J.BookName.stored g.J.BookName.failed (flusher_in self.store)
+          (record { stored_is = λ log number. (c.requires.meant log number).0; failed_is = λ log fault. (c.requires.failed log fault).0 })
           g.W.ReplyWriter.may_report c.requires.told _ c.requires.hosted.stored seats.scripts.items (begin_there g.J.BookName.book start ports seats.scripts.items seated);
       goes_on = goes_of (λ port me. g.W.ReplyWriter.from port.writer (has_store self.shared) me) ports self.sessions.items seats.scripts.items c.in-Ok.ensures.ports c.in-Ok.ensures.sessions c.requires.from;
       own = own_of (λ port. IfSome (g.W.ReplyWriter.left port.writer) (IsAtStart (g.R.Read.remaining port.reader))) ports seats.scripts.items c.in-Ok.ensures.ports c.requires.own;
@@ -69,14 +70,14 @@ pub keep_store-store-requires-clause-stored : goal.keep_store-store-requires-cla
 keep_store-store-requires-clause-stored g c =
     let old = c.args.self.store in
     let work = c.run_threads-worked in
-    holds_on g.D.Disk g.J.BookName.stored old work.result.store work.ensures.store.flushed
-    (holds_first g.D.Disk g.J.BookName.stored c.args.self.version.value old c.requires.hosted.begun c.requires.meant)
+    holds_on g.D.Disk g.J.BookName.stored g.J.BookName.failed old work.result.store work.ensures.store.flushed
+    (holds_first g.D.Disk g.J.BookName.stored g.J.BookName.failed c.args.self.version.value old c.requires.hosted.begun c.requires.meant c.requires.failed)
 
 pub close-closed-requires-clause-sessions : goal.close-closed-requires-clause-sessions
 close-closed-requires-clause-sessions g c =
     let left = c.run_threads-worked.ensures.left in
     subst (All (λ (k : Known). k.book ≡ g.J.BookName.book)) (sym (c.deref-2.ensures.value ∙ left.sessions_are))
-    (of_ended g.J.BookName.book (store_of g.J.BookName.stored (has_store c.args.self.shared)) g.R.Read.remaining g.W.ReplyWriter.contents c.in-Ok.seats.scripts.items left.ended left.each)
+    (of_ended g.J.BookName.book (store_of g.J.BookName.stored g.J.BookName.failed (has_store c.args.self.shared)) g.R.Read.remaining g.W.ReplyWriter.contents c.in-Ok.seats.scripts.items left.ended left.each)
 
 pub returns-then-is_set-clause-refused : goal.returns-then-is_set-clause-refused
 returns-then-is_set-clause-refused g c =
@@ -90,10 +91,10 @@ returns-then-is_set-clause-refused g c =
     let closed = c.close-closed in
     let these : work.result.sessions.items ≡ map ended_session left.ended = left.sessions_are in
     let seated : AreSeated g.J.BookName.book start ports scripts = record { sessions = c.in-Ok.ensures.sessions ∙ c.requires.hosted.sessions; ports_are = c.in-Ok.ensures.ports } in
-    let there = subst (λ b. AllZip (IsRunOf g.J.BookName.book (store_of g.J.BookName.stored b) g.R.Read.remaining g.W.ReplyWriter.contents) scripts left.ended) c.requires.hosted.stored left.each in
+    let there = subst (λ b. AllZip (IsRunOf g.J.BookName.book (store_of g.J.BookName.stored g.J.BookName.failed b) g.R.Read.remaining g.W.ReplyWriter.contents) scripts left.ended) c.requires.hosted.stored left.each in
     let held =
-    runs_held g.D.Disk c.requires.hosted.now start g.J.BookName.stored g.J.BookName.book (flusher_in self.store) g.R.Read.remaining g.W.ReplyWriter.contents
-    (λ log number. (c.requires.meant log number).0) scripts left.ended (begin_there g.J.BookName.book start ports scripts seated) there in
+    runs_held g.D.Disk c.requires.hosted.now start g.J.BookName.stored g.J.BookName.failed g.J.BookName.book (flusher_in self.store) g.R.Read.remaining g.W.ReplyWriter.contents
+    (record { stored_is = λ log number. (c.requires.meant log number).0; failed_is = λ log fault. (c.requires.failed log fault).0 }) scripts left.ended (begin_there g.J.BookName.book start ports scripts seated) there in
     let refused = c.stopped in
     stopped_of g.D.Disk g.J.BookName.book g.R.Read.remaining g.W.ReplyWriter.contents start ports self.store after scripts left.ended refused.result
     (record { log = c.requires.hosted.begun; none_told = c.requires.hosted.untold; some = c.requires.ports; seated = seated })
@@ -131,10 +132,10 @@ returns-clause-left g c =
     let closed = c.close-closed in
     let these : work.result.sessions.items ≡ map ended_session left.ended = left.sessions_are in
     let seated : AreSeated g.J.BookName.book start ports scripts = record { sessions = c.in-Ok.ensures.sessions ∙ c.requires.hosted.sessions; ports_are = c.in-Ok.ensures.ports } in
-    let there = subst (λ b. AllZip (IsRunOf g.J.BookName.book (store_of g.J.BookName.stored b) g.R.Read.remaining g.W.ReplyWriter.contents) scripts left.ended) c.requires.hosted.stored left.each in
+    let there = subst (λ b. AllZip (IsRunOf g.J.BookName.book (store_of g.J.BookName.stored g.J.BookName.failed b) g.R.Read.remaining g.W.ReplyWriter.contents) scripts left.ended) c.requires.hosted.stored left.each in
     let held =
-    runs_held g.D.Disk c.requires.hosted.now start g.J.BookName.stored g.J.BookName.book (flusher_in self.store) g.R.Read.remaining g.W.ReplyWriter.contents
-    (λ log number. (c.requires.meant log number).0) scripts left.ended (begin_there g.J.BookName.book start ports scripts seated) there in
+    runs_held g.D.Disk c.requires.hosted.now start g.J.BookName.stored g.J.BookName.failed g.J.BookName.book (flusher_in self.store) g.R.Read.remaining g.W.ReplyWriter.contents
+    (record { stored_is = λ log number. (c.requires.meant log number).0; failed_is = λ log fault. (c.requires.failed log fault).0 }) scripts left.ended (begin_there g.J.BookName.book start ports scripts seated) there in
     served_from g.D.Disk g.J.BookName.book g.R.Read.remaining g.W.ReplyWriter.contents start ports self.store after scripts left.ended
     (record { sessions = work.result.finished; closed = closed.result })
     (record { log = c.requires.hosted.begun; none_told = c.requires.hosted.untold; some = c.requires.ports; seated = seated })

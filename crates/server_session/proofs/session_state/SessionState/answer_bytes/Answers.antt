@@ -17,7 +17,7 @@ loop-byte-init g c = record {
 }
 
 pub take_byte-requires-clause-told : goal.take_byte-requires-clause-told
-take_byte-requires-clause-told g c κs within = may_report-on _ _ _ c.args.me.now c.loop-byte.me c.loop-byte.invariant.stays c.requires.told
+take_byte-requires-clause-told g c κs within = may_report-on _ _ _ _ c.args.me.now c.loop-byte.me c.loop-byte.invariant.stays c.requires.told
 
 pub take_byte-requires-clause-own : goal.take_byte-requires-clause-own
 take_byte-requires-clause-own g c κs within =

@@ -11,7 +11,7 @@ abbrev pub invariant-loop-byte : goal.invariant-loop-byte
 invariant-loop-byte g l = record {
   takes : (taken : List ℕ) → HasTaken l.initial.self taken → HasTaken l.self (taken ++ take l.byte-index l.bytes);
   answers : (taken : List ℕ) → HasTaken l.initial.self taken
-      → AnswersTurns (store_of g.J.BookName.stored (has_store l.shared)) l.initial.me (turns_ended taken (take l.byte-index l.bytes)) l.me (g.W.ReplyWriter.contents l.initial.writer) (g.W.ReplyWriter.contents l.writer);
+      → AnswersTurns (store_of g.J.BookName.stored g.J.BookName.failed (has_store l.shared)) l.initial.me (turns_ended taken (take l.byte-index l.bytes)) l.me (g.W.ReplyWriter.contents l.initial.writer) (g.W.ReplyWriter.contents l.writer);
   going : has_ended l.self ≡ false;
   stays : Stays l.initial.me l.me;
   from : g.W.ReplyWriter.from l.writer (has_store l.shared) l.me;

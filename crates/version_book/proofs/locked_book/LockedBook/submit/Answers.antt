@@ -3,6 +3,7 @@ use Rattle.std.proofs.lemmas.Result.{IfOk-from_err}
 use mathlib.Core.Bool.{true≢false}
 use Rattle.book_history.proofs.Gone.{passed}
 use Rattle.book_lock.proofs.Turning.{refused_by, refused_more}
+use Rattle.version_book.proofs.Failures.{left_failed}
 use Rattle.version_book.proofs.Told.{away_told}
 use Rattle.version_book.proofs.locked_book.LockedBook.submit.Goals as goal
 
@@ -40,3 +41,11 @@ returns g c = record {
   err = tt;
   closing = λ is. absurd (true≢false (sym is ∙ c.if-self.false));
 }
+
+pub invariant_of-self-2 : goal.invariant_of-self-2
+invariant_of-self-2 g c =
+    let old = c.args.self.now in
+    record {
+      failed = left_failed g.J.BookName.failed old.log c.submit.new.self old.state.fault c.command_accepted.new.self.fault (_, sym c.in_ok-number.ensures.ok.added) c.command_accepted.ensures.fault
+          old.failed;
+    }

@@ -4,8 +4,10 @@ use Rattle.overlay_terms.specs.Histories.{newest}
 use Rattle.book_history.specs.Known.{seen}
 use Rattle.book_history.specs.Logs.{newest_in}
 use Rattle.book_history.specs.Telling.{IsToldIn}
+use Rattle.version_book.specs.Failing.{IsToldFault}
 use Rattle.version_book.specs.Waits.{IsSyncRefused}
-use Rattle.version_book.proofs.Results.{looks_err, looks_goes, looks_history, looks_ok, looks_own, looks_refused, looks_same, looks_told, never_ok, sync_refused, with_store, without_store}
+use Rattle.version_book.proofs.Failures.{none_failed}
+use Rattle.version_book.proofs.Results.{looks_err, looks_failed, looks_goes, looks_history, looks_ok, looks_own, looks_refused, looks_same, looks_told, never_ok, sync_refused, with_store, without_store}
 use Rattle.version_book.proofs.shared.Shared.wait_durable.Goals as goal
 
 pub returns-then-not-self : goal.returns-then-not-self
@@ -23,6 +25,7 @@ returns-then-not-self g c =
       own = looks_own me now log s.result looks;
       err = looks_err me now log s.result looks;
       refused = without_store s.result (newest (seen now)) _ s.ensures.refused;
+      failed = none_failed g.J.BookName.failed s.result now.log s.ensures.refused;
       only_without = λ _. c.if-not-self.true;
       without = λ _. s.ensures.refused;
       same = looks_same me now log s.result looks;
@@ -47,6 +50,7 @@ returns g c =
       refused = subst (λ m. IfErr s.result (λ f. IsSyncRefused m (newest (seen now)) f)) c.newest-number.ensures
           (looks_refused me now log s.result (λ v f. IsSyncRefused c.newest-number.result v f) (λ v. tt) looks
           (sync_refused s.result locked.state (newest_in log) _ s.ensures.refused));
+      failed = looks_failed me now log s.result (IsToldFault g.J.BookName.failed) (λ l. tt) looks s.ensures.failed;
       only_without = λ is. absurd (with_store s.result locked.state (newest_in log) _ s.ensures.refused is);
       without = λ is. absurd (true≢false (sym c.if-not-self.false ∙ is));
       same = looks_same me now log s.result looks;

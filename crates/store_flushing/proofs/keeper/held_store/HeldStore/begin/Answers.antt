@@ -1,3 +1,4 @@
+use Rattle.std.proofs.Common.{sym, ◌∙◌}
 use Rattle.book_history.specs.Logs.{history_of}
 use Rattle.store_flushing.proofs.Remembered.{same_store}
 use Rattle.store_flushing.proofs.Storage.{begin_kept}
@@ -19,3 +20,9 @@ returns-in-Err-clause-keeps g c is =
 
 pub returns-in-Err-clause-err : goal.returns-in-Err-clause-err
 returns-in-Err-clause-err g c = same_store c.args.self.now c.begin_known.new.self c.in-Err.ensures.err _ _
+
+pub returns-in-Ok-clause-failed : goal.returns-in-Ok-clause-failed
+returns-in-Ok-clause-failed g c at = sym c.in-Ok.is ∙ c.begin_known.ensures.failed at
+
+pub returns-in-Err-clause-failed : goal.returns-in-Err-clause-failed
+returns-in-Err-clause-failed g c at = sym c.in-Err.is ∙ c.begin_known.ensures.failed at

@@ -1,3 +1,4 @@
+use Rattle.store_flushing.proofs.FailLemmas.{step_cause}
 use Rattle.store_flushing.proofs.Storage.{step_kept, steps}
 use Rattle.store_flushing.proofs.keeper.held_store.HeldStore.step.Goals as goal
 
@@ -16,3 +17,13 @@ returns-else-matches-clause-keeps g c h valid is =
     let u = c.step-stepped.new.self in
     let e = c.step-stepped.ensures in
     step_kept d h s u valid is (steps d h s u c.step-stepped.result (λ k left. g.met.D.Disk.only_now s.commit.disk k is.honest left) e.moves e.stored e.honest.1 e.idle e.stuck is) (e.by_device is.honest)
+
+pub returns-then-matches-clause-cause : goal.returns-then-matches-clause-cause
+returns-then-matches-clause-cause g c honest =
+    let e = c.step-stepped.ensures in
+    step_cause g.D.Disk c.args.self.now.flusher c.step-stepped.new.self c.step-stepped.result e.errors (e.cause honest)
+
+pub returns-else-matches-clause-cause : goal.returns-else-matches-clause-cause
+returns-else-matches-clause-cause g c honest =
+    let e = c.step-stepped.ensures in
+    step_cause g.D.Disk c.args.self.now.flusher c.step-stepped.new.self c.step-stepped.result e.errors (e.cause honest)
