@@ -1,5 +1,5 @@
 //! Versions that are shared: with a tile, after a report.
-ghost use Rattle.std.specs.Prelude.{◌≡◌, IsTrue, IfOk, IfErr, IfSome, IfNone};
+ghost use Rattle.std.specs.Prelude.{◌≡◌, ◌↔◌, false, IsTrue, IfOk, IfErr};
 ghost use Rattle.std.specs.Arc.{arc_value};
 ghost use Rattle.overlay_terms.specs.Histories.{FollowsTile, IsReported};
 ghost use Rattle.overlay_terms.specs.Tiles.{input_of};
@@ -26,10 +26,7 @@ pub(crate) fn shared(alloc: Global, version: Version) -> Result<Arc<Version, Glo
 }
 
 /// The same version once more, for one owner alone: it shares layers and tiles.
-pub(crate) fn shared_again(
-    alloc: Global,
-    now: &Version,
-) -> Result<Arc<Version, Global>, BookFault>
+pub(crate) fn shared_again(alloc: Global, now: &Version) -> Result<Arc<Version, Global>, BookFault>
     ensures ok { IfOk result (λ v. arc_value v ≡ now.now) }
     ensures err { IfErr result (λ fault. fault ≡ no_memory) }
 {

@@ -325,11 +325,7 @@ fn put_in_own(parts: &mut Arc<RowParts>, column: Column, tile: Arc<Tile>) -> Opt
 }
 
 /// Puts a tile into its slot, where nobody else has the slots. Else it comes back.
-fn put_in_slots(
-    slots: &mut Arc<Vec<Slot>>,
-    column: Column,
-    tile: Arc<Tile>,
-) -> Option<Arc<Tile>>
+fn put_in_slots(slots: &mut Arc<Vec<Slot>>, column: Column, tile: Arc<Tile>) -> Option<Arc<Tile>>
     requires { length slots.old.value.items ≡ column_count }
     ensures put { IfNone result
         (slots.new.value.items ≡ set slots.old.value.items column (record { tile = Some tile })) }

@@ -52,7 +52,8 @@ fn last_free(version: &Version, held: &HeldTiles, name: &Name, first: Column, mo
     ensures from { first ≤ result }
     ensures free { (k : ℕ) → first ≤ k → k ≤ result → IsFree version.now held.now.list.items name.now k }
 {
-    let Some(row) = version.row_of(name) else {
+    let found = version.row_of(name);
+    let Some(row) = found else {
         return first;
     };
     let mut last = first;
@@ -69,13 +70,7 @@ fn last_free(version: &Version, held: &HeldTiles, name: &Name, first: Column, mo
 }
 
 // Whether the tile of a derived layer in a column can be handed out. The layer's row says whether it is pending.
-fn is_free(
-    _version: &Version,
-    held: &HeldTiles,
-    name: &Name,
-    row: &TileRow,
-    column: Column,
-) -> bool
+fn is_free(_version: &Version, held: &HeldTiles, name: &Name, row: &TileRow, column: Column) -> bool
     requires derived_layer { IsTrue (stands_as_derived _version.now.layers name.now) }
     requires row { places_in row.now ≡ row_by (tile_at _version.now.tiles name.now) }
     ensures { IsTrue result ↔ IsFree _version.now held.now.list.items name.now column }
