@@ -1,5 +1,5 @@
 //! Versions that are shared: with a tile, after a report.
-ghost use Rattle.std.specs.Prelude.{◌≡◌, IsTrue, IfOk, IfErr, IfSome, IfNone};
+ghost use Rattle.std.specs.Prelude.{◌≡◌, ◌↔◌, false, IsTrue, IfOk, IfErr};
 ghost use Rattle.std.specs.Arc.{arc_value};
 ghost use Rattle.overlay_terms.specs.Histories.{FollowsTile, IsReported};
 ghost use Rattle.overlay_terms.specs.Tiles.{input_of};

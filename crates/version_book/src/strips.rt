@@ -52,7 +52,8 @@ fn last_free(version: &Version, held: &HeldTiles, name: &Name, first: Column, mo
     ensures from { first ≤ result }
     ensures free { (k : ℕ) → first ≤ k → k ≤ result → IsFree version.now held.now.list.items name.now k }
 {
-    let Some(row) = version.row_of(name) else {
+    let found = version.row_of(name);
+    let Some(row) = found else {
         return first;
     };
     let mut last = first;

@@ -1,4 +1,5 @@
 use Rattle.std.proofs.Common.{◌≡◌, ◌++◌, ◌∷◌, [], None, ap, sym, ◌∙◌, subst, refl, inl, rules, arith}
+use Rattle.std.proofs.lemmas.Bool.{false≢true}
 use Rattle.std.proofs.lemmas.Result.{IfOk-from_err}
 use Rattle.overlay_terms.specs.Histories.{kept, tile_at, Follows, FollowsTile, Version}
 use Rattle.tile_build.specs.Tile.{tile_of}
@@ -11,8 +12,70 @@ use Rattle.book_history.proofs.Holding.{none_kept}
 use Rattle.book_lock.proofs.Growing.{newest_of, told_by}
 use Rattle.book_lock.proofs.locked_log.LockedLog.add_tile.Goals as goal
 
-pub kept-requires : goal.kept-requires
-kept-requires g c = ?
+pub returns-in_err-is_kept : goal.returns-in_err-is_kept
+returns-in_err-is_kept g c =
+    let failed = c.from_residual.ensures in
+    record {
+      last = IfOk-from_err _ _ failed.0;
+      book = c.requires.book;
+      finished = IfOk-from_err _ _ failed.0;
+      err = passed _ _ _ failed.1 (c.in_err-is_kept.ensures.err.1, c.in_err-is_kept.ensures.err.0, refl);
+    }
+
+-- it is not awaited, and it is not there
+pub returns-then-not-is_kept : goal.returns-then-not-is_kept
+returns-then-not-is_kept g c =
+    let name = c.args.name.now in
+    let input = c.args.built.now.0 in
+    let same = c.in_ok-is_kept.ensures.stale c.if-not-is_kept.true in
+    let old = same ∙ c.requires.last in
+    let column = c.column-column.ensures.value in
+    let there = none_kept _ _ _ c.shared_tile.ensures (sym c.if-is_some.ensures) in
+    record {
+      last = old;
+      book = c.requires.book;
+      finished = (
+        subst (λ v. ¬ (IsAwaited v name input)) c.requires.last (λ awaited. false≢true (sym c.if-not-is_kept.true ∙ c.in_ok-is_kept.ensures.exactly.1 awaited)),
+        subst (λ v. tile_at v.tiles name input.column ≡ None) old (subst (λ k. tile_at c.kept.new.version.tiles name k ≡ None) column there),
+        refl,
+      );
+      err = tt;
+    }
 
 pub add-requires : goal.add-requires
-add-requires g c = ?
+add-requires g c =
+    let log = c.args.seen_log.now.log in
+    let name = c.args.name.now in
+    let input = c.args.built.now.0 in
+    let column = c.column-column.ensures.value in
+    let told = subst (λ v. FollowsTile v name input.column c.args.built.now.1 c.kept.new.version) c.requires.last (c.in_ok-is_kept.ensures.kept c.if-not-is_kept.false) in
+    record {
+      head = c.self.invariant.0 ∙ ap head_of (sym c.requires.book);
+      room = search (rules, arith);
+      follows = subst (λ e. Follows (newest_in log) e c.kept.new.version) (λ i. kept name (sym column i) (sym c.tile.ensures.value i)) told;
+      told = inl told.durable;
+    }
+
+pub returns-then-add : goal.returns-then-add
+returns-then-add g c =
+    let log = c.args.seen_log.now.log in
+    let name = c.args.name.now in
+    let input = c.args.built.now.0 in
+    let column = c.column-column.ensures.value in
+    let new = c.kept.new.version in
+    let e = entry (kept name c.column-column.result (tile_of c.tile.result.now)) new in
+    let added = c.if-add.ensures in
+    let is = ap (λ (t : BookLog). t.log) added in
+    let newest = newest_of log c.add.new.self.log e is in
+    let awaited = subst (λ v. IsAwaited v name input) c.requires.last (c.in_ok-is_kept.ensures.exactly.0 c.if-not-is_kept.false) in
+    let follows = subst (λ v. FollowsTile v name input.column c.args.built.now.1 new) c.requires.last (c.in_ok-is_kept.ensures.kept c.if-not-is_kept.false) in
+    record {
+      last = sym newest;
+      book = ap (λ (t : BookLog). t.book) added ∙ c.requires.book;
+      finished = (
+        awaited,
+        subst (FollowsTile (newest_in log) name input.column c.args.built.now.1) (sym newest) follows,
+        told_by log c.add.new.self.log _ _ _ (λ i. kept name (column i) (c.tile.ensures.value i)) is,
+      );
+      err = tt;
+    }
