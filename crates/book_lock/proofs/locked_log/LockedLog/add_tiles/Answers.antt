@@ -52,13 +52,13 @@ returns-then-count-eq0 g c = record {
 pub returns-in-Err : goal.returns-in-Err
 returns-in-Err g c =
     let i = c.loop-built.invariant in
-    let same = c.in-Err.ensures.err.1 in
+    let same = c.in-Err.ensures.err in
     record {
-      last = same.0 ∙ i.last ∙ ap (λ (t : BookLog). newest_in t.log) (sym same.1);
+      last = same.1 ∙ i.last ∙ ap (λ (t : BookLog). newest_in t.log) (sym same.2);
       book = c.in-Err.ensures.book;
       few = omega (arith, i.count);
       some = λ _. omega arith;
-      finished = subst (λ (t : BookLog). AreFinishedIn c.args.seen_log.now.log c.args.name.now (take c.loop-built.count c.args.tiles.now) t.log) (sym same.1)
+      finished = subst (λ (t : BookLog). AreFinishedIn c.args.seen_log.now.log c.args.name.now (take c.loop-built.count c.args.tiles.now) t.log) (sym same.2)
           (subst (λ n. AreFinishedIn c.args.seen_log.now.log c.args.name.now (take n c.args.tiles.now) c.loop-built.seen_log.log) (sym i.count) i.finished);
       err = tt;
     }
