@@ -15,6 +15,7 @@ use Rattle.script_form.specs.Replies.{error_line}
 use Rattle.script_form.specs.Writing.{IsCutShort}
 use Rattle.script_form.proofs.LongLines.{take-nil}
 use Rattle.server_session.specs.Loop.{EndsBy, Finishes}
+use Rattle.server_session.specs.Replying.{IsPastMost}
 use Rattle.server_session.specs.Session.{IsSharedRun, IsFaultTold, IsCutOff, EndsSo, IsSessionWithin, Stays}
 use Rattle.server_session.specs.SessionState.{HasTaken, turns_ended, turns_at_end, AnswersTurns, AnswersInPart}
 use Rattle.server_session.specs.declared.session_state.SessionState.{SessionState}
