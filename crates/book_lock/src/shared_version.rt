@@ -1,5 +1,5 @@
 //! Versions that are shared: with a tile, after a report.
-ghost use Rattle.std.specs.Prelude.{◌≡◌, IsTrue, IfOk, IfErr, IfSome, IfNone};
+ghost use Rattle.std.specs.Prelude.{◌≡◌, ◌↔◌, false, IsTrue, IfOk, IfErr};
 ghost use Rattle.std.specs.Arc.{arc_value};
 ghost use Rattle.overlay_terms.specs.Histories.{FollowsTile, IsReported};
 ghost use Rattle.overlay_terms.specs.Tiles.{input_of};
@@ -12,7 +12,7 @@ use layer_expr::name::Name;
 use std::alloc::Global;
 use std::sync::Arc;
 use tile_build::SharedBuilt;
-use versions::{Finish, Version};
+use versions::Version;
 
 /// A version for as many as ask for it.
 pub(crate) fn shared(alloc: Global, version: Version) -> Result<Arc<Version, Global>, BookFault>
@@ -25,24 +25,35 @@ pub(crate) fn shared(alloc: Global, version: Version) -> Result<Arc<Version, Glo
     }
 }
 
-/// The version with a built tile, where it is awaited. Its input is not compared where it is known to be the present
-/// one.
-pub(crate) fn kept_version(
+/// The same version once more, for one owner alone: it shares layers and tiles.
+pub(crate) fn shared_again(alloc: Global, now: &Version) -> Result<Arc<Version, Global>, BookFault>
+    ensures ok { IfOk result (λ v. arc_value v ≡ now.now) }
+    ensures err { IfErr result (λ fault. fault ≡ no_memory) }
+{
+    match now.again(alloc) {
+        Ok(copy) => shared(alloc, copy),
+        Err(_) => Err(NO_MEMORY),
+    }
+}
+
+/// Puts a built tile into a version, where it is awaited, and says whether it did. Its input is not compared where it is
+/// known to be the present one.
+pub(crate) fn kept(
     alloc: Global,
-    now: &Version,
+    version: &mut Version,
     name: &Name,
     built: &SharedBuilt,
     is_present: bool,
-) -> Result<Option<Arc<Version, Global>>, BookFault>
-    requires present { IsTrue is_present → built.now.0 ≡ input_of now.now.layers name.now built.now.0.column }
-    ensures some { IfOk result (λ o. IfSome o (λ v. IsAwaited now.now name.now built.now.0
-        × FollowsTile now.now name.now built.now.0.column built.now.1 (arc_value v))) }
-    ensures none { IfOk result (λ o. IfNone o (¬ (IsAwaited now.now name.now built.now.0))) }
-    ensures err { IfErr result (λ fault. fault ≡ no_memory) }
+) -> Result<bool, BookFault>
+    requires present { IsTrue is_present → built.now.0 ≡ input_of version.old.layers name.now built.now.0.column }
+    ensures kept { IfOk result (λ is_kept. IsTrue is_kept
+        → FollowsTile version.old name.now built.now.0.column built.now.1 version.new) }
+    ensures stale { IfOk result (λ is_kept. is_kept ≡ false → version.new ≡ version.old) }
+    ensures exactly { IfOk result (λ is_kept. IsTrue is_kept ↔ IsAwaited version.old name.now built.now.0) }
+    ensures err { IfErr result (λ fault. (version.new ≡ version.old) × (fault ≡ no_memory)) }
 {
-    match now.finish_shared(alloc, name, built, is_present) {
-        Ok(Finish::Kept(next)) => Ok(Some(shared(alloc, next)?)),
-        Ok(Finish::Stale) => Ok(None),
+    match version.keep(alloc, name, built, is_present) {
+        Ok(is_kept) => Ok(is_kept),
         Err(fault) => Err(BookFault::Version(fault)),
     }
 }

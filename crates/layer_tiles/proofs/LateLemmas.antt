@@ -1,5 +1,5 @@
 -- Tiles that were put into a row.
-use Rattle.std.specs.Prelude.{◌≡◌, ℕ, ◌+◌, ◌<◌, ◌≤◌, is_some, Bool, true, false, List, [], ◌∷◌, ◌++◌, map, replicate, set, take, drop, Option, Some, None, if◌then◌else◌}
+use Rattle.std.specs.Prelude.{◌≡◌, ℕ, ◌+◌, ◌<◌, ◌≤◌, is_some, Bool, true, false, List, [], ◌∷◌, ◌++◌, map, replicate, set, take, drop, Option, Some, None, IfNone, if◌then◌else◌}
 use Rattle.std.specs.List.{list_all, list_any}
 use Rattle.std.specs.Arc.{arc_value}
 use Rattle.std.proofs.Common.{zero, suc, length, get_or, nat_eq, refl, ap, sym, ◌∙◌, add-one, arith}
@@ -97,3 +97,13 @@ copied_with row slots marks column slot tile size none all is =
     let stays : (k : ℕ) → k < column_count → (if get_or marks k false then None else get_or row k None) ≡ get_or row k None =
     λ k less. ap (λ b. if b then None else get_or row k None) (unmarked k) in
     map_set slots column slot ∙ ap (λ xs. set xs column (tile_in_slot slot)) (all ∙ sym (whole_row marks row size stays)) ∙ ap (λ o. set row column o) is
+
+-- a row beside whose slots no tile lies, with one tile more in its slot
+pub put_beside : (late : List LateTile) (slots after : List Slot) (column : ℕ) (slot : Slot) (tile : Named) → length late ≡ 0 → after ≡ set slots column slot → tile_in_slot slot ≡ Some tile
+    → put_all late (map tile_in_slot after) ≡ set (put_all late (map tile_in_slot slots)) column (Some tile)
+put_beside [] slots after column slot tile none is known = ap (map tile_in_slot) is ∙ map_set slots column slot ∙ ap (set (map tile_in_slot slots) column) known
+put_beside (one ∷ late) slots after column slot tile none is known = absurd (omega (arith, none))
+
+pub none_weaker : {T P Q : Type 0} (o : Option T) → (P → Q) → IfNone o P → IfNone o Q
+none_weaker None more is = more is
+none_weaker (Some x) more is = tt

@@ -1,6 +1,6 @@
 //! Layers with their finished tiles: a row for each layer.
 ghost use Rattle.std.specs.Prelude.{◌≡◌, ◌<◌, ◌&&◌, ◌==◌, true, false, None, Some, [], bytes_eq, get_or, length};
-ghost use Rattle.std.specs.Prelude.{map, replicate, set, slice_get, unwrap_or, IfOk, IfSome, IsTrue, if◌then◌else◌};
+ghost use Rattle.std.specs.Prelude.{map, replicate, set, slice_get, unwrap_or, IfOk, IfSome, IsTrue, OnErr, OnOk, if◌then◌else◌};
 ghost use Rattle.std.specs.Option.{option_map};
 ghost use Rattle.overlay_terms.specs.Column.{column_count};
 ghost use Rattle.overlay_terms.specs.Layers.{Name};
@@ -201,6 +201,31 @@ impl Table {
             rows,
         })
     }
+
+    /// The same in place: of the rows at most one is copied.
+    pub fn put_tile(
+        &mut self,
+        alloc: Global,
+        name: &Name,
+        column: Column,
+        tile: Arc<Tile>,
+    ) -> Result<(), AllocError>
+        requires derived_layer { stands_as_derived self.old.layers name.now ≡ true }
+        requires formed { IsTrue (is_formed (tile_of tile.value) column) }
+        ensures layers { self.new.layers ≡ self.old.layers }
+        ensures tiles { OnOk result ((other : Name) (k : _)
+            → tile_at (tiles_in self.new) other k
+            ≡ (if bytes_eq name.now other && (column == k) then Some (tile_of tile.value)
+            else tile_at (tiles_in self.old) other k)) }
+        ensures valid { OnOk result (IsLaid (laid self.new)) }
+        ensures err { OnErr result (self.new ≡ self.old) }
+    {
+        let place = self.layers.index_of(name);
+        // A column is below their number by its type: the clauses rest on that.
+        let _ = column.number();
+        put_in_row(&mut self.rows, alloc, place, column, tile)?;
+        Ok(())
+    }
 }
 
 impl Table {
@@ -255,6 +280,22 @@ fn rows_with(
     let row = rows[place].with(alloc, column, tile)?;
     put_row(&mut with, place, row);
     Ok(with)
+}
+
+/// Puts a tile into the row at a place, or in the place of the one that is there.
+fn put_in_row(
+    rows: &mut Vec<TileRow>,
+    alloc: Global,
+    place: usize,
+    column: Column,
+    tile: Arc<Tile>,
+) -> Result<(), AllocError>
+    requires { place < length rows.old.items }
+    ensures ok { OnOk result (rows.new.items
+        ≡ set rows.old.items place (set (get_or rows.old.items place []) column (Some (named_pieces tile.value)))) }
+    ensures err { OnErr result (rows.new.items ≡ rows.old.items) }
+{
+    rows[place].put(alloc, column, tile)
 }
 
 fn put_row(rows: &mut Vec<TileRow>, place: usize, row: TileRow)

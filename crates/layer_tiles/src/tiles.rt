@@ -1,6 +1,6 @@
 //! Rows of finished tiles.
 ghost use Rattle.std.specs.Prelude.{◌≡◌, ◌<◌, ◌&&◌, None, Some, false, not, get_or, is_some, length, map};
-ghost use Rattle.std.specs.Prelude.{replicate, set, IfNone, IfOk, IfSome, IsTrue, if◌then◌else◌, List, Option};
+ghost use Rattle.std.specs.Prelude.{replicate, set, IfNone, IfOk, IfSome, IsTrue, OnErr, OnOk, if◌then◌else◌, List, Option};
 ghost use Rattle.std.specs.List.{list_all};
 ghost use Rattle.std.specs.Option.{option_map};
 ghost use Rattle.overlay_terms.specs.Column.{column_count};
@@ -137,6 +137,29 @@ impl TileRow {
         TileRow::by(alloc, parts, missing)
     }
 
+    /// Puts a tile into the row, or in the place of the one that is there. Nothing is copied where nobody else has the
+    /// row's slots.
+    pub(crate) fn put(
+        &mut self,
+        alloc: Global,
+        column: Column,
+        tile: Arc<Tile>,
+    ) -> Result<(), AllocError>
+        ensures ok { OnOk result (self.new ≡ set self.old column (Some (named_pieces tile.value))) }
+        ensures err { OnErr result (self.new ≡ self.old) }
+    {
+        let missing = self.missing_with(column);
+        match put_in_own(&mut self.parts, column, tile) {
+            None => {}
+            Some(tile) => {
+                let parts = self.parts.with_slots(alloc, column, tile)?;
+                self.parts = Arc::new(alloc, parts)?;
+            }
+        }
+        self.missing = missing;
+        Ok(())
+    }
+
     /// How many tiles are missing where a column has one.
     fn missing_with(&self, column: Column) -> usize
         ensures { (tile : Named) → result ≡ count_missing (set self.now column (Some tile)) }
@@ -254,12 +277,66 @@ impl RowParts {
                 late,
             });
         }
+        self.with_slots(alloc, column, tile)
+    }
+
+    /// The same in slots of its own.
+    fn with_slots(
+        &self,
+        alloc: Global,
+        column: Column,
+        tile: Arc<Tile>,
+    ) -> Result<RowParts, AllocError>
+        requires { length (row_of self.now) ≡ column_count }
+        ensures { IfOk result (λ parts. row_of parts ≡ set (row_of self.now) column (Some (named_pieces tile.value))) }
+    {
         let mut slots = left_in(alloc, self, &[false; COLUMNS])?;
         put(&mut slots, column, tile);
         Ok(RowParts {
             slots: Arc::new(alloc, slots)?,
             late: Vec::new(alloc),
         })
+    }
+
+    /// Puts a tile into its slot, where nobody else has the slots and no tile lies beside them. Else it comes back.
+    fn put_in_slot(&mut self, column: Column, tile: Arc<Tile>) -> Option<Arc<Tile>>
+        requires { length (row_of self.old) ≡ column_count }
+        ensures put { IfNone result (row_of self.new ≡ set (row_of self.old) column (Some (named_pieces tile.value))) }
+        ensures back { IfSome result (λ back. (back ≡ tile) × (row_of self.new ≡ row_of self.old)) }
+    {
+        if self.late.is_empty() {
+            put_in_slots(&mut self.slots, column, tile)
+        } else {
+            Some(tile)
+        }
+    }
+}
+
+/// Puts a tile into the row of these parts, where nobody else has them and their slots. Else it comes back.
+fn put_in_own(parts: &mut Arc<RowParts>, column: Column, tile: Arc<Tile>) -> Option<Arc<Tile>>
+    requires { length (row_of parts.old.value) ≡ column_count }
+    ensures put { IfNone result (row_of parts.new.value ≡ set (row_of parts.old.value) column (Some (named_pieces tile.value))) }
+    ensures back { IfSome result (λ back. (back ≡ tile) × (row_of parts.new.value ≡ row_of parts.old.value)) }
+{
+    match Arc::get_mut(parts) {
+        Some(own) => own.put_in_slot(column, tile),
+        None => Some(tile),
+    }
+}
+
+/// Puts a tile into its slot, where nobody else has the slots. Else it comes back.
+fn put_in_slots(slots: &mut Arc<Vec<Slot>>, column: Column, tile: Arc<Tile>) -> Option<Arc<Tile>>
+    requires { length slots.old.value.items ≡ column_count }
+    ensures put { IfNone result
+        (slots.new.value.items ≡ set slots.old.value.items column (record { tile = Some tile })) }
+    ensures back { IfSome result (λ back. (back ≡ tile) × (slots.new.value ≡ slots.old.value)) }
+{
+    match Arc::get_mut(slots) {
+        Some(own) => {
+            put(own, column, tile);
+            None
+        }
+        None => Some(tile),
     }
 }
 

@@ -1,8 +1,8 @@
 //! The input of a strip.
 ghost use Rattle.std.specs.Prelude.{◌≡◌, ◌≤◌, ℕ, map, length, IfOk};
 ghost use Rattle.overlay_terms.specs.Layers.{marked_segments};
-ghost use Rattle.arrange.specs.Marked.{kept_in};
-ghost use Rattle.crossing_sweep.specs.StripInput.{part, IsStripInput};
+ghost use Rattle.arrange.specs.Marked.{kept_in, marked_of, segments_max};
+ghost use Rattle.crossing_sweep.specs.StripInput.{part, strip_of, IsStripInput};
 ghost use Rattle.strip_inputs.specs.Strips.{kept_in_strip, IsColumnOf};
 
 use crate::gathering::add_segments;
@@ -12,14 +12,15 @@ use layer_expr::StepList;
 use plane_base::{BaseLayer, Column};
 use std::alloc::{AllocError, Global};
 use std::marker::Model;
+use std::sync::Arc;
 
 /// The segments of the base layers in reach that have a point in a strip of neighbouring columns, each with the number
-/// of its layer, and the definitions in reach.
+/// of its layer, and the definitions in reach. Who shares it copies neither.
 #[derive(Debug, Drop)]
 pub struct StripInput {
     strip: Strip,
-    marked: Vec<MarkedSeg>,
-    steps: StepList,
+    marked: Arc<Vec<MarkedSeg>>,
+    steps: Arc<StepList>,
 }
 
 impl Model for StripInput {
@@ -32,11 +33,11 @@ impl Model for StripInput {
 
     ghost coded = { strip_input_code };
 
-    ghost view = { λ i. record { strip = i.strip; marked = map marked_of i.marked.items; steps = i.steps } };
+    ghost view = { λ i. record { strip = i.strip; marked = map marked_of i.marked.value.items; steps = i.steps.value } };
 
     ghost invariant = { λ i. IsStripInput
-        (record { strip = i.strip; marked = map marked_of i.marked.items; steps = i.steps })
-        × (length (map marked_of i.marked.items) ≤ segments_max) };
+        (record { strip = i.strip; marked = map marked_of i.marked.value.items; steps = i.steps.value })
+        × (length (map marked_of i.marked.value.items) ≤ segments_max) };
 }
 
 impl StripInput {
@@ -69,10 +70,51 @@ impl StripInput {
         for layer in 0..steps.bases() {
             add_segments(&mut marked, strip, layer, bases[usize::from(layer)])?;
         }
+        let input = StripInput::by(alloc, strip, marked, steps)?;
+        Ok(input)
+    }
+
+    /// The input of its parts.
+    fn by(
+        alloc: Global,
+        strip: Strip,
+        marked: Vec<MarkedSeg>,
+        steps: StepList,
+    ) -> Result<StripInput, AllocError>
+        requires { IsStripInput (record { strip = strip; marked = map marked_of marked.items; steps = steps })
+            × (length (map marked_of marked.items) ≤ segments_max) }
+        ensures { IfOk result (λ input. input
+            ≡ record { strip = strip; marked = map marked_of marked.items; steps = steps }) }
+    {
+        let marked = Arc::new(alloc, marked)?;
+        let steps = Arc::new(alloc, steps)?;
         Ok(StripInput {
             strip,
             marked,
             steps,
+        })
+    }
+
+    /// The input of a tile as that of a strip of one column.
+    pub fn of_column(alloc: Global, input: &TileInput) -> Result<StripInput, AllocError>
+        ensures { IfOk result (λ own. own ≡ strip_of input.now) }
+    {
+        let column = input.column();
+        let marked = copied(alloc, input.marked())?;
+        let steps = input.steps().try_copy(alloc)?;
+        let strip = Strip::new(column, column);
+        let own = StripInput::by(alloc, strip, marked, steps)?;
+        Ok(own)
+    }
+
+    /// The same for one more.
+    pub fn share(&self) -> Result<StripInput, AllocError>
+        ensures { IfOk result (λ copy. copy ≡ self.now) }
+    {
+        Ok(StripInput {
+            strip: self.strip,
+            marked: self.marked.clone()?,
+            steps: self.steps.clone()?,
         })
     }
 
@@ -97,4 +139,15 @@ impl StripInput {
     {
         TileInput::of_marked(alloc, column, &self.marked, &self.steps)
     }
+}
+
+/// The same marked segments in memory of their own.
+fn copied(alloc: Global, marked: &[MarkedSeg]) -> Result<Vec<MarkedSeg>, AllocError>
+    ensures { IfOk result (λ copy. copy.items ≡ marked.now) }
+{
+    let mut copy = Vec::with_capacity(alloc, marked.len())?;
+    for one in marked {
+        copy.push(*one)?;
+    }
+    Ok(copy)
 }

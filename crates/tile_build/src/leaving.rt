@@ -3,16 +3,17 @@ ghost use Rattle.std.specs.Prelude.{◌≡◌, ◌+◌, ◌<◌, ℕ, length, ge
 ghost use Rattle.overlay_terms.specs.Histories as terms;
 ghost use Rattle.overlay_terms.specs.Tiles.{Input};
 ghost use Rattle.crossing_sweep.specs.StripInput.{part};
+ghost use Rattle.strip_inputs.specs.Strips.{IsColumnOf};
 ghost use Rattle.tile_build.specs.StripTiles.{AreOfStrip};
 
 use crate::building::tile_while;
 use crate::built::PIECES_MAX;
 use crate::shared_built::SharedBuilt;
 use crate::strip_tiles::tiles_of;
-use arrange::TileInput;
 use crossing_sweep::{Wish, cross_strip_while};
 use plane_base::Column;
 use std::alloc::{AllocError, Global};
+use std::sync::Arc;
 use strip_inputs::StripInput;
 
 /// Builds the tiles of a strip's columns in order, each of its own column's input, as long as they are wanted: after
@@ -58,8 +59,7 @@ fn build_apart_while<W: Wish>(
         let Some(column) = Column::new(u64::from(number)) else {
             unreachable!()
         };
-        let own = input.column_input(alloc, column)?;
-        let done = build_while(alloc, own, wish)?;
+        let done = build_while(alloc, input, column, wish)?;
         let Some(built) = done else {
             return Ok(None);
         };
@@ -68,20 +68,24 @@ fn build_apart_while<W: Wish>(
     Ok(Some(list))
 }
 
-/// Builds the tile of an input as `Built::new` does, as long as it is wanted. None says that the wish
-/// has ended, and the pass was left.
+/// Builds the tile of one of a strip's columns by a pass over that column alone, as long as it is wanted. None says that
+/// the wish has ended, and the pass was left.
 pub fn build_while<W: Wish>(
     alloc: Global,
-    input: TileInput,
+    input: &StripInput,
+    column: Column,
     wish: &W,
 ) -> Result<Option<SharedBuilt>, AllocError>
-    ensures input { IfOk result (λ o. IfSome o (λ built. built.0 ≡ input)) }
+    requires { IsColumnOf input.now column }
+    ensures input { IfOk result (λ o. IfSome o (λ built. built.0 ≡ part input.now column)) }
     ensures left { IfOk result (λ o. IsNone o → W.ended wish.now) }
 {
-    let done = tile_while(alloc, &input, PIECES_MAX, wish)?;
+    let own = input.column_input(alloc, column)?;
+    let done = tile_while(alloc, &own, PIECES_MAX, wish)?;
     let Some(tile) = done else {
         return Ok(None);
     };
-    let built = SharedBuilt::of(alloc, input, tile)?;
+    let tile = Arc::new(alloc, tile)?;
+    let built = SharedBuilt::of(input, column, tile)?;
     Ok(Some(built))
 }

@@ -1,5 +1,5 @@
 //! Building the tiles of neighbouring columns.
-ghost use Rattle.std.specs.Prelude.{◌≡◌, ◌+◌, ◌<◌, ◌≤◌, ℕ, true, false, map, length, get_or, All, IfOk, IfSome};
+ghost use Rattle.std.specs.Prelude.{◌≡◌, ◌+◌, ◌<◌, ◌≤◌, ℕ, [], true, false, map, length, get_or, All, IfOk, IfSome};
 ghost use Rattle.overlay_terms.specs.Column.{is_in_column};
 ghost use Rattle.overlay_terms.specs.Histories as terms;
 ghost use Rattle.overlay_terms.specs.Histories.{pieces_max};
@@ -9,6 +9,7 @@ ghost use Rattle.crossing_sweep.specs.NodeNames.{named_ends, AreNumbered};
 ghost use Rattle.crossing_sweep.specs.StripCrossed.{IsStripCrossed};
 ghost use Rattle.crossing_sweep.specs.StripInput.{part, IsStripTile};
 ghost use Rattle.tile_build.specs.StripTiles.{AreOfStrip};
+ghost use Rattle.tile_build.specs.Tile.{tile_of};
 
 use crate::building::pieces_of;
 use crate::built::PIECES_MAX;
@@ -19,6 +20,7 @@ use crate::tile::Tile;
 use crossing_sweep::{Always, Crossed, NodeName, Row, name_of};
 use plane_base::Column;
 use std::alloc::{AllocError, Global};
+use std::sync::Arc;
 use strip_inputs::StripInput;
 
 /// Builds the tiles of a strip's columns as `build_strip_while` does, to the end.
@@ -63,23 +65,43 @@ fn split(
     requires few { length rows.now ≤ pieces_max }
     ensures { IfOk result (λ list. AreOfStrip input.now list.items) }
 {
-    let mut list = Vec::new(alloc);
+    let empty = Arc::new(alloc, Tile::Pieces(Vec::new(alloc)))?;
     let mut start = 0;
     let strip = input.strip();
     let first = strip.first().number();
     let end = strip.last().number() + 1;
+    let mut list = Vec::with_capacity(alloc, usize::from(end - first))?;
     for number in first..end {
         let Some(column) = Column::new(u64::from(number)) else {
             unreachable!()
         };
         let next = part_end(column, names, rows, start);
-        let pieces = pieces_of(alloc, names, &rows[start..next])?;
-        let own = input.column_input(alloc, column)?;
-        let built = SharedBuilt::of(alloc, own, Tile::Pieces(pieces))?;
+        let tile = shared_tile(alloc, names, &rows[start..next], &empty)?;
+        let built = SharedBuilt::of(input, column, tile)?;
         list.push(built)?;
         start = next;
     }
     Ok(list)
+}
+
+/// The tile of some rows that have these names for their ends; where there are none, a tile without pieces that is
+/// handed in, so that all such columns share it.
+fn shared_tile(
+    alloc: Global,
+    names: &[NodeName],
+    rows: &[Row],
+    empty: &Arc<Tile>,
+) -> Result<Arc<Tile>, AllocError>
+    requires spans { All (IsRowSpan names.now) rows.now }
+    requires numbered { AreNumbered names.now }
+    requires empty { tile_of empty.now.value ≡ terms.pieces [] }
+    ensures { IfOk result (λ tile. tile_of tile.value ≡ terms.pieces (map (named_ends names.now) rows.now)) }
+{
+    if rows.is_empty() {
+        return Ok(empty.clone()?);
+    }
+    let pieces = pieces_of(alloc, names, rows)?;
+    Ok(Arc::new(alloc, Tile::Pieces(pieces))?)
 }
 
 /// Where the rows end that begin in a column, from some row on.

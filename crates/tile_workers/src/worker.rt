@@ -131,8 +131,6 @@ fn build_next<J: BookName, R: Wait + Drop, W: Wait>(
     let Some(column) = Column::new(u64::from(strip.next())) else {
         unreachable!()
     };
-    let own = input.column_input(alloc, column)?;
     let wish = StripWish::new(rt, alloc, shared, strip);
-    let done = build_while(alloc, own, &wish)?;
-    Ok(done)
+    build_while(alloc, input, column, &wish)
 }

@@ -1,12 +1,15 @@
 //! Neighbouring tiles that can be handed out as one strip.
 ghost use Rattle.std.specs.Prelude.{◌≡◌, ◌≤◌, ◌↔◌, ℕ, IsTrue, IfOk};
 ghost use Rattle.overlay_terms.specs.Commands.{stands_as_derived};
+ghost use Rattle.overlay_terms.specs.Histories.{tile_at};
 ghost use Rattle.crossing_sweep.specs.StripInput.{part};
+ghost use Rattle.layer_tiles.specs.Table.{places_in, row_by};
 ghost use Rattle.version_book.specs.Free.{IsFree};
 ghost use Rattle.version_book.specs.Jobs.{IsHandedOut};
 
 use crate::held_tiles::HeldTiles;
 use layer_expr::name::Name;
+use layer_tiles::TileRow;
 use plane_base::{BaseLayer, Column};
 use std::alloc::{AllocError, Global};
 use tile_build::{Strip, StripInput};
@@ -49,12 +52,16 @@ fn last_free(version: &Version, held: &HeldTiles, name: &Name, first: Column, mo
     ensures from { first ≤ result }
     ensures free { (k : ℕ) → first ≤ k → k ≤ result → IsFree version.now held.now.list.items name.now k }
 {
+    let found = version.row_of(name);
+    let Some(row) = found else {
+        return first;
+    };
     let mut last = first;
     'columns: for _ in 1..most {
         let Some(next) = Column::new(u64::from(last.number()) + 1) else {
             return last;
         };
-        if !is_free(version, held, name, next) {
+        if !is_free(version, held, name, row, next) {
             return last;
         }
         last = next;
@@ -62,12 +69,13 @@ fn last_free(version: &Version, held: &HeldTiles, name: &Name, first: Column, mo
     last
 }
 
-// Whether the tile of a derived layer in a column can be handed out.
-fn is_free(version: &Version, held: &HeldTiles, name: &Name, column: Column) -> bool
-    requires { IsTrue (stands_as_derived version.now.layers name.now) }
-    ensures { IsTrue result ↔ IsFree version.now held.now.list.items name.now column }
+// Whether the tile of a derived layer in a column can be handed out. The layer's row says whether it is pending.
+fn is_free(_version: &Version, held: &HeldTiles, name: &Name, row: &TileRow, column: Column) -> bool
+    requires derived_layer { IsTrue (stands_as_derived _version.now.layers name.now) }
+    requires row { places_in row.now ≡ row_by (tile_at _version.now.tiles name.now) }
+    ensures { IsTrue result ↔ IsFree _version.now held.now.list.items name.now column }
 {
-    if version.shared_tile(name, column).is_some() {
+    if row.has(column) {
         return false;
     }
     !held.has(name, column)

@@ -36,7 +36,7 @@ all_from f (suc n) a each =
     (all_from f n (a + 1) (λ k low high. each k (omega arith) (omega (arith, high))))
 
 -- the name of the layer at the index of a name
-name_there : (layers : List Layer) (name : Name) (layer : Layer) → slice_get layers (index_of layers name) ≡ Some layer → layer.name ≡ name
+pub name_there : (layers : List Layer) (name : Name) (layer : Layer) → slice_get layers (index_of layers name) ≡ Some layer → layer.name ≡ name
 name_there layers name layer e =
     split (stands layers name)
     (sym (ap (option_map (λ (l : Layer). l.name)) e) ∙ sym (slice_get-map (λ (l : Layer). l.name) layers (index_of layers name)) ∙ at_index_of (λ (n : Name). n) layers name)

@@ -1,5 +1,5 @@
 -- The versions that commands and kept tiles leave are versions.
-use Rattle.std.specs.Prelude.{◌≡◌, ◌≢◌, ◌↔◌, ℕ, ◌+◌, ◌<◌, ◌≤◌, ◌==◌, Bool, true, IsTrue, List, ◌&&◌, bytes_eq, Option, Some, None, if◌then◌else◌}
+use Rattle.std.specs.Prelude.{◌≡◌, ◌≢◌, ◌↔◌, ℕ, ◌+◌, ◌<◌, ◌≤◌, ◌==◌, Bool, true, IsTrue, List, ◌&&◌, bytes_eq, Option, Some, None, Result, Ok, Err, IfErr, if◌then◌else◌}
 use Rattle.std.proofs.Common.{refl, ap, sym, ◌∙◌, subst, arith}
 use Rattle.std.proofs.lemmas.Bool.{eqb-false}
 use Rattle.overlay_terms.specs.Column.{column_count}
@@ -94,3 +94,8 @@ awaited_by version name input layers same derived_layer pending is told =
       λ t. ((derived_layer, pending), told.0 t ∙ present),
       λ a. told.1 (a.1 ∙ sym present),
     )
+
+-- what is known anyway is known at an error
+pub err_all : {T E P : Type 0} (r : Result T E) → P → IfErr r (λ _. P)
+err_all (Ok x) p = tt
+err_all (Err e) p = p

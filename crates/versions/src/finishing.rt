@@ -1,15 +1,18 @@
 //! Keeping a built tile.
-ghost use Rattle.std.specs.Prelude.{◌≡◌, ◌↔◌, IsTrue, IfOk, IfErr};
-ghost use Rattle.overlay_terms.specs.Histories.{FollowsTile, IsTileAt, pieces_max};
+ghost use Rattle.std.specs.Prelude.{◌≡◌, ◌↔◌, ◌&&◌, ◌==◌, true, false, Some, bytes_eq, IsTrue, IfOk, IfErr, OnOk, OnErr, if◌then◌else◌};
+ghost use Rattle.overlay_terms.specs.Commands.{stands_as_derived};
+ghost use Rattle.overlay_terms.specs.Histories.{FollowsTile, IsTileAt, is_formed, pieces_max, tile_at};
 ghost use Rattle.overlay_terms.specs.Tiles.{input_of};
+ghost use Rattle.layer_tiles.specs.Table.{laid, tiles_in, IsLaid};
 ghost use Rattle.tile_build.specs.Tile.{tile_of};
 ghost use Rattle.versions.specs.Finish.{IfKept, IsAwaited, IsKept, IsPending};
 
 use crate::fault::VersionFault;
-use crate::version::Version;
+use crate::version::{Version, VersionContent};
 use arrange::TileInput;
 use layer_book::fault::LayerFault;
 use layer_expr::name::Name;
+use layer_tiles::Table;
 use plane_base::Column;
 use std::alloc::{AllocError, Global};
 use std::sync::Arc;
@@ -64,49 +67,60 @@ impl Version {
         }
     }
 
-    /// The same for a built tile that can be shared: the version has the tile itself, and nothing of it is copied. Its
-    /// input is not compared where it is known to be the present one.
-    pub fn finish_shared(
-        &self,
+    /// Keeps a built tile of a layer in the version itself, where it is awaited. The version shares the tile, and nothing
+    /// of it is copied. Its input is not compared where it is known to be the present one.
+    pub fn keep(
+        &mut self,
         alloc: Global,
         name: &Name,
         built: &SharedBuilt,
         is_present: bool,
-    ) -> Result<Finish, VersionFault>
-        requires present { IsTrue is_present → built.now.0 ≡ input_of self.now.layers name.now built.now.0.column }
-        ensures kept { IfOk result (λ finish. IfKept finish (λ next. FollowsTile self.now name.now built.now.0.column built.now.1 next)) }
-        ensures exactly { IfOk result (λ finish. IsKept finish ↔ IsAwaited self.now name.now built.now.0) }
-        ensures err { IfErr result (λ fault. fault ≡ VersionFault.Layer LayerFault.OutOfMemory) }
-        ensures pending { IfErr result (λ _. IsPending self.now name.now built.now.0.column) }
+    ) -> Result<bool, VersionFault>
+        requires present { IsTrue is_present → built.now.0 ≡ input_of self.old.layers name.now built.now.0.column }
+        ensures kept { IfOk result (λ is_kept. IsTrue is_kept → FollowsTile self.old name.now built.now.0.column built.now.1 self.new) }
+        ensures stale { IfOk result (λ is_kept. is_kept ≡ false → self.new ≡ self.old) }
+        ensures exactly { IfOk result (λ is_kept. IsTrue is_kept ↔ IsAwaited self.old name.now built.now.0) }
+        ensures err { IfErr result (λ fault. (self.new ≡ self.old) × (fault ≡ VersionFault.Layer LayerFault.OutOfMemory)) }
+        ensures pending { IfErr result (λ _. IsPending self.old name.now built.now.0.column) }
     {
-        let input = built.input();
-        if !self.awaits(name, input, is_present) {
-            return Ok(Finish::Stale);
+        if !self.awaits_built(alloc, name, built, is_present)? {
+            return Ok(false);
         }
         let tile = built.share()?;
-        let next = self.with_tile(alloc, name, input, tile)?;
-        Ok(Finish::Kept(next))
+        self.put_tile(alloc, name, built.column(), tile)?;
+        Ok(true)
     }
 
     /// Whether the tile of an input is awaited: it is pending, and the input is the present one. It takes no memory.
     pub fn is_awaited(&self, name: &Name, input: &TileInput) -> bool
         ensures { IsTrue result ↔ IsAwaited self.now name.now input.now }
     {
-        self.awaits(name, input, false)
-    }
-
-    /// The same of an input that is not compared where it is known to be the present one.
-    fn awaits(&self, name: &Name, input: &TileInput, is_present: bool) -> bool
-        requires present { IsTrue is_present → input.now ≡ input_of self.now.layers name.now input.now.column }
-        ensures { IsTrue result ↔ IsAwaited self.now name.now input.now }
-    {
         if !self.is_pending(name, input.column()) {
             return false;
         }
-        if is_present {
-            return true;
-        }
         self.layers().has_input(name, input)
+    }
+
+    /// The same of a built tile, whose input is not compared where it is known to be the present one.
+    fn awaits_built(
+        &self,
+        alloc: Global,
+        name: &Name,
+        built: &SharedBuilt,
+        is_present: bool,
+    ) -> Result<bool, AllocError>
+        requires present { IsTrue is_present → built.now.0 ≡ input_of self.now.layers name.now built.now.0.column }
+        ensures exactly { IfOk result (λ is_awaited. IsTrue is_awaited ↔ IsAwaited self.now name.now built.now.0) }
+        ensures pending { IfErr result (λ _. IsPending self.now name.now built.now.0.column) }
+    {
+        if !self.is_pending(name, built.column()) {
+            return Ok(false);
+        }
+        if is_present {
+            return Ok(true);
+        }
+        let input = built.input(alloc)?;
+        Ok(self.layers().has_input(name, &input))
     }
 
     /// Whether a tile is pending, by one look at its layer. It takes no memory.
@@ -143,6 +157,56 @@ impl Version {
         let durable = self.durable();
         Ok(Version::of(number, durable, next))
     }
+
+    /// The same in place.
+    fn put_tile(
+        &mut self,
+        alloc: Global,
+        name: &Name,
+        column: Column,
+        tile: Arc<Tile>,
+    ) -> Result<(), AllocError>
+        requires pending { IsPending self.old name.now column }
+        requires right { IsTileAt pieces_max (input_of self.old.layers name.now column) (tile_of tile.value) }
+        ensures ok { OnOk result (FollowsTile self.old name.now column (tile_of tile.value) self.new) }
+        ensures err { OnErr result (self.new ≡ self.old) }
+    {
+        // A column is below their number by its type: the clauses rest on that.
+        let _ = column.number();
+        match &mut self.content {
+            VersionContent::Nothing(_) => unreachable!(),
+            VersionContent::Tiled(table) => {
+                put_in_table(table, alloc, name, column, tile)?;
+                Ok(())
+            }
+        }
+    }
+}
+
+/// Puts a tile into a table, which is copied before where others have it.
+fn put_in_table(
+    table: &mut Arc<Table>,
+    alloc: Global,
+    name: &Name,
+    column: Column,
+    tile: Arc<Tile>,
+) -> Result<(), AllocError>
+    requires derived_layer { stands_as_derived table.old.value.layers name.now ≡ true }
+    requires formed { IsTrue (is_formed (tile_of tile.value) column) }
+    ensures layers { table.new.value.layers ≡ table.old.value.layers }
+    ensures tiles { OnOk result ((other : _) (k : _)
+        → tile_at (tiles_in table.new.value) other k
+        ≡ (if bytes_eq name.now other && (column == k) then Some (tile_of tile.value)
+        else tile_at (tiles_in table.old.value) other k)) }
+    ensures valid { OnOk result (IsLaid (laid table.new.value)) }
+    ensures err { OnErr result (table.new.value ≡ table.old.value) }
+{
+    if let Some(own) = Arc::get_mut(table) {
+        return own.put_tile(alloc, name, column, tile);
+    }
+    let made = table.with_tile(alloc, name, column, tile)?;
+    *table = Arc::new(alloc, made)?;
+    Ok(())
 }
 
 /// A copy of a built tile as versions share it.

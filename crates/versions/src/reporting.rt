@@ -21,7 +21,7 @@ impl Version {
     }
 
     /// The version with this durable number.
-    fn with_durable(&self, alloc: Global, durable: u64) -> Result<Version, AllocError>
+    pub(crate) fn with_durable(&self, alloc: Global, durable: u64) -> Result<Version, AllocError>
         requires { durable ≤ self.now.number }
         ensures { IfOk result (λ next. next ≡ record { number = self.now.number; layers = self.now.layers; tiles = self.now.tiles; durable = durable }) }
     {

@@ -34,7 +34,7 @@ pub enum VersionContent {
 pub struct Version {
     number: u64,
     durable: u64,
-    content: VersionContent,
+    pub(crate) content: VersionContent,
 }
 
 impl Model for Version {
@@ -108,6 +108,13 @@ impl Version {
         }
     }
 
+    /// The same version once more. It shares layers and tiles.
+    pub fn again(&self, alloc: Global) -> Result<Version, AllocError>
+        ensures { IfOk result (λ copy. copy ≡ self.now) }
+    {
+        self.with_durable(alloc, self.durable())
+    }
+
     /// How many commands were accepted before it.
     pub fn number(&self) -> u64
         ensures value { result ≡ self.now.number }
@@ -142,6 +149,16 @@ impl Version {
         match &self.content {
             VersionContent::Nothing(_) => None,
             VersionContent::Tiled(table) => table.at(place),
+        }
+    }
+
+    /// The row of tiles of a layer.
+    pub fn row_of(&self, name: &Name) -> Option<&TileRow>
+        ensures { IfSome result (λ row. places_in row.now ≡ row_by (tile_at self.now.tiles name.now)) }
+    {
+        match self.at(self.layers().index_of(name)) {
+            Some((_, _, row)) => Some(row),
+            None => None,
         }
     }
 

@@ -1,21 +1,22 @@
 //! Entries of tiles that are kept: of one, or of several of a layer with one publication.
-ghost use Rattle.std.specs.Prelude.{◌≡◌, ◌⊎◌, ◌<◌, ◌≤◌, length, take, All, IsTrue, IfOk, IfErr};
+ghost use Rattle.std.specs.Prelude.{◌≡◌, ◌⊎◌, ◌<◌, ◌≤◌, length, take, All, IsTrue, IfOk, IfErr, IfSome};
+ghost use Rattle.std.specs.Arc.{arc_value};
 ghost use Rattle.overlay_terms.specs.Tiles.{input_of};
 ghost use Rattle.book_history.specs.Fault.{no_memory};
-ghost use Rattle.book_history.specs.Logs.{newest_in};
+ghost use Rattle.book_history.specs.Logs.{newest_in, IsLog};
 ghost use Rattle.book_lock.specs.Steps.{AreFinishedIn, IsFinishedIn};
 
 use crate::locked_log::{LockedLog, MOST};
-use crate::shared_version::kept_version;
+use crate::shared_version::{kept, shared_again};
 use book_history::entry::Cause;
-use book_history::fault::{BookFault, NO_MEMORY};
+use book_history::fault::BookFault;
 use book_history::published::Published;
 use book_history::publisher::put_out;
-use book_history::seen_log::BookName;
+use book_history::seen_log::{BookName, SeenLog};
 use layer_expr::name::Name;
 use std::alloc::Global;
 use std::slice;
-use std::sync::Wait;
+use std::sync::{Arc, Wait};
 use tile_build::SharedBuilt;
 use versions::Version;
 
@@ -52,37 +53,91 @@ impl<J: BookName, R: Wait + Drop> LockedLog<J, R> {
         ensures finished { IfOk result (λ count. AreFinishedIn self.old name.now (take count tiles.now) self.new) }
         ensures err { IfErr result (λ fault. (self.new ≡ self.old) × ((fault ≡ no_memory) ⊎ (fault ≡ BookFault.Gone))) }
     {
-        let Ok(mut last) = self.last().again() else {
-            return Err(NO_MEMORY);
-        };
-        let count = self.add_tiles(alloc, &mut last, name, tiles, are_present)?;
-        put_out(&self.rt, &mut self.publisher, last);
+        let (next, count) = self.with_tiles(alloc, name, tiles, are_present)?;
+        put_out(&self.rt, &mut self.publisher, next);
         Ok(count)
     }
 
-    // Goes on from a version by built tiles, one after another, and says how many are finished.
-    fn add_tiles(
+    // What is to be published after built tiles, and how many of them are finished.
+    fn with_tiles(
         &self,
         alloc: Global,
-        last: &mut Published,
+        name: &Name,
+        tiles: &[SharedBuilt],
+        are_present: bool,
+    ) -> Result<(Published, usize), BookFault>
+        requires present { IsTrue are_present
+            → All (λ built. built.0 ≡ input_of (newest_in self.now).layers name.now built.0.column) tiles.now }
+        ensures begun { IsLog self.now }
+        ensures book { IfOk result (λ r. r.0.seen_log.book ≡ J.book) }
+        ensures few { IfOk result (λ r. r.1 ≤ length tiles.now) }
+        ensures some { IfOk result (λ r. 0 < length tiles.now → 0 < r.1) }
+        ensures finished { IfOk result (λ r. AreFinishedIn self.now name.now (take r.1 tiles.now) r.0.seen_log.log) }
+        ensures err { IfErr result (λ fault. (fault ≡ no_memory) ⊎ (fault ≡ BookFault.Gone)) }
+    {
+        let now = self.last();
+        let mut seen_log = now.seen_log.again();
+        let mut version = shared_again(alloc, &now.version)?;
+        let count = self.add_to_own(alloc, &mut version, &mut seen_log, name, tiles, are_present)?;
+        Ok((Published { version, seen_log }, count))
+    }
+
+    // The same as `add_tiles`, of a version that nobody else has.
+    fn add_to_own(
+        &self,
+        alloc: Global,
+        version: &mut Arc<Version, Global>,
+        seen_log: &mut SeenLog,
         name: &Name,
         tiles: &[SharedBuilt],
         are_present: bool,
     ) -> Result<usize, BookFault>
-        requires book { last.old.seen_log.book ≡ J.book }
+        requires last { arc_value version.old ≡ newest_in seen_log.old.log }
+        requires book { seen_log.old.book ≡ J.book }
         requires present { IsTrue are_present
-            → All (λ built. built.0 ≡ input_of (newest_in last.old.seen_log.log).layers name.now built.0.column) tiles.now }
-        ensures book { last.new.seen_log.book ≡ J.book }
+            → All (λ built. built.0 ≡ input_of (arc_value version.old).layers name.now built.0.column) tiles.now }
+        ensures last { IfOk result (λ _. arc_value version.new ≡ newest_in seen_log.new.log) }
+        ensures book { seen_log.new.book ≡ J.book }
         ensures few { IfOk result (λ count. count ≤ length tiles.now) }
         ensures some { IfOk result (λ count. 0 < length tiles.now → 0 < count) }
         ensures finished { IfOk result
-            (λ count. AreFinishedIn last.old.seen_log.log name.now (take count tiles.now) last.new.seen_log.log) }
+            (λ count. AreFinishedIn seen_log.old.log name.now (take count tiles.now) seen_log.new.log) }
+        ensures err { IfErr result (λ fault. (fault ≡ no_memory) ⊎ (fault ≡ BookFault.Gone)) }
+    {
+        match Arc::get_mut(version) {
+            Some(own) => self.add_tiles(alloc, own, seen_log, name, tiles, are_present),
+            None => Err(BookFault::Gone),
+        }
+    }
+
+    // Changes a version by built tiles, one after another, and adds the entry of each to the log that it ends. It says
+    // how many are finished.
+    fn add_tiles(
+        &self,
+        alloc: Global,
+        version: &mut Version,
+        seen_log: &mut SeenLog,
+        name: &Name,
+        tiles: &[SharedBuilt],
+        are_present: bool,
+    ) -> Result<usize, BookFault>
+        requires last { version.old ≡ newest_in seen_log.old.log }
+        requires book { seen_log.old.book ≡ J.book }
+        requires present { IsTrue are_present
+            → All (λ built. built.0 ≡ input_of version.old.layers name.now built.0.column) tiles.now }
+        ensures last { IfOk result (λ _. version.new ≡ newest_in seen_log.new.log) }
+        ensures book { seen_log.new.book ≡ J.book }
+        ensures few { IfOk result (λ count. count ≤ length tiles.now) }
+        ensures some { IfOk result (λ count. 0 < length tiles.now → 0 < count) }
+        ensures finished { IfOk result
+            (λ count. AreFinishedIn seen_log.old.log name.now (take count tiles.now) seen_log.new.log) }
         ensures err { IfErr result (λ fault. (fault ≡ no_memory) ⊎ (fault ≡ BookFault.Gone)) }
     {
         let mut count = 0;
         for built in tiles {
-            match self.add_tile(alloc, last, name, built, are_present) {
-                Ok(_is_kept) => {}
+            match self.add_tile(alloc, version, seen_log, name, built, are_present) {
+                Ok(Some(_is_kept)) => {}
+                Ok(None) => return Err(BookFault::Gone),
                 Err(fault) => {
                     if count == 0 {
                         return Err(fault);
@@ -95,40 +150,45 @@ impl<J: BookName, R: Wait + Drop> LockedLog<J, R> {
         Ok(count)
     }
 
-    // Goes on from a version by a built tile, where it is awaited: the tile's entry is added, and not published. Its
-    // input is not compared where it is known to be the present one.
+    // Changes a version by a built tile, where it is awaited: the tile's entry is added, and not published. Its input is
+    // not compared where it is known to be the present one. None says that the log cannot go on.
     fn add_tile(
         &self,
         alloc: Global,
-        last: &mut Published,
+        version: &mut Version,
+        seen_log: &mut SeenLog,
         name: &Name,
         built: &SharedBuilt,
         is_present: bool,
-    ) -> Result<bool, BookFault>
-        requires book { last.old.seen_log.book ≡ J.book }
+    ) -> Result<Option<bool>, BookFault>
+        requires last { version.old ≡ newest_in seen_log.old.log }
+        requires book { seen_log.old.book ≡ J.book }
         requires present { IsTrue is_present
-            → built.now.0 ≡ input_of (newest_in last.old.seen_log.log).layers name.now built.now.0.column }
-        ensures book { last.new.seen_log.book ≡ J.book }
-        ensures finished { IfOk result (λ is_kept. IsFinishedIn last.old.seen_log.log
-            name.now built.now.0 built.now.1 is_kept last.new.seen_log.log) }
-        ensures err { IfErr result (λ fault. (last.new.seen_log ≡ last.old.seen_log)
-            × ((fault ≡ no_memory) ⊎ (fault ≡ BookFault.Gone))) }
+            → built.now.0 ≡ input_of version.old.layers name.now built.now.0.column }
+        ensures last { IfOk result (λ o. IfSome o (λ _. version.new ≡ newest_in seen_log.new.log)) }
+        ensures book { seen_log.new.book ≡ J.book }
+        ensures finished { IfOk result (λ o. IfSome o (λ is_kept. IsFinishedIn seen_log.old.log
+            name.now built.now.0 built.now.1 is_kept seen_log.new.log)) }
+        ensures err { IfErr result
+            (λ fault. (fault ≡ no_memory) × (version.new ≡ version.old) × (seen_log.new ≡ seen_log.old)) }
     {
-        let now: &Version = &last.version;
-        let column = built.input().column();
-        let Some(version) = kept_version(alloc, now, name, built, is_present)? else {
-            // Who builds a tile has it alone, so it cannot be there.
-            if now.shared_tile(name, column).is_some() {
-                return Err(BookFault::Gone);
-            }
-            return Ok(false);
-        };
-        let mut seen_log = last.seen_log.again();
-        let kept = Cause::Kept(name, &column, built.tile());
-        if seen_log.at() >= MOST || !seen_log.add(&self.head, kept, &version) {
-            return Err(BookFault::Gone);
+        let column = built.column();
+        if seen_log.at() >= MOST {
+            return Ok(None);
         }
-        *last = Published { version, seen_log };
-        Ok(true)
+        let is_kept = kept(alloc, version, name, built, is_present)?;
+        if !is_kept {
+            // Who builds a tile has it alone, so it cannot be there.
+            if version.shared_tile(name, column).is_some() {
+                return Ok(None);
+            }
+            return Ok(Some(false));
+        }
+        let cause = Cause::Kept(name, &column, built.tile());
+        if seen_log.add(&self.head, cause, version) {
+            Ok(Some(true))
+        } else {
+            Ok(None)
+        }
     }
 }

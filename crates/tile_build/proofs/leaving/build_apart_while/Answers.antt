@@ -21,16 +21,16 @@ pub loop-number-preserved : goal.loop-number-preserved
 loop-number-preserved g c =
     let last : c.number-end.result ≡ c.args.input.now.strip.last = c.number-end.ensures.value ∙ c.last.ensures.value ∙ ap (λ (s : Span). s.last) c.strip-strip.ensures.value in
     let same : c.in-Some.column ≡ c.loop-number.number = search rules in
-    let is = subst (λ o. IfSome o (λ (b : Input × Tile). b.0 ≡ c.in_ok-own.own)) c.in-Some-done.is c.in_ok-done.ensures.input in
-    let own : c.in-Some-done.built.0 ≡ part c.args.input.now c.loop-number.number = is ∙ c.in_ok-own.ensures ∙ ap (part c.args.input.now) same in
+    let is = subst (λ o. IfSome o (λ (b : Input × Tile). b.0 ≡ part c.args.input.now c.in-Some.column)) c.in-Some-done.is c.in_ok-done.ensures.input in
+    let own : c.in-Some-done.built.0 ≡ part c.args.input.now c.loop-number.number = is ∙ ap (part c.args.input.now) same in
     record {
       from = omega (arith, c.loop-number.invariant.from);
       to = omega (arith, last);
       built = more_up_to c.args.input.now c.loop-number.number c.loop-number.list.items _ c.in-Some-done.built c.loop-number.invariant.built own c.in_ok-push.ensures.items;
     }
 
-pub column_input-requires : goal.column_input-requires
-column_input-requires g c =
+pub build_while-requires : goal.build_while-requires
+build_while-requires g c =
     let last : c.number-end.result ≡ c.args.input.now.strip.last = c.number-end.ensures.value ∙ c.last.ensures.value ∙ ap (λ (s : Span). s.last) c.strip-strip.ensures.value in
     let same : c.in-Some.column ≡ c.loop-number.number = search rules in
     (omega (arith, same, c.loop-number.invariant.from), omega (arith, same, last))

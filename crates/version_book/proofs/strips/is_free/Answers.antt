@@ -1,13 +1,15 @@
 use Rattle.std.proofs.Common.{◌≡◌, ◌<◌, Bool, true, false, not, refl, ap, sym, ◌∙◌, rules}
 use Rattle.std.proofs.lemmas.Bool.{false≢true}
 use Rattle.overlay_terms.specs.Column.{column_count}
-use Rattle.tile_build.specs.Tile.{tile_of}
-use Rattle.book_history.proofs.Holding.{none_kept, some_kept}
+use Rattle.overlay_terms.specs.Histories.{tile_at}
+use Rattle.version_book.proofs.RowLooks.{no_tile_there, tile_there}
 use Rattle.version_book.proofs.strips.is_free.Goals as goal
 
-pub returns-then-is_some : goal.returns-then-is_some
-returns-then-is_some c =
-    (λ e. absurd (false≢true e), λ free. absurd (some_kept (λ tile. tile_of tile.now.value) c.shared_tile.result _ c.shared_tile.ensures (sym c.is_some.ensures ∙ c.if-is_some.true) free.pending.1))
+pub returns-then-has : goal.returns-then-has
+returns-then-has c =
+    let tiles = tile_at c.args._version.now.tiles c.args.name.now in
+    let there : c.args.column < column_count = search rules in
+    (λ e. absurd (false≢true e), λ free. absurd (tile_there tiles c.args.column c.args.row.now c.requires.row there (sym c.has.ensures ∙ c.if-has.true) free.pending.1))
 
 not_true : (b : Bool) → not b ≡ true → b ≡ false
 not_true false e = refl
@@ -15,6 +17,7 @@ not_true true e = absurd (false≢true e)
 
 pub returns : goal.returns
 returns c =
-    let gone = none_kept (λ tile. tile_of tile.now.value) c.shared_tile.result _ c.shared_tile.ensures (sym c.is_some.ensures ∙ c.if-is_some.false) in
+    let tiles = tile_at c.args._version.now.tiles c.args.name.now in
     let there : c.args.column < column_count = search rules in
-    (λ e. record { pending = (c.requires, gone); there = there; free = sym c.has.ensures ∙ not_true c.has.result e }, λ free. ap not (c.has.ensures ∙ free.free))
+    let gone = no_tile_there tiles c.args.column c.args.row.now c.requires.row there (sym c.has.ensures ∙ c.if-has.false) in
+    (λ e. record { pending = (c.requires.derived_layer, gone); there = there; free = sym c.has-2.ensures ∙ not_true c.has-2.result e }, λ free. ap not (c.has-2.ensures ∙ free.free))

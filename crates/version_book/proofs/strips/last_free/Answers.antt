@@ -2,6 +2,9 @@ use Rattle.std.proofs.Common.{◌≡◌, ◌≤◌, ◌+◌, ℕ, arith, rules, 
 use Rattle.version_book.specs.Free.{IsFree}
 use Rattle.version_book.proofs.strips.last_free.Goals as goal
 
+pub returns-in_default-clause-free : goal.returns-in_default-clause-free
+returns-in_default-clause-free c = λ k low high. let same : c.args.first ≡ k = omega arith in subst (λ n. IsFree c.args.version.now c.args.held.now.list.items c.args.name.now n) same c.requires
+
 pub columns-init : goal.columns-init
 columns-init c = record {
   from = omega arith;

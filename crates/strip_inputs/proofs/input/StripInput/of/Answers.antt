@@ -11,8 +11,8 @@ loop-layer-preserved c =
     let same : c.from.result ≡ c.loop-layer.layer = omega arith in
     made_more c.args.strip c.loop-layer.layer c.from.result c.args.bases.now c.index-bases-from.result _ _ within same c.index-bases-from.is c.loop-layer.invariant c.in_ok-add_segments.ensures.marked c.in_ok-add_segments.ensures.proper c.in_ok-add_segments.ensures.valid
 
-pub invariant_of-result : goal.invariant_of-result
-invariant_of-result c =
+pub by-requires : goal.by-requires
+by-requires c =
     let full : length c.args.bases.now ≤ c.loop-layer.layer = omega arith in
     let few : c.args.steps.bases ≤ 32 = omega arith in
     let in_order : c.args.strip.first ≤ c.args.strip.last = c.last.ensures.in_order in
@@ -24,10 +24,11 @@ pub returns-clause-ok : goal.returns-clause-ok
 returns-clause-ok c =
     let full : length c.args.bases.now ≤ c.loop-layer.layer = omega arith in
     let made = made_whole c.args.strip c.loop-layer.layer c.args.bases.now _ full c.loop-layer.invariant in
-    ap (λ ms. record { strip = c.args.strip; marked = ms; steps = c.args.steps }) made.kept
+    c.in_ok-input.ensures ∙ ap (λ ms. record { strip = c.args.strip; marked = ms; steps = c.args.steps }) made.kept
 
 pub returns-clause-part : goal.returns-clause-part
 returns-clause-part c =
     let full : length c.args.bases.now ≤ c.loop-layer.layer = omega arith in
     let made = made_whole c.args.strip c.loop-layer.layer c.args.bases.now _ full c.loop-layer.invariant in
-    part_of_strip c.args.strip (marked_segments (map (λ b. b.now) c.args.bases.now)) c.args.steps _ (ap (λ ms. record { strip = c.args.strip; marked = ms; steps = c.args.steps }) made.kept)
+    part_of_strip c.args.strip (marked_segments (map (λ b. b.now) c.args.bases.now)) c.args.steps _
+    (c.in_ok-input.ensures ∙ ap (λ ms. record { strip = c.args.strip; marked = ms; steps = c.args.steps }) made.kept)

@@ -1,23 +1,16 @@
-use Rattle.std.proofs.Common.{refl, ap, sym, subst, ◌∙◌}
+use Rattle.std.proofs.Common.{ap, sym, subst, ◌∙◌}
 use Rattle.std.proofs.lemmas.Bool.{false≢true}
 use Rattle.overlay_terms.specs.Commands.{stands_as_derived}
 use Rattle.overlay_terms.specs.Histories.{tile_at}
 use Rattle.versions.specs.Finish.{IsPending}
 use Rattle.versions.proofs.NextVersion.{awaited_by}
-use Rattle.versions.proofs.version.Version.awaits.Goals as goal
+use Rattle.versions.proofs.version.Version.is_awaited.Goals as goal
 
 pub returns-then-not-is_pending : goal.returns-then-not-is_pending
 returns-then-not-is_pending c = (
   λ no. absurd (false≢true no),
   λ awaited. absurd (false≢true (sym c.if-not-is_pending.true ∙ c.is_pending.ensures.1 (subst (IsPending c.args.self.now c.args.name.now) (sym c.column.ensures.value) awaited.0))),
 )
-
-pub returns-then-is_present : goal.returns-then-is_present
-returns-then-is_present c =
-    let version = c.args.self.now in
-    let pending = c.is_pending.ensures.0 c.if-not-is_pending.false in
-    let there = ap (tile_at version.tiles c.args.name.now) (sym c.column.ensures.value) ∙ pending.1 in
-    (λ _. ((pending.0, there), c.requires.present c.if-is_present.true), λ _. refl)
 
 pub has_input-requires : goal.has_input-requires
 has_input-requires c =

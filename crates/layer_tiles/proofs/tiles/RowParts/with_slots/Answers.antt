@@ -3,7 +3,7 @@ use Rattle.overlay_terms.specs.Column.{column_count}
 use Rattle.tile_build.specs.Tile.{named_pieces}
 use Rattle.layer_tiles.specs.Table.{put_all, row_of, tile_in_slot}
 use Rattle.layer_tiles.proofs.LateLemmas.{copied_with}
-use Rattle.layer_tiles.proofs.tiles.RowParts.with.Goals as goal
+use Rattle.layer_tiles.proofs.tiles.RowParts.with_slots.Goals as goal
 
 pub returns : goal.returns
 returns c =
