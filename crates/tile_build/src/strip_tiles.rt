@@ -1,6 +1,7 @@
 //! Building the tiles of neighbouring columns.
-ghost use Rattle.std.specs.Prelude.{◌≡◌, ◌+◌, ◌<◌, ◌≤◌, ℕ, [], true, false, map, length, get_or, All, IfOk, IfSome};
-ghost use Rattle.overlay_terms.specs.Column.{is_in_column};
+ghost use Rattle.std.specs.Prelude.{◌≡◌, ◌+◌, ◌<◌, ◌≤◌, ◌≤ℤ◌, ◌*ℤ◌, ℕ, [], true, false, map, length, get_or, All, AllPairs, IfOk, IfSome};
+ghost use Rattle.std.specs.declared.cmp.Ordering.TheVariants.{Less};
+ghost use Rattle.overlay_terms.specs.Column.{border, is_in_column};
 ghost use Rattle.overlay_terms.specs.Histories as terms;
 ghost use Rattle.overlay_terms.specs.Histories.{pieces_max};
 ghost use Rattle.overlay_terms.specs.Tiles.{Input, pair_cmp};
