@@ -17,9 +17,9 @@ use Rattle.overlay_server.specs.Keeping.{HoldsOfStore, IsStoreKept}
 use Rattle.overlay_server.specs.declared.threads.Work.{Work}
 use Rattle.overlay_server.specs.declared.threads.Worked.{Worked}
 
--- store and sessions are of this book, what the store comes to hold and for what it fails may be reported to the book,
--- what was may be to the writers, each of which goes on from what its session knows, has all of its script left, if it
--- keeps that, and may be told of a limit that the script passes, and there is room for what the sessions leave; `there`
+-- store and sessions are of this book, and there is room for what the sessions leave. What the store comes to hold and
+-- for what it fails may be reported to the book, and what was reported to the writers. Each writer goes on from what its
+-- session knows, has all of its script left, if it keeps that, and may report a limit that the script passes. `there`
 -- says whether the book has a store
 pub record IsReady {J R W D : Type 0} {g : Ghosts D} (book : Book) (stored : List Entry → ℕ → Type 0) (failed : List Entry → ToldFault → Type 0) (there : Bool) (may : History → StoreReport → Type 0) (from : W → Bool → Known → Type 0) (remaining : R → Option (List ℕ)) (left : W → Option (List Turn)) (may_pass : W → Type 0) (work : Work J R W D g) : Type 0 where
   pub store : (reporter_of work.store).book ≡ book

@@ -100,7 +100,7 @@ where
     // all of its reader's script left, if it keeps that. Each writer of bytes meets it.
     requires from { All (λ port. (me : Known) → me.made ≡ [] → W.from port.writer (is_some engine) me) ports.items }
     requires own { All (λ port. IfSome (W.left port.writer) (IsAtStart (until_end R.remaining port.reader))) ports.items }
-    // And it may be told that a limit was passed, where its reader has more bytes than it may have.
+    // And it may report that a limit was passed, where its reader has more bytes than it may have.
     requires limit { All (λ port. IsPastMost port.most (until_end R.remaining port.reader) → W.may_pass_limit port.writer) ports.items }
     ensures left { IfOk result (IsLeftFrom W.contents D.Disk (start_of engine) (flusher_of engine) (given_to (until_end R.remaining) W.contents ports.items)) }
     ensures disk { IfOk result (λ left. is_some left.closed.disk ≡ is_some engine) }

@@ -25,7 +25,8 @@ pub record IsAtStart (script : Option (List ℕ)) (left : List Turn) : Type 0 wh
 abbrev pub IsPastMost : ℕ → Option (List ℕ) → Type 0
 IsPastMost most script = IfSome script (λ bytes. most < length bytes)
 
--- the next turn has its reply, from where the session goes on, of a book with or without a store; `may`: what of it
+-- the next turn has its reply, from where the session goes on, of a book with or without a store; `may`: what may be
+-- reported of the store
 pub record IsNextReply (from : Bool → Known → Type 0) (may : History → StoreReport → Type 0) (now : Known) (text : List ℕ) (left : List Turn) : Type 0 where
   pub has_store : Bool
   pub was : Known

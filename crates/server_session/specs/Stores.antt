@@ -20,7 +20,7 @@ pub record IsFaultOf (failed : List Entry → ToldFault → Type 0) (history : H
   pub same : fault ≡ store_told told
   pub failed_so : ∥ MayTell failed log told ∥₁
 
--- what may be reported of a store at a history: the number, which is told of it, or a fault of it
+-- what may be reported of a store at a history: its durable number, or a fault of the store
 abbrev pub IsReportOf : (List Entry → ℕ → Type 0) → (List Entry → ToldFault → Type 0) → History → StoreReport → Type 0
 IsReportOf stored failed history of_number = IsToldOf stored history
 IsReportOf stored failed history (of_fault fault) = IsFaultOf failed history fault

@@ -32,7 +32,7 @@ pub trait ReplyWriter {
     /// The turns of the script whose replies it takes that have none yet, if it keeps that.
     ghost left: { Self → Option (List Turn) };
 
-    /// Whether it may be told that a byte too many of its script came.
+    /// Whether it may report that its script has a byte too many.
     ghost may_pass_limit: { Self → Type 0 };
 
     /// Writes the reply to the next turn, without taking memory.

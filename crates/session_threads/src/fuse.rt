@@ -7,8 +7,8 @@ ghost use Rattle.session_threads.specs.Fuse.{has_ended, until_end};
 use std::io;
 use std::io::Read;
 
-/// A reader that ends with the first read of no byte: from then on it gives nothing, and does not ask the reader in it
-/// again, which nobody gets back. So who knows it as a reader alone has to take it for one whose bytes are known.
+/// A reader that has ended at the first read that gives no byte into a buffer with room. From then on it gives nothing
+/// and does not ask the reader in it again. So code that reads on after an end learns nothing of the reader's kind.
 #[derive(Drop)]
 pub struct Fuse<R> {
     reader: R,

@@ -301,7 +301,7 @@ fn a_reply_stands_before_the_next_line_is_read(rt: HostRuntime) -> Result<(), Fa
     Ok(())
 }
 
-// Caught: `end_asked_for_twice` (in session_threads/src/fuse.rt a read of no byte is tried once more).
+// Caught: `more_read_after_an_end` of session_threads.
 #[test]
 fn an_end_is_not_read_past(rt: HostRuntime) -> Result<(), Fail> {
     let turns = Turns::new();

@@ -28,8 +28,8 @@ use versions::Version;
 mod flushing;
 
 /// A store of the versions of one book. Who has it can begin the commit of the newest version that the book's reporter
-/// has seen, and make the device calls of that; no more can be had of it than the disk, shut. So a call that waits, and
-/// may never return, has no other way to the store.
+/// has seen, and make the device calls of that. Its keeper can have no more of it than the disk, shut: so no call of a
+/// keeper that waits has another way to the store. `flusher_loop` alone, which is given a store open, gives it back so.
 #[derive(Drop)]
 pub struct HeldStore<D: Disk> {
     flusher: Flusher<D>,
