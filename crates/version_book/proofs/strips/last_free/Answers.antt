@@ -14,9 +14,9 @@ columns-init c = record {
 pub columns-preserved : goal.columns-preserved
 columns-preserved c =
     let free : ℕ → Type 0 = λ n. IsFree c.args.version.now c.args.held.now.list.items c.args.name.now n in
-    let same : c.in-Some.next ≡ c.columns.last + 1 = search rules in
+    let same : c.in-Some-new.next ≡ c.columns.last + 1 = search rules in
     record {
       from = omega arith;
-      free = λ k low high. below_more (λ n. c.args.first ≤ n → free n) c.in-Some.next (λ n near from. c.columns.invariant.free n from (omega (arith, near)))
+      free = λ k low high. below_more (λ n. c.args.first ≤ n → free n) c.in-Some-new.next (λ n near from. c.columns.invariant.free n from (omega (arith, near)))
           (λ _. c.is_free.ensures.0 c.if-not-is_free.false) k (omega (arith, high)) low;
     }
