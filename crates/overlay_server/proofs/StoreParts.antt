@@ -1,5 +1,6 @@
 -- The store of a server through its runs, and what is left of it at the end.
 use Rattle.std.proofs.Common.{◌≡◌, ◌⊎◌, inl, inr, ⊎_elim, false, ℕ, ◌<◌, ◌≤◌, List, [], length, Option, Some, None, MatchOption, All, refl, sym, ◌∙◌, ◌↔◌, subst, arith}
+use Rattle.std.specs.Arc.{arc_value}
 use Rattle.logbook.specs.Pages.{Book}
 use Rattle.disk_model.specs.declared.disk.Disk.{Ghosts}
 use Rattle.disk_model.proofs.Runs.{widened}
@@ -18,6 +19,7 @@ use Rattle.store_flushing.specs.Failing.{HoldsOfFailed}
 use Rattle.store_flushing.specs.Storing.{IsStoreOf, HoldsOfStored}
 use Rattle.store_flushing.specs.Stores.{flusher_in, reporter_of, told_by}
 use Rattle.store_flushing.specs.Told.{StaysTold, TellsOn, told_in}
+use Rattle.store_flushing.specs.Unstored.{IsReasonGiven}
 use Rattle.store_flushing.specs.declared.closed.Closed.{Closed}
 use Rattle.store_flushing.specs.declared.keeper.Keeper.{Keeper}
 use Rattle.store_flushing.specs.declared.keeper.store.Store.{Store}
@@ -106,6 +108,7 @@ module _ {D : Type 0} (g : Ghosts D) where
     pub heard : HasHeard closed.seen_log.log (reporter_of whole)
     pub durable : All (λ (e : Entry). e.version.durable ≤ (newest_in closed.seen_log.log).durable) closed.seen_log.log
     pub store : MatchOption (flusher_in whole) ((closed.stored ≡ 0) × (closed.disk ≡ None)) (λ (f : Flusher D g). (closed.stored ≡ f.commit.root.version) × (closed.disk ≡ Some f.commit.disk))
+    pub fault : MatchOption (flusher_in whole) (closed.fault ≡ None) (λ (f : Flusher D g). IsReasonGiven closed.fault f (arc_value closed.version))
     pub told : told_in closed.told ≡ told_by whole
 
   -- nothing was reported as the book began
@@ -124,6 +127,7 @@ module _ {D : Type 0} (g : Ghosts D) where
     disk = closes.store.1;
     stored = closes.store.0;
     rests = flushed.rests;
+    fault = closes.fault;
     left = λ is.
         let was = history_of f.reporter.log in
         let now = history_of l.reporter.log in

@@ -23,6 +23,7 @@ use Rattle.store_flushing.specs.Among.{IsFileIn, IsFileExactlyIn}
 use Rattle.store_flushing.specs.Failing.{IsFailed}
 use Rattle.store_flushing.specs.Storing.{IsStoreOf, IsStored}
 use Rattle.store_flushing.specs.Told.{StaysTold, told_in}
+use Rattle.store_flushing.specs.Unstored.{IsReasonGiven}
 use Rattle.store_flushing.specs.declared.closed.Closed.{Closed}
 use Rattle.store_flushing.specs.declared.keeper.told_log.Told.{Told}
 use Rattle.session_threads.specs.declared.port.Finished.{Finished}
@@ -137,12 +138,13 @@ module _ {D : Type 0} (g : Ghosts D) where
         ⊎ Leaves g last.commit.disk (IsFileExactlyIn (history_of log) last.commit.root.version))
     pub told : StaysTold g (history_of log) written old.commit.disk last.commit.disk
 
-  -- what is left of a store of the first version: its disk, idle or failed
+  -- what is left of a store of the first version: its disk, idle or failed, and why it does not hold the last one
   pub record IsLeft (start : Version) (old : Flusher D g) (closed : Closed D) : Type 0 where
     pub last : Flusher D g
     pub disk : closed.disk ≡ Some last.commit.disk
     pub stored : closed.stored ≡ last.commit.root.version
     pub rests : is_busy last.commit.phase ≡ false
+    pub fault : IsReasonGiven closed.fault last (arc_value closed.version)
     pub left : IsStoreOf g (history_of (first_log start)) old → IsLeftBy closed.seen_log.log (told_in closed.told) old last
 
   -- the same where there was one

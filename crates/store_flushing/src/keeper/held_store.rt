@@ -11,6 +11,7 @@ ghost use Rattle.commit_plan.specs.Live.{live_content};
 ghost use Rattle.commit_plan.specs.RecordPlaces.{AreKnown};
 ghost use Rattle.store_flushing.specs.Since.{IsRemembered};
 ghost use Rattle.store_flushing.specs.Storing.{IsStoreOf, Keeps, KeepsTold};
+ghost use Rattle.store_flushing.specs.Unstored.{IsReasonGiven};
 
 use crate::closed::{StoreLeft, left_of};
 pub use crate::keeper::held_store::flushing::flusher_loop;
@@ -141,6 +142,7 @@ impl<D: Disk> HeldStore<D> {
     pub(super) fn end(self, alloc: Global, version: &Version) -> StoreLeft<Shut<D>>
         ensures stored { result.stored ≡ self.flusher.commit.root.version }
         ensures disk { result.disk ≡ Some self.flusher.commit.disk }
+        ensures fault { IsReasonGiven result.fault self.flusher version.now }
     {
         let StoreLeft {
             stored,

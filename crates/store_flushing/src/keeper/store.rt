@@ -6,6 +6,7 @@ ghost use Rattle.book_lock.specs.Heard.{HasHeard};
 ghost use Rattle.book_lock.specs.Steps.{HasAllOf};
 ghost use Rattle.store_flushing.specs.Stores.{flusher_in, reporter_of, told_by};
 ghost use Rattle.store_flushing.specs.Told.{told_in};
+ghost use Rattle.store_flushing.specs.Unstored.{IsReasonGiven};
 
 use crate::closed::{Closed, StoreLeft, end_book};
 use crate::keeper::Keeper;
@@ -64,6 +65,9 @@ impl<D: Disk> Store<D> {
             ≤ (newest_in result.seen_log.log).durable) result.seen_log.log }
         ensures store { MatchOption (flusher_in self) ((result.stored ≡ 0) × (result.disk ≡ None))
             (λ f. (result.stored ≡ f.commit.root.version) × (result.disk ≡ Some f.commit.disk)) }
+        // Where the newest version is not stored and the store would not begin its commit, the book is given the reason.
+        ensures fault { MatchOption (flusher_in self) (result.fault ≡ None)
+            (λ f. IsReasonGiven result.fault f (arc_value result.version)) }
         ensures told { told_in result.told ≡ told_by self }
     {
         match self {

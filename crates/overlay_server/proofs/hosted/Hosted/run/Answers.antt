@@ -114,6 +114,7 @@ returns-then-is_set-clause-refused g c =
         heard = closed.ensures.reporter;
         durable = closed.ensures.durable;
         store = closed.ensures.store;
+        fault = closed.ensures.fault;
         told = closed.ensures.told;
       };
     })
@@ -153,6 +154,7 @@ returns-clause-left g c =
         heard = closed.ensures.reporter;
         durable = closed.ensures.durable;
         store = closed.ensures.store;
+        fault = closed.ensures.fault;
         told = closed.ensures.told;
       };
     })
