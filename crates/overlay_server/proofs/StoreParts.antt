@@ -93,7 +93,7 @@ module _ {D : Type 0} (g : Ghosts D) where
       let old = a.held.flusher in
       let new = b.held.flusher in (
         handed_on g stored was now old new (λ is. by_run g was now old new (run.flushes is)) all.0,
-        failed_on g failed was now old new (λ is. let ran = run.flushes is in (by_run g was now old new ran, ran.by_device)) all.1,
+        failed_on g failed was now old new (λ is. let ran = run.flushes is in (by_run g was now old new ran, ran.by_device, ran.blocks)) all.1,
       )
   holds_on stored failed (Kept a) (Alone b) run all = absurd run
   holds_on stored failed (Alone a) (Kept b) run all = absurd run

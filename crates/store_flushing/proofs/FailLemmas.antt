@@ -17,7 +17,7 @@ use Rattle.root_store.specs.Running.{FailsByDevice, fault_in, is_busy}
 use Rattle.flush_core.specs.Stored.{HasNoRoomFor}
 use Rattle.flush_core.specs.declared.flusher.Flusher.{Flusher}
 use Rattle.store_flushing.specs.Failing.{Fails, HoldsOfFailed, IsFailed}
-use Rattle.store_flushing.specs.Storing.{IsFollowed, IsStoreOf}
+use Rattle.store_flushing.specs.Storing.{IsFollowed, IsStoreOf, KeepsLimit}
 use Rattle.store_flushing.specs.ToldFaults.{told_fault_of}
 use Rattle.store_flushing.proofs.Following.{further}
 use Rattle.store_flushing.proofs.Storage.{fails_twice, rose_after}
@@ -93,15 +93,16 @@ module _ {D : Type 0} (g : Ghosts D) where
   fails_since s t u v told.SequenceLimit before is = is
   fails_since s t u v told.OutOfMemory before is = is
 
-  -- how a store came to be: it was followed, and failed by its device alone
+  -- how a store came to be: it was followed, failed by its device alone, and its file may have as many blocks
   abbrev pub CameBy : History → Flusher D g → History → Flusher D g → Type 0
-  CameBy was s now t = IsFollowed g was s now t × FailsByDevice g s.commit t.commit
+  CameBy was s now t = IsFollowed g was s now t × FailsByDevice g s.commit t.commit × KeepsLimit s t
 
   pub failed_then : (was now : History) (s t : Flusher D g) (log : List Entry) (fault : ToldFault) → CameBy was s now t → IsFailed g now t log fault → IsFailed g was s log fault
-  failed_then was now s t log fault (first, by) is = record {
+  failed_then was now s t log fault (first, by, limit) is = record {
     store = is.store;
     followed = further g was now (history_of log) s t is.store first is.followed;
     by_device = fails_twice g s.commit t.commit is.store.commit by is.by_device;
+    blocks = λ n so. is.blocks n (limit n so);
     fails = fails_since s t is.store (newest_in log) fault by.no_less is.fails;
   }
 

@@ -21,7 +21,7 @@ use Rattle.root_store.proofs.Steps.{rest_either, shut_either, both_either}
 use Rattle.flush_core.specs.declared.flusher.Flusher.{Flusher}
 use Rattle.flush_core.specs.Stored.{stored_after, IsCommitOf, IsImageOf}
 use Rattle.store_flushing.specs.Among.{IsFileIn}
-use Rattle.store_flushing.specs.Storing.{Goes, IsStoreAt, IsStoreOf, AllReported, Flushes, KeepsTold}
+use Rattle.store_flushing.specs.Storing.{Goes, IsStoreAt, IsStoreOf, AllReported, Flushes, KeepsLimit, KeepsTold}
 use Rattle.store_flushing.proofs.Histories.{begins_self, begins_trans, numbers_rise, among_more, file_more, newest_among}
 
 abbrev IsDone : Result Progress StoreFault → Type 0
@@ -154,6 +154,7 @@ module _ {D : Type 0} (g : Ghosts D) where
     reports = λ all. all;
     moments = started g s.commit.disk (IsFileIn h s.commit.root.version) (λ c left. store_leaves h s is c (now c left));
     by_device = fails_not s.commit;
+    blocks = λ limit is. is;
   }
 
   pub then : (a b c : History) (s t u : Flusher D g) → Flushes g a s b t → Flushes g b t c u → Flushes g a s c u
@@ -167,6 +168,7 @@ module _ {D : Type 0} (g : Ghosts D) where
         (widened g s.commit.disk t.commit.disk (IsFileIn b s.commit.root.version) (IsFileIn c s.commit.root.version) (λ file is. file_more b c s.commit.root.version s.commit.root.version file second.goes_on (omega arith) is) first.moments)
         second.moments;
     by_device = fails_twice s.commit t.commit u.commit first.by_device second.by_device;
+    blocks = λ limit is. second.blocks limit (first.blocks limit is);
   }
 
   -- the history goes on where as much is durable, and the store stays
@@ -181,6 +183,7 @@ module _ {D : Type 0} (g : Ghosts D) where
         reports = λ all. same ∙ all;
         moments = started g s.commit.disk (IsFileIn now s.commit.root.version) (λ c left. store_leaves now s store c (at c left));
         by_device = fails_not s.commit;
+        blocks = λ limit is. is;
       }
 
   -- ---- begin
@@ -214,8 +217,8 @@ module _ {D : Type 0} (g : Ghosts D) where
   pub commit_begins : (h : History) (s new : Flusher D g) (v : Version) → is_busy s.commit.phase ≡ false → (s.commit.phase ≡ Failed → ⊥) → IsHistory h → v ≡ newest h
       → ((x : Kept) → StoreStandsFor g s.commit x → (y : Kept) × IsCommitOf v y × RunsFrom g new.commit x y) → new.commit.root.version ≡ s.commit.root.version → new.commit.phase ≡ Close → new.commit.disk ≡ s.commit.disk
       → OnlyNow s
-      → IsStoreOf g h s → Flushes g h s h new
-  commit_begins h s new v idle well history latest begins stored busy disk at is =
+      → KeepsLimit s new → IsStoreOf g h s → Flushes g h s h new
+  commit_begins h s new v idle well history latest begins stored busy disk at limit is =
       let store = begin_in h s.commit.phase s new v refl idle well history latest begins stored busy is.store in
       record {
         goes_on = begins_self h;
@@ -224,6 +227,7 @@ module _ {D : Type 0} (g : Ghosts D) where
         reports = λ all. all ∙ sym stored;
         moments = subst (λ (d : D). LeavesOnly g s.commit.disk d (IsFileIn h s.commit.root.version)) (sym disk) (started g s.commit.disk (IsFileIn h s.commit.root.version) (λ c left. store_leaves h s is c (at c left)));
         by_device = fails_begun s.commit new.commit disk busy;
+        blocks = limit;
       }
 
   -- ---- step
@@ -325,14 +329,15 @@ module _ {D : Type 0} (g : Ghosts D) where
         (ways h s.commit.phase s refl is.store)
 
     -- one that ends no commit
-    pub steps_on : (g.is_honest s.commit.disk → FailsByDevice g s.commit new.commit) → stored_after r s.commit.root.version ≡ s.commit.root.version → Flushes g h s h new
-    steps_on fails same = record {
+    pub steps_on : (g.is_honest s.commit.disk → FailsByDevice g s.commit new.commit) → KeepsLimit s new → stored_after r s.commit.root.version ≡ s.commit.root.version → Flushes g h s h new
+    steps_on fails limit same = record {
       goes_on = begins_self h;
       store = steps.store;
       no_less = steps.no_less;
       reports = λ all. all ∙ sym (stored ∙ same);
       moments = steps.moments;
       by_device = fails is.honest;
+      blocks = limit;
     }
 
     done_way : (number : ℕ) → IsHistory h → r ≡ Ok (progress.Done number) → Goes g h s → number ≤ (newest h).number
@@ -348,9 +353,9 @@ module _ {D : Type 0} (g : Ghosts D) where
         (ways h s.commit.phase s refl is.store)
 
   -- a commit that is done, and is reported
-  pub reported : (h n : History) (s new : Flusher D g) (number : ℕ) → Moves h s new → FailsByDevice g s.commit new.commit → new.commit.root.version ≡ number → number ≤ (newest h).number → BeginsWith n h
+  pub reported : (h n : History) (s new : Flusher D g) (number : ℕ) → Moves h s new → FailsByDevice g s.commit new.commit → KeepsLimit s new → new.commit.root.version ≡ number → number ≤ (newest h).number → BeginsWith n h
       → (number ≤ (newest h).number → number ≤ (newest n).durable) → ((newest n).durable ≡ number) ⊎ ((newest n).durable ≡ (newest h).durable) → Flushes g h s n new
-  reported h n s new number moved fails done level on reached told =
+  reported h n s new number moved fails limit done level on reached told =
       let less : (newest n).durable ≤ new.commit.root.version = ⊎_elim (λ to. omega (arith, to, done)) (λ stays. omega (arith, stays, moved.store.reported)) told in
       record {
         goes_on = on;
@@ -359,6 +364,7 @@ module _ {D : Type 0} (g : Ghosts D) where
         reports = λ all. omega (arith, less, reached level, done);
         moments = widened g s.commit.disk new.commit.disk (IsFileIn h s.commit.root.version) (IsFileIn n s.commit.root.version) (λ file is. file_more h n s.commit.root.version s.commit.root.version file on (omega arith) is) moved.moments;
         by_device = fails;
+        blocks = limit;
       }
 
   -- ---- calls of a keeper
@@ -373,6 +379,7 @@ module _ {D : Type 0} (g : Ghosts D) where
     told = told;
     moments = run.moments;
     by_device = run.by_device;
+    blocks = run.blocks;
   }
 
   -- one that reports and stores nothing more
@@ -385,6 +392,7 @@ module _ {D : Type 0} (g : Ghosts D) where
     reports = λ all. same ∙ all ∙ sym stored;
     moments = call.moments;
     by_device = call.by_device;
+    blocks = call.blocks;
   }
 
   -- two, after which all that is stored is reported
@@ -399,6 +407,7 @@ module _ {D : Type 0} (g : Ghosts D) where
         (widened g s.commit.disk t.commit.disk (IsFileIn b s.commit.root.version) (IsFileIn c s.commit.root.version) (λ file is. file_more b c s.commit.root.version s.commit.root.version file second.goes_on (omega arith) is) first.moments)
         second.moments;
     by_device = fails_twice s.commit t.commit u.commit first.by_device second.by_device;
+    blocks = λ limit is. second.blocks limit (first.blocks limit is);
   }
 
   -- all that is reported by its end is in each file that a crash may leave at any moment of it
@@ -408,8 +417,8 @@ module _ {D : Type 0} (g : Ghosts D) where
       (λ file is. file_more now now s.commit.root.version (newest now).durable file (begins_self now) call.told is) call.moments
 
   -- a device call
-  pub step_kept : (h : History) (s new : Flusher D g) → IsHistory h → IsStoreOf g h s → Moves h s new → FailsByDevice g s.commit new.commit → KeepsTold g h s h new
-  step_kept h s new valid is moved fails = record {
+  pub step_kept : (h : History) (s new : Flusher D g) → IsHistory h → IsStoreOf g h s → Moves h s new → FailsByDevice g s.commit new.commit → KeepsLimit s new → KeepsTold g h s h new
+  step_kept h s new valid is moved fails limit = record {
     goes_on = begins_self h;
     valid = valid;
     store = moved.store;
@@ -417,6 +426,7 @@ module _ {D : Type 0} (g : Ghosts D) where
     told = is.reported;
     moments = moved.moments;
     by_device = fails;
+    blocks = limit;
   }
 
   -- what is stored is no newer than what was seen
@@ -443,6 +453,7 @@ module _ {D : Type 0} (g : Ghosts D) where
           told = no_more;
           moments = started g s.commit.disk (IsFileIn n s.commit.root.version) (λ c left. store_leaves n s store c (at c left));
           by_device = fails_not s.commit;
+          blocks = λ limit is. is;
         }
 
     pub all_told : (s.commit.root.version ≤ (newest h).number → s.commit.root.version ≤ (newest n).durable) → s.commit.root.version ≤ (newest h).number → AllReported n s
@@ -461,10 +472,10 @@ never_both r x e is not = subst Succeeds (sym is ∙ not) tt
 pub begin_kept : {D A : Type 0} (g : Ghosts D) (h : History) (s new : Flusher D g) (v : Version) (r : Result A StoreFault) → OnlyNow g s
     → is_busy s.commit.phase ≡ false → IsHistory h → v ≡ newest h → (s.commit.phase ≡ Failed → r ≡ Err fault.Failed)
     → ((x : Kept) → StoreStandsFor g s.commit x → OnOk r ((y : Kept) × IsCommitOf v y × RunsFrom g new.commit x y)) → new.commit.root.version ≡ s.commit.root.version
-    → OnOk r (new.commit.phase ≡ Close) → new.commit.disk ≡ s.commit.disk → OnErr r (new ≡ s) → IsStoreOf g h s → KeepsTold g h s h new
-begin_kept g h s new v (Ok u) at idle history latest failed begins stored busy disk same is =
+    → OnOk r (new.commit.phase ≡ Close) → new.commit.disk ≡ s.commit.disk → KeepsLimit s new → OnErr r (new ≡ s) → IsStoreOf g h s → KeepsTold g h s h new
+begin_kept g h s new v (Ok u) at idle history latest failed begins stored busy disk limit same is =
     kept g h h s new
-    (commit_begins g h s new v idle (λ why. never_both (Ok u) u fault.Failed refl (failed why)) history latest begins stored busy disk at is)
+    (commit_begins g h s new v idle (λ why. never_both (Ok u) u fault.Failed refl (failed why)) history latest begins stored busy disk at limit is)
     history is.reported
-begin_kept {D} g h s new v (Err why) at idle history latest failed begins stored busy disk same is =
+begin_kept {D} g h s new v (Err why) at idle history latest failed begins stored busy disk limit same is =
     subst (λ (f : Flusher D g). KeepsTold g h s h f) (sym same) (kept g h h s s (begun g h s at is) history is.reported)

@@ -11,7 +11,7 @@ use Rattle.flush_core.specs.declared.flusher.Flusher.{Flusher}
 use Rattle.book_history.specs.Logs.{history_of, newest_in}
 use Rattle.book_history.specs.declared.fault.ToldFault.{ToldFault}
 use Rattle.book_history.specs.declared.fault.ToldFault.TheVariants.{Device, Full, Failed, SequenceLimit, OutOfMemory}
-use Rattle.store_flushing.specs.Storing.{IsFollowed, IsStoreOf}
+use Rattle.store_flushing.specs.Storing.{IsFollowed, IsStoreOf, KeepsLimit}
 
 -- why a store does not write a version: a device call failed since it was `old`; it begins no commit, as there is no room
 -- for the version's new records, or the device failed before, or there is no number for it; or memory ran out
@@ -22,12 +22,13 @@ Fails old now version Failed = now.commit.phase ≡ phases.Failed
 Fails old now version SequenceLimit = (now.commit.phase ≡ phases.Idle) × (sequence_max ≤ now.commit.root.sequence)
 Fails old now version OutOfMemory = Unit {0}
 
--- a store failed for a fault, of a log: a store to which the first one was followed by that log does not write its newest
--- version for it
+-- a store failed for a fault, of a log: a store to which the first one was followed by that log, whose file may have as many
+-- blocks, does not write its newest version for it
 pub record IsFailed {D : Type 0} (g : Ghosts D) (was : History) (old : Flusher D g) (log : List Entry) (fault : ToldFault) : Type 0 where
   pub store : Flusher D g
   pub followed : IsFollowed g was old (history_of log) store
   pub by_device : FailsByDevice g old.commit store.commit
+  pub blocks : KeepsLimit old store
   pub fails : Fails old store (newest_in log) fault
 
 -- a predicate holds of each fault for which a store fails, where a store of a history was followed to that log

@@ -7,7 +7,7 @@ use Rattle.overlay_terms.specs.Histories.{Entry, History, IsHistory, BeginsWith,
 use Rattle.root_store.specs.declared.phase.Phase.{Phase}
 use Rattle.root_store.specs.declared.phase.Phase.TheVariants.{Idle, Close, Settle, Put, Open, Finish, Failed}
 use Rattle.commit_plan.specs.Kept.{Kept}
-use Rattle.root_store.specs.Running.{StoreStandsFor, RunsFrom, FailsByDevice}
+use Rattle.root_store.specs.Running.{StoreStandsFor, RunsFrom, FailsByDevice, KeepsTo}
 use Rattle.flush_core.specs.declared.flusher.Flusher.{Flusher}
 use Rattle.book_history.specs.Logs.{history_of}
 use Rattle.book_lock.specs.Heard.{Heard}
@@ -52,6 +52,10 @@ module _ {D : Type 0} (g : Ghosts D) (history : History) where
 abbrev pub AllReported : {D : Type 0} {g : Ghosts D} → History → Flusher D g → Type 0
 AllReported history f = (newest history).durable ≡ f.commit.root.version
 
+-- the blocks that its file may have stay as many
+abbrev pub KeepsLimit : {D : Type 0} {g : Ghosts D} → Flusher D g → Flusher D g → Type 0
+KeepsLimit old new = (limit : ℕ) → KeepsTo limit old.commit → KeepsTo limit new.commit
+
 -- a run of the flusher: the history goes on, the store is one of it, what it stores it reports, and a crash at any
 -- moment leaves a version of it no older than what was stored as the run began; it fails by its device alone
 pub record Flushes {D : Type 0} (g : Ghosts D) (was : History) (old : Flusher D g) (now : History) (new : Flusher D g)
@@ -62,6 +66,7 @@ pub record Flushes {D : Type 0} (g : Ghosts D) (was : History) (old : Flusher D 
   pub reports : AllReported was old → AllReported now new
   pub moments : LeavesOnly g old.commit.disk new.commit.disk (IsFileIn now old.commit.root.version)
   pub by_device : FailsByDevice g old.commit new.commit
+  pub blocks : KeepsLimit old new
 
 -- a call of a store's keeper: what the reporter has seen goes on and is a history, the store is one of it, and it fails
 -- by its device alone. What was stored as it began has all that is reported by its end; no crash within it leaves less
@@ -74,6 +79,7 @@ pub record KeepsTold {D : Type 0} (g : Ghosts D) (was : History) (old : Flusher 
   pub told : (newest now).durable ≤ old.commit.root.version
   pub moments : LeavesOnly g old.commit.disk new.commit.disk (IsFileIn now old.commit.root.version)
   pub by_device : FailsByDevice g old.commit new.commit
+  pub blocks : KeepsLimit old new
 
 -- the same of a reporter and its store, where the store is one of the history that the reporter has seen
 abbrev pub Keeps : {D : Type 0} (g : Ghosts D) → Heard → Flusher D g → Heard → Flusher D g → Type 0

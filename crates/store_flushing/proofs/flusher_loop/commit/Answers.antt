@@ -61,7 +61,7 @@ end_commit-requires-clause-failed g c =
     let h = history_of old.reporter.log in
     let m = history_of mid.reporter.log in
     failed_on d g.J.BookName.failed h m old.held.flusher mid.held.flusher
-    (λ is. let kept = c.begin.ensures.keeps is in (by_call d h m old.held.flusher mid.held.flusher kept, kept.by_device)) c.requires.failed
+    (λ is. let kept = c.begin.ensures.keeps is in (by_call d h m old.held.flusher mid.held.flusher kept, kept.by_device, kept.blocks)) c.requires.failed
 
 pub tell-requires-clause-failed : goal.tell-requires-clause-failed
 tell-requires-clause-failed g c =
@@ -80,5 +80,6 @@ tell-requires-clause-failed g c =
       store = mid.held.flusher;
       followed = by_call d h m old.held.flusher mid.held.flusher kept;
       by_device = kept.by_device;
+      blocks = kept.blocks;
       fails = subst (λ (v : Version). Fails old.held.flusher mid.held.flusher v fault) newest (subst (λ (k : Keeper g.row.D.Denot g.D.Disk). Fails old.held.flusher k.held.flusher c.args.version.now fault) (sym c.in-Err.ensures.err) refused);
     })

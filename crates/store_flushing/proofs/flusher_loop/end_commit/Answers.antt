@@ -132,10 +132,11 @@ tell-requires-clause-failed g c =
     c.requires.failed new.reporter.log fault (λ is.
     let run = c.calls.invariant.1 is in
     let kept = c.step.ensures.keeps run.store in
-    failed_then d h m first.held.flusher mid.held.flusher new.reporter.log fault (by_run d h m first.held.flusher mid.held.flusher run, run.by_device) (record {
+    failed_then d h m first.held.flusher mid.held.flusher new.reporter.log fault (by_run d h m first.held.flusher mid.held.flusher run, run.by_device, run.blocks) (record {
       store = new.held.flusher;
       followed = by_call d m n mid.held.flusher new.held.flusher kept;
       by_device = kept.by_device;
+      blocks = kept.blocks;
       fails = step_fails d mid.held.flusher new.held.flusher (newest_in new.reporter.log) c.in-Err.fault c.in-Err.ensures.failed
           (on_err (λ f. (f ≡ faults.Failed) ⊎ ((f ≡ faults.Device) × device.Failed (d.faults mid.held.flusher.commit.disk) (d.faults new.held.flusher.commit.disk))) c.step.result c.in-Err.fault c.in-Err.is
           (c.step.ensures.cause run.store.honest));

@@ -57,4 +57,4 @@ round-requires-clause-failed g c =
     let h = history_of first.reporter.log in
     let m = history_of mid.reporter.log in
     failed_on d g.J.BookName.failed h m first.held.flusher mid.held.flusher
-    (λ is. let run = c.rounds.invariant.1 is in (by_run d h m first.held.flusher mid.held.flusher run, run.by_device)) c.requires.failed
+    (λ is. let run = c.rounds.invariant.1 is in (by_run d h m first.held.flusher mid.held.flusher run, run.by_device, run.blocks)) c.requires.failed

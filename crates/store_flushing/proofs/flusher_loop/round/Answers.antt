@@ -54,4 +54,4 @@ commit-requires-clause-failed g c =
     let h = history_of old.reporter.log in
     let m = history_of mid.reporter.log in
     failed_on d g.J.BookName.failed h m old.held.flusher mid.held.flusher
-    (λ is. let kept = c.look.ensures.keeps is in (by_call d h m old.held.flusher mid.held.flusher kept, kept.by_device)) c.requires.failed
+    (λ is. let kept = c.look.ensures.keeps is in (by_call d h m old.held.flusher mid.held.flusher kept, kept.by_device, kept.blocks)) c.requires.failed

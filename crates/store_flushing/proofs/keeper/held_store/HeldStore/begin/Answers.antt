@@ -9,14 +9,14 @@ returns-in-Ok-clause-keeps g c is =
     let s = c.args.self.now.flusher in
     let e = c.begin_known.ensures in
     begin_kept g.D.Disk (history_of c.args.reporter.now.log) s c.begin_known.new.self c.args.version.now c.begin_known.result (λ k left. g.met.D.Disk.only_now s.commit.disk k is.honest left)
-    c.requires.idle c.requires.history c.requires.newest e.failed e.begun e.stored e.begins e.disk e.err is
+    c.requires.idle c.requires.history c.requires.newest e.failed e.begun e.stored e.begins e.disk e.blocks e.err is
 
 pub returns-in-Err-clause-keeps : goal.returns-in-Err-clause-keeps
 returns-in-Err-clause-keeps g c is =
     let s = c.args.self.now.flusher in
     let e = c.begin_known.ensures in
     begin_kept g.D.Disk (history_of c.args.reporter.now.log) s c.begin_known.new.self c.args.version.now c.begin_known.result (λ k left. g.met.D.Disk.only_now s.commit.disk k is.honest left)
-    c.requires.idle c.requires.history c.requires.newest e.failed e.begun e.stored e.begins e.disk e.err is
+    c.requires.idle c.requires.history c.requires.newest e.failed e.begun e.stored e.begins e.disk e.blocks e.err is
 
 pub returns-in-Err-clause-err : goal.returns-in-Err-clause-err
 returns-in-Err-clause-err g c = same_store c.args.self.now c.begin_known.new.self c.in-Err.ensures.err _ _

@@ -8,7 +8,7 @@ returns-then-matches-clause-keeps g c h valid is =
     let s = c.args.self.now.flusher in
     let u = c.step-stepped.new.self in
     let e = c.step-stepped.ensures in
-    step_kept d h s u valid is (steps d h s u c.step-stepped.result (λ k left. g.met.D.Disk.only_now s.commit.disk k is.honest left) e.moves e.stored e.honest.1 e.idle e.stuck is) (e.by_device is.honest)
+    step_kept d h s u valid is (steps d h s u c.step-stepped.result (λ k left. g.met.D.Disk.only_now s.commit.disk k is.honest left) e.moves e.stored e.honest.1 e.idle e.stuck is) (e.by_device is.honest) e.blocks
 
 pub returns-else-matches-clause-keeps : goal.returns-else-matches-clause-keeps
 returns-else-matches-clause-keeps g c h valid is =
@@ -16,7 +16,7 @@ returns-else-matches-clause-keeps g c h valid is =
     let s = c.args.self.now.flusher in
     let u = c.step-stepped.new.self in
     let e = c.step-stepped.ensures in
-    step_kept d h s u valid is (steps d h s u c.step-stepped.result (λ k left. g.met.D.Disk.only_now s.commit.disk k is.honest left) e.moves e.stored e.honest.1 e.idle e.stuck is) (e.by_device is.honest)
+    step_kept d h s u valid is (steps d h s u c.step-stepped.result (λ k left. g.met.D.Disk.only_now s.commit.disk k is.honest left) e.moves e.stored e.honest.1 e.idle e.stuck is) (e.by_device is.honest) e.blocks
 
 pub returns-then-matches-clause-cause : goal.returns-then-matches-clause-cause
 returns-then-matches-clause-cause g c honest =
