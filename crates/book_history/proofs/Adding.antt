@@ -57,8 +57,8 @@ adds_moves v e old len may cs log kept pre away =
 -- where the exchange found the number that it was to find, the entry was added
 pub was_added : (v w : List Entry) (asked e : Entry) (found old : ℕ) → found ≡ old → asked ≡ e → MatchBool (found == old) ((w ≡ v ++ asked ∷ []) × IsLog w) (IsLog w)
     → (w ≡ v ++ e ∷ []) × IsLog w
-was_added v w asked e found old same is told =
-    let h : (w ≡ v ++ asked ∷ []) × IsLog w = subst (λ b. MatchBool b ((w ≡ v ++ asked ∷ []) × IsLog w) (IsLog w)) (eq-eqb found old same) told in
+was_added v w asked e found old same is reported =
+    let h : (w ≡ v ++ asked ∷ []) × IsLog w = subst (λ b. MatchBool b ((w ≡ v ++ asked ∷ []) × IsLog w) (IsLog w)) (eq-eqb found old same) reported in
     (h.0 ∙ ap (λ x. v ++ x ∷ []) is, h.1)
 
 -- a log that gained an entry is longer by one

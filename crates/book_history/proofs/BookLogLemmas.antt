@@ -58,8 +58,8 @@ module _ {T : Type 0} (book_log : T → BookLog) where
       → TurnsAt (λ (p : T). AllWithin (book_log p)) seat v x y (λ v x y w. Within v (book_log x) × (w ≡ book_log y))
 
   pub may_show : (seat : ℕ) (v : BookLog) (first x next : T) (waiting : List T) → Begins (book_log first) (book_log next) → x ≡ first → waiting ≡ next ∷ [] → MayShow seat v x waiting
-  may_show seat v first x next waiting up same one y told =
-      let is : book_log next ≡ book_log y = sym (told ∙ ap (λ l. fold (λ t p. book_log p) (book_log x) l) one) in
+  may_show seat v first x next waiting up same one y reported =
+      let is : book_log next ≡ book_log y = sym (reported ∙ ap (λ l. fold (λ t p. book_log p) (book_log x) l) one) in
       grows seat v x y (subst (λ (z : T). Begins (book_log z) (book_log y)) (sym same) (subst (λ (t : BookLog). Begins (book_log first) t) is up))
 
   pub forks : (seat : ℕ) (v : BookLog) → Forks (λ (p : T). AllWithin (book_log p)) seat v v v

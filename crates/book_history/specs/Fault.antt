@@ -13,13 +13,13 @@ use Rattle.layer_book.specs.declared.batch_fault.BatchFault.TheVariants.{Whole}
 use Rattle.versions.specs.Fault as version_fault
 use Rattle.versions.specs.declared.fault.VersionFault.{VersionFault}
 use Rattle.versions.specs.declared.fault.VersionFault.TheVariants.{Layer}
-use Rattle.book_history.specs.declared.fault.ToldFault.{ToldFault}
-use Rattle.book_history.specs.declared.fault.ToldFault.TheVariants.{Device, Full, Failed, SequenceLimit, OutOfMemory}
+use Rattle.book_history.specs.declared.fault.ReportedFault.{ReportedFault}
+use Rattle.book_history.specs.declared.fault.ReportedFault.TheVariants.{Device, Full, Failed, SequenceLimit, OutOfMemory}
 use Rattle.book_history.specs.declared.fault.BookFault.{BookFault}
 use Rattle.book_history.specs.declared.fault.BookFault.TheVariants as fault
 
 -- the number under which a store's fault is printed
-abbrev pub store_code_of : ToldFault → ℕ
+abbrev pub store_code_of : ReportedFault → ℕ
 store_code_of Device = 30
 store_code_of Full = 31
 store_code_of Failed = 35
@@ -35,7 +35,7 @@ code_of fault.NoStore = 46
 code_of (fault.Store refused) = store_code_of refused
 
 -- whether an accepted command takes a store's fault away
-abbrev pub passes : ToldFault → Bool
+abbrev pub passes : ReportedFault → Bool
 passes Device = false
 passes Full = true
 passes Failed = false
@@ -43,7 +43,7 @@ passes SequenceLimit = true
 passes OutOfMemory = true
 
 -- the text after a store's number
-abbrev pub store_text_of : ToldFault → List ℕ
+abbrev pub store_text_of : ReportedFault → List ℕ
 store_text_of refused = text (store_code_of refused)
 
 -- the text that is printed after the number

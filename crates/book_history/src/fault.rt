@@ -11,7 +11,7 @@ use versions::VersionFault;
 
 /// What kept a store from writing a version.
 #[derive(Clone, Copy, Debug, PartialEq, Eq)]
-pub enum ToldFault {
+pub enum ReportedFault {
     /// The device failed.
     Device,
     /// No room is left within the limit of blocks.
@@ -22,18 +22,18 @@ pub enum ToldFault {
     OutOfMemory,
 }
 
-impl ToldFault {
+impl ReportedFault {
     /// The text that is printed after the number.
     pub fn text(&self) -> FaultText
         ensures text { shown result ≡ store_text_of self.now }
         ensures brief { IsBrief result }
     {
         match self {
-            ToldFault::Device => CommonFault::Device.text(),
-            ToldFault::Full => CommonFault::Full.text(),
-            ToldFault::Failed => CommonFault::StoreFailed.text(),
-            ToldFault::SequenceLimit => CommonFault::SequenceLimit.text(),
-            ToldFault::OutOfMemory => CommonFault::OutOfMemory.text(),
+            ReportedFault::Device => CommonFault::Device.text(),
+            ReportedFault::Full => CommonFault::Full.text(),
+            ReportedFault::Failed => CommonFault::StoreFailed.text(),
+            ReportedFault::SequenceLimit => CommonFault::SequenceLimit.text(),
+            ReportedFault::OutOfMemory => CommonFault::OutOfMemory.text(),
         }
     }
 
@@ -42,11 +42,11 @@ impl ToldFault {
         ensures { result ≡ store_code_of self.now }
     {
         match self {
-            ToldFault::Device => CommonFault::Device.code(),
-            ToldFault::Full => CommonFault::Full.code(),
-            ToldFault::Failed => CommonFault::StoreFailed.code(),
-            ToldFault::SequenceLimit => CommonFault::SequenceLimit.code(),
-            ToldFault::OutOfMemory => CommonFault::OutOfMemory.code(),
+            ReportedFault::Device => CommonFault::Device.code(),
+            ReportedFault::Full => CommonFault::Full.code(),
+            ReportedFault::Failed => CommonFault::StoreFailed.code(),
+            ReportedFault::SequenceLimit => CommonFault::SequenceLimit.code(),
+            ReportedFault::OutOfMemory => CommonFault::OutOfMemory.code(),
         }
     }
 
@@ -55,8 +55,8 @@ impl ToldFault {
         ensures { result ≡ passes self.now }
     {
         match self {
-            ToldFault::Full | ToldFault::SequenceLimit | ToldFault::OutOfMemory => true,
-            ToldFault::Device | ToldFault::Failed => false,
+            ReportedFault::Full | ReportedFault::SequenceLimit | ReportedFault::OutOfMemory => true,
+            ReportedFault::Device | ReportedFault::Failed => false,
         }
     }
 }
@@ -73,7 +73,7 @@ pub enum BookFault {
     Gone,
     NoStore,
     /// The store said this.
-    Store(ToldFault),
+    Store(ReportedFault),
 }
 
 /// The fault where memory runs out.

@@ -79,7 +79,7 @@ pub trait BookName {
     ghost use Rattle.std.specs.Prelude.{ℕ, List};
     ghost use Rattle.logbook.specs.Pages.{Book};
     ghost use Rattle.overlay_terms.specs.Histories as terms;
-    ghost use Rattle.book_history.specs.declared.fault.ToldFault as told;
+    ghost use Rattle.book_history.specs.declared.fault.ReportedFault as reported;
 
     ghost book: { Book };
 
@@ -88,7 +88,7 @@ pub trait BookName {
     ghost stored: { List terms.Entry → ℕ → Type 0 };
 
     /// What to prove of a log and a fault before it is reported that the store failed so (`serve`: `IsFailedOf`).
-    ghost failed: { List terms.Entry → told.ToldFault → Type 0 };
+    ghost failed: { List terms.Entry → reported.ReportedFault → Type 0 };
 
     /// How many sessions it may be begun for: who begins it for more cannot prove that it has them.
     ghost seats: { ℕ };
@@ -217,7 +217,7 @@ impl SeenLog {
         requires head { head.now ≡ head_of self.old.book }
         requires room { length self.old.log < version_max }
         requires follows { Follows (newest_in self.old.log) (event_of cause) version.now }
-        requires told { (version.now.durable ≡ (newest_in self.old.log).durable)
+        requires reported { (version.now.durable ≡ (newest_in self.old.log).durable)
             ⊎ MayTell J.stored self.old.log version.now.durable }
         ensures { MatchBool result
             (self.new ≡ record {

@@ -7,11 +7,11 @@ use Rattle.overlay_terms.specs.Layers.{Name, Layer}
 use Rattle.overlay_terms.specs.Tiles.{Input, input_of}
 use Rattle.overlay_terms.specs.Histories.{Tile, Entry, kept, commands_of}
 use Rattle.book_history.specs.Logs.{entry, newest_in, IsLog}
-use Rattle.book_history.specs.Telling.{IsToldIn}
+use Rattle.book_history.specs.Telling.{ReportsStored}
 use Rattle.book_history.proofs.Fronts.{prefix_self, prefix_trans, prefix_length}
 use Rattle.book_history.proofs.Owned.{own_more}
 use Rattle.book_lock.specs.Steps.{AreFinishedIn, IsFinishedIn}
-use Rattle.book_lock.proofs.Tellings.{told_more}
+use Rattle.book_lock.proofs.Tellings.{reported_more}
 
 -- a log has a first entry
 pub begun : (log : List Entry) → IsLog log → 0 < length log
@@ -35,11 +35,11 @@ pub record Stays (stored : List Entry → ℕ → Type 0) (log after : List Entr
   pub longer : IsPrefix log after
   pub layers : (newest_in after).layers ≡ (newest_in log).layers
   pub own : (by : ℕ) → length (commands_of by after) ≡ length (commands_of by log)
-  pub told : 0 < length log → IsToldIn stored log → IsToldIn stored after
+  pub reported : 0 < length log → ReportsStored stored log → ReportsStored stored after
 
 module _ (stored : List Entry → ℕ → Type 0) where
   none_stays : (log : List Entry) → Stays stored log log
-  none_stays log = record { longer = prefix_self log; layers = refl; own = λ by. refl; told = λ long told. told }
+  none_stays log = record { longer = prefix_self log; layers = refl; own = λ by. refl; reported = λ long reported. reported }
 
   one_stays : (log after : List Entry) (name : Name) (input : Input) (tile : Tile) (is_kept : Bool) → IsFinishedIn log name input tile is_kept after → Stays stored log after
   one_stays log after name input tile true (awaited, follows, is) =
@@ -48,7 +48,7 @@ module _ (stored : List Entry → ℕ → Type 0) where
         longer = (e ∷ [], sym is);
         layers = follows.layers;
         own = λ by. ap (λ (l : List Entry). length (commands_of by l)) is ∙ ap length (own_more by log e) ∙ omega (arith, length-append (commands_of by log) []);
-        told = λ long told. told_more stored log after e is long told (inl follows.durable);
+        reported = λ long reported. reported_more stored log after e is long reported (inl follows.durable);
       }
   one_stays log after name input tile false (not_awaited, absent, is) = subst (Stays stored log) (sym is) (none_stays log)
 
@@ -57,7 +57,7 @@ module _ (stored : List Entry → ℕ → Type 0) where
     longer = prefix_trans log next after a.longer b.longer;
     layers = b.layers ∙ a.layers;
     own = λ by. b.own by ∙ a.own by;
-    told = λ long told. let far = prefix_length log next a.longer in b.told (omega arith) (a.told long told);
+    reported = λ long reported. let far = prefix_length log next a.longer in b.reported (omega arith) (a.reported long reported);
   }
 
   pub all_stay : (log after : List Entry) (name : Name) (tiles : List (Input × Tile)) → AreFinishedIn log name tiles after → Stays stored log after

@@ -14,16 +14,16 @@ pub newest_of : (log after : List Entry) (e : Entry) → after ≡ log ++ e ∷ 
 newest_of log after e is = ap newest_in is ∙ newest_more log e
 
 -- the same log, given by its newest version and with an equal event
-pub told_by : (log after : List Entry) (f g : Event) (v : Version) → f ≡ g → after ≡ log ++ entry f v ∷ []
+pub entry_by : (log after : List Entry) (f g : Event) (v : Version) → f ≡ g → after ≡ log ++ entry f v ∷ []
     → after ≡ log ++ entry g (newest_in after) ∷ []
-told_by log after f g v same is =
+entry_by log after f g v same is =
     let n : newest_in after ≡ v = newest_of log after (entry f v) is in
     is ∙ (λ i. log ++ entry (same i) (sym n i) ∷ [])
 
 -- a report of a number that is news raises the durable number
 pub reports : (old last new : Version) (n durable number : ℕ) → old ≡ last → IsReported old n new → durable ≡ last.durable
     → number ≡ last.number → durable < n → n ≤ number → FollowsReport last n new
-reports old last new n durable number same told is most news low = risen (subst (λ o. IsReported o n new) same told)
+reports old last new n durable number same reported is most news low = risen (subst (λ o. IsReported o n new) same reported)
   where
     never : (n ≤ last.durable) ⊎ (last.number < n) → ⊥
     never (inl a) = omega arith

@@ -17,5 +17,5 @@ moved was now to given n book log is at news =
 -- the durable number in the version of a log's end
 pub durable_there : (at : BookLog) (book : Book) (log : List Entry) (end version : Version) {durable : ℕ} → at ≡ record { book = book; log = log }
     → end ≡ newest_in log → version ≡ end → durable ≡ version.durable → (newest_in at.log).durable ≡ durable
-durable_there at book log end version is newest same told =
-    ap (λ (t : BookLog). (newest_in t.log).durable) is ∙ ap (λ (v : Version). v.durable) (sym newest ∙ sym same) ∙ sym told
+durable_there at book log end version is newest same reported =
+    ap (λ (t : BookLog). (newest_in t.log).durable) is ∙ ap (λ (v : Version). v.durable) (sym newest ∙ sym same) ∙ sym reported

@@ -10,7 +10,7 @@ ghost use Rattle.book_history.specs.Causes.{event_of, HasSeat};
 ghost use Rattle.book_history.specs.Fault.{no_memory};
 ghost use Rattle.book_history.specs.Logs.{entry, no_event, newest_in, IsLog};
 ghost use Rattle.book_history.specs.Rules.{head_of};
-ghost use Rattle.book_history.specs.Telling.{IsToldIn, MayTell};
+ghost use Rattle.book_history.specs.Telling.{ReportsStored, MayTell};
 ghost use Rattle.book_lock.specs.Heard.{HasHeard};
 ghost use Rattle.book_lock.specs.Steps.{HasLooked, IsLevel, beginners};
 
@@ -47,7 +47,7 @@ impl<J: BookName, R: Wait + Drop> Model for LockedLog<J, R> {
     ghost use Rattle.overlay_terms.specs.Histories.{commands_of};
     ghost use Rattle.book_history.specs.Codes.{entry_code};
     ghost use Rattle.book_history.specs.Rules.{head_of};
-    ghost use Rattle.book_history.specs.Telling.{IsToldIn};
+    ghost use Rattle.book_history.specs.Telling.{ReportsStored};
 
     ghost Value = { List terms.Entry };
 
@@ -58,7 +58,7 @@ impl<J: BookName, R: Wait + Drop> Model for LockedLog<J, R> {
     ghost invariant = { λ d. (d.head ≡ head_of J.book) × (d.publisher.desk.shown.value.seen_log.book ≡ J.book)
         × (drop d.publisher.behind d.publisher.log.items ≡ [])
         × ((by : ℕ) → by < 4 → slice_index d.counts by ≡ length (commands_of by d.publisher.desk.shown.value.seen_log.log))
-        × IsToldIn J.stored d.publisher.desk.shown.value.seen_log.log };
+        × ReportsStored J.stored d.publisher.desk.shown.value.seen_log.log };
 }
 
 impl<J: BookName, R: Wait + Drop> LockedLog<J, R> {
@@ -104,7 +104,7 @@ impl<J: BookName, R: Wait + Drop> LockedLog<J, R> {
         ensures seen_log { result.now.seen_log ≡ record { book = J.book; log = self.now } }
         ensures version { arc_value result.now.version ≡ newest_in self.now }
         ensures log { IsLog self.now }
-        ensures told { IsToldIn J.stored self.now }
+        ensures reported { ReportsStored J.stored self.now }
     {
         let last = self.publisher.published();
         // What was seen is a log with a first entry: the clauses rest on that.
@@ -182,7 +182,7 @@ impl<J: BookName, R: Wait + Drop> LockedLog<J, R> {
     ) -> Result<(), BookFault>
         requires follows { Follows (newest_in self.old) (event_of cause) (arc_value version) }
         requires seat { HasSeat cause }
-        requires told { ((arc_value version).durable ≡ (newest_in self.old).durable) ⊎ MayTell J.stored self.old (arc_value version).durable }
+        requires reported { ((arc_value version).durable ≡ (newest_in self.old).durable) ⊎ MayTell J.stored self.old (arc_value version).durable }
         ensures ok { IfOk result (λ _. self.new ≡ self.old ++ entry (event_of cause.entry) (arc_value version) ∷ []) }
         ensures room { IfOk result (λ _. length self.old < version_max) }
         ensures err { IfErr result (λ fault. (fault ≡ BookFault.Gone) × (self.new ≡ self.old)) }

@@ -40,7 +40,7 @@ operation_decides o p = (
   λ e. (Decides-eqb (operation_number o) (operation_number p)).1 (ap operation_number e),
 )
 
--- what a tree is made of, by which two are told apart
+-- what a tree is made of, by which two are reported apart
 abbrev is_leaf : Tree Name → Bool
 is_leaf (leaf a) = true
 is_leaf (combine o l r) = false
@@ -159,6 +159,6 @@ pub named_ends : (a b : Point × Point) → a ≡ b → true ≡ same_ends a b
 named_ends a b e = sym ((ends_decide a b).1 e)
 
 -- the test of two expressions
-pub told_same : (r : Bool) (x y s t : Tree Name) → x ≡ s → y ≡ t → Decides r (x ≡ y) → r ≡ same_tree s t
-told_same r x y s t e f d =
+pub reported_same : (r : Bool) (x y s t : Tree Name) → x ≡ s → y ≡ t → Decides r (x ≡ y) → r ≡ same_tree s t
+reported_same r x y s t e f d =
     same_tests r (same_tree s t) (λ h. sym e ∙ d.0 h ∙ f, λ q. d.1 (e ∙ q ∙ sym f)) (tree_decides s t)

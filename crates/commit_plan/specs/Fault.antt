@@ -19,10 +19,10 @@ fault_of_extents extents.Overlap = Damaged damage.Overlap
 fault_of_extents extents.OutOfMemory = OutOfMemory
 
 -- a fault of reading, as one of a store
-abbrev pub fault_told : LoadFault → StoreFault
-fault_told loads.Device = Device
-fault_told (loads.Damaged damage) = Damaged damage
-fault_told loads.OutOfMemory = OutOfMemory
+abbrev pub fault_reported : LoadFault → StoreFault
+fault_reported loads.Device = Device
+fault_reported (loads.Damaged damage) = Damaged damage
+fault_reported loads.OutOfMemory = OutOfMemory
 
 -- the number under which a fault is printed
 abbrev pub code_of : StoreFault → ℕ

@@ -114,7 +114,7 @@ module _ (before after : History) (part : Turn) (made : List Batch) (reply : Lis
       shows = ap decided (newest_more before after (how.between ++ last ∷ []) how.goes_on)
           ∙ decided_more (newest before) (how.between ++ last ∷ []) follows
           ∙ ap (with_batches (decided (newest before))) (one_more ∙ ap (λ (cs : List Batch). cs ++ commands ∷ []) none_between ∙ sym how.only);
-      outside = λ told. absurd (true≢false (sym told ∙ ap is_from_outside how.told ∙ ok_inside how.version.number));
+      outside = λ reported. absurd (true≢false (sym reported ∙ ap is_from_outside how.reported ∙ ok_inside how.version.number));
       inside = λ _. (Some commands, asks, made_inside);
     }
 
@@ -150,7 +150,7 @@ turn_grows stored session before turn is =
 
 pub turns_grow : (stored : BookStore) (session : ℕ) (seen : History) (turns : List Answered) → AreAnswered stored session seen turns
     → count seen + length (made_by turns) ≤ count (history_after seen turns)
-turns_grow stored session seen [] told = nothing_made (count seen) where
+turns_grow stored session seen [] reported = nothing_made (count seen) where
   nothing_made : (n : ℕ) → n + 0 ≤ n
   nothing_made n = omega arith
 turns_grow stored session seen (turn ∷ turns) (first, others) =
@@ -161,7 +161,7 @@ turns_grow stored session seen (turn ∷ turns) (first, others) =
 
 -- a history whose turns led to one
 history_back : (stored : BookStore) (session : ℕ) (seen : History) (turns : List Answered) → AreAnswered stored session seen turns → IsHistory (history_after seen turns) → IsHistory seen
-history_back stored session seen [] told history = history
+history_back stored session seen [] reported history = history
 history_back stored session seen (turn ∷ turns) (first, others) history =
     history_front seen turn.after first.goes_on.0 first.goes_on.1 (history_back stored session turn.after turns others history)
 
@@ -193,8 +193,8 @@ same_made before after other_before other_after part made other_made reply other
 -- a turn of a session, as a step of one that is the same
 step_of : (stored : BookStore) (session : ℕ) (seen : History) (turn : Answered) (part : Turn) → turn.turn ≡ part → IsTurn stored session seen turn.turn turn.after turn.made turn.reply
     → IsHistory turn.after → count turn.after ≡ count seen + length turn.made → IsStep seen turn.after part turn.made turn.reply
-step_of stored session seen turn part is told history alone =
-    subst (λ (p : Turn). IsStep seen turn.after p turn.made turn.reply) is (step stored session seen turn.after turn.turn turn.made turn.reply told history alone)
+step_of stored session seen turn part is reported history alone =
+    subst (λ (p : Turn). IsStep seen turn.after p turn.made turn.reply) is (step stored session seen turn.after turn.turn turn.made turn.reply reported history alone)
 
 module _ (stored other_stored : BookStore) (session other : ℕ) where
   alike : (seen other_seen : History) (turns others : List Answered) → AreAnswered stored session seen turns → AreAnswered other_stored other other_seen others
@@ -202,9 +202,9 @@ module _ (stored other_stored : BookStore) (session other : ℕ) where
       → count (history_after seen turns) ≡ count seen + length (made_by turns) → count (history_after other_seen others) ≡ count other_seen + length (made_by others)
       → decided (newest seen) ≡ decided (newest other_seen)
       → turns_in turns ≡ turns_in others → outside_of turns ≡ outside_of others → GoAlike turns others
-  alike seen other_seen [] [] told other_told history other_history alone other_alone same lines from = record { versions = refl; batches = refl }
-  alike seen other_seen [] (u ∷ others) told other_told history other_history alone other_alone same lines from = absurd (cc)
-  alike seen other_seen (t ∷ turns) [] told other_told history other_history alone other_alone same lines from = absurd (cc)
+  alike seen other_seen [] [] reported other_reported history other_history alone other_alone same lines from = record { versions = refl; batches = refl }
+  alike seen other_seen [] (u ∷ others) reported other_reported history other_history alone other_alone same lines from = absurd (cc)
+  alike seen other_seen (t ∷ turns) [] reported other_reported history other_history alone other_alone same lines from = absurd (cc)
   alike seen other_seen (t ∷ turns) (u ∷ others) (first, rest) (other_first, other_rest) history other_history alone other_alone same lines from =
       let part : t.turn ≡ u.turn = cc (lines) in
       let later_lines : turns_in turns ≡ turns_in others = cc (lines) in
@@ -231,28 +231,28 @@ counted seen after made alone = ap length alone ∙ length-append (accepted_in s
 
 pub lines_decide : (stored other_stored : BookStore) → LinesDecide stored other_stored
 lines_decide stored other_stored session other seen other_seen turns others one two same lines from =
-    alike stored other_stored session other seen other_seen turns others one.told two.told one.history two.history
+    alike stored other_stored session other seen other_seen turns others one.reported two.reported one.history two.history
     (counted seen (history_after seen turns) (made_by turns) one.alone) (counted other_seen (history_after other_seen others) (made_by others) two.alone)
     same lines from
 
 -- ==== Transcripts
 
-told_in_turn : (stored : BookStore) (session : ℕ) (seen : History) (turns : List Turn) (after : History) (made : List Batch) (replies : List ℕ)
+reported_in_turn : (stored : BookStore) (session : ℕ) (seen : History) (turns : List Turn) (after : History) (made : List Batch) (replies : List ℕ)
     → IsTranscript stored session seen turns after made replies
     → AreTurnsOf stored session seen (record { turns = turns; after = after; made = made; replies = replies })
-told_in_turn stored session seen [] after made replies (same, none, empty) =
-    record { all = []; told = tt; same_turns = refl; same_after = sym same; same_made = sym none; same_replies = sym empty }
-told_in_turn stored session seen (turn ∷ turns) after made replies (mid, first, others, reply, rest, taken, run, all_made, all_told) =
-    let later = told_in_turn stored session mid turns after others rest run in
+reported_in_turn stored session seen [] after made replies (same, none, empty) =
+    record { all = []; reported = tt; same_turns = refl; same_after = sym same; same_made = sym none; same_replies = sym empty }
+reported_in_turn stored session seen (turn ∷ turns) after made replies (mid, first, others, reply, rest, taken, run, all_made, all_reported) =
+    let later = reported_in_turn stored session mid turns after others rest run in
     let here : Answered = record { turn = turn; after = mid; made = first; reply = reply } in
     record {
       all = here ∷ later.all;
-      told = (taken, later.told);
+      reported = (taken, later.reported);
       same_turns = ap (λ (ts : List Turn). turn ∷ ts) later.same_turns;
       same_after = later.same_after;
       same_made = ap (λ (bs : List Batch). first ++ bs) later.same_made ∙ sym all_made;
-      same_replies = ap (λ (bytes : List ℕ). reply ++ bytes) later.same_replies ∙ sym all_told;
+      same_replies = ap (λ (bytes : List ℕ). reply ++ bytes) later.same_replies ∙ sym all_reported;
     }
 
 pub transcripts_have_turns : (stored : BookStore) → TranscriptsHaveTurns stored
-transcripts_have_turns stored session seen run told = told_in_turn stored session seen run.turns run.after run.made run.replies told
+transcripts_have_turns stored session seen run reported = reported_in_turn stored session seen run.turns run.after run.made run.replies reported

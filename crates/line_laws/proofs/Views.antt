@@ -39,7 +39,7 @@ Comes session before turn after made reply = IsUnmade turn after made reply ⊎ 
 -- ==== Faults from outside
 
 refuses : (fault : CommandFault) (made : List Batch) (reply : List ℕ) → IsRefused fault made reply → bytes_eq reply (error_line fault) ≡ true
-refuses fault made reply r = ap (λ (l : List ℕ). bytes_eq l (error_line fault)) r.told ∙ name_itself (error_line fault)
+refuses fault made reply r = ap (λ (l : List ℕ). bytes_eq l (error_line fault)) r.reported ∙ name_itself (error_line fault)
 
 memory_outside : (made : List Batch) (reply : List ℕ) → IsRefused OutOfMemory made reply → is_from_outside reply ≡ true
 memory_outside made reply r = or_left (bytes_eq reply (error_line OutOfMemory)) _ (refuses OutOfMemory made reply r)
@@ -121,8 +121,8 @@ module _ (stored : BookStore) (session : ℕ) (before after : History) (made : L
   sync_none : IsAnswered stored session before sync after made reply → made ≡ []
   sync_none (inl (none, refused)) = refused.nothing_made
   sync_none (inr (inl refused)) = refused.nothing_made
-  sync_none (inr (inr (inl (some, told)))) = told.nothing_made
-  sync_none (inr (inr (inr (some, told)))) = told.refused.nothing_made
+  sync_none (inr (inr (inl (some, reported)))) = reported.nothing_made
+  sync_none (inr (inr (inr (some, reported)))) = reported.refused.nothing_made
 
   -- of a question nothing is made
   answered_comes : (request : Request) → IsAnswered stored session before request after made reply → Comes session before (alone request) after made reply

@@ -49,7 +49,7 @@ IsRun stored session seen run = IsTranscript stored session seen run.turns run.a
 -- the same, turn by turn
 pub record AreTurnsOf (stored : BookStore) (session : ℕ) (seen : History) (run : Run) : Type 0 where
   pub all : List Answered
-  pub told : AreAnswered stored session seen all
+  pub reported : AreAnswered stored session seen all
   pub same_turns : turns_in all ≡ run.turns
   pub same_after : history_after seen all ≡ run.after
   pub same_made : made_by all ≡ run.made
@@ -69,7 +69,7 @@ is_from_outside reply =
 -- turns of a session that was alone: they led to a history, and the batches that were accepted meanwhile are just those
 -- that they made
 pub record AreAlone (stored : BookStore) (session : ℕ) (seen : History) (all : List Answered) : Type 0 where
-  pub told : AreAnswered stored session seen all
+  pub reported : AreAnswered stored session seen all
   pub history : IsHistory (history_after seen all)
   pub alone : accepted_in (history_after seen all).entries ≡ accepted_in seen.entries ++ made_by all
 

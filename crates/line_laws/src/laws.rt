@@ -11,22 +11,22 @@ pub trait Tells {
     ghost use Rattle.overlay_terms.specs.Histories.{History};
     ghost use Rattle.script_form.specs.Transcript.{StoreReport};
 
-    ghost told: { History → StoreReport → Type 0 };
+    ghost reported: { History → StoreReport → Type 0 };
 }
 
 impl Tells for Brand {
     // Where a call picks nothing, nothing is asked.
-    ghost told = { λ history report. Unit {0} };
+    ghost reported = { λ history report. Unit {0} };
 }
 
 /// Where no one else's command was accepted meanwhile, the number and the layers of the version after each line or
 /// batch, and what was made, are fixed by the version that was seen before, by the lines, and by which of them were
 /// refused because memory ran out, the book closed or was not as far.
 pub fn lines_decide<A: Tells, B: Tells>()
-    ensures { (there other_there : Bool) → LinesDecide (store_by A.told there) (store_by B.told other_there) }
+    ensures { (there other_there : Bool) → LinesDecide (store_by A.reported there) (store_by B.reported other_there) }
 {}
 
 /// Each transcript goes turn by turn: one for each line, and for each batch with its lines.
 pub fn transcripts_have_turns<A: Tells>()
-    ensures { (there : Bool) → TranscriptsHaveTurns (store_by A.told there) }
+    ensures { (there : Bool) → TranscriptsHaveTurns (store_by A.reported there) }
 {}

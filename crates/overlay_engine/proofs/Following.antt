@@ -71,8 +71,8 @@ module _ {D : Type 0} (g : Ghosts D) where
   makes (Finish job) old (Done number) new acts = absurd acts
   makes (Finish job) old (Durable number) new acts = absurd acts
   makes Device old reply new acts = (inl (device_version g old reply new acts), λ none. absurd (omega (arith, none)))
-  makes Report old (Durable number) new (inl follows, told, same) = (inr (durable_to old.flusher.commit.root.version, follows), λ none. ap (λ (e : Engine D g). e.flusher) same)
-  makes Report old (Durable number) new (inr stays, told, same) = (inl stays.same, λ none. ap (λ (e : Engine D g). e.flusher) same)
+  makes Report old (Durable number) new (inl follows, reported, same) = (inr (durable_to old.flusher.commit.root.version, follows), λ none. ap (λ (e : Engine D g). e.flusher) same)
+  makes Report old (Durable number) new (inr stays, reported, same) = (inl stays.same, λ none. ap (λ (e : Engine D g). e.flusher) same)
   makes Report old (Refused code) new acts = all_same Report old new acts.1
   makes Report old (Accepted number) new acts = absurd acts
   makes Report old (Taken number) new acts = absurd acts

@@ -115,5 +115,5 @@ pub writes_of : {D : Type 0} (g : Ghosts D) (old : List ℕ) (f : Flusher D g) (
 writes_of g old f s is writes = subst (λ (h : Flusher _ _). OpeningWrites old (g.seen h.commit.disk)) (sym is) writes
 
 pub recovered_answers : {D : Type 0} (g : Ghosts D) → RecoveredAnswers g
-recovered_answers g start disk e least batches recovered name query told tells =
+recovered_answers g start disk e least batches recovered name query reported tells =
     tells ∙ ap (λ (layers : List Layer). answer_at layers name query) recovered.covers.layers

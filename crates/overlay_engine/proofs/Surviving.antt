@@ -129,9 +129,9 @@ module _ {D : Type 0} (g : Ghosts D) (start : Start) (batches : List Batch) (old
     finished job (Durable number) new finishes = absurd finishes
 
     pub reported : (reply : Reply) (new : Engine D g) → Reports old reply new → Survives g start batches Report old reply new
-    reported (Durable number) new (inl follows, told, same) =
+    reported (Durable number) new (inl follows, durable, same) =
         by_event Report (Durable number) new (durable_to old.flusher.commit.root.version) refl follows (omega arith) (ap (λ (e : Engine D g). e.flusher) same)
-    reported (Durable number) new (inr stays, told, same) =
+    reported (Durable number) new (inr stays, durable, same) =
         by_nothing Report (Durable number) new refl stays.same (ap (λ (e : Engine D g). e.flusher) same)
     reported (Refused code) new reports = unchanged Report (Refused code) new refl reports.1
     reported (Accepted number) new reports = absurd reports

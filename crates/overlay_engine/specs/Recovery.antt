@@ -40,5 +40,5 @@ abbrev pub RecoveredAnswers : {D : Type 0} → Ghosts D → Type 0
 RecoveredAnswers {D = D} g =
     (start : Start) (disk : D) (e : Engine D g) (least : ℕ) (batches : List Batch)
     → Recovered g start disk e least batches
-    → (name : Name) (query : Point) (told : Place) → location told ≡ answer_at e.version.layers name query
-    → location told ≡ answer_at (layers_from start (up_to start e.version.number batches)) name query
+    → (name : Name) (query : Point) (reported : Place) → location reported ≡ answer_at e.version.layers name query
+    → location reported ≡ answer_at (layers_from start (up_to start e.version.number batches)) name query

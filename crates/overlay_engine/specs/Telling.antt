@@ -22,13 +22,13 @@ Numbered next [] = Unit {0}
 Numbered next (made ∷ run) = HasNumber next made.reply × Numbered (next_after next made.reply) run
 
 -- the durable number that is reported last, by one reply and by those of a run; where none is, the one before
-abbrev pub told_after : ℕ → Reply → ℕ
-told_after number (Durable told) = told
-told_after number reply = number
+abbrev pub reported_after : ℕ → Reply → ℕ
+reported_after number (Durable reported) = reported
+reported_after number reply = number
 
-abbrev pub told_in : {D : Type 0} {g : Ghosts D} → ℕ → List (Made D g) → ℕ
-told_in number [] = number
-told_in number (made ∷ run) = told_in (told_after number made.reply) run
+abbrev pub last_reported : {D : Type 0} {g : Ghosts D} → ℕ → List (Made D g) → ℕ
+last_reported number [] = number
+last_reported number (made ∷ run) = last_reported (reported_after number made.reply) run
 
 module _ {D : Type 0} (g : Ghosts D) where
   -- no job number is used twice
@@ -38,11 +38,11 @@ module _ {D : Type 0} (g : Ghosts D) where
       → Numbered old.next_job run
 
   -- the durable number that was reported last is the version's, in the end and as a crash comes
-  abbrev pub DurableIsTold : Type 0
-  DurableIsTold =
+  abbrev pub DurableIsLastReported : Type 0
+  DurableIsLastReported =
       (old : Engine D g) (run : List (Made D g)) (new : Engine D g) → EachFollows g old run new
-      → new.version.durable ≡ told_in old.version.durable run
+      → new.version.durable ≡ last_reported old.version.durable run
 
-  abbrev pub CrashKeepsTold : Type 0
-  CrashKeepsTold = (old : Engine D g) (run : List (Made D g)) (new : Engine D g) (disk : D) → EachFollows g old run new
-      → (crash : CrashesIn g run disk) → crash.made.old.version.durable ≡ told_in old.version.durable crash.before
+  abbrev pub CrashKeepsReported : Type 0
+  CrashKeepsReported = (old : Engine D g) (run : List (Made D g)) (new : Engine D g) (disk : D) → EachFollows g old run new
+      → (crash : CrashesIn g run disk) → crash.made.old.version.durable ≡ last_reported old.version.durable crash.before

@@ -5,7 +5,7 @@ ghost use Rattle.overlay_engine.specs.Lives.{NothingIsLost};
 ghost use Rattle.overlay_engine.specs.OldFile.{OldFileIsCovered};
 ghost use Rattle.overlay_engine.specs.Recovery.{RecoveredAnswers};
 ghost use Rattle.overlay_engine.specs.Start.{Start};
-ghost use Rattle.overlay_engine.specs.Telling.{CrashKeepsTold, DurableIsTold, JobsAreNumbered};
+ghost use Rattle.overlay_engine.specs.Telling.{CrashKeepsReported, DurableIsLastReported, JobsAreNumbered};
 
 use disk_model::disk::Disk;
 
@@ -82,13 +82,13 @@ pub fn jobs_are_numbered<D: Disk>()
 {}
 
 /// The durable number that was reported last is the version's.
-pub fn durable_is_told<D: Disk>()
-    ensures { DurableIsTold D.Disk }
+pub fn durable_is_last_reported<D: Disk>()
+    ensures { DurableIsLastReported D.Disk }
 {}
 
 /// It is so as a crash comes: what is recovered is no older than what was reported.
-pub fn crash_keeps_told<D: Disk>()
-    ensures { CrashKeepsTold D.Disk }
+pub fn crash_keeps_reported<D: Disk>()
+    ensures { CrashKeepsReported D.Disk }
 {}
 
 /// Through any steps, crashes and recoveries nothing is lost that was durable at some moment.

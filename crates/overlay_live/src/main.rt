@@ -17,11 +17,11 @@ fn main(rt: HostRuntime) -> ExitCode {
         Ok(asked) => run(&rt, rt.stdin(), rt.stdout(), rt.stderr(), asked),
         Err(fault) => Err(Refusal::from(*fault)),
     };
-    ExitCode::from(exit_status(told(&rt, ending)))
+    ExitCode::from(exit_status(reported(&rt, ending)))
 }
 
 /// The end of a run, once its fault is printed with the file that it is about.
-fn told(rt: &HostRuntime, ending: Result<bool, Refusal<'_>>) -> Result<bool, ProgramFault> {
+fn reported(rt: &HostRuntime, ending: Result<bool, Refusal<'_>>) -> Result<bool, ProgramFault> {
     match ending {
         Ok(complete) => Ok(complete),
         Err(refusal) => {

@@ -54,25 +54,25 @@ all_of_it front (b ∷ behind) whole is long =
 pub one_session_is_alone : (stored : BookStore) → OneSessionIsAlone stored
 one_session_is_alone stored start book log turns now replies valid only first own run =
     let was = first_session book start in
-    let told : AreTurnsOf stored 0 (seen was) _ = transcripts_have_turns stored 0 (seen was) (record { turns = turns; after = seen now; made = run.made; replies = replies }) run.told in
+    let reported : AreTurnsOf stored 0 (seen was) _ = transcripts_have_turns stored 0 (seen was) (record { turns = turns; after = seen now; made = run.made; replies = replies }) run.reported in
     let front = front_of now.log log valid own.longer in
     let made : accepted_in (history_of log).entries ≡ run.made =
     sym (own_are_all (history_of log).entries only) ∙ sym (commands_in_log 0 log valid)
     ∙ ap (λ (k : ℕ). commands_of k log) (sym first) ∙ own.own ∙ run.only in
-    let grown : count (seen was) + length (made_by told.all) ≤ count (seen now) =
-    subst (λ (h : History). count (seen was) + length (made_by told.all) ≤ count h) told.same_after (turns_grow stored 0 (seen was) told.all told.told) in
-    let same : length (made_by told.all) ≡ length (accepted_in (history_of log).entries) =
-    ap (λ (bs : List Batch). length bs) (told.same_made ∙ sym made) in
+    let grown : count (seen was) + length (made_by reported.all) ≤ count (seen now) =
+    subst (λ (h : History). count (seen was) + length (made_by reported.all) ≤ count h) reported.same_after (turns_grow stored 0 (seen was) reported.all reported.reported) in
+    let same : length (made_by reported.all) ≡ length (accepted_in (history_of log).entries) =
+    ap (λ (bs : List Batch). length bs) (reported.same_made ∙ sym made) in
     let all : accepted_in (seen now).entries ≡ accepted_in (history_of log).entries =
     all_of_it (accepted_in (seen now).entries) front.behind (accepted_in (history_of log).entries) front.whole (omega (arith, grown, same)) in
     record {
-      all = told.all;
+      all = reported.all;
       alone = record {
-        told = told.told;
-        history = subst IsHistory (sym told.same_after) front.history;
-        alone = ap (λ (h : History). accepted_in h.entries) told.same_after ∙ all ∙ made ∙ sym told.same_made;
+        reported = reported.reported;
+        history = subst IsHistory (sym reported.same_after) front.history;
+        alone = ap (λ (h : History). accepted_in h.entries) reported.same_after ∙ all ∙ made ∙ sym reported.same_made;
       };
-      same_turns = told.same_turns;
-      same_after = told.same_after;
-      same_replies = told.same_replies;
+      same_turns = reported.same_turns;
+      same_after = reported.same_after;
+      same_replies = reported.same_replies;
     }

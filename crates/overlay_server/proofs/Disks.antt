@@ -4,7 +4,7 @@ use Rattle.disk_model.specs.declared.disk.Disk.{Ghosts}
 use Rattle.overlay_terms.specs.Histories.{Entry, Version}
 use Rattle.flush_core.specs.declared.flusher.Flusher.{Flusher}
 use Rattle.store_flushing.specs.declared.closed.Closed.{Closed}
-use Rattle.store_flushing.specs.declared.keeper.told_log.Told.{Told}
+use Rattle.store_flushing.specs.declared.keeper.report_log.ReportNote.{ReportNote}
 use Rattle.overlay_server.specs.Refusing.{StoreComesBack}
 use Rattle.overlay_server.specs.Serving.{IsLeftOfStore}
 
@@ -13,6 +13,6 @@ module _ {D : Type 0} (g : Ghosts D) (start : Version) where
   disk_left None closed left = ap (λ (o : Option D). is_some o) left.1
   disk_left (Some old) closed left = ap (λ (o : Option D). is_some o) left.disk
 
-  pub disk_back : (log : List Entry) (written : List Told) (store : Option (Flusher D g)) (back : Option D) → StoreComesBack g start log written store back → is_some back ≡ is_some store
+  pub disk_back : (log : List Entry) (written : List ReportNote) (store : Option (Flusher D g)) (back : Option D) → StoreComesBack g start log written store back → is_some back ≡ is_some store
   disk_back log written None back is = ap (λ (o : Option D). is_some o) is
   disk_back log written (Some old) back is = ap (λ (o : Option D). is_some o) is.there

@@ -12,10 +12,10 @@ use Rattle.flush_core.specs.declared.flusher.Flusher.{Flusher}
 use Rattle.book_history.specs.Known.{seen}
 use Rattle.book_history.specs.Logs.{history_of, newest_in}
 use Rattle.book_history.proofs.Chains.{begins_with}
-use Rattle.book_history.specs.declared.fault.ToldFault.{ToldFault}
+use Rattle.book_history.specs.declared.fault.ReportedFault.{ReportedFault}
 use Rattle.script_form.specs.declared.fault.CommandFault.{CommandFault}
 use Rattle.script_form.specs.Transcript.{StoreReport, of_number, of_fault, store_by}
-use Rattle.server_session.specs.Stores.{IsFaultOf, IsReportOf, IsToldOf, store_of}
+use Rattle.server_session.specs.Stores.{IsFaultOf, IsReportOf, HistoryReportsStored, store_of}
 use Rattle.store_flushing.specs.Failing.{IsFailed}
 use Rattle.store_flushing.specs.Storing.{IsStoreOf, IsStored}
 use Rattle.store_flushing.proofs.Following.{by_run}
@@ -25,10 +25,10 @@ use Rattle.session_threads.specs.declared.running.Script.{Script}
 use Rattle.session_threads.specs.declared.running.Ended.{Ended}
 use Rattle.overlay_server.specs.Moments.{HasOnlyNow}
 use Rattle.overlay_server.specs.Serving.{HadFailed, IsFailedOf, IsFailureOf, IsHeldOf, IsReportedOf, IsStoredOf, WasHeld, first_log}
-use Rattle.server_session.specs.Fault.{store_told}
+use Rattle.server_session.specs.Fault.{store_reported}
 use Rattle.server_session.proofs.Weaker.{session_weaker}
 
-module _ {D : Type 0} (g : Ghosts D) (now : HasOnlyNow g) (start : Version) (stored : List Entry → ℕ → Type 0) (failed : List Entry → ToldFault → Type 0) where
+module _ {D : Type 0} (g : Ghosts D) (now : HasOnlyNow g) (start : Version) (stored : List Entry → ℕ → Type 0) (failed : List Entry → ReportedFault → Type 0) where
   -- a history that goes on from a log goes on from each beginning of it to which the first version's store was followed
   before : (was log : List Entry) (history : History) → IsPrefix was log → history_of log ≡ history → BeginsWith history (history_of (first_log start))
       → BeginsWith (history_of was) (history_of (first_log start)) → BeginsWith history (history_of was)
@@ -63,28 +63,28 @@ module _ {D : Type 0} (g : Ghosts D) (now : HasOnlyNow g) (start : Version) (sto
   }
 
   was_held : (store : Option (Flusher D g)) → ((log : List Entry) (number : ℕ) → stored log number → IsStoredOf g start store log number) → IsTrue (is_some store)
-      → (history : History) → BeginsWith history (history_of (first_log start)) → IsToldOf stored history → IsHeldOf g start store history
-  was_held None meant there history on told = absurd (false≢true there)
+      → (history : History) → BeginsWith history (history_of (first_log start)) → HistoryReportsStored stored history → IsHeldOf g start store history
+  was_held None meant there history on reported = absurd (false≢true there)
   was_held (Some old) meant there history on (log, same, inl first) =
       first_held old history on (subst (λ (h : History). (newest h).durable ≡ h.start.durable) same first)
   was_held (Some old) meant there history on (log, same, inr may) = λ is.
       later_held old may.was log history on same may.longer (meant may.was (newest_in log).durable may.holds is)
 
   failed_before : (old : Flusher D g) (was log : List Entry) (history : History) (fault : CommandFault) → BeginsWith history (history_of (first_log start)) → history_of log ≡ history → IsPrefix was log
-      → (told : ToldFault) → fault ≡ store_told told → IsFailed g (history_of (first_log start)) old was told → HadFailed g start old history fault
-  failed_before old was log history fault on same longer told is fails =
-      record { log = was; before = before was log history longer same on fails.followed.goes_on; told = told; same = is; failed = fails }
+      → (reported : ReportedFault) → fault ≡ store_reported reported → IsFailed g (history_of (first_log start)) old was reported → HadFailed g start old history fault
+  failed_before old was log history fault on same longer reported is fails =
+      record { log = was; before = before was log history longer same on fails.followed.goes_on; reported = reported; same = is; failed = fails }
 
-  had_failed : (store : Option (Flusher D g)) → ((log : List Entry) (fault : ToldFault) → failed log fault → IsFailedOf g start store log fault) → IsTrue (is_some store)
+  had_failed : (store : Option (Flusher D g)) → ((log : List Entry) (fault : ReportedFault) → failed log fault → IsFailedOf g start store log fault) → IsTrue (is_some store)
       → (history : History) (fault : CommandFault) → BeginsWith history (history_of (first_log start)) → IsFaultOf failed history fault → IsFailureOf g start store history fault
   had_failed None meant there history fault on is = absurd (false≢true there)
   had_failed (Some old) meant there history fault on is = λ store.
-      ∥∥₁_map is.failed_so (λ may. failed_before old may.was is.log history fault on is.of may.longer is.told is.same (meant may.was is.told may.holds store))
+      ∥∥₁_map is.failed_so (λ may. failed_before old may.was is.log history fault on is.of may.longer is.reported is.same (meant may.was is.reported may.holds store))
 
   -- what the words of a book's name mean
   pub record Means (store : Option (Flusher D g)) : Type 0 where
     pub stored_is : (log : List Entry) (number : ℕ) → stored log number → IsStoredOf g start store log number
-    pub failed_is : (log : List Entry) (fault : ToldFault) → failed log fault → IsFailedOf g start store log fault
+    pub failed_is : (log : List Entry) (fault : ReportedFault) → failed log fault → IsFailedOf g start store log fault
 
   pub was_reported : (store : Option (Flusher D g)) → Means store → IsTrue (is_some store) → (history : History) (report : StoreReport) → BeginsWith history (history_of (first_log start))
       → IsReportOf stored failed history report → IsReportedOf g start store history report

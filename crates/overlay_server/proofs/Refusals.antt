@@ -11,8 +11,8 @@ use Rattle.book_history.specs.declared.fault.BookFault.{BookFault}
 use Rattle.book_history.specs.declared.fault.BookFault.TheVariants.{Gone}
 use Rattle.overlay_server.specs.Answering.{answer_in, fault_of, refusal_code}
 use Rattle.book_history.specs.Logs.{history_of, IsLog}
-use Rattle.store_flushing.specs.Told.{told_in}
-use Rattle.store_flushing.specs.declared.keeper.told_log.Told.{Told}
+use Rattle.store_flushing.specs.ReportNote.{notes_in}
+use Rattle.store_flushing.specs.declared.keeper.report_log.ReportNote.{ReportNote}
 use Rattle.overlay_server.specs.Given.{Given}
 use Rattle.overlay_server.specs.Refusing.{AreStopped, IsRefusedFrom, StoreComesBack}
 use Rattle.overlay_server.specs.Serving.{first_log, store_from}
@@ -52,7 +52,7 @@ module _ {D : Type 0} (g : Ghosts D) (start : Version) (store : Option (Flusher 
     pub none : fault.sessions.items ≡ [] → commands_in (history_of fault.seen_log.log).entries ≡ []
     pub sessions : AreStopped (store_from g start store) start fault.seen_log.log all fault.sessions.items
 
-  pub refused_from : (answer : BookAnswer) → IsAnswered fault answer → IsHistoryLeft → StoreComesBack g start fault.seen_log.log (told_in fault.told) store fault.disk
+  pub refused_from : (answer : BookAnswer) → IsAnswered fault answer → IsHistoryLeft → StoreComesBack g start fault.seen_log.log (notes_in fault.reported) store fault.disk
       → IsRefusedFrom g start store all fault
   refused_from answer answered left back = record {
     code = ⊎_elim (λ is. inl (answered.code ∙ is)) (λ is. inr (answered.code ∙ is)) (code_by (answer_in answer) answered.may);
@@ -76,9 +76,9 @@ module _ {D : Type 0} (g : Ghosts D) (start : Version) (store : Option (Flusher 
     sessions = none_stopped (store_from g start store) start fault.seen_log.log all fault.sessions.items fault.seen_log.book none;
   }
 
-  pub refused_at_once : (answer : BookAnswer) → IsAnswered fault answer → fault.seen_log.log ≡ first_log start → told_in fault.told ≡ [] → fault.sessions.items ≡ []
+  pub refused_at_once : (answer : BookAnswer) → IsAnswered fault answer → fault.seen_log.log ≡ first_log start → notes_in fault.reported ≡ [] → fault.sessions.items ≡ []
       → StoreComesBack g start (first_log start) [] store fault.disk → IsRefusedFrom g start store all fault
-  refused_at_once answer answered first untold none back =
+  refused_at_once answer answered first unreported none back =
       refused_from answer answered (nothing_left first none)
-      (subst (λ (ts : List Told). StoreComesBack g start fault.seen_log.log ts store fault.disk) (sym untold)
+      (subst (λ (ts : List ReportNote). StoreComesBack g start fault.seen_log.log ts store fault.disk) (sym unreported)
       (subst (λ (es : List Entry). StoreComesBack g start es [] store fault.disk) (sym first) back))

@@ -13,7 +13,7 @@ use Rattle.book_lock.proofs.Beginning.{count_of}
 use Rattle.book_history.specs.BookLogs.{BookLog}
 use Rattle.book_history.specs.Known.{Known, seen}
 use Rattle.book_history.specs.Logs.{history_of}
-use Rattle.book_history.specs.declared.fault.ToldFault.{ToldFault}
+use Rattle.book_history.specs.declared.fault.ReportedFault.{ReportedFault}
 use Rattle.script_form.specs.Transcript.{StoreReport}
 use Rattle.server_session.specs.Replying.{MayReport}
 use Rattle.session_threads.specs.Seats.{port_of, session_of}
@@ -24,7 +24,7 @@ use Rattle.overlay_server.specs.Moments.{HasOnlyNow}
 use Rattle.overlay_server.specs.Serving.{IsReportedOf, first_log, flusher_of}
 use Rattle.overlay_server.proofs.Held.{Means, was_reported}
 
-module _ {D : Type 0} (g : Ghosts D) (now : HasOnlyNow g) (start : Version) (stored : List Entry → ℕ → Type 0) (failed : List Entry → ToldFault → Type 0) (store : Option (Flusher D g))
+module _ {D : Type 0} (g : Ghosts D) (now : HasOnlyNow g) (start : Version) (stored : List Entry → ℕ → Type 0) (failed : List Entry → ReportedFault → Type 0) (store : Option (Flusher D g))
     (means : Means g now start stored failed store) (may : History → StoreReport → Type 0)
     (held : (history : History) (report : StoreReport) → IsReportedOf g start store history report → may history report) (there : Bool) (same : there ≡ is_some store) where
   -- to those of sessions that have seen how the book began
@@ -33,8 +33,8 @@ module _ {D : Type 0} (g : Ghosts D) (now : HasOnlyNow g) (start : Version) (sto
   may_report_all [] begin = All-nil (λ s. MayReport stored failed there s.session may)
   may_report_all (s ∷ ss) begin =
       All-cons (λ s. MayReport stored failed there s.session may) s ss
-      (λ one history report on told.
-      held history report (was_reported g now start stored failed store means (sym same ∙ one) history report (begins_trans (history_of (first_log start)) (seen s.session) history begin.0 on) told))
+      (λ one history report on reported.
+      held history report (was_reported g now start stored failed store means (sym same ∙ one) history report (begins_trans (history_of (first_log start)) (seen s.session) history begin.0 on) reported))
       (may_report_all ss begin.1)
 
 -- ports' writers that have all of their scripts left are those of the scripts

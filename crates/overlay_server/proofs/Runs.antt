@@ -151,7 +151,7 @@ module _ {D : Type 0} (g : Ghosts D) (start : Start) where
       let is = cut.recovered least all (tried least all cut.disk cut.tried cut.last cut.tries left) in
       let e = cut.engine in
       let d = (newest cut.history).durable in
-      let within : d ≤ e.version.number = omega (arith, kept.told, is.no_less) in
+      let within : d ≤ e.version.number = omega (arith, kept.reported, is.no_less) in
       subst (StandsAt g start (cut_call g start old new cut)) (sym cut.next)
       (record {
         running = record {

@@ -9,7 +9,7 @@ use Rattle.overlay_terms.specs.Batches.{Batch}
 use Rattle.overlay_terms.specs.Histories.{Version, commands_in}
 use Rattle.book_history.specs.Logs.{history_of, newest_in}
 use Rattle.book_lock.specs.Steps.{HasAllOf}
-use Rattle.store_flushing.specs.Stores.{flusher_in, reporter_of, told_by}
+use Rattle.store_flushing.specs.Stores.{flusher_in, reporter_of, notes_by}
 use Rattle.store_flushing.specs.declared.closed.Closed.{Closed}
 use Rattle.store_flushing.specs.declared.keeper.store.Store.{Store}
 use Rattle.session_threads.specs.Counting.{made_in}
@@ -30,7 +30,7 @@ use Rattle.overlay_server.proofs.Strangers.{no_other}
 -- a server began so: its store's log, and the scripts with their sessions
 pub record Began {R W D : Type 0} {g : Ghosts D} (book : Book) (start : Version) (ports : List (Port R W)) (store : Store D g) (scripts : List (Script R W)) : Type 0 where
   pub log : (reporter_of store).log ≡ first_log start
-  pub none_told : told_by store ≡ []
+  pub none_reported : notes_by store ≡ []
   pub some : 0 < length ports
   pub seated : AreSeated book start ports scripts
 
@@ -63,5 +63,5 @@ served_from {W = W} g book remaining contents start ports store after scripts en
       sessions =
           subst (λ (os : List (Finished W)). AreServed stored contents start log (given_to remaining contents ports) os) (sym finished)
           (are_served book stored remaining contents start ports scripts began.seated ended ran.sessions log closed.sessions);
-      kept = left_by g start store after left.closed began.log began.none_told ran.kept.flushed closed.store;
+      kept = left_by g start store after left.closed began.log began.none_reported ran.kept.flushed closed.store;
     }

@@ -11,26 +11,26 @@ use Rattle.root_store.specs.declared.phase.Phase.TheVariants.{Idle, Close, Settl
 use Rattle.root_store.specs.Running.{is_busy}
 use Rattle.flush_core.specs.declared.flusher.Flusher.{Flusher}
 use Rattle.book_history.specs.Logs.{history_of, newest_in, IsLog}
-use Rattle.book_history.specs.declared.fault.ToldFault.{ToldFault}
+use Rattle.book_history.specs.declared.fault.ReportedFault.{ReportedFault}
 use Rattle.book_history.proofs.Chains.{begins_with, is_history}
 use Rattle.book_lock.specs.Heard.{HasHeard}
 use Rattle.store_flushing.specs.Among.{IsFileIn}
 use Rattle.store_flushing.specs.Failing.{HoldsOfFailed}
 use Rattle.store_flushing.specs.Storing.{IsStoreOf, HoldsOfStored}
-use Rattle.store_flushing.specs.Stores.{flusher_in, reporter_of, told_by}
-use Rattle.store_flushing.specs.Told.{StaysTold, TellsOn, told_in}
+use Rattle.store_flushing.specs.Stores.{flusher_in, reporter_of, notes_by}
+use Rattle.store_flushing.specs.ReportNote.{StaysReported, TellsOn, notes_in}
 use Rattle.store_flushing.specs.Unstored.{IsReasonGiven}
 use Rattle.store_flushing.specs.declared.closed.Closed.{Closed}
 use Rattle.store_flushing.specs.declared.keeper.Keeper.{Keeper}
 use Rattle.store_flushing.specs.declared.keeper.store.Store.{Store}
 use Rattle.store_flushing.specs.declared.keeper.store.Store.TheVariants.{Kept, Alone}
-use Rattle.store_flushing.specs.declared.keeper.told_log.Told.{Told}
+use Rattle.store_flushing.specs.declared.keeper.report_log.ReportNote.{ReportNote}
 use Rattle.store_flushing.proofs.Closings.{exactly_on}
 use Rattle.store_flushing.proofs.FailLemmas.{failed_on}
 use Rattle.store_flushing.proofs.Following.{by_run, handed_on}
 use Rattle.store_flushing.proofs.Histories.{file_more}
 use Rattle.store_flushing.proofs.Storage.{begun, store_leaves, then}
-use Rattle.store_flushing.proofs.ToldLemmas.{none_yet, telling_then, tells_then, told_at_end}
+use Rattle.store_flushing.proofs.ReportedLemmas.{none_yet, telling_then, tells_then, reported_at_end}
 use Rattle.overlay_server.specs.Moments.{HasOnlyNow}
 use Rattle.overlay_server.specs.Keeping.{AreFlushed, HoldsOfStore, IsStoreKept}
 use Rattle.overlay_server.specs.Refusing.{StoreComesBack}
@@ -72,11 +72,11 @@ module _ {D : Type 0} (g : Ghosts D) where
   CountsAs stored start store = (log : List Entry) (number : ℕ) → stored log number ↔ IsStoredOf g start store log number
 
   -- it failed for what the store of a version did
-  abbrev pub FailsAs : (List Entry → ToldFault → Type 0) → Version → Option (Flusher D g) → Type 0
-  FailsAs failed start store = (log : List Entry) (fault : ToldFault) → failed log fault ↔ IsFailedOf g start store log fault
+  abbrev pub FailsAs : (List Entry → ReportedFault → Type 0) → Version → Option (Flusher D g) → Type 0
+  FailsAs failed start store = (log : List Entry) (fault : ReportedFault) → failed log fault ↔ IsFailedOf g start store log fault
 
   -- what holds of all that the store of a book comes to hold, and of all for which it fails
-  pub holds_first : (stored : List Entry → ℕ → Type 0) (failed : List Entry → ToldFault → Type 0) (start : Version) (store : Store D g) → (reporter_of store).log ≡ first_log start
+  pub holds_first : (stored : List Entry → ℕ → Type 0) (failed : List Entry → ReportedFault → Type 0) (start : Version) (store : Store D g) → (reporter_of store).log ≡ first_log start
       → CountsAs stored start (flusher_in store) → FailsAs failed start (flusher_in store) → HoldsOfStore g stored failed store
   holds_first stored failed start (Kept k) first same fails = (
     subst (λ (es : List Entry). HoldsOfStored g stored (history_of es) k.held.flusher) (sym first)
@@ -86,7 +86,7 @@ module _ {D : Type 0} (g : Ghosts D) where
   holds_first stored failed start (Alone r) first same fails = tt
 
   -- it holds after a run too
-  pub holds_on : (stored : List Entry → ℕ → Type 0) (failed : List Entry → ToldFault → Type 0) (a b : Store D g) → AreFlushed g a b → HoldsOfStore g stored failed a → HoldsOfStore g stored failed b
+  pub holds_on : (stored : List Entry → ℕ → Type 0) (failed : List Entry → ReportedFault → Type 0) (a b : Store D g) → AreFlushed g a b → HoldsOfStore g stored failed a → HoldsOfStore g stored failed b
   holds_on stored failed (Kept a) (Kept b) run all =
       let was = history_of a.reporter.log in
       let now = history_of b.reporter.log in
@@ -109,15 +109,15 @@ module _ {D : Type 0} (g : Ghosts D) where
     pub durable : All (λ (e : Entry). e.version.durable ≤ (newest_in closed.seen_log.log).durable) closed.seen_log.log
     pub store : MatchOption (flusher_in whole) ((closed.stored ≡ 0) × (closed.disk ≡ None)) (λ (f : Flusher D g). (closed.stored ≡ f.commit.root.version) × (closed.disk ≡ Some f.commit.disk))
     pub fault : MatchOption (flusher_in whole) (closed.fault ≡ None) (λ (f : Flusher D g). IsReasonGiven closed.fault f (arc_value closed.version))
-    pub told : told_in closed.told ≡ told_by whole
+    pub reported : notes_in closed.reported ≡ notes_by whole
 
   -- nothing was reported as the book began
-  none_yet_by : (start : Version) (k : Keeper D g) (disk : D) → k.reporter.log ≡ first_log start → told_in k.told ≡ [] → StaysTold g (history_of k.reporter.log) (told_in k.told) disk disk
+  none_yet_by : (start : Version) (k : Keeper D g) (disk : D) → k.reporter.log ≡ first_log start → notes_in k.reported ≡ [] → StaysReported g (history_of k.reporter.log) (notes_in k.reported) disk disk
   none_yet_by start k disk first none =
-      subst (λ (ts : List Told). StaysTold g (history_of k.reporter.log) ts disk disk) (sym none)
-      (subst (λ (es : List Entry). StaysTold g (history_of es) [] disk disk) (sym first) (none_yet g start disk))
+      subst (λ (ts : List ReportNote). StaysReported g (history_of k.reporter.log) ts disk disk) (sym none)
+      (subst (λ (es : List Entry). StaysReported g (history_of es) [] disk disk) (sym first) (none_yet g start disk))
 
-  pub left_by : (start : Version) (was now : Store D g) (closed : Closed D) → (reporter_of was).log ≡ first_log start → told_by was ≡ []
+  pub left_by : (start : Version) (was now : Store D g) (closed : Closed D) → (reporter_of was).log ≡ first_log start → notes_by was ≡ []
       → AreFlushed g was now → HasClosed now closed → IsLeftOfStore g start (flusher_in was) closed
   left_by start (Alone f) (Alone l) closed first none flushed closes = closes.store
   left_by start (Alone f) (Kept l) closed first none flushed closes = absurd flushed
@@ -141,10 +141,10 @@ module _ {D : Type 0} (g : Ghosts D) where
         let was_store = subst (λ (es : List Entry). IsStoreOf g (history_of es) old) (sym first) is in
         let run = flushed.flushes was_store in
         let low : (newest_in l.reporter.log).durable ≤ stored = run.store.reported in
-        let rest = told_at_end g now end (told_in l.told) last.commit.disk on (is_history log closes.log) closes.heard.durable in
-        let whole : TellsOn g was (told_in f.told) old.commit.disk end (told_in closed.told) last.commit.disk =
-        subst (λ (ts : List Told). TellsOn g was (told_in f.told) old.commit.disk end ts last.commit.disk) (sym closes.told)
-        (tells_then g was now end (told_in f.told) (told_in l.told) (told_in l.told) old.commit.disk last.commit.disk last.commit.disk (flushed.tells was_store) rest) in
+        let rest = reported_at_end g now end (notes_in l.reported) last.commit.disk on (is_history log closes.log) closes.heard.durable in
+        let whole : TellsOn g was (notes_in f.reported) old.commit.disk end (notes_in closed.reported) last.commit.disk =
+        subst (λ (ts : List ReportNote). TellsOn g was (notes_in f.reported) old.commit.disk end ts last.commit.disk) (sym closes.reported)
+        (tells_then g was now end (notes_in f.reported) (notes_in l.reported) (notes_in l.reported) old.commit.disk last.commit.disk last.commit.disk (flushed.tells was_store) rest) in
         record {
           no_less = run.no_less;
           moments =
@@ -154,7 +154,7 @@ module _ {D : Type 0} (g : Ghosts D) where
           exactly = ⊎_elim (λ idle. inr (inr (exactly_on g now end on last run.store idle)))
               (λ failed. ⊎_elim inl (λ rose. inr (inl rose)) (run.by_device.failed failed))
               (at_rest last.commit.phase flushed.rests);
-          told = whole.stays old.commit.disk (omega arith) (none_yet_by start f old.commit.disk first none);
+          stays = whole.stays old.commit.disk (omega arith) (none_yet_by start f old.commit.disk first none);
         };
   }
 
@@ -162,12 +162,12 @@ module _ {D : Type 0} (g : Ghosts D) where
 
   -- after its threads have returned
   pub back_from : (start : Version) (old : Option (Flusher D g)) (closed : Closed D) → IsLeftOfStore g start old closed
-      → StoreComesBack g start closed.seen_log.log (told_in closed.told) old closed.disk
+      → StoreComesBack g start closed.seen_log.log (notes_in closed.reported) old closed.disk
   back_from start None closed left = left.1
   back_from start (Some f) closed left = record {
     disk = left.last.commit.disk;
     there = left.disk;
-    stopped = λ is. let by = left.left is in record { moments = by.moments; told = by.told };
+    stopped = λ is. let by = left.left is in record { moments = by.moments; stays = by.stays };
   }
 
   -- before any session was begun
@@ -179,6 +179,6 @@ module _ {D : Type 0} (g : Ghosts D) where
     there = is;
     stopped = λ store. record {
       moments = (begun g (history_of (first_log start)) f (λ c left. now f.commit.disk c store.honest left) store).moments;
-      told = none_yet g start f.commit.disk;
+      stays = none_yet g start f.commit.disk;
     };
   }

@@ -4,7 +4,7 @@ use Rattle.logbook.specs.Pages.{Book}
 use Rattle.disk_model.specs.declared.disk.Disk.{Ghosts}
 use Rattle.book_history.specs.declared.seen_log.BookName as book_name
 use Rattle.book_lock.specs.Steps.{beginners}
-use Rattle.store_flushing.specs.Stores.{flusher_in, reporter_of, told_by}
+use Rattle.store_flushing.specs.Stores.{flusher_in, reporter_of, notes_by}
 use Rattle.version_book.specs.Store.{has_store}
 use Rattle.overlay_server.specs.Answering.{answer_in}
 use Rattle.overlay_server.specs.Moments.{HasOnlyNow}
@@ -21,5 +21,5 @@ pub record IsHosted {J S D : Type 0} {j : book_name.Ghosts J} {g : Ghosts D} (bo
   pub stored : has_store hosted.shared ≡ is_some (flusher_in hosted.store)
   pub of : (reporter_of hosted.store).book ≡ book
   pub begun : (reporter_of hosted.store).log ≡ first_log hosted.version.value
-  pub untold : told_by hosted.store ≡ []
+  pub unreported : notes_by hosted.store ≡ []
   pub sessions : hosted.sessions.items ≡ beginners (record { book = book; log = first_log hosted.version.value }) count

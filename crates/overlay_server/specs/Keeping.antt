@@ -5,11 +5,11 @@ use Rattle.disk_model.specs.declared.disk.Disk.{Ghosts}
 use Rattle.overlay_terms.specs.Histories.{Entry}
 use Rattle.root_store.specs.Running.{is_busy}
 use Rattle.book_history.specs.Logs.{history_of}
-use Rattle.book_history.specs.declared.fault.ToldFault.{ToldFault}
+use Rattle.book_history.specs.declared.fault.ReportedFault.{ReportedFault}
 use Rattle.store_flushing.specs.Failing.{HoldsOfFailed}
 use Rattle.store_flushing.specs.Storing.{IsStoreOf, Flushes, HoldsOfStored}
 use Rattle.store_flushing.specs.Stores.{reporter_of}
-use Rattle.store_flushing.specs.Told.{KeepsTelling}
+use Rattle.store_flushing.specs.ReportNote.{KeepsTelling}
 use Rattle.store_flushing.specs.declared.keeper.Keeper.{Keeper}
 use Rattle.store_flushing.specs.declared.keeper.store.Store.{Store}
 use Rattle.store_flushing.specs.declared.keeper.store.Store.TheVariants.{Kept, Alone}
@@ -31,7 +31,7 @@ module _ {D : Type 0} (g : Ghosts D) where
 
   -- a predicate holds of each number that a store comes to hold, and one of each fault for which it fails, where there is
   -- a store
-  abbrev pub HoldsOfStore : (List Entry → ℕ → Type 0) → (List Entry → ToldFault → Type 0) → Store D g → Type 0
+  abbrev pub HoldsOfStore : (List Entry → ℕ → Type 0) → (List Entry → ReportedFault → Type 0) → Store D g → Type 0
   HoldsOfStore stored failed (Kept keeper) =
       HoldsOfStored g stored (history_of keeper.reporter.log) keeper.held.flusher
       × HoldsOfFailed g failed (history_of keeper.reporter.log) keeper.held.flusher

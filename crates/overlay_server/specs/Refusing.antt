@@ -14,8 +14,8 @@ use Rattle.script_form.specs.declared.session_end.SessionEnd.{SessionEnd}
 use Rattle.server_session.specs.Session.{IsSessionWithin}
 use Rattle.store_flushing.specs.Among.{IsFileIn}
 use Rattle.store_flushing.specs.Storing.{IsStoreOf}
-use Rattle.store_flushing.specs.Told.{StaysTold, told_in}
-use Rattle.store_flushing.specs.declared.keeper.told_log.Told.{Told}
+use Rattle.store_flushing.specs.ReportNote.{StaysReported, notes_in}
+use Rattle.store_flushing.specs.declared.keeper.report_log.ReportNote.{ReportNote}
 use Rattle.overlay_server.specs.Answering.{answer_in, refusal_code}
 use Rattle.overlay_server.specs.Given.{Given, given_to}
 use Rattle.overlay_server.specs.Serving.{AreServed, first_log, store_from}
@@ -57,18 +57,18 @@ pub record AreStopped (stored : BookStore) (start : Version) (log : List Entry) 
 module _ {D : Type 0} (g : Ghosts D) where
   -- what is left of a store: a crash at any moment leaves a file that holds a version of this log, none older than at
   -- first; once the log has reported a version durable, which was written down then, no crash leaves an older one
-  pub record IsStoppedBy (log : List Entry) (written : List Told) (old : Flusher D g) (disk : D) : Type 0 where
+  pub record IsStoppedBy (log : List Entry) (written : List ReportNote) (old : Flusher D g) (disk : D) : Type 0 where
     pub moments : LeavesOnly g old.commit.disk disk (IsFileIn (history_of log) old.commit.root.version)
-    pub told : StaysTold g (history_of log) written old.commit.disk disk
+    pub stays : StaysReported g (history_of log) written old.commit.disk disk
 
   -- the disk comes back
-  pub record ComesBack (start : Version) (log : List Entry) (written : List Told) (old : Flusher D g) (back : Option D) : Type 0 where
+  pub record ComesBack (start : Version) (log : List Entry) (written : List ReportNote) (old : Flusher D g) (back : Option D) : Type 0 where
     pub disk : D
     pub there : back ≡ Some disk
     pub stopped : IsStoreOf g (history_of (first_log start)) old → IsStoppedBy log written old disk
 
   -- the same where there was one
-  abbrev pub StoreComesBack : Version → List Entry → List Told → Option (Flusher D g) → Option D → Type 0
+  abbrev pub StoreComesBack : Version → List Entry → List ReportNote → Option (Flusher D g) → Option D → Type 0
   StoreComesBack start log written None back = back ≡ None
   StoreComesBack start log written (Some old) back = ComesBack start log written old back
 
@@ -85,7 +85,7 @@ pub record IsRefusedFrom {D : Type 0} (g : Ghosts D) (start : Version) (store : 
   pub only : All (λ c. c.0 < length fault.sessions.items) (commands_in (history_of fault.seen_log.log).entries)
   pub none : fault.sessions.items ≡ [] → commands_in (history_of fault.seen_log.log).entries ≡ []
   pub sessions : AreStopped (store_from g start store) start fault.seen_log.log all fault.sessions.items
-  pub back : StoreComesBack g start fault.seen_log.log (told_in fault.told) store fault.disk
+  pub back : StoreComesBack g start fault.seen_log.log (notes_in fault.reported) store fault.disk
 
 -- ---- the ports of a server
 

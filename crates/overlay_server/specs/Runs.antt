@@ -15,7 +15,7 @@ use Rattle.overlay_engine.specs.Lives.{TriesTo}
 use Rattle.overlay_engine.specs.NewEngine.{IsNewEngine}
 use Rattle.overlay_engine.specs.Recovery.{Recovered}
 use Rattle.overlay_engine.specs.Start.{Start, layers_from, up_to}
-use Rattle.store_flushing.specs.Storing.{IsStoreOf, KeepsTold}
+use Rattle.store_flushing.specs.Storing.{IsStoreOf, KeepsReported}
 
 -- a moment of a run: the batches before the run's first version, the history that its reporter has seen, and its store
 pub record Moment (D : Type 0) (g : Ghosts D) : Type 0 where
@@ -44,7 +44,7 @@ module _ {D : Type 0} (g : Ghosts D) (start : Start) where
   -- a call of the store's keeper has returned: what its clause `keeps` says
   pub record CallsTo (old new : Moment D g) : Type 0 where
     pub before : new.before ≡ old.before
-    pub keeps : IsStoreOf g old.history old.flusher → KeepsTold g old.history old.flusher new.history new.flusher
+    pub keeps : IsStoreOf g old.history old.flusher → KeepsReported g old.history old.flusher new.history new.flusher
 
   -- the book has closed: what `close` says of its last log, in which no more is reported durable than is stored
   pub record ClosesTo (old new : Moment D g) : Type 0 where
@@ -63,7 +63,7 @@ module _ {D : Type 0} (g : Ghosts D) (start : Start) where
   pub record CutTo (old new : Moment D g) : Type 0 where
     pub history : History
     pub end : Flusher D g
-    pub keeps : IsStoreOf g old.history old.flusher → KeepsTold g old.history old.flusher history end
+    pub keeps : IsStoreOf g old.history old.flusher → KeepsReported g old.history old.flusher history end
     pub disk : D
     pub leaves : (c : List ℕ) → g.may_leave disk c → g.left_since end.commit.disk (g.moment old.flusher.commit.disk) c
     pub tried : List D

@@ -14,18 +14,18 @@ use Rattle.overlay_engine.specs.declared.engine.Engine.{Engine}
 use Rattle.book_history.specs.Known.{Known, seen}
 use Rattle.book_history.specs.Logs.{entry, no_event, history_of, newest_in, IsLog}
 use Rattle.book_lock.specs.Steps.{beginners, HasAllOf}
-use Rattle.book_history.specs.declared.fault.ToldFault.{ToldFault}
+use Rattle.book_history.specs.declared.fault.ReportedFault.{ReportedFault}
 use Rattle.script_form.specs.declared.fault.CommandFault.{CommandFault}
 use Rattle.script_form.specs.Transcript.{BookStore, StoreReport, of_number, of_fault, store_by}
-use Rattle.server_session.specs.Fault.{store_told}
+use Rattle.server_session.specs.Fault.{store_reported}
 use Rattle.server_session.specs.Session.{IsSessionWithin}
 use Rattle.store_flushing.specs.Among.{IsFileIn, IsFileExactlyIn}
 use Rattle.store_flushing.specs.Failing.{IsFailed}
 use Rattle.store_flushing.specs.Storing.{IsStoreOf, IsStored}
-use Rattle.store_flushing.specs.Told.{StaysTold, told_in}
+use Rattle.store_flushing.specs.ReportNote.{StaysReported, notes_in}
 use Rattle.store_flushing.specs.Unstored.{IsReasonGiven}
 use Rattle.store_flushing.specs.declared.closed.Closed.{Closed}
-use Rattle.store_flushing.specs.declared.keeper.told_log.Told.{Told}
+use Rattle.store_flushing.specs.declared.keeper.report_log.ReportNote.{ReportNote}
 use Rattle.session_threads.specs.declared.port.Finished.{Finished}
 use Rattle.overlay_server.specs.Given.{Given}
 use Rattle.overlay_server.specs.declared.outcome.Left.{Left}
@@ -67,7 +67,7 @@ IsHeldOf g start (Some old) history =
     IsStoreOf g (history_of (first_log start)) old → WasHeld g start old history (newest history).durable
 
 -- for which fault of which log the store failed: the first version's store, followed to that log; without a store, for none
-abbrev pub IsFailedOf : {D : Type 0} (g : Ghosts D) → Version → Option (Flusher D g) → List Entry → ToldFault → Type 0
+abbrev pub IsFailedOf : {D : Type 0} (g : Ghosts D) → Version → Option (Flusher D g) → List Entry → ReportedFault → Type 0
 IsFailedOf g start None log fault = ⊥
 IsFailedOf g start (Some old) log fault =
     IsStoreOf g (history_of (first_log start)) old → IsFailed g (history_of (first_log start)) old log fault
@@ -76,9 +76,9 @@ IsFailedOf g start (Some old) log fault =
 pub record HadFailed {D : Type 0} (g : Ghosts D) (start : Version) (old : Flusher D g) (history : History) (fault : CommandFault) : Type 0 where
   pub log : List Entry
   pub before : BeginsWith history (history_of log)
-  pub told : ToldFault
-  pub same : fault ≡ store_told told
-  pub failed : IsFailed g (history_of (first_log start)) old log told
+  pub reported : ReportedFault
+  pub same : fault ≡ store_reported reported
+  pub failed : IsFailed g (history_of (first_log start)) old log reported
 
 -- which fault of its store a server reports to a session at which history: one for which that failed
 abbrev pub IsFailureOf : {D : Type 0} (g : Ghosts D) → Version → Option (Flusher D g) → History → CommandFault → Type 0
@@ -129,14 +129,14 @@ module _ {D : Type 0} (g : Ghosts D) where
   -- run ended with, no older than what was stored at first, and from then on no older than what is stored; that is no
   -- older than what was reported durable; and just it, unless a device call failed, before the run or within it. What
   -- it reported durable was written down as it was reported, and from that moment on a crash leaves no older version
-  pub record IsLeftBy (log : List Entry) (written : List Told) (old last : Flusher D g) : Type 0 where
+  pub record IsLeftBy (log : List Entry) (written : List ReportNote) (old last : Flusher D g) : Type 0 where
     pub no_less : old.commit.root.version ≤ last.commit.root.version
     pub moments : LeavesOnly g old.commit.disk last.commit.disk (IsFileIn (history_of log) old.commit.root.version)
     pub reported : All (λ (e : Entry). e.version.durable ≤ last.commit.root.version) log
     pub files : Leaves g last.commit.disk (IsFileIn (history_of log) last.commit.root.version)
     pub exactly : (old.commit.phase ≡ Failed) ⊎ (device.Failed (g.faults old.commit.disk) (g.faults last.commit.disk)
         ⊎ Leaves g last.commit.disk (IsFileExactlyIn (history_of log) last.commit.root.version))
-    pub told : StaysTold g (history_of log) written old.commit.disk last.commit.disk
+    pub stays : StaysReported g (history_of log) written old.commit.disk last.commit.disk
 
   -- what is left of a store of the first version: its disk, idle or failed, and why it does not hold the last one
   pub record IsLeft (start : Version) (old : Flusher D g) (closed : Closed D) : Type 0 where
@@ -145,7 +145,7 @@ module _ {D : Type 0} (g : Ghosts D) where
     pub stored : closed.stored ≡ last.commit.root.version
     pub rests : is_busy last.commit.phase ≡ false
     pub fault : IsReasonGiven closed.fault last (arc_value closed.version)
-    pub left : IsStoreOf g (history_of (first_log start)) old → IsLeftBy closed.seen_log.log (told_in closed.told) old last
+    pub left : IsStoreOf g (history_of (first_log start)) old → IsLeftBy closed.seen_log.log (notes_in closed.reported) old last
 
   -- the same where there was one
   abbrev pub IsLeftOfStore : Version → Option (Flusher D g) → Closed D → Type 0

@@ -4,7 +4,7 @@ use Rattle.logbook.specs.Pages.{Book}
 use Rattle.disk_model.specs.declared.disk.Disk.{Ghosts}
 use Rattle.overlay_terms.specs.Histories.{Entry, History}
 use Rattle.book_history.specs.Known.{Known}
-use Rattle.book_history.specs.declared.fault.ToldFault.{ToldFault}
+use Rattle.book_history.specs.declared.fault.ReportedFault.{ReportedFault}
 use Rattle.script_form.specs.Transcript.{BookStore, StoreReport}
 use Rattle.script_form.specs.Turns.{Turn}
 use Rattle.store_flushing.specs.Stores.{reporter_of}
@@ -21,11 +21,11 @@ use Rattle.overlay_server.specs.declared.threads.Worked.{Worked}
 -- for what it fails may be reported to the book, and what was reported to the writers. Each writer goes on from what its
 -- session knows, has all of its script left, if it keeps that, and may report a limit that the script passes. `there`
 -- says whether the book has a store
-pub record IsReady {J R W D : Type 0} {g : Ghosts D} (book : Book) (stored : List Entry → ℕ → Type 0) (failed : List Entry → ToldFault → Type 0) (there : Bool) (may : History → StoreReport → Type 0) (from : W → Bool → Known → Type 0) (remaining : R → Option (List ℕ)) (left : W → Option (List Turn)) (may_pass : W → Type 0) (work : Work J R W D g) : Type 0 where
+pub record IsReady {J R W D : Type 0} {g : Ghosts D} (book : Book) (stored : List Entry → ℕ → Type 0) (failed : List Entry → ReportedFault → Type 0) (there : Bool) (may : History → StoreReport → Type 0) (from : W → Bool → Known → Type 0) (remaining : R → Option (List ℕ)) (left : W → Option (List Turn)) (may_pass : W → Type 0) (work : Work J R W D g) : Type 0 where
   pub store : (reporter_of work.store).book ≡ book
   pub durable : HoldsOfStore g stored failed work.store
   pub scripts : All (λ (script : Script R W). script.session.book ≡ book) work.seats.scripts.items
-  pub told : All (λ (script : Script R W). MayReport stored failed there script.session may) work.seats.scripts.items
+  pub reported : All (λ (script : Script R W). MayReport stored failed there script.session may) work.seats.scripts.items
   pub goes_on : All (λ (script : Script R W). from script.port.writer there script.session) work.seats.scripts.items
   pub own : All (λ (script : Script R W). IfSome (left script.port.writer) (IsAtStart (remaining script.port.reader))) work.seats.scripts.items
   pub limit : All (λ (script : Script R W). IsPastMost script.port.most (remaining script.port.reader) → may_pass script.port.writer) work.seats.scripts.items

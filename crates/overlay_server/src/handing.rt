@@ -48,7 +48,7 @@ pub fn returned<W, D: Drop>(key: Option<Key<D>>, left: Left<W, Shut<D>>) -> Left
             stored: closed.stored,
             fault: closed.fault,
             disk: unlocked(key, closed.disk),
-            told: closed.told,
+            reported: closed.reported,
         },
     }
 }
@@ -63,7 +63,7 @@ pub fn returned_fault<D: Drop>(key: Option<Key<D>>, fault: ServerFault<Shut<D>>)
         disk: unlocked(key, fault.disk),
         answer: fault.answer,
         seen_log: fault.seen_log,
-        told: fault.told,
+        reported: fault.reported,
         sessions: fault.sessions,
     }
 }

@@ -4,7 +4,7 @@ ghost use Rattle.std.specs.List.{AllZip};
 ghost use Rattle.book_history.specs.Rules.{head_of};
 ghost use Rattle.book_lock.specs.Steps.{beginners};
 ghost use Rattle.overlay_terms.specs.Histories.{Entry, History};
-ghost use Rattle.book_history.specs.declared.fault.ToldFault.{ToldFault};
+ghost use Rattle.book_history.specs.declared.fault.ReportedFault.{ReportedFault};
 ghost use Rattle.script_form.specs.Transcript.{StoreReport};
 ghost use Rattle.server_session.specs.Replying.{IsAtStart, IsPastMost};
 ghost use Rattle.store_flushing.specs.Stores.{flusher_in};
@@ -102,7 +102,7 @@ where
     requires book { opened.1.book ≡ J.book }
     requires begun { opened.1.log ≡ first_log version }
     requires stored { (log : List Entry) (number : ℕ) → J.stored log number ↔ IsStoredOf D.Disk version store.flusher log number }
-    requires failed { (log : List Entry) (fault : ToldFault) → J.failed log fault ↔ IsFailedOf D.Disk version store.flusher log fault }
+    requires failed { (log : List Entry) (fault : ReportedFault) → J.failed log fault ↔ IsFailedOf D.Disk version store.flusher log fault }
     requires seats { J.seats ≡ length readers.items }
     requires readers { (0 < length readers.items) × (length readers.items ≤ 4) }
     ensures left { IfOk result (IsLeftFrom bytes_of D.Disk version store.flusher (given_by R.remaining readers.items)) }
@@ -140,10 +140,10 @@ where
     requires book { opened.1.book ≡ J.book }
     requires begun { opened.1.log ≡ first_log version }
     requires stored { (log : List Entry) (number : ℕ) → J.stored log number ↔ IsStoredOf D.Disk version store.flusher log number }
-    requires failed { (log : List Entry) (fault : ToldFault) → J.failed log fault ↔ IsFailedOf D.Disk version store.flusher log fault }
+    requires failed { (log : List Entry) (fault : ReportedFault) → J.failed log fault ↔ IsFailedOf D.Disk version store.flusher log fault }
     requires seats { J.seats ≡ length ports.items }
     requires ports { (0 < length ports.items) × (length ports.items ≤ 4) }
-    requires told { (history : History) (report : StoreReport) → IsReportedOf D.Disk version store.flusher history report → W.may_report history report }
+    requires reported { (history : History) (report : StoreReport) → IsReportedOf D.Disk version store.flusher history report → W.may_report history report }
     // Each writer goes on from the session of its place in this book alone: no other answers it, also where this never returns.
     requires from { AllZip (λ port me. W.from port.writer (is_some store.flusher) me) ports.items (beginners opened.1 (length ports.items)) }
     requires own { All (λ port. IfSome (W.left port.writer) (IsAtStart (R.remaining port.reader))) ports.items }
@@ -182,13 +182,13 @@ where
         Q: Threads + Wait + Sync,
         requires ports { 0 < length ports.items }
         requires hosted { IsHosted J.book (length ports.items) self }
-        requires told { (history : History) (report : StoreReport)
+        requires reported { (history : History) (report : StoreReport)
             → IsReportedOf D.Disk self.version.value (flusher_in self.store) history report → W.may_report history report }
         requires from { AllZip (λ port me. W.from port.writer (has_store self.shared) me) ports.items self.sessions.items }
         requires own { All (λ port. IfSome (W.left port.writer) (IsAtStart (R.remaining port.reader))) ports.items }
         requires limit { All (λ port. IsPastMost port.most (R.remaining port.reader) → W.may_pass_limit port.writer) ports.items }
         requires meant { (log : List Entry) (number : ℕ) → J.stored log number ↔ IsStoredOf D.Disk self.version.value (flusher_in self.store) log number }
-        requires failed { (log : List Entry) (fault : ToldFault) → J.failed log fault ↔ IsFailedOf D.Disk self.version.value (flusher_in self.store) log fault }
+        requires failed { (log : List Entry) (fault : ReportedFault) → J.failed log fault ↔ IsFailedOf D.Disk self.version.value (flusher_in self.store) log fault }
         ensures left { IfOk result (IsLeftFrom W.contents D.Disk self.version.value (flusher_in self.store) (given_to R.remaining W.contents ports.items)) }
         ensures refused { IfErr result (IsRefusedOf R.remaining W.contents D.Disk self.version.value (flusher_in self.store) (given_to R.remaining W.contents ports.items)) }
         // The book gave its places, so 44 is not answered.

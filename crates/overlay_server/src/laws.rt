@@ -28,7 +28,7 @@ pub fn versions_are_exact()
 /// The session of a book with no other one's commands was alone, as that of a server of one reader: what was accepted
 /// in all that it has seen are the batches that it made. So its lines decide the versions after them (`lines_decide`).
 pub fn one_session_is_alone<A: Tells>()
-    ensures { (there : Bool) → OneSessionIsAlone (store_by A.told there) }
+    ensures { (there : Bool) → OneSessionIsAlone (store_by A.reported there) }
 {}
 
 /// Through any number of runs, of which each is cut by a crash within a call of its store's keeper or came to its

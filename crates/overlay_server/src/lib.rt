@@ -21,6 +21,6 @@ pub use server_session::session_run;
 pub use serving::{serve, serve_ports};
 pub use store_flushing::closed::{Closed, close};
 pub use store_flushing::keeper::flusher_loop;
-pub use store_flushing::keeper::told_log::ToldLog;
+pub use store_flushing::keeper::report_log::ReportLog;
 pub use tile_workers::gate::{Gate, OpenGate};
 pub use tile_workers::worker::worker_loop;

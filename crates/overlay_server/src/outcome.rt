@@ -4,7 +4,7 @@ ghost use Rattle.std.specs.Prelude.{◌≤◌};
 use crate::opening::BookAnswer;
 use session_threads::port::{Finished, Port};
 use store_flushing::closed::Closed;
-use store_flushing::keeper::told_log::ToldLog;
+use store_flushing::keeper::report_log::ReportLog;
 use version_book::seen_log::SeenLog;
 use version_book::session::Session;
 
@@ -40,7 +40,7 @@ pub struct ServerFault<D> {
     /// The book's history, to its end.
     pub seen_log: SeenLog,
     /// What was reported durable, and when.
-    pub told: ToldLog,
+    pub reported: ReportLog,
     /// The sessions, in the order of the ports or readers, with what they have seen and made. None where none was
     /// begun, and then no command was accepted.
     pub sessions: Vec<Session>,

@@ -2,7 +2,7 @@
 ghost use Rattle.std.specs.Prelude.{◌≡◌, [], MatchBool};
 ghost use Rattle.std.specs.List.{list_any};
 ghost use Rattle.session_threads.specs.Running.{was_begun};
-ghost use Rattle.store_flushing.specs.Told.{told_in};
+ghost use Rattle.store_flushing.specs.ReportNote.{notes_in};
 ghost use Rattle.overlay_server.specs.Answering.{answer_in, refusal_code};
 ghost use Rattle.overlay_server.specs.Moments.{HasOnlyNow};
 
@@ -13,7 +13,7 @@ use session_threads::counting::any_begun;
 use session_threads::port::Finished;
 use std::alloc::Global;
 use store_flushing::closed::Closed;
-use store_flushing::keeper::told_log::ToldLog;
+use store_flushing::keeper::report_log::ReportLog;
 use version_book::seen_log::SeenLog;
 use version_book::session::Session;
 
@@ -29,7 +29,7 @@ pub fn refused<D>(
     ensures answer { result.answer ≡ answer }
     ensures disk { result.disk ≡ disk }
     ensures seen_log { result.seen_log ≡ seen_log }
-    ensures told { told_in result.told ≡ [] }
+    ensures reported { notes_in result.reported ≡ [] }
     ensures sessions { result.sessions.items ≡ [] }
 {
     ServerFault {
@@ -37,7 +37,7 @@ pub fn refused<D>(
         disk,
         answer,
         seen_log,
-        told: ToldLog::none(),
+        reported: ReportLog::none(),
         sessions: Vec::new(alloc),
     }
 }
@@ -53,7 +53,7 @@ pub fn stopped<R, W, D: Drop>(
 ) -> PortsFault<R, W, D>
     ensures code { result.fault.code ≡ refusal_code (answer_in answer) }
     ensures answer { result.fault.answer ≡ answer }
-    ensures closed { (result.fault.disk ≡ closed.disk) × ((result.fault.seen_log ≡ closed.seen_log) × (result.fault.told ≡ closed.told)) }
+    ensures closed { (result.fault.disk ≡ closed.disk) × ((result.fault.seen_log ≡ closed.seen_log) × (result.fault.reported ≡ closed.reported)) }
     ensures sessions { MatchBool (list_any (λ one. was_begun one.end) finished.items)
         (result.fault.sessions.items ≡ sessions.items) (result.fault.sessions.items ≡ []) }
     // Each writer comes back, with how its session ended.
@@ -67,7 +67,7 @@ pub fn stopped<R, W, D: Drop>(
             disk: closed.disk,
             answer,
             seen_log: closed.seen_log,
-            told: closed.told,
+            reported: closed.reported,
             sessions: if begun { sessions } else { Vec::new(alloc) },
         },
         back: PortsBack::Stopped(finished),

@@ -94,7 +94,7 @@ where
     requires ports { (0 < length ports.items) × (length ports.items ≤ 4) }
     // To the writers may be reported what the store holds and for what it failed, and nothing else of it: this says what
     // counts so, also in a call that never returns. Each writer of bytes meets it.
-    requires told { (history : History) (report : StoreReport)
+    requires reported { (history : History) (report : StoreReport)
         → IsReportedOf D.Disk (start_of engine) (flusher_of engine) history report → W.may_report history report }
     // Each begins with whichever session that has made nothing, of a book with a store just where there is an engine, and has
     // all of its reader's script left, if it keeps that. Each writer of bytes meets it.

@@ -17,12 +17,12 @@ pub fn line_of(alloc: Global, made: Result<BaseLayer, WindowFault>) -> Result<Ve
             line.push(b'\n')?;
             Ok(line)
         }
-        Err(fault) => told(alloc, fault),
+        Err(fault) => reported(alloc, fault),
     }
 }
 
 /// The line of a refusal.
-fn told(alloc: Global, fault: WindowFault) -> Result<Vec<u8>, AllocError>
+fn reported(alloc: Global, fault: WindowFault) -> Result<Vec<u8>, AllocError>
     ensures { IfOk result (λ line. line.items ≡ fault_line fault) }
 {
     let mut line = String::new(alloc);

@@ -72,7 +72,7 @@ pub fn end_run<D>(
     // Status 0 means that nothing is missing.
     ensures whole { result ≡ Ok true → (is_kept keeping.now closed.now ≡ true) × (printed ≡ true) × (ends.at_end ≡ true) }
     // Where no fault is reported, each session has reported its end itself.
-    ensures told { IfOk result (λ complete. (printed ≡ true) × (ends.run ≡ true) × (ends.written ≡ true)) }
+    ensures reported { IfOk result (λ complete. (printed ≡ true) × (ends.run ≡ true) × (ends.written ≡ true)) }
 {
     let stored = has_stored(keeping, closed)?;
     if !printed {

@@ -6,7 +6,7 @@ use Rattle.store_terms.specs.Image.{or_fault}
 use Rattle.store_terms.proofs.Loops.{with_front, ends}
 use Rattle.record_reading.specs.declared.fault.ReadFault.{ReadFault}
 use Rattle.record_reading.specs.declared.fault.ReadFault.TheVariants as faults
-use Rattle.record_reading.specs.Answers.{Fails, told_as, Tells}
+use Rattle.record_reading.specs.Answers.{Fails, reported_as, Tells}
 
 pub fails : {A : Type 0} (read : List ℕ → Option (A × List ℕ)) (fault : ReadFault) (front : List A) (count i : ℕ)
     (bytes : List ℕ) (total : Option (List A × List ℕ)) → i < count → Fails fault (read bytes)
@@ -28,6 +28,6 @@ starts read front count bytes none =
 
 -- what gives no value reports its damage
 pub tells : {Y : Type 0} (damage : Damage) (fault : ReadFault) (read : Option Y) → Fails fault read
-    → Tells (told_as damage fault) (or_fault damage read)
+    → Tells (reported_as damage fault) (or_fault damage read)
 tells damage faults.Memory read given = tt
 tells damage faults.Form read given = ap (or_fault damage) given

@@ -26,9 +26,9 @@ failed_as BadName = read_faults.Form
 failed_as OutOfMemory = read_faults.Memory
 
 -- a fault of reading, as the damage that it is
-abbrev pub told_as : Damage → ReadFault → RecordFault
-told_as damage read_faults.Memory = record_faults.OutOfMemory
-told_as damage read_faults.Form = record_faults.Damaged damage
+abbrev pub reported_as : Damage → ReadFault → RecordFault
+reported_as damage read_faults.Memory = record_faults.OutOfMemory
+reported_as damage read_faults.Form = record_faults.Damaged damage
 
 -- the fault is the damage that reading reports, unless memory ran out
 abbrev pub Tells : {Y : Type 0} → RecordFault → Result Y Damage → Type 0

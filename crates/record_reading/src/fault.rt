@@ -1,7 +1,7 @@
 //! Why a record is not read.
 ghost use Rattle.std.specs.Prelude.{◌≡◌};
 ghost use Rattle.fault_texts.specs.FaultText.{shown, IsBrief};
-ghost use Rattle.record_reading.specs.Answers.{failed_as, told_as};
+ghost use Rattle.record_reading.specs.Answers.{failed_as, reported_as};
 ghost use Rattle.record_reading.specs.Fault.{code_of, text_of};
 ghost use Rattle.record_reading.specs.declared.fault.ReadFault.TheVariants.{Memory};
 
@@ -59,8 +59,8 @@ impl RecordFault {
 
 impl ReadFault {
     /// The fault as the damage that it is.
-    pub fn told(self, damage: Damage) -> RecordFault
-        ensures { result ≡ told_as damage self }
+    pub fn reported(self, damage: Damage) -> RecordFault
+        ensures { result ≡ reported_as damage self }
     {
         match self {
             ReadFault::Memory => RecordFault::OutOfMemory,

@@ -84,8 +84,8 @@ module _ (file : List ℕ) (known layers next : List Layer) (front : List Finish
         (sym (ap (λ (r : Result (List Layer × List Finished) Damage). then_layers front (behind file rest r)) its_tiles))
         (by_tiles (tiles_from_column file name 0 entries) fault refuses)
       where
-        by_tiles : (own : Result (List Finished) Damage) (told : LoadFault) → Refuses told (then_tiles front own)
-            → Refuses told (then_layers front (behind file rest (own >>= λ tiles. Ok (layers, tiles))))
+        by_tiles : (own : Result (List Finished) Damage) (reported : LoadFault) → Refuses reported (then_tiles front own)
+            → Refuses reported (then_layers front (behind file rest (own >>= λ tiles. Ok (layers, tiles))))
         by_tiles own Device is = tt
         by_tiles own OutOfMemory is = tt
         by_tiles (Ok tiles) (Damaged damage) is = absurd (cc is)

@@ -10,9 +10,9 @@ use Rattle.root_reading.specs.declared.load_fault.LoadFault.{LoadFault}
 use Rattle.root_reading.specs.declared.load_fault.LoadFault.TheVariants.{Device, Damaged, OutOfMemory}
 
 -- a fault of reading a record, as one of opening
-abbrev pub told_as : RecordFault → LoadFault
-told_as (record_faults.Damaged damage) = Damaged damage
-told_as record_faults.OutOfMemory = OutOfMemory
+abbrev pub reported_as : RecordFault → LoadFault
+reported_as (record_faults.Damaged damage) = Damaged damage
+reported_as record_faults.OutOfMemory = OutOfMemory
 
 -- the fault is the damage that reading reports, unless the device or memory failed
 abbrev pub Refuses : {Y : Type 0} → LoadFault → Result Y Damage → Type 0

@@ -1,6 +1,6 @@
 //! Why a file is not opened.
 ghost use Rattle.std.specs.Prelude.{◌≡◌};
-ghost use Rattle.root_reading.specs.Looking.{told_as};
+ghost use Rattle.root_reading.specs.Looking.{reported_as};
 ghost use Rattle.root_reading.specs.declared.load_fault.LoadFault.TheVariants.{Device, Damaged, OutOfMemory};
 
 use disk_model::fault::DiskFault;
@@ -34,7 +34,7 @@ impl From<Damage> for LoadFault {
 }
 
 impl From<RecordFault> for LoadFault {
-    ghost from_gives = { λ fault e. e ≡ told_as fault };
+    ghost from_gives = { λ fault e. e ≡ reported_as fault };
 
     fn from(fault: RecordFault) -> LoadFault {
         match fault {

@@ -87,11 +87,11 @@ CallsAfter Device old new = new ≤ old + 5
 CallsAfter fault old new = new ≡ old + 1
 
 -- a fault says the reason, unless the device failed; memory is asked for only where there is none
-abbrev pub IsToldBy : StoreFault → Option StoreFault → Type 0
-IsToldBy Device reason = Unit {0}
-IsToldBy OutOfMemory reason = reason ≡ None
-IsToldBy Full reason = reason ≡ Some Full
-IsToldBy NotEmpty reason = reason ≡ Some NotEmpty
-IsToldBy (Damaged damage) reason = ⊥
-IsToldBy Failed reason = ⊥
-IsToldBy SequenceLimit reason = ⊥
+abbrev pub HasReason : StoreFault → Option StoreFault → Type 0
+HasReason Device reason = Unit {0}
+HasReason OutOfMemory reason = reason ≡ None
+HasReason Full reason = reason ≡ Some Full
+HasReason NotEmpty reason = reason ≡ Some NotEmpty
+HasReason (Damaged damage) reason = ⊥
+HasReason Failed reason = ⊥
+HasReason SequenceLimit reason = ⊥

@@ -19,7 +19,7 @@ use Rattle.commit_plan.specs.Loaded.{held_in}
 use Rattle.root_store.specs.Healing.{Heals}
 use Rattle.root_store.specs.Opening.{IsRead, Loads, Untouched, OpeningWrites, HasRoot}
 use Rattle.root_store.specs.Opening.{IsSettled, InPhases, Stops, IsCompleted, Completes}
-use Rattle.root_store.specs.Creating.{nothing_kept, IsNewFile, MadeInPhases, refusal_of_new, IsToldBy, CallsAfter}
+use Rattle.root_store.specs.Creating.{nothing_kept, IsNewFile, MadeInPhases, refusal_of_new, HasReason, CallsAfter}
 
 module _ {D : Type 0} (g : Ghosts D) where
   -- the completing write of an opening
@@ -56,7 +56,7 @@ module _ {D : Type 0} (g : Ghosts D) where
   -- what is refused is looked at, and no more
   pub record ChecksHonestly (max_blocks : ℕ) (old new : D) (result : Result (Unit {0}) StoreFault) : Type 0 where
     pub answer : MatchResult result (λ _. refusal_of_new (g.seen old) max_blocks ≡ None)
-        (λ fault. IsToldBy fault (refusal_of_new (g.seen old) max_blocks))
+        (λ fault. HasReason fault (refusal_of_new (g.seen old) max_blocks))
     pub seen : g.seen new ≡ g.seen old
     pub crash : Fewer (g.may_leave old) (g.may_leave new)
     pub time : Elapses (g.moment old) (g.moment new) (g.left_since old) (g.left_since new) (g.may_leave new)
@@ -81,7 +81,7 @@ module _ {D : Type 0} (g : Ghosts D) where
   pub record PreparesHonestly {T : Type 0} (max_blocks : ℕ) (old new : D) (result : Result T StoreFault) : Type 0 where
     pub made : OnOk result (IsMade old new)
     pub answer : MatchResult result (λ _. refusal_of_new (g.seen old) max_blocks ≡ None)
-        (λ fault. IsToldBy fault (refusal_of_new (g.seen old) max_blocks))
+        (λ fault. HasReason fault (refusal_of_new (g.seen old) max_blocks))
     pub unchanged : refusal_of_new (g.seen old) max_blocks ≢ None
         → (g.seen new ≡ g.seen old) × Fewer (g.may_leave old) (g.may_leave new)
     pub cause : IsErrOf result stores.Device → Failed (g.faults old) (g.faults new)

@@ -13,7 +13,7 @@ use Rattle.root_store.specs.declared.open_fault.OpenFault.{OpenFault}
 use Rattle.root_store.specs.Running.{StoreStandsFor}
 use Rattle.root_store.specs.Opening.{Opened, Untouched, OpeningWrites, HasRoot, Tells}
 use Rattle.root_store.specs.Opening.{FailedBy, InPhases, Stops, IsCompleted, Completes}
-use Rattle.root_store.specs.Creating.{nothing_kept, IsNewFile, MadeInPhases, refusal_of_new, IsToldBy, CallsAfter}
+use Rattle.root_store.specs.Creating.{nothing_kept, IsNewFile, MadeInPhases, refusal_of_new, HasReason, CallsAfter}
 
 module _ {D : Type 0} (g : Ghosts D) where
   -- a file is opened
@@ -54,7 +54,7 @@ module _ {D : Type 0} (g : Ghosts D) where
   abbrev pub TellsReason : {T : Type 0} → ℕ → D → Result T (OpenFault D) → Type 0
   TellsReason max_blocks disk result =
       MatchResult result (λ _. refusal_of_new (g.seen disk) max_blocks ≡ None)
-      (λ refused. IsToldBy refused.fault (refusal_of_new (g.seen disk) max_blocks))
+      (λ refused. HasReason refused.fault (refusal_of_new (g.seen disk) max_blocks))
 
   -- a file that is refused stays as it is
   abbrev pub KeepsRefused : {T : Type 0} → ℕ → D → Result T (OpenFault D) → Type 0

@@ -69,10 +69,10 @@ pushed requests items new change asked is read one =
     (read-push requests (map command items) asked (command change) read one)
 
 -- or it is none
-pub refused : (requests : List Request) (commands : Batch) (asked : Request) (place : ℕ) (fault : CommandFault) (told : LinesFault)
-    → told ≡ unread (code_of fault == 40) place fault → (code_of fault ≡ 40) ⊎ IsNoCommand asked fault → AreCommandsOf requests commands → place ≡ length commands
-    → AreUnread (requests ++ asked ∷ []) told
-refused requests commands asked place fault told is why read at =
+pub refused : (requests : List Request) (commands : Batch) (asked : Request) (place : ℕ) (fault : CommandFault) (reported : LinesFault)
+    → reported ≡ unread (code_of fault == 40) place fault → (code_of fault ≡ 40) ⊎ IsNoCommand asked fault → AreCommandsOf requests commands → place ≡ length commands
+    → AreUnread (requests ++ asked ∷ []) reported
+refused requests commands asked place fault reported is why read at =
     elim (cases_Bool (code_of fault == 40)) [
       | inl memory ↦ subst (AreUnread (requests ++ asked ∷ [])) (sym (is ∙ ap (λ b. unread b place fault) memory)) tt
       | inr other ↦ subst (AreUnread (requests ++ asked ∷ [])) (sym (is ∙ ap (λ b. unread b place fault) other))
@@ -83,7 +83,7 @@ refused requests commands asked place fault told is why read at =
       no_memory other (inr none) = none
 
 -- what is read so far stays where no line more is read
-pub unread-on : (requests : List Request) (asked : Request) (told : LinesFault) → AreUnread requests told → AreUnread (requests ++ asked ∷ []) told
+pub unread-on : (requests : List Request) (asked : Request) (reported : LinesFault) → AreUnread requests reported → AreUnread (requests ++ asked ∷ []) reported
 unread-on requests asked (Unread place fault) first = unread-more requests asked place fault first
 unread-on requests asked OutOfMemory first = tt
 

@@ -20,14 +20,14 @@ transcript-join stored session seen [] mid made replies (same, none, empty) more
     subst (λ (m : List Batch). IsTranscript stored session seen more after m (replies ++ rest)) (ap (λ (m : List Batch). m ++ others) (sym none))
     (subst (λ (r : List ℕ). IsTranscript stored session seen more after others r) (ap (λ (r : List ℕ). r ++ rest) (sym empty))
     (subst (λ (h : History). IsTranscript stored session h more after others rest) same run))
-transcript-join stored session seen (turn ∷ turns) mid made replies (next, one, two, first, second, taken, told, all_made, all_told) more after others rest run = (
+transcript-join stored session seen (turn ∷ turns) mid made replies (next, one, two, first, second, taken, reported, all_made, all_reported) more after others rest run = (
   next,
   one,
   two ++ others,
   first,
   second ++ rest,
   taken,
-  transcript-join stored session next turns mid two second told more after others rest run,
+  transcript-join stored session next turns mid two second reported more after others rest run,
   ap (λ (m : List Batch). m ++ others) all_made ∙ append_assoc one two others,
-  ap (λ (r : List ℕ). r ++ rest) all_told ∙ append_assoc first second rest,
+  ap (λ (r : List ℕ). r ++ rest) all_reported ∙ append_assoc first second rest,
 )

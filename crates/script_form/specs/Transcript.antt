@@ -42,20 +42,20 @@ pub data StoreReport : Type 0 where
 -- what is known of the store of a book: whether there is one, and what may be reported of it at which history
 pub record BookStore : Type 1 where
   pub there : Bool
-  pub told : History → StoreReport → Type 0
+  pub reported : History → StoreReport → Type 0
 
 -- a store, by what may be reported of it and whether it is there
 abbrev pub store_by : (History → StoreReport → Type 0) → Bool → BookStore
-store_by told there = record { there = there; told = told }
+store_by reported there = record { there = there; reported = reported }
 
--- what is told without a change: nothing is made, and the reply is this text
-pub record IsTold (text : List ℕ) (made : List Batch) (reply : List ℕ) : Type 0 where
+-- an answer alone: nothing is made, and the reply is this text
+pub record AnswersOnly (text : List ℕ) (made : List Batch) (reply : List ℕ) : Type 0 where
   pub nothing_made : made ≡ []
-  pub told : reply ≡ text
+  pub reported : reply ≡ text
 
 -- a refused line: nothing is made, and the reply is the fault
 abbrev pub IsRefused : CommandFault → List Batch → List ℕ → Type 0
-IsRefused fault made reply = IsTold (error_line fault) made reply
+IsRefused fault made reply = AnswersOnly (error_line fault) made reply
 
 -- an accepted batch: the newest entry is this session's, and the reply is its version's number
 pub record IsAcceptedBy (session : ℕ) (before : History) (commands : Batch) (after : History) (made : List Batch) (reply : List ℕ) : Type 0 where
@@ -63,7 +63,7 @@ pub record IsAcceptedBy (session : ℕ) (before : History) (commands : Batch) (a
   pub version : versions.Version
   pub goes_on : GoesOnBy before (between ++ record { event = accepted session commands; version = version } ∷ []) after
   pub only : made ≡ commands ∷ []
-  pub told : reply ≡ numbered_line (codes "ok ") version.number
+  pub reported : reply ≡ numbered_line (codes "ok ") version.number
 
 -- a command: refused by the first reason at the newest version, or accepted; or the book closes, or is not as far
 abbrev pub IsSubmitted : ℕ → History → Command → History → List Batch → List ℕ → Type 0
@@ -75,7 +75,7 @@ IsSubmitted session before command after made reply =
 
 -- a batch that is refused for one of its commands, by its place and its fault, or as a whole
 abbrev pub IsRefusedBatch : BatchRefusal → List Batch → List ℕ → Type 0
-IsRefusedBatch (at place reason) made reply = IsTold (refused_line place (Version (Layer (fault_of reason)))) made reply
+IsRefusedBatch (at place reason) made reply = AnswersOnly (refused_line place (Version (Layer (fault_of reason)))) made reply
 IsRefusedBatch (whole reason) made reply = IsRefused (Version (Layer (fault_of reason))) made reply
 
 -- a batch of commands: refused by the first reason that applies at the newest version, or accepted; or the book closes,
@@ -107,18 +107,18 @@ IsOfStore fault =
     (fault ≡ Device) ⊎ (fault ≡ Full) ⊎ (fault ≡ StoreFailed) ⊎ (fault ≡ SequenceLimit) ⊎ (fault ≡ OutOfMemory) ⊎ (fault ≡ Closing)
 
 -- the version that had been seen is durable, and the reply is the durable number, which may be reported
-pub record IsDurableTold (stored : BookStore) (asked : ℕ) (after : History) (made : List Batch) (reply : List ℕ) : Type 0 where
+pub record IsDurableReported (stored : BookStore) (asked : ℕ) (after : History) (made : List Batch) (reply : List ℕ) : Type 0 where
   pub nothing_made : made ≡ []
   pub reached : asked ≤ (newest after).durable
-  pub may : stored.told after of_number
-  pub told : reply ≡ numbered_line (codes "durable ") (newest after).durable
+  pub may : stored.reported after of_number
+  pub reported : reply ≡ numbered_line (codes "durable ") (newest after).durable
 
 -- the version that had been seen is not durable, for what the store says, which may be reported
 pub record IsNotDurable (stored : BookStore) (asked : ℕ) (after : History) (made : List Batch) (reply : List ℕ) : Type 0 where
   pub behind : (newest after).durable < asked
   pub fault : CommandFault
   pub of_store : IsOfStore fault
-  pub may : (fault ≡ Closing) ⊎ stored.told after (of_fault fault)
+  pub may : (fault ≡ Closing) ⊎ stored.reported after (of_fault fault)
   pub refused : IsRefused fault made reply
 
 -- whether the version that a session had seen is durable: where the book has no store, nobody can say
@@ -126,7 +126,7 @@ abbrev pub IsSynced : BookStore → ℕ → History → List Batch → List ℕ 
 IsSynced stored asked after made reply =
     ((stored.there ≡ false) × IsRefused NoStore made reply)
     ⊎ IsRefused Gone made reply
-    ⊎ (IsTrue stored.there × IsDurableTold stored asked after made reply)
+    ⊎ (IsTrue stored.there × IsDurableReported stored asked after made reply)
     ⊎ (IsTrue stored.there × IsNotDurable stored asked after made reply)
 
 -- a PUT, a DEFINE or a DROP: refused where it is no command, else submitted
@@ -193,7 +193,7 @@ IsAnswered stored session before question after made reply = (made ≡ []) × Is
 abbrev pub IsBatchAnswered : ℕ → History → List Request → History → List Batch → List ℕ → Type 0
 IsBatchAnswered session before requests after made reply =
     ((place : ℕ) × (fault : CommandFault) × IsFirstUnread requests place fault
-    × IsTold (refused_line place fault) made reply)
+    × AnswersOnly (refused_line place fault) made reply)
     ⊎ ((commands : Batch) × AreCommandsOf requests commands × IsSubmittedAll session before commands after made reply)
 
 -- whether a request takes memory: for what it makes or waits for, or for the lines of its reply; none for its name

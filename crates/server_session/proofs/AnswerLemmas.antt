@@ -44,11 +44,11 @@ use Rattle.script_form.specs.declared.open_batch.LinesFault.{LinesFault}
 use Rattle.script_form.specs.declared.open_batch.LinesFault.TheVariants.{Unread, OutOfMemory as NoMemory}
 use Rattle.script_form.specs.declared.line_turn.LineTurn.TheVariants.{Waits, Alone, Whole}
 use Rattle.server_session.specs.Answering.{Answers, AnswersAll, IsAnswerToAll, Submits, SubmitsAll}
-use Rattle.server_session.specs.Fault.{fault_told, lines_told}
+use Rattle.server_session.specs.Fault.{fault_reported, lines_reported}
 use Rattle.server_session.specs.Session.{IsSharedRun, Stays}
 use Rattle.script_form.specs.declared.line_reply.LineReply.{LineReply}
 use Rattle.server_session.specs.Turn.{EndsTurn, TakesTurn}
-use Rattle.server_session.proofs.BatchFaults.{batch_told, numbered_reason, batch_reported}
+use Rattle.server_session.proofs.BatchFaults.{batch_fault_text, numbered_reason, batch_reported}
 use Rattle.server_session.proofs.Runs.{run-none, run-one}
 use Rattle.server_session.proofs.Turns.{stays_self}
 
@@ -69,7 +69,7 @@ answers_there stored me request reply answered = answers_so me me (stays_self me
 
 -- a fault
 pub refused_so : (fault : CommandFault) → IsRefused fault [] (error_line fault)
-refused_so fault = record { nothing_made = refl; told = refl }
+refused_so fault = record { nothing_made = refl; reported = refl }
 
 -- a question whose name is none
 pub unnamed : (name : List ℕ) (fault : CommandFault) (T : Type 0) → IsNoName name fault → WithName name (error_line fault) T
@@ -88,14 +88,14 @@ submits_accepted was now command number on same accepted made = record {
         version = accepted.version;
         goes_on = accepted.goes_on;
         only = refl;
-        told = ap (numbered_line (codes "ok ")) (sym accepted.told);
+        reported = ap (numbered_line (codes "ok ")) (sym accepted.reported);
       }))));
   only = made;
 }
 
-reported : (o : Option Refusal) (fault : VersionFault) → option_map version_fault.version_fault_of o ≡ Some fault → (refusal : Refusal) × (o ≡ Some refusal) × (fault ≡ Layer (fault_of refusal))
-reported None fault e = absurd (cc)
-reported (Some refusal) fault e = (refusal, refl, cc)
+refused_as : (o : Option Refusal) (fault : VersionFault) → option_map version_fault.version_fault_of o ≡ Some fault → (refusal : Refusal) × (o ≡ Some refusal) × (fault ≡ Layer (fault_of refusal))
+refused_as None fault e = absurd (cc)
+refused_as (Some refusal) fault e = (refusal, refl, cc)
 
 -- a session that was refused makes nothing
 pub made_none : {F : Type 0} (gone fault : F) (was now : Known) → LeavesSession gone was now fault → now.made ≡ was.made
@@ -103,11 +103,11 @@ made_none gone fault was now (inl there) = ap (λ (k : Known). k.made) there.1
 made_none gone fault was now (inr there) = there.1
 
 submit_refused : (was now : Known) (command : Command) (fault : BookFault) → IsCommandRefused true (newest (seen now)) command fault
-    → IsRefused OutOfMemory [] (error_line (fault_told fault)) ⊎ IsSubmitted was.session (seen was) command (seen now) [] (error_line (fault_told fault))
-submit_refused was now command (book.Version wrong) (inl memory) = inl (record { nothing_made = refl; told = ap (λ w. error_line (Version w)) memory.0 })
+    → IsRefused OutOfMemory [] (error_line (fault_reported fault)) ⊎ IsSubmitted was.session (seen was) command (seen now) [] (error_line (fault_reported fault))
+submit_refused was now command (book.Version wrong) (inl memory) = inl (record { nothing_made = refl; reported = ap (λ w. error_line (Version w)) memory.0 })
 submit_refused was now command (book.Version wrong) (inr by) =
-    let r = reported (refusal_at (newest (seen now)).number (newest (seen now)).layers command) wrong by in
-    inr (inr (inr (inl (r.0, r.1, record { nothing_made = refl; told = ap (λ w. error_line (Version w)) r.2 }))))
+    let r = refused_as (refusal_at (newest (seen now)).number (newest (seen now)).layers command) wrong by in
+    inr (inr (inr (inl (r.0, r.1, record { nothing_made = refl; reported = ap (λ w. error_line (Version w)) r.2 }))))
 submit_refused was now command book.Closing refused = inr (inl (refused_so Closing))
 submit_refused was now command book.Gone refused = inr (inr (inl (refused_so Gone)))
 submit_refused was now command book.NoStore refused = absurd refused
@@ -115,8 +115,8 @@ submit_refused was now command (book.Store fault) refused = absurd refused
 
 pub submits_refused : (was now : Known) (command : Command) (fault : BookFault) → BeginsWith (seen now) (seen was) → (now.book ≡ was.book) × (now.session ≡ was.session)
     → LeavesSession book.Gone was now fault → IsCommandRefused true (newest (seen now)) command fault
-    → (told : CommandFault) → told ≡ fault_told fault → Submits was command now (error_line told)
-submits_refused was now command fault on same unchanged refused told is =
+    → (reported : CommandFault) → reported ≡ fault_reported fault → Submits was command now (error_line reported)
+submits_refused was now command fault on same unchanged refused reported is =
     let stays : Stays was now = record { book = same.0; session = same.1; goes_on = on } in
     subst (λ (f : CommandFault). Submits was command now (error_line f)) (sym is) (record {
       stays = stays;
@@ -138,32 +138,32 @@ submits_all_accepted was now commands number on same accepted made = record {
         version = accepted.version;
         goes_on = accepted.goes_on;
         only = refl;
-        told = ap (numbered_line (codes "ok ")) (sym accepted.told);
+        reported = ap (numbered_line (codes "ok ")) (sym accepted.reported);
       }))));
   only = made;
 }
 
-refusal_told : (refusal : BatchRefusal) → IsRefusedBatch refusal [] (batch_told (batch_faults.batch_fault_of refusal))
-refusal_told (at place reason) = record { nothing_made = refl; told = ap (refused_line place) (numbered_reason reason) }
-refusal_told (whole reason) = record { nothing_made = refl; told = ap error_line (numbered_reason reason) }
+refusal_reported : (refusal : BatchRefusal) → IsRefusedBatch refusal [] (batch_fault_text (batch_faults.batch_fault_of refusal))
+refusal_reported (at place reason) = record { nothing_made = refl; reported = ap (refused_line place) (numbered_reason reason) }
+refusal_reported (whole reason) = record { nothing_made = refl; reported = ap error_line (numbered_reason reason) }
 
 batch_refused_by : (was now : Known) (commands : Batch) (fault : BatchFault)
     → RefusedAllBy (batch_refusal_at (newest (seen now)).number (newest (seen now)).layers commands) fault
-    → IsRefused OutOfMemory [] (batch_told fault) ⊎ IsSubmittedAll was.session (seen was) commands (seen now) [] (batch_told fault)
-batch_refused_by was now commands fault (inl memory) = inl (record { nothing_made = refl; told = ap batch_told memory.0 })
+    → IsRefused OutOfMemory [] (batch_fault_text fault) ⊎ IsSubmittedAll was.session (seen was) commands (seen now) [] (batch_fault_text fault)
+batch_refused_by was now commands fault (inl memory) = inl (record { nothing_made = refl; reported = ap batch_fault_text memory.0 })
 batch_refused_by was now commands fault (inr by) =
     let r = batch_reported (batch_refusal_at (newest (seen now)).number (newest (seen now)).layers commands) fault by in
-    inr (inr (inr (inl (r.0, r.1, subst (λ (f : BatchFault). IsRefusedBatch r.0 [] (batch_told f)) (sym r.2) (refusal_told r.0)))))
+    inr (inr (inr (inl (r.0, r.1, subst (λ (f : BatchFault). IsRefusedBatch r.0 [] (batch_fault_text f)) (sym r.2) (refusal_reported r.0)))))
 
 submit_all_refused : (was now : Known) (commands : Batch) (fault : BatchFault) → IsBatchRefused true (newest (seen now)) commands fault
-    → IsRefused OutOfMemory [] (batch_told fault) ⊎ IsSubmittedAll was.session (seen was) commands (seen now) [] (batch_told fault)
-submit_all_refused was now commands fault (inl gone) = inr (inr (inl (record { nothing_made = refl; told = ap batch_told gone })))
-submit_all_refused was now commands fault (inr (inl closing)) = inr (inl (record { nothing_made = refl; told = ap batch_told closing.1 }))
+    → IsRefused OutOfMemory [] (batch_fault_text fault) ⊎ IsSubmittedAll was.session (seen was) commands (seen now) [] (batch_fault_text fault)
+submit_all_refused was now commands fault (inl gone) = inr (inr (inl (record { nothing_made = refl; reported = ap batch_fault_text gone })))
+submit_all_refused was now commands fault (inr (inl closing)) = inr (inl (record { nothing_made = refl; reported = ap batch_fault_text closing.1 }))
 submit_all_refused was now commands fault (inr (inr by)) = batch_refused_by was now commands fault by
 
 pub submits_all_refused : (was now : Known) (commands : Batch) (fault : BatchFault) → BeginsWith (seen now) (seen was) → (now.book ≡ was.book) × (now.session ≡ was.session)
     → LeavesSession (gone_whole book.Gone) was now fault → IsBatchRefused true (newest (seen now)) commands fault
-    → (reply : List ℕ) → reply ≡ batch_told fault → SubmitsAll was commands now reply
+    → (reply : List ℕ) → reply ≡ batch_fault_text fault → SubmitsAll was commands now reply
 submits_all_refused was now commands fault on same unchanged refused reply is =
     let stays : Stays was now = record { book = same.0; session = same.1; goes_on = on } in
     subst (SubmitsAll was commands now) (sym is) (record {
@@ -185,16 +185,16 @@ answers_all was now commands reply s = record {
 }
 
 -- one of them is no command, or memory ran out for one
-unread_answered : (me : Known) (fault : LinesFault) (requests : List Request) → AreRead requests (Err fault) → IsAnswerToAll me requests me (lines_told fault)
+unread_answered : (me : Known) (fault : LinesFault) (requests : List Request) → AreRead requests (Err fault) → IsAnswerToAll me requests me (lines_reported fault)
 unread_answered me (Unread place fault) requests first = record {
   made = [];
-  answered = inr (inl (place, fault, first, record { nothing_made = refl; told = refl }));
+  answered = inr (inl (place, fault, first, record { nothing_made = refl; reported = refl }));
   only = makes_nothing me me (stays_self me) refl;
 }
 unread_answered me NoMemory requests none =
     record { made = []; answered = inl (refused_so OutOfMemory); only = makes_nothing me me (stays_self me) refl }
 
-pub answers_unread : (me : Known) (fault : LinesFault) (reply : List ℕ) → reply ≡ lines_told fault → AnswersAll me (Err fault) me reply
+pub answers_unread : (me : Known) (fault : LinesFault) (reply : List ℕ) → reply ≡ lines_reported fault → AnswersAll me (Err fault) me reply
 answers_unread me fault reply is =
     subst (AnswersAll me (Err fault) me) (sym is) (record { stays = stays_self me; answered = unread_answered me fault })
 
@@ -243,7 +243,7 @@ pub put_refused : (stored : BookStore) (me : Known) (name text : List ℕ) (faul
 put_refused stored me name text fault refused =
     answers_there stored me (put_text name text) (error_line fault)
     (elim refused [
-      | inl memory ↦ inl (memory.0, record { nothing_made = refl; told = memory.1 })
+      | inl memory ↦ inl (memory.0, record { nothing_made = refl; reported = memory.1 })
       | inr by ↦ inr (inl (fault, by, refused_so fault))
     ])
 
@@ -251,7 +251,7 @@ pub define_refused : (stored : BookStore) (me : Known) (name text : List ℕ) (f
 define_refused stored me name text fault refused =
     answers_there stored me (define_text name text) (error_line fault)
     (elim refused [
-      | inl memory ↦ inl (memory.0, record { nothing_made = refl; told = memory.1 })
+      | inl memory ↦ inl (memory.0, record { nothing_made = refl; reported = memory.1 })
       | inr by ↦ inr (inl (fault, by, refused_so fault))
     ])
 
@@ -308,11 +308,11 @@ grid_of_no_size stored me name x y step nx ny named out =
     answers_there stored me (grid name x y step nx ny) (error_line GridSize) (inr (refl, inr (named, inl (out, refl))))
 
 -- a question that is refused, and one that is not
-pub asked_some : {F : Type 0} (as_told : F → CommandFault) (o : Option F) (wrong : F) (T : Type 0) → o ≡ Some wrong → Asked (option_map as_told o) (error_line (as_told wrong)) T
-asked_some as_told o wrong T is = subst (λ r. Asked (option_map as_told r) (error_line (as_told wrong)) T) (sym is) refl
+pub asked_some : {F : Type 0} (as_reported : F → CommandFault) (o : Option F) (wrong : F) (T : Type 0) → o ≡ Some wrong → Asked (option_map as_reported o) (error_line (as_reported wrong)) T
+asked_some as_reported o wrong T is = subst (λ r. Asked (option_map as_reported r) (error_line (as_reported wrong)) T) (sym is) refl
 
-pub asked_none : {F : Type 0} (as_told : F → CommandFault) (o : Option F) (reply : List ℕ) (T : Type 0) → o ≡ None → T → Asked (option_map as_told o) reply T
-asked_none as_told o reply T is answered = subst (λ r. Asked (option_map as_told r) reply T) (sym is) answered
+pub asked_none : {F : Type 0} (as_reported : F → CommandFault) (o : Option F) (reply : List ℕ) (T : Type 0) → o ≡ None → T → Asked (option_map as_reported o) reply T
+asked_none as_reported o reply T is answered = subst (λ r. Asked (option_map as_reported r) reply T) (sym is) answered
 
 -- what holds of a version, a name and a grid holds of the newest version, of the name as it was read and of the grid as it was asked for
 pictured : (P : versions.Version → List ℕ → Grid → Type 0) (version new : versions.Version) (known name : List ℕ) (g points : Grid)
@@ -334,18 +334,18 @@ module _ (was now : Known) (stays : Stays was now) (made : now.made ≡ was.made
       answers_so was now stays made stored (locate name x y w) (error_line (Version wrong))
       (inr (refl, inr (named, inr (inr (inl (query, there, ap (λ f. error_line (Version f)) unknown.0))))))
 
-  pub locate_told : (stored : BookStore) (name known : List ℕ) (x y w : ℤ) (p : Point) (version : versions.Version) (place : Location) → version ≡ newest (seen now)
+  pub locate_reported : (stored : BookStore) (name known : List ℕ) (x y w : ℤ) (p : Point) (version : versions.Version) (place : Location) → version ≡ newest (seen now)
       → known ≡ name → p ≡ record { x = x; y = y; w = w } → IsTrue (is_name name) → IsQuery x y w → IsTrue (stands version.layers known)
       → place ≡ answer_at version.layers known p → Answers stored was (locate name x y w) now (location_line place)
-  locate_told stored name known x y w p version place is same point named query stood right =
+  locate_reported stored name known x y w p version place is same point named query stood right =
       let there : stands (newest (seen now)).layers name ≡ true =
       ap (λ (v : versions.Version). stands v.layers name) (sym is) ∙ ap (stands version.layers) (sym same) ∙ stood in
-      let told : place ≡ answer_at (newest (seen now)).layers name (record { x = x; y = y; w = w }) =
+      let reported : place ≡ answer_at (newest (seen now)).layers name (record { x = x; y = y; w = w }) =
       right
       ∙ ap (λ n. answer_at version.layers n p) same ∙ ap (answer_at version.layers name) point
       ∙ ap (λ (v : versions.Version). answer_at v.layers name (record { x = x; y = y; w = w })) is in
       answers_so was now stays made stored (locate name x y w) (location_line place)
-      (inr (refl, inr (named, inr (inr (inr (query, there, ap location_line told))))))
+      (inr (refl, inr (named, inr (inr (inr (query, there, ap location_line reported))))))
 
   -- ==== GRID
 
@@ -361,7 +361,7 @@ module _ (was now : Known) (stays : Stays was now) (made : now.made ≡ was.made
   grid_refused stored name known x y step nx ny g version wrong is same points named size refused =
       answers_so was now stays made stored (grid name x y step nx ny) (error_line (of_grid wrong))
       (elim refused [
-        | inl memory ↦ inl (named, record { nothing_made = refl; told = ap (λ f. error_line (of_grid f)) memory.0 })
+        | inl memory ↦ inl (named, record { nothing_made = refl; reported = ap (λ f. error_line (of_grid f)) memory.0 })
         | inr by ↦
             inr (
               refl,
@@ -376,12 +376,12 @@ module _ (was now : Known) (stays : Stays was now) (made : now.made ≡ was.made
             )
       ])
 
-  pub grid_told : (stored : BookStore) (name known : List ℕ) (x y step nx ny : ℤ) (g : Grid) (version : versions.Version) (text : List ℕ) → version ≡ newest (seen now)
+  pub grid_reported : (stored : BookStore) (name known : List ℕ) (x y step nx ny : ℤ) (g : Grid) (version : versions.Version) (text : List ℕ) → version ≡ newest (seen now)
       → known ≡ name → g ≡ grid_with x y step nx ny → IsTrue (is_name name) → IsGridSize step nx ny → grid_refusal version.layers known g ≡ None
       → text ≡ grid_text version.layers known g → Answers stored was (grid name x y step nx ny) now text
-  grid_told stored name known x y step nx ny g version text is same points named size free told =
+  grid_reported stored name known x y step nx ny g version text is same points named size free reported =
       let there = pictured (λ v m p. grid_refusal v.layers m p ≡ None) version (newest (seen now)) known name g (grid_with x y step nx ny) is same points free in
-      let drawn = pictured (λ v m p. text ≡ grid_text v.layers m p) version (newest (seen now)) known name g (grid_with x y step nx ny) is same points told in
+      let drawn = pictured (λ v m p. text ≡ grid_text v.layers m p) version (newest (seen now)) known name g (grid_with x y step nx ny) is same points reported in
       answers_so was now stays made stored (grid name x y step nx ny) text
       (inr (refl, inr (named, inr (inr (size, asked_none of_grid _ text _ there drawn)))))
 
@@ -393,10 +393,10 @@ module _ (was now : Known) (stays : Stays was now) (made : now.made ≡ was.made
   pub list_no_memory : (stored : BookStore) → Answers stored was list_layers now (error_line OutOfMemory)
   list_no_memory stored = answers_so was now stays made stored list_layers (error_line OutOfMemory) (inl (refl, refused_so OutOfMemory))
 
-  pub list_told : (stored : BookStore) (version : versions.Version) (text : List ℕ) → version ≡ newest (seen now) → text ≡ layers_text version.layers → Answers stored was list_layers now text
-  list_told stored version text is told =
+  pub list_reported : (stored : BookStore) (version : versions.Version) (text : List ℕ) → version ≡ newest (seen now) → text ≡ layers_text version.layers → Answers stored was list_layers now text
+  list_reported stored version text is reported =
       answers_so was now stays made stored list_layers text
-      (inr (refl, inr (told ∙ ap (λ (v : versions.Version). layers_text v.layers) is)))
+      (inr (refl, inr (reported ∙ ap (λ (v : versions.Version). layers_text v.layers) is)))
 
 -- ==== Lines
 

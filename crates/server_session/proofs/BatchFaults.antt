@@ -32,9 +32,9 @@ fault_numbered code =
     (cond (code == 44) Gone OutOfMemory))))))))
 
 -- the bytes that say why a batch is refused
-abbrev pub batch_told : BatchFault → List ℕ
-batch_told (At place code) = refused_line place (fault_numbered code)
-batch_told (Whole code) = error_line (fault_numbered code)
+abbrev pub batch_fault_text : BatchFault → List ℕ
+batch_fault_text (At place code) = refused_line place (fault_numbered code)
+batch_fault_text (Whole code) = error_line (fault_numbered code)
 
 pub numbered_reason : (reason : Refusal) → fault_numbered (batch_faults.code_for reason) ≡ Version (Layer (fault_of reason))
 numbered_reason terms.unknown_layer = refl

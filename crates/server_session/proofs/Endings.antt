@@ -16,7 +16,7 @@ use Rattle.script_form.specs.Writing.{IsCutShort}
 use Rattle.script_form.proofs.LongLines.{take-nil}
 use Rattle.server_session.specs.Loop.{EndsBy, Finishes}
 use Rattle.server_session.specs.Replying.{IsPastMost}
-use Rattle.server_session.specs.Session.{IsSharedRun, IsFaultTold, IsCutOff, EndsSo, IsSessionWithin, Stays}
+use Rattle.server_session.specs.Session.{IsSharedRun, IsFaultReported, IsCutOff, EndsSo, IsSessionWithin, Stays}
 use Rattle.server_session.specs.SessionState.{HasTaken, turns_ended, turns_at_end, AnswersTurns, AnswersInPart}
 use Rattle.server_session.specs.declared.session_state.SessionState.{SessionState}
 use Rattle.server_session.proofs.Runs.{run-none, run-join, cut_behind}
@@ -30,7 +30,7 @@ pub record IsUnderWay (most : ℕ) (stored : BookStore) (was : Known) (input lef
   pub reads : Consumes input left taken
   pub written : List ℕ
   pub writes : Appends output all written
-  pub told : IsSharedRun stored was (turns_of (ended_lines (take most taken))) now written
+  pub reported : IsSharedRun stored was (turns_of (ended_lines (take most taken))) now written
   pub stands : HasTaken state (take most taken)
 
 -- a byte too many came of a script that is longer than it may be
@@ -83,8 +83,8 @@ ends-finished most stored was End input left left_after output mid all count sta
       ended = record {
         all_taken = at_end;
         short = short;
-        told = subst (λ t. IsSharedRun stored was (all_turns_of (whole_lines t)) new (way.written ++ answers.replies)) (in_limit most way.taken short)
-            (to_end stored was old new (take most way.taken) way.written answers.replies stays way.told answers.told);
+        reported = subst (λ t. IsSharedRun stored was (all_turns_of (whole_lines t)) new (way.written ++ answers.replies)) (in_limit most way.taken short)
+            (to_end stored was old new (take most way.taken) way.written answers.replies stays way.reported answers.reported);
       };
     }
 ends-finished most stored was (Failed code) input left left_after output mid all count state old new way stays within reads at_end finishes =
@@ -101,7 +101,7 @@ ends-finished most stored was (Failed code) input left left_after output mid all
           at_end,
           short,
           subst (λ t. IsCutOff stored was new (all_turns_of (whole_lines t)) (way.written ++ part.written)) (in_limit most way.taken short)
-              (cut_at_end stored was old new (take most way.taken) way.written part.written stays way.told part.cut),
+              (cut_at_end stored was old new (take most way.taken) way.written part.written stays way.reported part.cut),
         )),
       )));
     }
@@ -119,11 +119,11 @@ pub ends-at_read : (most : ℕ) (stored : BookStore) (was : Known) (end : Sessio
     → IsSessionWithin most stored end was now input left_after output all
 ends-at_read most stored was end input left left_after output mid all count state now way within kept ends =
     let short = subst (λ n. n ≤ most) (sym way.as_many) within in
-    let told = subst (λ t. IsSharedRun stored was (turns_of (ended_lines t)) now way.written) (in_limit most way.taken short) way.told in
+    let reported = subst (λ t. IsSharedRun stored was (turns_of (ended_lines t)) now way.written) (in_limit most way.taken short) way.reported in
     let reads = Consumes-kept input left left_after way.taken way.reads kept in
-    by_line (fault_line end 48 (error_line Read) mid all ends) (λ line. (short, record { replies = way.written; told = told; fault = refl })) reads where
+    by_line (fault_line end 48 (error_line Read) mid all ends) (λ line. (short, record { replies = way.written; reported = reported; fault = refl })) reads where
       by_line : ((end ≡ Failed 48) × Appends mid all (error_line Read)) ⊎ ((end ≡ Failed 49) × ((front : List ℕ) × IsCutShort (error_line Read) front × Appends mid all front))
-          → ((line : List ℕ) → (length way.taken ≤ most) × IsFaultTold stored was now way.taken line (way.written ++ line)) → Consumes input left_after way.taken → IsSessionWithin most stored end was now input left_after output all
+          → ((line : List ℕ) → (length way.taken ≤ most) × IsFaultReported stored was now way.taken line (way.written ++ line)) → Consumes input left_after way.taken → IsSessionWithin most stored end was now input left_after output all
       by_line (inl (same, appended)) fault reads = record {
         taken = way.taken;
         written = way.written ++ error_line Read;
@@ -144,9 +144,9 @@ pub ends-past_limit : (most : ℕ) (stored : BookStore) (was : Known) (end : Ses
     → IsUnderWay most stored was input left output mid count state now → count ≡ most + 1 → EndsBy end 47 (error_line ReadLimit) mid all
     → IsSessionWithin most stored end was now input left output all
 ends-past_limit most stored was end input left output mid all count state now way past ends =
-    by_line (fault_line end 47 (error_line ReadLimit) mid all ends) (λ line. (way.as_many ∙ past, record { replies = way.written; told = way.told; fault = refl })) where
+    by_line (fault_line end 47 (error_line ReadLimit) mid all ends) (λ line. (way.as_many ∙ past, record { replies = way.written; reported = way.reported; fault = refl })) where
       by_line : ((end ≡ Failed 47) × Appends mid all (error_line ReadLimit)) ⊎ ((end ≡ Failed 49) × ((front : List ℕ) × IsCutShort (error_line ReadLimit) front × Appends mid all front))
-          → ((line : List ℕ) → (length way.taken ≡ most + 1) × IsFaultTold stored was now (take most way.taken) line (way.written ++ line)) → IsSessionWithin most stored end was now input left output all
+          → ((line : List ℕ) → (length way.taken ≡ most + 1) × IsFaultReported stored was now (take most way.taken) line (way.written ++ line)) → IsSessionWithin most stored end was now input left output all
       by_line (inl (same, appended)) fault = record {
         taken = way.taken;
         written = way.written ++ error_line ReadLimit;
@@ -202,8 +202,8 @@ goes_on most stored was input left left_after output mid all count more allowed 
       reads = Consumes-trans input left left_after way.taken (take more chunk) way.reads reads;
       written = way.written ++ answered.replies;
       writes = Appends-trans output mid all way.written answered.replies way.writes answered.appended;
-      told = subst (λ t. IsSharedRun stored was (turns_of (ended_lines t)) new (way.written ++ answered.replies)) bytes
-          (further stored was old new (take most way.taken) (take allowed chunk) way.written answered.replies stays way.told answered.told);
+      reported = subst (λ t. IsSharedRun stored was (turns_of (ended_lines t)) new (way.written ++ answered.replies)) bytes
+          (further stored was old new (take most way.taken) (take allowed chunk) way.written answered.replies stays way.reported answered.reported);
       stands = subst (HasTaken state_then) bytes (takes (take most way.taken) way.stands);
     }
 
@@ -224,7 +224,7 @@ ends-stopped most stored was input left left_after output mid all count more all
         refl,
         inl (subst (λ t. IsCutOff stored was new (turns_of (ended_lines t)) (way.written ++ part.written))
             (let_in most way.taken chunk more allowed short (is ∙ ap (λ n. min more (most - n)) (sym way.as_many)))
-            (cut_further stored was old new (take most way.taken) (take allowed chunk) way.written part.written stays way.told part.cut)),
+            (cut_further stored was old new (take most way.taken) (take allowed chunk) way.written part.written stays way.reported part.cut)),
       )));
     }
 
@@ -236,7 +236,7 @@ begins most stored was input output state begun = record {
   reads = Consumes-nil input;
   written = [];
   writes = Appends-nil output;
-  told = subst (λ t. IsSharedRun stored was (turns_of (ended_lines t)) was []) (sym (take-nil most)) (run-none stored was);
+  reported = subst (λ t. IsSharedRun stored was (turns_of (ended_lines t)) was []) (sym (take-nil most)) (run-none stored was);
   stands = subst (HasTaken state) (sym (take-nil most)) begun;
 }
 

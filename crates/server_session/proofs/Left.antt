@@ -13,7 +13,7 @@ use Rattle.script_form.specs.OpenBatch.{IsOpen}
 use Rattle.script_form.specs.Lines.{without_cr, ended_lines, unended, last_line, whole_lines}
 use Rattle.script_form.specs.Replies.{error_line, reply_text}
 use Rattle.script_form.specs.Requests.{request_of}
-use Rattle.book_history.specs.declared.fault.ToldFault.{ToldFault}
+use Rattle.book_history.specs.declared.fault.ReportedFault.{ReportedFault}
 use Rattle.script_form.specs.Transcript.{BookStore, StoreReport, store_by}
 use Rattle.script_form.specs.Turns.{Turn, Waiting, cut_off, cut_off_in, ended_by, turns_of, all_turns_of, waiting_after, waiting_behind}
 use Rattle.script_form.proofs.LongLines.{request_of-cut, request_of-cut_ended}
@@ -30,7 +30,7 @@ use Rattle.server_session.proofs.Turns.{begins_self, begins_trans, stays_self}
 use Rattle.server_session.proofs.Weaker.{run}
 
 -- what may be reported of all that goes on from a history may be of all that goes on from a later one
-pub may_report-on : (stored : List Entry → ℕ → Type 0) (failed : List Entry → ToldFault → Type 0) (there : Bool) (may : History → StoreReport → Type 0) (was now : Known) → Stays was now → MayReport stored failed there was may → MayReport stored failed there now may
+pub may_report-on : (stored : List Entry → ℕ → Type 0) (failed : List Entry → ReportedFault → Type 0) (there : Bool) (may : History → StoreReport → Type 0) (was now : Known) → Stays was now → MayReport stored failed there was may → MayReport stored failed there now may
 may_report-on stored failed there may was now stays all one history report goes_on = all one history report (begins_trans (seen was) (seen now) history stays.goes_on goes_on)
 
 pub some_then : {P Q : List Turn → Type 0} (left : Option (List Turn)) → ((l : List Turn) → P l → Q l) → IfSome left P → IfSome left Q
@@ -119,7 +119,7 @@ module _ (first state : SessionState) (bytes : List ℕ) (takes : (taken : List 
 -- ==== A line
 
 -- its reply is that to the next turn
-pub next_reply : (from : Bool → Known → Type 0) (stored : List Entry → ℕ → Type 0) (failed : List Entry → ToldFault → Type 0) (there : Bool) (may : History → StoreReport → Type 0) (was now : Known) (before after : Option OpenBatch) (line : List ℕ) (reply : LineReply)
+pub next_reply : (from : Bool → Known → Type 0) (stored : List Entry → ℕ → Type 0) (failed : List Entry → ReportedFault → Type 0) (there : Bool) (may : History → StoreReport → Type 0) (was now : Known) (before after : Option OpenBatch) (line : List ℕ) (reply : LineReply)
     → from there was → MayReport stored failed there was may → TakesTurn (store_of stored failed there) was before line now after (reply_text reply) → EndsTurn before line was now (Some reply)
     → (l : List Turn) → IsAtLine before line l → IsNextReply from may now (reply_text reply) l
 next_reply from stored failed there may was now before after line reply goes_on reports takes ends l is =

@@ -9,7 +9,7 @@ use Rattle.script_form.specs.Replies.{error_line}
 use Rattle.script_form.specs.Requests.{Request, nothing}
 use Rattle.script_form.specs.Transcript.{BookStore}
 use Rattle.server_session.specs.Answering.{Answers, SubmitsAll}
-use Rattle.server_session.specs.Fault.{lines_told}
+use Rattle.server_session.specs.Fault.{lines_reported}
 use Rattle.server_session.specs.Replying.{IsReplySince}
 use Rattle.server_session.proofs.AnswerLemmas.{answers_there}
 
@@ -27,6 +27,6 @@ answer_right stored was now request text answers = inr (inl (request, answers))
 pub batch_right : (stored : BookStore) (was now : Known) (commands : Batch) (text : List ℕ) → SubmitsAll was commands now text → IsReplySince stored was now text
 batch_right stored was now commands text submits = inr (inr (commands, submits))
 
-pub unread_right : (stored : BookStore) (now : Known) (fault : LinesFault) (text : List ℕ) → text ≡ lines_told fault → IsReplySince stored now now text
+pub unread_right : (stored : BookStore) (now : Known) (fault : LinesFault) (text : List ℕ) → text ≡ lines_reported fault → IsReplySince stored now now text
 unread_right stored now (lines.Unread place fault) text is = inl (record { fault = inl (place, fault, is); nothing_made = refl })
 unread_right stored now lines.OutOfMemory text is = inl (record { fault = inr (inr is); nothing_made = refl })

@@ -18,21 +18,21 @@ use Rattle.server_session.proofs.Turns.{stays_self, stays_trans}
 
 -- no turn
 pub run-none : (stored : BookStore) (me : Known) → IsSharedRun stored me [] me []
-run-none stored me = record { made = []; told = (refl, refl, refl); only = sym (append-nil me.made) }
+run-none stored me = record { made = []; reported = (refl, refl, refl); only = sym (append-nil me.made) }
 
 -- one turn
 pub run-one : (stored : BookStore) (was now : Known) (turn : Turn) (made : List Batch) (reply : List ℕ)
     → IsTurn stored was.session (seen was) turn (seen now) made reply → now.made ≡ was.made ++ made → IsSharedRun stored was (turn ∷ []) now reply
 run-one stored was now turn made reply taken only =
-    record { made = made; told = transcript-one stored was.session (seen was) turn (seen now) made reply taken; only = only }
+    record { made = made; reported = transcript-one stored was.session (seen was) turn (seen now) made reply taken; only = only }
 
 -- a run, and a run after it
 pub run-join : (stored : BookStore) (was mid now : Known) (turns more : List Turn) (replies rest : List ℕ) → Stays was mid
     → IsSharedRun stored was turns mid replies → IsSharedRun stored mid more now rest → IsSharedRun stored was (turns ++ more) now (replies ++ rest)
 run-join stored was mid now turns more replies rest stays run next = record {
   made = run.made ++ next.made;
-  told = transcript-join stored was.session (seen was) turns (seen mid) run.made replies run.told more (seen now) next.made rest
-      (subst (λ s. IsTranscript stored s (seen mid) more (seen now) next.made rest) stays.session next.told);
+  reported = transcript-join stored was.session (seen was) turns (seen mid) run.made replies run.reported more (seen now) next.made rest
+      (subst (λ s. IsTranscript stored s (seen mid) more (seen now) next.made rest) stays.session next.reported);
   only = next.only ∙ ap (λ m. m ++ next.made) run.only ∙ append_assoc was.made run.made next.made;
 }
 
@@ -73,7 +73,7 @@ pub cut_one : (stored : BookStore) (was now : Known) (turns : List Turn) (reply 
     → IsSharedRun stored was turns now reply → IsCutShort reply front → IsCutOff stored was now turns front
 cut_one stored was now turns reply front (inl none) run short =
     let nothing = subst (λ (ts : List Turn). IsSharedRun stored was ts now reply) none run in
-    absurd (omega (arith, length-append front short.unwritten, ap length short.split, ap length nothing.told.2, short.lost))
+    absurd (omega (arith, length-append front short.unwritten, ap length short.split, ap length nothing.reported.2, short.lost))
 cut_one stored was now turns reply front (inr (turn, one)) run short = record {
   before = [];
   last = turn;
@@ -84,7 +84,7 @@ cut_one stored was now turns reply front (inr (turn, one)) run short = record {
   replies = [];
   whole = run-none stored was;
   reply = reply;
-  told = subst (λ (ts : List Turn). IsSharedRun stored was ts now reply) one run;
+  reported = subst (λ (ts : List Turn). IsSharedRun stored was ts now reply) one run;
   front = front;
   cut = short;
   written_is = refl;
@@ -103,7 +103,7 @@ cut_behind stored was mid now turns more replies written stays run cut = record 
   replies = replies ++ cut.replies;
   whole = run-join stored was mid cut.between turns cut.before replies cut.replies stays run cut.whole;
   reply = cut.reply;
-  told = cut.told;
+  reported = cut.reported;
   front = cut.front;
   cut = cut.cut;
   written_is = ap (λ w. replies ++ w) cut.written_is ∙ sym (append_assoc replies cut.replies cut.front);
@@ -121,7 +121,7 @@ cut_longer stored was now turns more written cut = record {
   replies = cut.replies;
   whole = cut.whole;
   reply = cut.reply;
-  told = cut.told;
+  reported = cut.reported;
   front = cut.front;
   cut = cut.cut;
   written_is = cut.written_is;
@@ -130,13 +130,13 @@ cut_longer stored was now turns more written cut = record {
 -- ==== Turns that are answered at a writer
 
 pub answers_none : (stored : BookStore) (me : Known) (output : Option (List ℕ)) → AnswersTurns stored me [] me output output
-answers_none stored me output = record { replies = []; told = run-none stored me; appended = Appends-nil output }
+answers_none stored me output = record { replies = []; reported = run-none stored me; appended = Appends-nil output }
 
 pub answers_join : (stored : BookStore) (was mid now : Known) (turns more : List Turn) (output between all : Option (List ℕ)) → Stays was mid
     → AnswersTurns stored was turns mid output between → AnswersTurns stored mid more now between all → AnswersTurns stored was (turns ++ more) now output all
 answers_join stored was mid now turns more output between all stays one two = record {
   replies = one.replies ++ two.replies;
-  told = run-join stored was mid now turns more one.replies two.replies stays one.told two.told;
+  reported = run-join stored was mid now turns more one.replies two.replies stays one.reported two.reported;
   appended = Appends-trans output between all one.replies two.replies one.appended two.appended;
 }
 
@@ -144,7 +144,7 @@ pub stops_behind : (stored : BookStore) (was mid now : Known) (turns more : List
     → AnswersTurns stored was turns mid output between → AnswersInPart stored mid more now between all → AnswersInPart stored was (turns ++ more) now output all
 stops_behind stored was mid now turns more output between all stays one two = record {
   written = one.replies ++ two.written;
-  cut = cut_behind stored was mid now turns more one.replies two.written stays one.told two.cut;
+  cut = cut_behind stored was mid now turns more one.replies two.written stays one.reported two.cut;
   appended = Appends-trans output between all one.replies two.written one.appended two.appended;
 }
 

@@ -130,7 +130,7 @@ module _ (stored : BookStore) (old : SessionState) (was now : Known) (before aft
 
   fed_answers : (output all : Option (List ℕ)) → Appends output all reply → AnswersTurns stored was (turns_ended taken (10 ∷ [])) now output all
   fed_answers output all appended =
-      answers_as stored was now _ (turns_ended taken (10 ∷ [])) output all (sym (turns_ended-feed taken)) (record { replies = reply; told = fed_line.answered; appended = appended })
+      answers_as stored was now _ (turns_ended taken (10 ∷ [])) output all (sym (turns_ended-feed taken)) (record { replies = reply; reported = fed_line.answered; appended = appended })
 
   fed_stops : (output all : Option (List ℕ)) (front : List ℕ) → IsCutShort reply front → Appends output all front → AnswersInPart stored was (turns_ended taken (10 ∷ [])) now output all
   fed_stops output all front short appended =
@@ -215,7 +215,7 @@ pub cut_off_run : (stored : BookStore) (me : Known) (waiting : Option Waiting) (
 cut_off_run stored me None open_batch waits = absurd waits
 cut_off_run stored me (Some waiting) open_batch waits =
     run-one stored me me (cut_off waiting.came) [] (error_line CommandSyntax)
-    (record { goes_on = (stays_self me).goes_on; answered = record { nothing_made = refl; told = refl } }) (sym (append-nil me.made))
+    (record { goes_on = (stays_self me).goes_on; answered = record { nothing_made = refl; reported = refl } }) (sym (append-nil me.made))
 
 cut_off_one : (waiting : Option Waiting) → (cut_off_in waiting ≡ []) ⊎ ((turn : Turn) × (cut_off_in waiting ≡ turn ∷ []))
 cut_off_one None = inl refl
@@ -231,7 +231,7 @@ pub ends_refused : {A E : Type 0} (result : Result A E) (open_before : Option Op
     → Writes result output all (error_line CommandSyntax) → (stored : BookStore) → EndsBatch stored result open_before output all
 ends_refused result None output all some writes stored = absurd (false≢true some)
 ends_refused (Ok a) (Some open_batch) output all some appended stored = λ me waiting waits.
-    record { replies = error_line CommandSyntax; told = cut_off_run stored me waiting open_batch waits; appended = appended }
+    record { replies = error_line CommandSyntax; reported = cut_off_run stored me waiting open_batch waits; appended = appended }
 ends_refused (Err e) (Some open_batch) output all some (front, short, appended) stored = λ me waiting waits. record {
   written = front;
   cut = cut_one stored me me (cut_off_in waiting) (error_line CommandSyntax) front (cut_off_one waiting) (cut_off_run stored me waiting open_batch waits) short;
@@ -280,7 +280,7 @@ module _ (stored : BookStore) (state : SessionState) (was now : Known) (before a
   last_turns = sym (turns_at_end-last taken (some_rest state taken has some))
 
   last_answers : (output all : Option (List ℕ)) → Appends output all reply → AnswersTurns stored was (ended_by (waiting_behind (ended_lines taken)) (request_of (unended taken))) now output all
-  last_answers output all appended = record { replies = reply; told = last_taken.answered; appended = appended }
+  last_answers output all appended = record { replies = reply; reported = last_taken.answered; appended = appended }
 
 pub answers_last : {A E : Type 0} (result : Result A E) (stored : BookStore) (state : SessionState) (was now : Known) (before after : Option OpenBatch) (bytes : List ℕ) (output middle all : Option (List ℕ))
     → before ≡ state.waiting → bytes ≡ state.line → 0 < length state.line → ((reply : List ℕ) × TakesTurn stored was before bytes now after reply × Appends output middle reply)
@@ -289,12 +289,12 @@ answers_last (Ok a) stored state was now before after bytes output middle all sa
     answers_as stored was now _ (turns_at_end taken) output all (last_turns stored state was now before after bytes reply same is some takes taken has)
     (answers_join stored was now now _ _ output middle all takes.stays (last_answers stored state was now before after bytes reply same is some takes taken has output middle appended)
     (ends now _ (last_taken stored state was now before after bytes reply same is some takes taken has).waits))
-answers_last (Err e) stored state was now before after bytes output middle all same is some told ends = tt
+answers_last (Err e) stored state was now before after bytes output middle all same is some reported ends = tt
 
 pub stops_last : {A E : Type 0} (result : Result A E) (stored : BookStore) (state : SessionState) (was now : Known) (before after : Option OpenBatch) (bytes : List ℕ) (output middle all : Option (List ℕ))
     → before ≡ state.waiting → bytes ≡ state.line → 0 < length state.line → ((reply : List ℕ) × TakesTurn stored was before bytes now after reply × Appends output middle reply)
     → EndsBatch stored result after middle all → OnErr result ((taken : List ℕ) → HasTaken state taken → AnswersInPart stored was (turns_at_end taken) now output all)
-stops_last (Ok a) stored state was now before after bytes output middle all same is some told ends = tt
+stops_last (Ok a) stored state was now before after bytes output middle all same is some reported ends = tt
 stops_last (Err e) stored state was now before after bytes output middle all same is some (reply, takes, appended) ends = λ taken has.
     stops_as stored was now _ (turns_at_end taken) output all (last_turns stored state was now before after bytes reply same is some takes taken has)
     (stops_behind stored was now now _ _ output middle all takes.stays (last_answers stored state was now before after bytes reply same is some takes taken has output middle appended)

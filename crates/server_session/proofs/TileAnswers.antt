@@ -14,9 +14,9 @@ use Rattle.version_core.specs.Edges.{edges_refusal, finished_refusal, AreEdges}
 use Rattle.book_history.specs.Known.{Known, seen}
 use Rattle.book_history.specs.declared.fault.BookFault.{BookFault}
 use Rattle.book_history.specs.declared.fault.BookFault.TheVariants as book
-use Rattle.book_history.specs.declared.fault.ToldFault.{ToldFault}
-use Rattle.book_history.specs.declared.fault.ToldFault.TheVariants as store
-use Rattle.version_book.specs.Failing.{IsToldFault}
+use Rattle.book_history.specs.declared.fault.ReportedFault.{ReportedFault}
+use Rattle.book_history.specs.declared.fault.ReportedFault.TheVariants as store
+use Rattle.version_book.specs.Failing.{IsReportedFault}
 use Rattle.version_book.specs.Waits.{IsBuiltAt, IsSyncRefused, IsWaitRefused}
 use Rattle.script_form.specs.declared.fault.CommandFault.{CommandFault}
 use Rattle.script_form.specs.declared.fault.CommandFault.TheVariants.{Version, Closing, Gone, NoStore}
@@ -25,7 +25,7 @@ use Rattle.script_form.specs.Replies.{error_line, numbered_line, verdict_line}
 use Rattle.script_form.specs.Requests.{edges, wait, verify, sync}
 use Rattle.script_form.specs.Transcript.{BookStore, StoreReport, of_number, of_fault, store_by, asked_column, IsOutOfMemory, IsAnswered, IsOfStore}
 use Rattle.server_session.specs.Answering.{Answers}
-use Rattle.server_session.specs.Fault.{fault_told, store_told}
+use Rattle.server_session.specs.Fault.{fault_reported, store_reported}
 use Rattle.server_session.specs.Session.{Stays}
 use Rattle.server_session.specs.Stores.{IsReportOf}
 use Rattle.server_session.proofs.AnswerLemmas.{answers_so, answers_there, asked_none, asked_some, unnamed, refused_so}
@@ -59,21 +59,21 @@ module _ (was now : Known) (stays : Stays was now) (made : now.made ≡ was.made
   edges_refused stored name known k n version wrong is same number named refused =
       answers_so was now stays made stored (edges name k) (error_line (Version wrong))
       (elim refused [
-        | inl memory ↦ inl (named, record { nothing_made = refl; told = ap (λ f. error_line (Version f)) memory.0 })
+        | inl memory ↦ inl (named, record { nothing_made = refl; reported = ap (λ f. error_line (Version f)) memory.0 })
         | inr by ↦
             inr (refl, inr (named, inr (asked_some Version _ wrong _ (moved (λ v m c. edges_refusal v m c ≡ Some wrong) version (newest (seen now)) known name n (asked_column k) is same number by))))
       ])
 
-  pub edges_told : (stored : BookStore) (name known : List ℕ) (k : ℤ) (n : Option ℕ) (version : versions.Version) (reply : List ℕ) → version ≡ newest (seen now)
+  pub edges_reported : (stored : BookStore) (name known : List ℕ) (k : ℤ) (n : Option ℕ) (version : versions.Version) (reply : List ℕ) → version ≡ newest (seen now)
       → known ≡ name → n ≡ asked_column k → IsTrue (is_name name) → edges_refusal version known n ≡ None → AreEdges version known n reply → Answers stored was (edges name k) now reply
-  edges_told stored name known k n version reply is same number named free told =
+  edges_reported stored name known k n version reply is same number named free reported =
       answers_so was now stays made stored (edges name k) reply
       (inr (
         refl,
         inr (
           named,
           inr (asked_none Version _ reply _ (moved (λ v m c. edges_refusal v m c ≡ None) version (newest (seen now)) known name n (asked_column k) is same number free)
-              (moved (λ v m c. AreEdges v m c reply) version (newest (seen now)) known name n (asked_column k) is same number told)),
+              (moved (λ v m c. AreEdges v m c reply) version (newest (seen now)) known name n (asked_column k) is same number reported)),
         ),
       ))
 
@@ -88,15 +88,15 @@ module _ (was now : Known) (stays : Stays was now) (made : now.made ≡ was.made
   verify_refused stored name known k n version wrong is same number named refused =
       answers_so was now stays made stored (verify name k) (error_line (Version wrong))
       (elim refused [
-        | inl memory ↦ inl (named, record { nothing_made = refl; told = ap (λ f. error_line (Version f)) memory.0 })
+        | inl memory ↦ inl (named, record { nothing_made = refl; reported = ap (λ f. error_line (Version f)) memory.0 })
         | inr by ↦
             inr (refl, inr (named, inr (asked_some Version _ wrong _ (moved (λ v m c. finished_refusal v m c ≡ Some wrong) version (newest (seen now)) known name n (asked_column k) is same number by))))
       ])
 
-  pub verify_told : (stored : BookStore) (name known : List ℕ) (k : ℤ) (n : Option ℕ) (version : versions.Version) (verdict : Verdict) → version ≡ newest (seen now)
+  pub verify_reported : (stored : BookStore) (name known : List ℕ) (k : ℤ) (n : Option ℕ) (version : versions.Version) (verdict : Verdict) → version ≡ newest (seen now)
       → known ≡ name → n ≡ asked_column k → IsTrue (is_name name) → finished_refusal version known n ≡ None → IsVerdict version known n verdict
       → Answers stored was (verify name k) now (verdict_line verdict)
-  verify_told stored name known k n version verdict is same number named free right =
+  verify_reported stored name known k n version verdict is same number named free right =
       answers_so was now stays made stored (verify name k) (verdict_line verdict)
       (inr (
         refl,
@@ -117,9 +117,9 @@ pub waited_stays : (was now : Known) → BeginsWith (seen now) (seen was) → Wa
 waited_stays was now on same = record { book = same.0; session = same.1; goes_on = on }
 
 wait_refused_so : (stored : BookStore) (was now : Known) (name : List ℕ) (fault : BookFault) → IsTrue (is_name name) → IsWaitRefused true (newest (seen now)) name fault
-    → IsOutOfMemory (wait name) [] (error_line (fault_told fault)) ⊎ IsAnswered stored was.session (seen was) (wait name) (seen now) [] (error_line (fault_told fault))
+    → IsOutOfMemory (wait name) [] (error_line (fault_reported fault)) ⊎ IsAnswered stored was.session (seen was) (wait name) (seen now) [] (error_line (fault_reported fault))
 wait_refused_so stored was now name (book.Version wrong) named (inl by) = inr (refl, inr (named, inr (asked_some Version _ wrong _ by)))
-wait_refused_so stored was now name (book.Version wrong) named (inr memory) = inl (named, record { nothing_made = refl; told = ap (λ f. error_line (Version f)) memory.0 })
+wait_refused_so stored was now name (book.Version wrong) named (inr memory) = inl (named, record { nothing_made = refl; reported = ap (λ f. error_line (Version f)) memory.0 })
 wait_refused_so stored was now name book.Closing named refused =
     inr (refl, inr (named, inr (asked_none Version _ _ _ refused.1 (inr (refused.2, refl)))))
 wait_refused_so stored was now name book.Gone named refused = inr (refl, inr (named, inl refl))
@@ -127,22 +127,22 @@ wait_refused_so stored was now name book.NoStore named refused = absurd refused
 wait_refused_so stored was now name (book.Store fault) named refused = absurd refused
 
 pub wait_refused : (stored : BookStore) (was now : Known) (name known : List ℕ) (fault : BookFault) → BeginsWith (seen now) (seen was) → Waited was now → known ≡ name → IsTrue (is_name name)
-    → IsWaitRefused true (newest (seen now)) known fault → (told : CommandFault) → told ≡ fault_told fault → Answers stored was (wait name) now (error_line told)
-wait_refused stored was now name known fault on same is named refused told same_told =
-    subst (λ (f : CommandFault). Answers stored was (wait name) now (error_line f)) (sym same_told)
-    (answers_so was now (waited_stays was now on same) same.2 stored (wait name) (error_line (fault_told fault))
+    → IsWaitRefused true (newest (seen now)) known fault → (reported : CommandFault) → reported ≡ fault_reported fault → Answers stored was (wait name) now (error_line reported)
+wait_refused stored was now name known fault on same is named refused reported same_reported =
+    subst (λ (f : CommandFault). Answers stored was (wait name) now (error_line f)) (sym same_reported)
+    (answers_so was now (waited_stays was now on same) same.2 stored (wait name) (error_line (fault_reported fault))
     (wait_refused_so stored was now name fault named (subst (λ n. IsWaitRefused true (newest (seen now)) n fault) is refused)))
 
-pub wait_told : (stored : BookStore) (was now : Known) (name known : List ℕ) (number : ℕ) → BeginsWith (seen now) (seen was) → Waited was now → known ≡ name → IsTrue (is_name name)
+pub wait_reported : (stored : BookStore) (was now : Known) (name known : List ℕ) (number : ℕ) → BeginsWith (seen now) (seen was) → Waited was now → known ≡ name → IsTrue (is_name name)
     → IsBuiltAt (newest (seen now)) known number → Answers stored was (wait name) now (numbered_line (codes "built ") number)
-wait_told stored was now name known number on same is named built =
+wait_reported stored was now name known number on same is named built =
     let there = subst (λ n. IsBuiltAt (newest (seen now)) n number) is built in
     answers_so was now (waited_stays was now on same) same.2 stored (wait name) (numbered_line (codes "built ") number)
     (inr (refl, inr (named, inr (asked_none Version _ (numbered_line (codes "built ") number) _ there.derived (inl (there.built, ap (numbered_line (codes "built ")) (sym there.numbered)))))))
 
 -- ==== SYNC
 
-of_store : (fault : ToldFault) → IsOfStore (store_told fault)
+of_store : (fault : ReportedFault) → IsOfStore (store_reported fault)
 of_store store.Device = inl refl
 of_store store.Full = inr (inl refl)
 of_store store.Failed = inr (inr (inl refl))
@@ -151,41 +151,41 @@ of_store store.OutOfMemory = inr (inr (inr (inr (inl refl))))
 
 -- a refusal by a store's fault may be reported
 abbrev pub MayTellFault : (History → StoreReport → Type 0) → History → BookFault → Type 0
-MayTellFault told history (book.Store fault) = told history (of_fault (store_told fault))
-MayTellFault told history fault = Unit {0}
+MayTellFault reported history (book.Store fault) = reported history (of_fault (store_reported fault))
+MayTellFault reported history fault = Unit {0}
 
 -- what the book says of it is said of what the session has seen
-pub may_tell : (stored : List Entry → ℕ → Type 0) (failed : List Entry → ToldFault → Type 0) (now : Known) (fault : BookFault)
-    → IsToldFault failed now.log fault → MayTellFault (IsReportOf stored failed) (seen now) fault
+pub may_tell : (stored : List Entry → ℕ → Type 0) (failed : List Entry → ReportedFault → Type 0) (now : Known) (fault : BookFault)
+    → IsReportedFault failed now.log fault → MayTellFault (IsReportOf stored failed) (seen now) fault
 may_tell stored failed now (book.Version wrong) is = tt
 may_tell stored failed now book.Closing is = tt
 may_tell stored failed now book.Gone is = tt
 may_tell stored failed now book.NoStore is = tt
-may_tell stored failed now (book.Store fault) is = record { log = now.log; of = refl; told = fault; same = refl; failed_so = is }
+may_tell stored failed now (book.Store fault) is = record { log = now.log; of = refl; reported = fault; same = refl; failed_so = is }
 
 -- why a wait for a durable number is refused, and what that says of the store
-sync_refused_so : (told : History → StoreReport → Type 0) (there : Bool) (was now : Known) (fault : BookFault) → IsSyncRefused (newest (seen was)).number (newest (seen now)) fault
-    → MayTellFault told (seen now) fault → (fault ≡ book.NoStore → there ≡ false) → (there ≡ false → (fault ≡ book.NoStore) ⊎ (fault ≡ book.Gone))
-    → IsOutOfMemory sync [] (error_line (fault_told fault)) ⊎ IsAnswered (store_by told there) was.session (seen was) sync (seen now) [] (error_line (fault_told fault))
-sync_refused_so told there was now (book.Version wrong) refused may only without = absurd refused
-sync_refused_so told true was now book.Closing refused may only without =
+sync_refused_so : (reported : History → StoreReport → Type 0) (there : Bool) (was now : Known) (fault : BookFault) → IsSyncRefused (newest (seen was)).number (newest (seen now)) fault
+    → MayTellFault reported (seen now) fault → (fault ≡ book.NoStore → there ≡ false) → (there ≡ false → (fault ≡ book.NoStore) ⊎ (fault ≡ book.Gone))
+    → IsOutOfMemory sync [] (error_line (fault_reported fault)) ⊎ IsAnswered (store_by reported there) was.session (seen was) sync (seen now) [] (error_line (fault_reported fault))
+sync_refused_so reported there was now (book.Version wrong) refused may only without = absurd refused
+sync_refused_so reported true was now book.Closing refused may only without =
     inr (inr (inr (inr (refl, record { behind = refused; fault = Closing; of_store = inr (inr (inr (inr (inr refl)))); may = inl refl; refused = refused_so Closing }))))
-sync_refused_so told false was now book.Closing refused may only without = absurd (⊎_elim (λ e. absurd (cc)) (λ e. absurd (cc)) (without refl))
-sync_refused_so told there was now book.Gone refused may only without = inr (inr (inl (refused_so Gone)))
-sync_refused_so told there was now book.NoStore refused may only without = inr (inl (only refl, refused_so NoStore))
-sync_refused_so told true was now (book.Store fault) refused may only without =
-    inr (inr (inr (inr (refl, record { behind = refused; fault = store_told fault; of_store = of_store fault; may = inr may; refused = refused_so (store_told fault) }))))
-sync_refused_so told false was now (book.Store fault) refused may only without = absurd (⊎_elim (λ e. absurd (cc)) (λ e. absurd (cc)) (without refl))
+sync_refused_so reported false was now book.Closing refused may only without = absurd (⊎_elim (λ e. absurd (cc)) (λ e. absurd (cc)) (without refl))
+sync_refused_so reported there was now book.Gone refused may only without = inr (inr (inl (refused_so Gone)))
+sync_refused_so reported there was now book.NoStore refused may only without = inr (inl (only refl, refused_so NoStore))
+sync_refused_so reported true was now (book.Store fault) refused may only without =
+    inr (inr (inr (inr (refl, record { behind = refused; fault = store_reported fault; of_store = of_store fault; may = inr may; refused = refused_so (store_reported fault) }))))
+sync_refused_so reported false was now (book.Store fault) refused may only without = absurd (⊎_elim (λ e. absurd (cc)) (λ e. absurd (cc)) (without refl))
 
 pub sync_refused : (stored : BookStore) (was now : Known) (result : Result ℕ BookFault) (fault : BookFault) → result ≡ Err fault → BeginsWith (seen now) (seen was) → Waited was now
-    → IsSyncRefused (newest (seen was)).number (newest (seen now)) fault → MayTellFault stored.told (seen now) fault → (result ≡ Err book.NoStore → stored.there ≡ false)
+    → IsSyncRefused (newest (seen was)).number (newest (seen now)) fault → MayTellFault stored.reported (seen now) fault → (result ≡ Err book.NoStore → stored.there ≡ false)
     → (stored.there ≡ false → IsErrAnd result (λ f. (f ≡ book.NoStore) ⊎ (f ≡ book.Gone)))
-    → (told : CommandFault) → told ≡ fault_told fault → Answers stored was sync now (error_line told)
-sync_refused stored was now result fault is on same refused may only without told same_told =
+    → (reported : CommandFault) → reported ≡ fault_reported fault → Answers stored was sync now (error_line reported)
+sync_refused stored was now result fault is on same refused may only without reported same_reported =
     let P : BookFault → Type 0 = λ f. (f ≡ book.NoStore) ⊎ (f ≡ book.Gone) in
-    subst (λ (f : CommandFault). Answers stored was sync now (error_line f)) (sym same_told)
-    (answers_so was now (waited_stays was now on same) same.2 stored sync (error_line (fault_told fault))
-    (sync_refused_so stored.told stored.there was now fault refused may (λ e. only (is ∙ ap Err e)) (λ none. subst (λ (r : Result ℕ BookFault). IsErrAnd r P) is (without none))))
+    subst (λ (f : CommandFault). Answers stored was sync now (error_line f)) (sym same_reported)
+    (answers_so was now (waited_stays was now on same) same.2 stored sync (error_line (fault_reported fault))
+    (sync_refused_so stored.reported stored.there was now fault refused may (λ e. only (is ∙ ap Err e)) (λ none. subst (λ (r : Result ℕ BookFault). IsErrAnd r P) is (without none))))
 
 -- a book that reports a durable number has a store
 has_one : (there : Bool) (result : Result ℕ BookFault) (number : ℕ) → result ≡ Ok number
@@ -195,10 +195,10 @@ has_one false result number is without =
     let P : BookFault → Type 0 = λ f. (f ≡ book.NoStore) ⊎ (f ≡ book.Gone) in
     absurd (subst (λ (r : Result ℕ BookFault). IsErrAnd r P) is (without refl))
 
-pub sync_told : (stored : BookStore) (was now : Known) (result : Result ℕ BookFault) (number : ℕ) → result ≡ Ok number → BeginsWith (seen now) (seen was) → Waited was now
+pub sync_reported : (stored : BookStore) (was now : Known) (result : Result ℕ BookFault) (number : ℕ) → result ≡ Ok number → BeginsWith (seen now) (seen was) → Waited was now
     → (stored.there ≡ false → IsErrAnd result (λ f. (f ≡ book.NoStore) ⊎ (f ≡ book.Gone)))
-    → ((newest (seen now)).durable ≡ number) × ((newest (seen was)).number ≤ number) → stored.told (seen now) of_number → Answers stored was sync now (numbered_line (codes "durable ") number)
-sync_told stored was now result number is on same without reached may =
+    → ((newest (seen now)).durable ≡ number) × ((newest (seen was)).number ≤ number) → stored.reported (seen now) of_number → Answers stored was sync now (numbered_line (codes "durable ") number)
+sync_reported stored was now result number is on same without reached may =
     answers_so was now (waited_stays was now on same) same.2 stored sync (numbered_line (codes "durable ") number)
     (inr (inr (inr (inl (
       has_one stored.there result number is without,
@@ -206,6 +206,6 @@ sync_told stored was now result number is on same without reached may =
         nothing_made = refl;
         reached = subst (λ n. (newest (seen was)).number ≤ n) (sym reached.0) reached.1;
         may = may;
-        told = ap (numbered_line (codes "durable ")) (sym reached.0);
+        reported = ap (numbered_line (codes "durable ")) (sym reached.0);
       },
     )))))

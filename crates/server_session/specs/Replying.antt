@@ -3,7 +3,7 @@ use Rattle.std.specs.Prelude.{◌≡◌, ◌⊎◌, ℕ, ◌<◌, Bool, IsTrue, 
 use Rattle.overlay_terms.specs.Batches.{Batch}
 use Rattle.overlay_terms.specs.Histories.{Entry, History, BeginsWith}
 use Rattle.book_history.specs.Known.{Known, seen}
-use Rattle.book_history.specs.declared.fault.ToldFault.{ToldFault}
+use Rattle.book_history.specs.declared.fault.ReportedFault.{ReportedFault}
 use Rattle.script_form.specs.declared.fault.CommandFault.{CommandFault}
 use Rattle.script_form.specs.declared.fault.CommandFault.TheVariants.{CommandSyntax, OutOfMemory}
 use Rattle.script_form.specs.Lines.{whole_lines}
@@ -59,6 +59,6 @@ IsSomeReply from may now text = (has_store : Bool) × (was : Known) × from has_
 
 -- what was stored, and for what the store failed, may be reported: by a book with a store, of each history that goes on
 -- from what a session has seen
-abbrev pub MayReport : (List Entry → ℕ → Type 0) → (List Entry → ToldFault → Type 0) → Bool → Known → (History → StoreReport → Type 0) → Type 0
+abbrev pub MayReport : (List Entry → ℕ → Type 0) → (List Entry → ReportedFault → Type 0) → Bool → Known → (History → StoreReport → Type 0) → Type 0
 MayReport stored failed there was may =
     IsTrue there → (history : History) (report : StoreReport) → BeginsWith history (seen was) → IsReportOf stored failed history report → may history report

@@ -23,7 +23,7 @@ pub record Stays (was now : Known) : Type 0 where
 -- the replies to these turns, by histories from what the session had seen to what it has seen then; it made just what they made
 pub record IsSharedRun (stored : BookStore) (was : Known) (turns : List Turn) (now : Known) (replies : List ℕ) : Type 0 where
   pub made : List Batch
-  pub told : IsTranscript stored was.session (seen was) turns (seen now) made replies
+  pub reported : IsTranscript stored was.session (seen was) turns (seen now) made replies
   pub only : now.made ≡ was.made ++ made
 
 -- how a session ended: what it had known and knows, `taken`, `left` to the reader, `written`; `most`: its most bytes.
@@ -31,13 +31,13 @@ pub record IsSharedRun (stored : BookStore) (was : Known) (turns : List Turn) (n
 pub record IsEnded (most : ℕ) (stored : BookStore) (was now : Known) (taken : List ℕ) (left : Option (List ℕ)) (written : List ℕ) : Type 0 where
   pub all_taken : IsAtEnd left
   pub short : length taken ≤ most
-  pub told : IsSharedRun stored was (all_turns_of (whole_lines taken)) now written
+  pub reported : IsSharedRun stored was (all_turns_of (whole_lines taken)) now written
 
 -- before a fault: the turns of the lines that these bytes end have replies, and then `line` is written; a waiting batch
 -- has none
-pub record IsFaultTold (stored : BookStore) (was now : Known) (bytes line written : List ℕ) : Type 0 where
+pub record IsFaultReported (stored : BookStore) (was now : Known) (bytes line written : List ℕ) : Type 0 where
   pub replies : List ℕ
-  pub told : IsSharedRun stored was (turns_of (ended_lines bytes)) now replies
+  pub reported : IsSharedRun stored was (turns_of (ended_lines bytes)) now replies
   pub fault : written ≡ replies ++ line
 
 -- a write failed on the way through some turns: those before have their replies; the last one is run, and of its reply
@@ -52,7 +52,7 @@ pub record IsCutOff (stored : BookStore) (was now : Known) (turns : List Turn) (
   pub replies : List ℕ
   pub whole : IsSharedRun stored was before between replies
   pub reply : List ℕ
-  pub told : IsSharedRun stored between (last ∷ []) now reply
+  pub reported : IsSharedRun stored between (last ∷ []) now reply
   pub front : List ℕ
   pub cut : IsCutShort reply front
   pub written_is : written ≡ replies ++ front
@@ -64,9 +64,9 @@ IsWriteFault most stored was now taken left written =
     IsCutOff stored was now (turns_of (ended_lines (take most taken))) written
     ⊎ (IsAtEnd left × (length taken ≤ most) × IsCutOff stored was now (all_turns_of (whole_lines taken)) written)
     ⊎ ((front : List ℕ) × IsCutShort (error_line ReadLimit) front × (length taken ≡ most + 1)
-    × IsFaultTold stored was now (take most taken) front written)
+    × IsFaultReported stored was now (take most taken) front written)
     ⊎ ((front : List ℕ) × IsCutShort (error_line Read) front × (length taken ≤ most)
-    × IsFaultTold stored was now taken front written)
+    × IsFaultReported stored was now taken front written)
 
 -- how a session ends: with its script; or by 47, since a byte too many came; by 48, since a read failed; by 49, since a
 -- write failed; or by 40, since there was no memory for the session itself: it read and wrote nothing, and saw and made
@@ -75,8 +75,8 @@ abbrev pub EndsSo : ℕ → BookStore → SessionEnd → Known → Known → Lis
 EndsSo most stored End was now taken left written = IsEnded most stored was now taken left written
 EndsSo most stored (Failed code) was now taken left written =
     ((code ≡ 47) × (length taken ≡ most + 1)
-    × IsFaultTold stored was now (take most taken) (error_line ReadLimit) written)
-    ⊎ ((code ≡ 48) × (length taken ≤ most) × IsFaultTold stored was now taken (error_line Read) written)
+    × IsFaultReported stored was now (take most taken) (error_line ReadLimit) written)
+    ⊎ ((code ≡ 48) × (length taken ≤ most) × IsFaultReported stored was now taken (error_line Read) written)
     ⊎ ((code ≡ 49) × IsWriteFault most stored was now taken left written)
     ⊎ ((code ≡ 40) × (taken ≡ []) × (written ≡ []) × (now ≡ was))
 

@@ -29,7 +29,7 @@ turns_at_end taken = drop (length (turns_of (ended_lines taken))) (all_turns_of 
 -- these turns are run, and their replies and nothing else are appended
 pub record AnswersTurns (stored : BookStore) (was : Known) (turns : List Turn) (now : Known) (output all : Option (List ℕ)) : Type 0 where
   pub replies : List ℕ
-  pub told : IsSharedRun stored was turns now replies
+  pub reported : IsSharedRun stored was turns now replies
   pub appended : Appends output all replies
 
 -- a write failed on the way through these turns

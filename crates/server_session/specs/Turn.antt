@@ -21,9 +21,9 @@ pub record TakesTurn (stored : BookStore) (was : Known) (open_before : Option Op
   pub taken : (waiting : Option Waiting) → IsOpen waiting open_before → IsLineTaken stored was waiting line now open_then reply
 
 -- the bytes of a line's reply: none where it ends no turn
-abbrev pub told_text : Option LineReply → List ℕ
-told_text None = []
-told_text (Some reply) = reply_text reply
+abbrev pub fault_text : Option LineReply → List ℕ
+fault_text None = []
+fault_text (Some reply) = reply_text reply
 
 -- whether a line ends a turn, where a batch waits or none does: one that ends none leaves the session as it was
 abbrev pub EndsTurn : Option OpenBatch → List ℕ → Known → Known → Option LineReply → Type 0

@@ -11,7 +11,7 @@ ghost use Rattle.server_session.specs.Stores.{no_store, store_of};
 ghost use Rattle.server_session.specs.Answering.{Answers, Submits, result_text};
 ghost use Rattle.server_session.specs.Replying.{IsReplySince};
 ghost use Rattle.server_session.specs.Session.{Stays};
-ghost use Rattle.server_session.specs.Turn.{EndsTurn, TakesTurn, told_text};
+ghost use Rattle.server_session.specs.Turn.{EndsTurn, TakesTurn, fault_text};
 ghost use Rattle.version_book.specs.Store.{has_store};
 
 use crate::answering_all::answer_batch;
@@ -45,7 +45,7 @@ pub fn answer<J: BookName, S: Wait + Drop, Q: Wait + Threads + Sync>(
     line: &[u8],
 ) -> Option<LineReply>
     requires { me.old.book ≡ J.book }
-    ensures takes { TakesTurn (store_of J.stored J.failed (has_store shared.now)) me.old waiting.old line.now me.new waiting.new (told_text result) }
+    ensures takes { TakesTurn (store_of J.stored J.failed (has_store shared.now)) me.old waiting.old line.now me.new waiting.new (fault_text result) }
     ensures ends { EndsTurn waiting.old line.now me.old me.new result }
     // So much is owed before it is written, wherever in a script.
     ensures right { IfSome result (λ reply. IsReplySince (store_of J.stored J.failed (has_store shared.now)) me.old me.new (reply_text reply)) }

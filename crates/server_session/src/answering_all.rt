@@ -2,7 +2,7 @@
 ghost use Rattle.std.specs.Prelude.{◌≡◌};
 ghost use Rattle.script_form.specs.Replies.{reply_text};
 ghost use Rattle.server_session.specs.Answering.{AnswersAll, SubmitsAll};
-ghost use Rattle.server_session.specs.Fault.{lines_told};
+ghost use Rattle.server_session.specs.Fault.{lines_reported};
 ghost use Rattle.server_session.specs.Replying.{IsReplySince};
 ghost use Rattle.server_session.specs.Stores.{store_of};
 ghost use Rattle.version_book.specs.Store.{has_store};
@@ -37,7 +37,7 @@ pub(crate) fn answer_batch<J: BookName, S: Wait + Drop, Q: Wait>(
 
 /// The reply to lines that are not read as commands.
 fn unread(fault: LinesFault) -> LineReply
-    ensures { reply_text result ≡ lines_told fault }
+    ensures { reply_text result ≡ lines_reported fault }
 {
     match fault {
         LinesFault::Unread(place, fault) => LineReply::RefusedAt(place, fault),

@@ -1,15 +1,15 @@
 //! What the book refuses, as a reply says it.
 ghost use Rattle.std.specs.Prelude.{◌≡◌};
-ghost use Rattle.server_session.specs.Fault.{fault_told, store_told, IsBatchNumber, IsNumbered};
+ghost use Rattle.server_session.specs.Fault.{fault_reported, store_reported, IsBatchNumber, IsNumbered};
 
 use layer_book::fault::LayerFault;
 use script_form::CommandFault;
-use version_book::fault::{BookFault, ToldFault};
+use version_book::fault::{BookFault, ReportedFault};
 use versions::VersionFault;
 
 /// The fault as a reply says it.
 pub(crate) fn command_fault(fault: BookFault) -> CommandFault
-    ensures { result ≡ fault_told fault }
+    ensures { result ≡ fault_reported fault }
 {
     match fault {
         BookFault::Version(fault) => CommandFault::Version(fault),
@@ -20,15 +20,15 @@ pub(crate) fn command_fault(fault: BookFault) -> CommandFault
     }
 }
 
-fn store_fault(fault: ToldFault) -> CommandFault
-    ensures { result ≡ store_told fault }
+fn store_fault(fault: ReportedFault) -> CommandFault
+    ensures { result ≡ store_reported fault }
 {
     match fault {
-        ToldFault::Device => CommandFault::Device,
-        ToldFault::Full => CommandFault::Full,
-        ToldFault::Failed => CommandFault::StoreFailed,
-        ToldFault::SequenceLimit => CommandFault::SequenceLimit,
-        ToldFault::OutOfMemory => CommandFault::OutOfMemory,
+        ReportedFault::Device => CommandFault::Device,
+        ReportedFault::Full => CommandFault::Full,
+        ReportedFault::Failed => CommandFault::StoreFailed,
+        ReportedFault::SequenceLimit => CommandFault::SequenceLimit,
+        ReportedFault::OutOfMemory => CommandFault::OutOfMemory,
     }
 }
 

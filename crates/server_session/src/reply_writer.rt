@@ -38,7 +38,7 @@ pub trait ReplyWriter {
     /// Writes the reply to the next turn, without taking memory.
     fn reply(&mut self, me: &Session, reply: &LineReply) -> Result<(), CommandFault>
         requires right { IfSome (left self.old) (IsNextReply (from self.old) may_report me.now (reply_text reply.now)) }
-        requires told { IsSomeReply (from self.old) may_report me.now (reply_text reply.now) }
+        requires reported { IsSomeReply (from self.old) may_report me.now (reply_text reply.now) }
         ensures from { OnOk result ((there : Bool) (was : Known) → from self.old there was → from self.new there me.now) }
         ensures left { OnOk result (left self.new ≡ option_map (drop 1) (left self.old)) }
         ensures limit { OnOk result (may_pass_limit self.old → may_pass_limit self.new) }

@@ -66,7 +66,7 @@ pub fn session_run_within<
 ) -> SessionEnd
     requires book { me.old.book ≡ J.book }
     requires countable { most < 2 ^ 63 }
-    requires told { MayReport J.stored J.failed (has_store shared.now) me.old W.may_report }
+    requires reported { MayReport J.stored J.failed (has_store shared.now) me.old W.may_report }
     requires from { W.from writer.old (has_store shared.now) me.old }
     requires own { IfSome (W.left writer.old) (IsAtStart (R.remaining reader.old)) }
     requires limit { IsPastMost most (R.remaining reader.old) → W.may_pass_limit writer.old }
@@ -128,7 +128,7 @@ fn run<J: BookName, S: Wait + Drop, Q: Wait + Threads + Sync, R: Read, W: ReplyW
     requires going { has_ended state.old ≡ false }
     requires room { 0 < length chunk.old }
     requires countable { most < 2 ^ 63 }
-    requires told { MayReport J.stored J.failed (has_store shared.now) me.old W.may_report }
+    requires reported { MayReport J.stored J.failed (has_store shared.now) me.old W.may_report }
     requires from { W.from writer.old (has_store shared.now) me.old }
     requires own { IfSome (W.left writer.old) (IsAtStart (R.remaining reader.old)) }
     requires limit { IsPastMost most (R.remaining reader.old) → W.may_pass_limit writer.old }
@@ -144,8 +144,8 @@ fn run<J: BookName, S: Wait + Drop, Q: Wait + Threads + Sync, R: Read, W: ReplyW
             Ok(count) => count,
         };
         let allowed = count.min(most - taken);
-        let told = state.take(rt, alloc, shared, me, &chunk[..allowed], writer);
-        if told.is_err() {
+        let reported = state.take(rt, alloc, shared, me, &chunk[..allowed], writer);
+        if reported.is_err() {
             return SessionEnd::Failed(49);
         }
         taken += count;
@@ -164,7 +164,7 @@ fn finish<J: BookName, S: Wait + Drop, Q: Wait + Threads + Sync, W: ReplyWriter>
 ) -> SessionEnd
     requires book { me.old.book ≡ J.book }
     requires going { has_ended state.old ≡ false }
-    requires told { MayReport J.stored J.failed (has_store shared.now) me.old W.may_report }
+    requires reported { MayReport J.stored J.failed (has_store shared.now) me.old W.may_report }
     requires from { W.from writer.old (has_store shared.now) me.old }
     requires own { IfSome (W.left writer.old) (IsOnWay state.old []) }
     ensures finishes { Finishes (store_of J.stored J.failed (has_store shared.now)) result state.old me.old me.new (W.contents writer.old)

@@ -65,7 +65,7 @@ impl SessionState {
     ) -> Result<(), CommandFault>
         requires book { me.old.book ≡ J.book }
         requires going { has_ended self.old ≡ false }
-        requires told { MayReport J.stored J.failed (has_store shared.now) me.old W.may_report }
+        requires reported { MayReport J.stored J.failed (has_store shared.now) me.old W.may_report }
         requires from { W.from writer.old (has_store shared.now) me.old }
         requires own { IfSome (W.left writer.old) (AreNext self.old bytes.now) }
         ensures takes { OnOk result ((taken : List ℕ) → HasTaken self.old taken → HasTaken self.new (taken ++ bytes.now)) }
@@ -83,10 +83,10 @@ impl SessionState {
         // Each version that a reply reports is one of a history.
         ensures history { IsHistory (seen me.new) }
     {
-        let told = self.answer_bytes(rt, alloc, shared, me, bytes, writer);
+        let reported = self.answer_bytes(rt, alloc, shared, me, bytes, writer);
         // What it has seen is a log with a first entry: a clause rests on that.
         let _ = me.seen_log().at();
-        told
+        reported
     }
 
     fn answer_bytes<J: BookName, S: Wait + Drop, Q: Wait + Threads + Sync, W: ReplyWriter>(
@@ -100,7 +100,7 @@ impl SessionState {
     ) -> Result<(), CommandFault>
         requires book { me.old.book ≡ J.book }
         requires going { has_ended self.old ≡ false }
-        requires told { MayReport J.stored J.failed (has_store shared.now) me.old W.may_report }
+        requires reported { MayReport J.stored J.failed (has_store shared.now) me.old W.may_report }
         requires from { W.from writer.old (has_store shared.now) me.old }
         requires own { IfSome (W.left writer.old) (AreNext self.old bytes.now) }
         ensures takes { OnOk result ((taken : List ℕ) → HasTaken self.old taken → HasTaken self.new (taken ++ bytes.now)) }
@@ -133,7 +133,7 @@ impl SessionState {
     ) -> Result<(), CommandFault>
         requires book { me.old.book ≡ J.book }
         requires going { has_ended self.old ≡ false }
-        requires told { MayReport J.stored J.failed (has_store shared.now) me.old W.may_report }
+        requires reported { MayReport J.stored J.failed (has_store shared.now) me.old W.may_report }
         requires from { W.from writer.old (has_store shared.now) me.old }
         requires own { IfSome (W.left writer.old) (AreNext self.old (byte ∷ [])) }
         ensures takes { OnOk result ((taken : List ℕ) → HasTaken self.old taken → HasTaken self.new (taken ++ byte ∷ [])) }
@@ -155,11 +155,11 @@ impl SessionState {
         }
         let mut waiting = self.waiting.take();
         let line = self.line.without_cr();
-        let told = answer_line(rt, alloc, shared, me, &mut waiting, line, writer);
+        let reported = answer_line(rt, alloc, shared, me, &mut waiting, line, writer);
         self.waiting = waiting;
         self.line.clear();
-        self.ended = told.is_err();
-        told
+        self.ended = reported.is_err();
+        reported
     }
 
     /// Takes the end of the script: answers a last line that lacks its line feed, and refuses a batch whose lines did not
@@ -174,7 +174,7 @@ impl SessionState {
     ) -> Result<(), CommandFault>
         requires book { me.old.book ≡ J.book }
         requires going { has_ended self.old ≡ false }
-        requires told { MayReport J.stored J.failed (has_store shared.now) me.old W.may_report }
+        requires reported { MayReport J.stored J.failed (has_store shared.now) me.old W.may_report }
         requires from { W.from writer.old (has_store shared.now) me.old }
         requires own { IfSome (W.left writer.old) (IsOnWay self.old []) }
         ensures answers { OnOk result ((taken : List ℕ) → HasTaken self.old taken
@@ -186,9 +186,9 @@ impl SessionState {
         ensures stays { Stays me.old me.new }
         ensures history { IsHistory (seen me.new) }
     {
-        let told = self.answer_end(rt, alloc, shared, me, writer);
+        let reported = self.answer_end(rt, alloc, shared, me, writer);
         let _ = me.seen_log().at();
-        told
+        reported
     }
 
     fn answer_end<J: BookName, S: Wait + Drop, Q: Wait + Threads + Sync, W: ReplyWriter>(
@@ -201,7 +201,7 @@ impl SessionState {
     ) -> Result<(), CommandFault>
         requires book { me.old.book ≡ J.book }
         requires going { has_ended self.old ≡ false }
-        requires told { MayReport J.stored J.failed (has_store shared.now) me.old W.may_report }
+        requires reported { MayReport J.stored J.failed (has_store shared.now) me.old W.may_report }
         requires from { W.from writer.old (has_store shared.now) me.old }
         requires own { IfSome (W.left writer.old) (IsOnWay self.old []) }
         ensures answers { OnOk result ((taken : List ℕ) → HasTaken self.old taken
@@ -234,7 +234,7 @@ fn answer_line<J: BookName, S: Wait + Drop, Q: Wait + Threads + Sync, W: ReplyWr
     writer: &mut W,
 ) -> Result<(), CommandFault>
     requires book { me.old.book ≡ J.book }
-    requires told { MayReport J.stored J.failed (has_store shared.now) me.old W.may_report }
+    requires reported { MayReport J.stored J.failed (has_store shared.now) me.old W.may_report }
     requires from { W.from writer.old (has_store shared.now) me.old }
     requires own { IfSome (W.left writer.old) (IsAtLine waiting.old line.now) }
     ensures answers { AnswersLine (store_of J.stored J.failed (has_store shared.now)) result me.old waiting.old line.now me.new waiting.new

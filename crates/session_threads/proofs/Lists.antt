@@ -65,8 +65,8 @@ pub beside_pushed : {X Y : Type 0} (R : X → Y → Type 0) (xs : List X) (ys zs
 beside_pushed R xs ys zs x y is h k = subst (λ bs. AllZip R (xs ++ x ∷ []) bs) (sym is) (beside_push R xs ys x y h k)
 
 -- a list of what is taken of each gone through, with one more
-pub told_pushed : {X C : Type 0} (f : X → C) (xs : List X) (ys zs : List C) (x : X) → zs ≡ ys ++ f x ∷ [] → ys ≡ map f xs → zs ≡ map f (xs ++ x ∷ [])
-told_pushed {X} {C} f xs ys zs x is same = is ∙ ap (λ (bs : List C). bs ++ f x ∷ []) same ∙ sym (map-append f xs (x ∷ []))
+pub reported_pushed : {X C : Type 0} (f : X → C) (xs : List X) (ys zs : List C) (x : X) → zs ≡ ys ++ f x ∷ [] → ys ≡ map f xs → zs ≡ map f (xs ++ x ∷ [])
+reported_pushed {X} {C} f xs ys zs x is same = is ∙ ap (λ (bs : List C). bs ++ f x ∷ []) same ∙ sym (map-append f xs (x ∷ []))
 
 module _ {X R W : Type 0} {so : X → Ended R W → Type 0} where
   -- what has ended, at first, with one more, and of the same list
@@ -78,8 +78,8 @@ module _ {X R W : Type 0} {so : X → Ended R W → Type 0} where
   leave_more xs was now old new x e one_session one_finished left one = record {
     ended = left.ended ++ e ∷ [];
     each = beside_push so xs left.ended x e left.each one;
-    sessions_are = told_pushed ended_session left.ended was now e one_session left.sessions_are;
-    finished_are = told_pushed finished_of left.ended old new e one_finished left.finished_are;
+    sessions_are = reported_pushed ended_session left.ended was now e one_session left.sessions_are;
+    finished_are = reported_pushed finished_of left.ended old new e one_finished left.finished_are;
   }
 
   pub leave_same : {xs ys : List X} {sessions : List Known} {finished : List (Finished W)} → xs ≡ ys → Leave so xs sessions finished → Leave so ys sessions finished

@@ -86,7 +86,7 @@ where
     R: Read + Send + Drop + 's,
     W: ReplyWriter + Send + Drop + 's,
     requires scripts { All (λ script. script.session.book ≡ J.book) seats.scripts.items }
-    requires told { All (λ script. MayReport J.stored J.failed
+    requires reported { All (λ script. MayReport J.stored J.failed
         (has_store shared.now) script.session W.may_report) seats.scripts.items }
     requires from { All (λ script. W.from script.port.writer (has_store shared.now) script.session) seats.scripts.items }
     requires own { All (λ script. IfSome (W.left script.port.writer)
@@ -127,7 +127,7 @@ where
     R: Read + Send + Drop + 's,
     W: ReplyWriter + Send + Drop + 's,
     requires book { script.session.book ≡ J.book }
-    requires told { MayReport J.stored J.failed (has_store shared.now) script.session W.may_report }
+    requires reported { MayReport J.stored J.failed (has_store shared.now) script.session W.may_report }
     requires from { W.from script.port.writer (has_store shared.now) script.session }
     requires own { IfSome (W.left script.port.writer) (IsAtStart (R.remaining script.port.reader)) }
     requires limit { IsPastMost script.port.most (R.remaining script.port.reader) → W.may_pass_limit script.port.writer }
@@ -147,7 +147,7 @@ where
         promise,
         move || -> Ended<R, W>
             requires book { script.session.book ≡ J.book }
-            requires told { MayReport J.stored J.failed (has_store shared.now) script.session W.may_report }
+            requires reported { MayReport J.stored J.failed (has_store shared.now) script.session W.may_report }
             requires from { W.from script.port.writer (has_store shared.now) script.session }
             requires own { IfSome (W.left script.port.writer) (IsAtStart (R.remaining script.port.reader)) }
             requires limit { IsPastMost script.port.most (R.remaining script.port.reader) → W.may_pass_limit script.port.writer }
@@ -215,7 +215,7 @@ fn begin_script<J: BookName, S: Wait + Drop, Q: Threads + Wait + Sync, R: Read, 
     script: Script<R, W>,
 ) -> Ended<R, W>
     requires book { script.session.book ≡ J.book }
-    requires told { MayReport J.stored J.failed (has_store shared.now) script.session W.may_report }
+    requires reported { MayReport J.stored J.failed (has_store shared.now) script.session W.may_report }
     requires from { W.from script.port.writer (has_store shared.now) script.session }
     requires own { IfSome (W.left script.port.writer) (IsAtStart (R.remaining script.port.reader)) }
     requires limit { IsPastMost script.port.most (R.remaining script.port.reader) → W.may_pass_limit script.port.writer }
@@ -250,7 +250,7 @@ fn run_script<J: BookName, S: Wait + Drop, Q: Threads + Wait + Sync, R: Read, W:
     script: Script<R, W>,
 ) -> Ended<R, W>
     requires book { script.session.book ≡ J.book }
-    requires told { MayReport J.stored J.failed (has_store shared.now) script.session W.may_report }
+    requires reported { MayReport J.stored J.failed (has_store shared.now) script.session W.may_report }
     requires from { W.from script.port.writer (has_store shared.now) script.session }
     requires own { IfSome (W.left script.port.writer) (IsAtStart (R.remaining script.port.reader)) }
     requires limit { IsPastMost script.port.most (R.remaining script.port.reader) → W.may_pass_limit script.port.writer }

@@ -11,10 +11,10 @@ use Rattle.book_history.specs.Logs.{newest_in}
 use Rattle.book_lock.specs.Heard.{Heard, HasHeard}
 use Rattle.store_flushing.specs.Among.{IsFileIn, IsFileExactlyIn}
 use Rattle.store_flushing.specs.Storing.{IsStoreAt, IsStoreOf}
-use Rattle.store_flushing.specs.Told.{TellsOn}
-use Rattle.store_flushing.specs.declared.keeper.told_log.Told.{Told}
+use Rattle.store_flushing.specs.ReportNote.{TellsOn}
+use Rattle.store_flushing.specs.declared.keeper.report_log.ReportNote.{ReportNote}
 use Rattle.store_flushing.proofs.Histories.{among_more, file_more}
-use Rattle.store_flushing.proofs.ToldLemmas.{told_at_end}
+use Rattle.store_flushing.proofs.ReportedLemmas.{reported_at_end}
 
 -- the number that is stored, and the disk, of a store if there is one
 abbrev pub IsLeftOf : {D : Type 0} {g : Ghosts D} → Option (Flusher D g) → ℕ → Option D → Type 0
@@ -56,8 +56,8 @@ module _ {D : Type 0} (g : Ghosts D) (was now : History) (on : BeginsWith now wa
   exactly_left (Some f) stored disk is = λ store idle. left (IsFileExactlyIn now) f stored disk is.0 is.1 (exactly_on f store idle)
 
   -- what was written down is all that the log reports
-  pub told_left : IsHistory now → (newest now).durable ≡ (newest was).durable → (told : List Told) → (o : Option (Flusher D g)) (stored : ℕ) (disk : Option D) → IsLeftOf o stored disk
-      → IfSome o (λ f. IfSome disk (λ d. TellsOn g was told f.commit.disk now told d))
-  told_left history same told None stored disk is = tt
-  told_left history same told (Some f) stored disk is =
-      subst (λ (q : Option D). IfSome q (λ d. TellsOn g was told f.commit.disk now told d)) (sym is.1) (told_at_end g was now told f.commit.disk on history same)
+  pub notes_left : IsHistory now → (newest now).durable ≡ (newest was).durable → (reported : List ReportNote) → (o : Option (Flusher D g)) (stored : ℕ) (disk : Option D) → IsLeftOf o stored disk
+      → IfSome o (λ f. IfSome disk (λ d. TellsOn g was reported f.commit.disk now reported d))
+  notes_left history same reported None stored disk is = tt
+  notes_left history same reported (Some f) stored disk is =
+      subst (λ (q : Option D). IfSome q (λ d. TellsOn g was reported f.commit.disk now reported d)) (sym is.1) (reported_at_end g was now reported f.commit.disk on history same)

@@ -5,8 +5,8 @@ use Rattle.disk_model.specs.declared.disk.Disk.{Ghosts}
 use Rattle.disk_model.specs.Disk as device
 use Rattle.overlay_terms.specs.Histories.{Version, Entry, History}
 use Rattle.book_history.specs.Logs.{history_of, newest_in}
-use Rattle.book_history.specs.declared.fault.ToldFault.{ToldFault}
-use Rattle.book_history.specs.declared.fault.ToldFault.TheVariants as told
+use Rattle.book_history.specs.declared.fault.ReportedFault.{ReportedFault}
+use Rattle.book_history.specs.declared.fault.ReportedFault.TheVariants as reported
 use Rattle.commit_plan.specs.declared.fault.StoreFault.{StoreFault}
 use Rattle.commit_plan.specs.declared.fault.StoreFault.TheVariants as faults
 use Rattle.root_store.specs.declared.phase.Phase.{Phase}
@@ -18,7 +18,7 @@ use Rattle.flush_core.specs.Stored.{HasNoRoomFor}
 use Rattle.flush_core.specs.declared.flusher.Flusher.{Flusher}
 use Rattle.store_flushing.specs.Failing.{Fails, HoldsOfFailed, IsFailed}
 use Rattle.store_flushing.specs.Storing.{IsFollowed, IsStoreOf, KeepsLimit}
-use Rattle.store_flushing.specs.ToldFaults.{told_fault_of}
+use Rattle.store_flushing.specs.ReportedFaults.{reported_fault_of}
 use Rattle.store_flushing.proofs.Following.{further}
 use Rattle.store_flushing.proofs.Storage.{fails_twice, rose_after}
 
@@ -57,7 +57,7 @@ two_faults Failed = inr refl
 module _ {D : Type 0} (g : Ghosts D) where
   -- a commit that is not begun
   pub refused_fails : (s : Flusher D g) (v : Version) (fault : StoreFault) → is_busy s.commit.phase ≡ false → (s.commit.phase ≡ Failed → fault ≡ faults.Failed)
-      → IsReason s.commit.phase s.commit.root (HasNoRoomFor s.commit v) fault → Fails s s v (told_fault_of fault)
+      → IsReason s.commit.phase s.commit.root (HasNoRoomFor s.commit v) fault → Fails s s v (reported_fault_of fault)
   refused_fails s v faults.Device rests only is = absurd is
   refused_fails s v faults.Full rests only is = (idle_of s.commit.phase rests (λ at. absurd (cc (only at))), is)
   refused_fails s v (faults.Damaged damage) rests only is = absurd is
@@ -68,9 +68,9 @@ module _ {D : Type 0} (g : Ghosts D) where
 
   -- a device call that fails
   pub step_fails : (s t : Flusher D g) (v : Version) (fault : StoreFault) → t.commit.phase ≡ Failed
-      → (fault ≡ faults.Failed) ⊎ ((fault ≡ faults.Device) × device.Failed (g.faults s.commit.disk) (g.faults t.commit.disk)) → Fails s t v (told_fault_of fault)
-  step_fails s t v fault failed (inl before) = subst (λ (f : StoreFault). Fails s t v (told_fault_of f)) (sym before) failed
-  step_fails s t v fault failed (inr (device, rose)) = subst (λ (f : StoreFault). Fails s t v (told_fault_of f)) (sym device) rose
+      → (fault ≡ faults.Failed) ⊎ ((fault ≡ faults.Device) × device.Failed (g.faults s.commit.disk) (g.faults t.commit.disk)) → Fails s t v (reported_fault_of fault)
+  step_fails s t v fault failed (inl before) = subst (λ (f : StoreFault). Fails s t v (reported_fault_of f)) (sym before) failed
+  step_fails s t v fault failed (inr (device, rose)) = subst (λ (f : StoreFault). Fails s t v (reported_fault_of f)) (sym device) rose
 
   by_phase : (s t : Flusher D g) (fault : StoreFault) → fault ≡ fault_in s.commit.phase → (fault ≡ faults.Device → device.Failed (g.faults s.commit.disk) (g.faults t.commit.disk))
       → (fault_in s.commit.phase ≡ faults.Device) ⊎ (fault_in s.commit.phase ≡ faults.Failed)
@@ -86,18 +86,18 @@ module _ {D : Type 0} (g : Ghosts D) where
   step_cause s t (Err fault) is cause = by_phase s t fault is (λ e. cause (ap Err e)) (two_faults s.commit.phase)
 
   -- since an earlier time
-  pub fails_since : (s t u : Flusher D g) (v : Version) (fault : ToldFault) → g.faults s.commit.disk ≤ g.faults t.commit.disk → Fails t u v fault → Fails s u v fault
-  fails_since s t u v told.Device before is = rose_after g (g.faults s.commit.disk) (g.faults t.commit.disk) (g.faults u.commit.disk) before is
-  fails_since s t u v told.Full before is = is
-  fails_since s t u v told.Failed before is = is
-  fails_since s t u v told.SequenceLimit before is = is
-  fails_since s t u v told.OutOfMemory before is = is
+  pub fails_since : (s t u : Flusher D g) (v : Version) (fault : ReportedFault) → g.faults s.commit.disk ≤ g.faults t.commit.disk → Fails t u v fault → Fails s u v fault
+  fails_since s t u v reported.Device before is = rose_after g (g.faults s.commit.disk) (g.faults t.commit.disk) (g.faults u.commit.disk) before is
+  fails_since s t u v reported.Full before is = is
+  fails_since s t u v reported.Failed before is = is
+  fails_since s t u v reported.SequenceLimit before is = is
+  fails_since s t u v reported.OutOfMemory before is = is
 
   -- how a store came to be: it was followed, failed by its device alone, and its file may have as many blocks
   abbrev pub CameBy : History → Flusher D g → History → Flusher D g → Type 0
   CameBy was s now t = IsFollowed g was s now t × FailsByDevice g s.commit t.commit × KeepsLimit s t
 
-  pub failed_then : (was now : History) (s t : Flusher D g) (log : List Entry) (fault : ToldFault) → CameBy was s now t → IsFailed g now t log fault → IsFailed g was s log fault
+  pub failed_then : (was now : History) (s t : Flusher D g) (log : List Entry) (fault : ReportedFault) → CameBy was s now t → IsFailed g now t log fault → IsFailed g was s log fault
   failed_then was now s t log fault (first, by, limit) is = record {
     store = is.store;
     followed = further g was now (history_of log) s t is.store first is.followed;
@@ -107,7 +107,7 @@ module _ {D : Type 0} (g : Ghosts D) where
   }
 
   -- what holds of all for which a store fails holds of that from a later moment on
-  pub failed_on : (failed : List Entry → ToldFault → Type 0) (was now : History) (s t : Flusher D g) → (IsStoreOf g was s → CameBy was s now t)
+  pub failed_on : (failed : List Entry → ReportedFault → Type 0) (was now : History) (s t : Flusher D g) → (IsStoreOf g was s → CameBy was s now t)
       → HoldsOfFailed g failed was s → HoldsOfFailed g failed now t
   failed_on failed was now s t so_far all log fault on =
       all log fault (λ is. let came : CameBy was s now t = so_far is in failed_then was now s t log fault came (on came.0.store))

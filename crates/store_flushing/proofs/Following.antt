@@ -6,14 +6,14 @@ use Rattle.overlay_terms.specs.Histories.{Entry, History}
 use Rattle.book_history.specs.Logs.{history_of}
 use Rattle.flush_core.specs.declared.flusher.Flusher.{Flusher}
 use Rattle.store_flushing.specs.Among.{IsFileIn}
-use Rattle.store_flushing.specs.Storing.{IsStoreOf, Flushes, KeepsTold, IsFollowed, HoldsOfStored}
+use Rattle.store_flushing.specs.Storing.{IsStoreOf, Flushes, KeepsReported, IsFollowed, HoldsOfStored}
 use Rattle.store_flushing.proofs.Histories.{begins_self, begins_trans, file_more}
 
 module _ {D : Type 0} (g : Ghosts D) where
   pub by_run : (was now : History) (s t : Flusher D g) → Flushes g was s now t → IsFollowed g was s now t
   by_run was now s t run = record { goes_on = run.goes_on; store = run.store; no_less = run.no_less; moments = run.moments }
 
-  pub by_call : (was now : History) (s t : Flusher D g) → KeepsTold g was s now t → IsFollowed g was s now t
+  pub by_call : (was now : History) (s t : Flusher D g) → KeepsReported g was s now t → IsFollowed g was s now t
   by_call was now s t call = record { goes_on = call.goes_on; store = call.store; no_less = call.no_less; moments = call.moments }
 
   pub further : (a b c : History) (s t u : Flusher D g) → IsFollowed g a s b t → IsFollowed g b t c u → IsFollowed g a s c u

@@ -8,9 +8,9 @@ use mathlib.Core.List.{IsPrefix}
 use Rattle.overlay_terms.specs.Batches.{is_touched_by_all}
 use Rattle.overlay_terms.specs.Histories.{Tile, Finished, tile_at, Version, Event, accepted, kept, durable_to, Follows, Entry, AllFollow, last_version}
 use Rattle.book_history.specs.Logs.{IsLog, newest_in}
-use Rattle.store_flushing.specs.Since.{tile_kept, kept_in, number_told, reported_in, HasTilesOf, TilesStay, reports_between, AreFew, NumbersTell}
+use Rattle.store_flushing.specs.Since.{tile_kept, kept_in, number_reported, reported_in, HasTilesOf, TilesStay, reports_between, AreFew, NumbersTell}
 use Rattle.store_flushing.proofs.Histories.{follow_rest, last_append, last_rises}
-use Rattle.store_flushing.proofs.ToldLemmas.{none_in}
+use Rattle.store_flushing.proofs.ReportedLemmas.{none_in}
 
 -- ---- an event that keeps no tile adds none
 
@@ -37,7 +37,7 @@ tiles_stay version (e ∷ es) follow none name k tile there =
 -- ---- of an event the number rises, or it is a tile or a report
 
 one_counted : (old new : Version) (event : Event) (tiles : List Finished) (numbers : List ℕ) → Follows old event new
-    → new.number + length (cons_option (tile_kept event) tiles) + length (cons_option (number_told event) numbers)
+    → new.number + length (cons_option (tile_kept event) tiles) + length (cons_option (number_reported event) numbers)
     ≡ old.number + 1 + length tiles + length numbers
 one_counted old new (accepted session batch) tiles numbers follows = omega (arith, follows.number)
 one_counted old new (kept n column t) tiles numbers follows = omega (arith, follows.number)
@@ -49,7 +49,7 @@ counted version [] follow = omega arith
 counted version (e ∷ es) follow =
     omega (arith, counted e.version es follow.1, one_counted version e.version e.event (kept_in es) (reported_in es) follow.0)
 
-one_same : (old new : Version) (event : Event) → Follows old event new → number_told event ≡ None → new.durable ≡ old.durable
+one_same : (old new : Version) (event : Event) → Follows old event new → number_reported event ≡ None → new.durable ≡ old.durable
 one_same old new (accepted session batch) follows none = follows.durable
 one_same old new (kept n column t) follows none = follows.durable
 one_same old new (durable_to number) follows none = absurd (cc none)
@@ -58,7 +58,7 @@ same_durable : (version : Version) (entries : List Entry) → AllFollow version 
     → (last_version version entries).durable ≡ version.durable
 same_durable version [] follow none = refl
 same_durable version (e ∷ es) follow none =
-    let both = parts (number_told e.event) (reported_in es) none in
+    let both = parts (number_reported e.event) (reported_in es) none in
     same_durable e.version es follow.1 both.1 ∙ one_same version e.version e.event follow.0 both.0
 
 empty : {A : Type 0} (xs : List A) → length xs ≡ 0 → xs ≡ []
@@ -121,7 +121,7 @@ module _ (was now rest : List Entry) (log : IsLog was) (later : IsLog now) (is :
 
 -- as the code counts: by the places of the last entries of both
 module _ (was now : List Entry) (log : IsLog was) (later : IsLog now) (first last reports : ℕ)
-    (from : first + 1 ≡ length was) (to : last + 1 ≡ length now) (told : reports ≡ reports_between (newest_in was) (newest_in now)) where
+    (from : first + 1 ≡ length was) (to : last + 1 ≡ length now) (reported : reports ≡ reports_between (newest_in was) (newest_in now)) where
   entries : (rest : List Entry) → now ≡ was ++ rest → first + length rest ≡ last
   entries rest is = omega (arith, from, to, ap (λ (l : List Entry). length l) is, length-append was rest)
 
@@ -130,9 +130,9 @@ module _ (was now : List Entry) (log : IsLog was) (later : IsLog now) (first las
   known_by_numbers le prefix few =
       let p = prefix (omega (arith, from, to, le)) in
       let is : now ≡ was ++ p.0 = sym p.1 in
-      tiles_known was now p.0 log later is (omega (arith, few, told, entries p.0 is, no_lower was now p.0 log later is))
+      tiles_known was now p.0 log later is (omega (arith, few, reported, entries p.0 is, no_lower was now p.0 log later is))
 
-  pub told_by_numbers : (since : List Entry) → now ≡ was ++ since → kept_in since ≡ [] → length (reported_in since) ≤ 1
+  pub reported_by_numbers : (since : List Entry) → now ≡ was ++ since → kept_in since ≡ [] → length (reported_in since) ≤ 1
       → (last - first) - reports ≤ (newest_in now).number - (newest_in was).number
-  told_by_numbers since is none one =
-      omega (arith, told, entries since is, no_lower was now since log later is, are_few was now since log later is none one)
+  reported_by_numbers since is none one =
+      omega (arith, reported, entries since is, no_lower was now since log later is, are_few was now since log later is none one)

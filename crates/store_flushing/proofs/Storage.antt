@@ -21,7 +21,7 @@ use Rattle.root_store.proofs.Steps.{rest_either, shut_either, both_either}
 use Rattle.flush_core.specs.declared.flusher.Flusher.{Flusher}
 use Rattle.flush_core.specs.Stored.{stored_after, IsCommitOf, IsImageOf}
 use Rattle.store_flushing.specs.Among.{IsFileIn}
-use Rattle.store_flushing.specs.Storing.{Goes, IsStoreAt, IsStoreOf, AllReported, Flushes, KeepsLimit, KeepsTold}
+use Rattle.store_flushing.specs.Storing.{Goes, IsStoreAt, IsStoreOf, AllReported, Flushes, KeepsLimit, KeepsReported}
 use Rattle.store_flushing.proofs.Histories.{begins_self, begins_trans, numbers_rise, among_more, file_more, newest_among}
 
 abbrev IsDone : Result Progress StoreFault → Type 0
@@ -342,8 +342,8 @@ module _ {D : Type 0} (g : Ghosts D) where
 
     done_way : (number : ℕ) → IsHistory h → r ≡ Ok (progress.Done number) → Goes g h s → number ≤ (newest h).number
     done_way number history done way =
-        let told : number ≡ way.y.root.version = (subst (λ (q : Result Progress StoreFault). IfOk q (λ p. Outcome g new.commit p way.x way.y)) done (moves way.x way.y way.runs).ok).1 in
-        omega (arith, numbers_rise h way.next.version history way.next.among, way.next.image.number, way.next_number, told)
+        let reported : number ≡ way.y.root.version = (subst (λ (q : Result Progress StoreFault). IfOk q (λ p. Outcome g new.commit p way.x way.y)) done (moves way.x way.y way.runs).ok).1 in
+        omega (arith, numbers_rise h way.next.version history way.next.among, way.next.image.number, way.next_number, reported)
 
     -- a commit that is done was of a version of the history
     pub done_level : (number : ℕ) → IsHistory h → r ≡ Ok (progress.Done number) → number ≤ (newest h).number
@@ -353,10 +353,10 @@ module _ {D : Type 0} (g : Ghosts D) where
         (ways h s.commit.phase s refl is.store)
 
   -- a commit that is done, and is reported
-  pub reported : (h n : History) (s new : Flusher D g) (number : ℕ) → Moves h s new → FailsByDevice g s.commit new.commit → KeepsLimit s new → new.commit.root.version ≡ number → number ≤ (newest h).number → BeginsWith n h
+  pub durable_failed : (h n : History) (s new : Flusher D g) (number : ℕ) → Moves h s new → FailsByDevice g s.commit new.commit → KeepsLimit s new → new.commit.root.version ≡ number → number ≤ (newest h).number → BeginsWith n h
       → (number ≤ (newest h).number → number ≤ (newest n).durable) → ((newest n).durable ≡ number) ⊎ ((newest n).durable ≡ (newest h).durable) → Flushes g h s n new
-  reported h n s new number moved fails limit done level on reached told =
-      let less : (newest n).durable ≤ new.commit.root.version = ⊎_elim (λ to. omega (arith, to, done)) (λ stays. omega (arith, stays, moved.store.reported)) told in
+  durable_failed h n s new number moved fails limit done level on reached reported =
+      let less : (newest n).durable ≤ new.commit.root.version = ⊎_elim (λ to. omega (arith, to, done)) (λ stays. omega (arith, stays, moved.store.reported)) reported in
       record {
         goes_on = on;
         store = store_more h n new on less moved.store;
@@ -370,20 +370,20 @@ module _ {D : Type 0} (g : Ghosts D) where
   -- ---- calls of a keeper
 
   -- a call that reports no more than was stored as it began
-  pub kept : (was now : History) (s t : Flusher D g) → Flushes g was s now t → IsHistory now → (newest now).durable ≤ s.commit.root.version → KeepsTold g was s now t
-  kept was now s t run valid told = record {
+  pub kept : (was now : History) (s t : Flusher D g) → Flushes g was s now t → IsHistory now → (newest now).durable ≤ s.commit.root.version → KeepsReported g was s now t
+  kept was now s t run valid reported = record {
     goes_on = run.goes_on;
     valid = valid;
     store = run.store;
     no_less = run.no_less;
-    told = told;
+    reported = reported;
     moments = run.moments;
     by_device = run.by_device;
     blocks = run.blocks;
   }
 
   -- one that reports and stores nothing more
-  pub kept_on : (was now : History) (s t : Flusher D g) → KeepsTold g was s now t → (newest now).durable ≡ (newest was).durable → t.commit.root.version ≡ s.commit.root.version
+  pub kept_on : (was now : History) (s t : Flusher D g) → KeepsReported g was s now t → (newest now).durable ≡ (newest was).durable → t.commit.root.version ≡ s.commit.root.version
       → Flushes g was s now t
   kept_on was now s t call same stored = record {
     goes_on = call.goes_on;
@@ -396,8 +396,8 @@ module _ {D : Type 0} (g : Ghosts D) where
   }
 
   -- two, after which all that is stored is reported
-  pub told_all : (a b c : History) (s t u : Flusher D g) → KeepsTold g a s b t → KeepsTold g b t c u → AllReported c u → Flushes g a s c u
-  told_all a b c s t u first second all = record {
+  pub reported_all : (a b c : History) (s t u : Flusher D g) → KeepsReported g a s b t → KeepsReported g b t c u → AllReported c u → Flushes g a s c u
+  reported_all a b c s t u first second all = record {
     goes_on = begins_trans a b c first.goes_on second.goes_on;
     store = second.store;
     no_less = omega (arith, first.no_less, second.no_less);
@@ -411,19 +411,19 @@ module _ {D : Type 0} (g : Ghosts D) where
   }
 
   -- all that is reported by its end is in each file that a crash may leave at any moment of it
-  pub told_is_left : (was now : History) (s t : Flusher D g) → KeepsTold g was s now t → LeavesOnly g s.commit.disk t.commit.disk (IsFileIn now (newest now).durable)
-  told_is_left was now s t call =
+  pub reported_is_left : (was now : History) (s t : Flusher D g) → KeepsReported g was s now t → LeavesOnly g s.commit.disk t.commit.disk (IsFileIn now (newest now).durable)
+  reported_is_left was now s t call =
       widened g s.commit.disk t.commit.disk (IsFileIn now s.commit.root.version) (IsFileIn now (newest now).durable)
-      (λ file is. file_more now now s.commit.root.version (newest now).durable file (begins_self now) call.told is) call.moments
+      (λ file is. file_more now now s.commit.root.version (newest now).durable file (begins_self now) call.reported is) call.moments
 
   -- a device call
-  pub step_kept : (h : History) (s new : Flusher D g) → IsHistory h → IsStoreOf g h s → Moves h s new → FailsByDevice g s.commit new.commit → KeepsLimit s new → KeepsTold g h s h new
+  pub step_kept : (h : History) (s new : Flusher D g) → IsHistory h → IsStoreOf g h s → Moves h s new → FailsByDevice g s.commit new.commit → KeepsLimit s new → KeepsReported g h s h new
   step_kept h s new valid is moved fails limit = record {
     goes_on = begins_self h;
     valid = valid;
     store = moved.store;
     no_less = moved.no_less;
-    told = is.reported;
+    reported = is.reported;
     moments = moved.moments;
     by_device = fails;
     blocks = limit;
@@ -438,11 +438,11 @@ module _ {D : Type 0} (g : Ghosts D) where
 
   -- a report of what is stored
   module _ (h n : History) (s : Flusher D g) (at : OnlyNow s) (on : BeginsWith n h)
-      (told : ((newest n).durable ≡ s.commit.root.version) ⊎ ((newest n).durable ≡ (newest h).durable)) (is : IsStoreOf g h s) where
+      (reported : ((newest n).durable ≡ s.commit.root.version) ⊎ ((newest n).durable ≡ (newest h).durable)) (is : IsStoreOf g h s) where
     no_more : (newest n).durable ≤ s.commit.root.version
-    no_more = ⊎_elim (λ to. omega (arith, to)) (λ stays. omega (arith, stays, is.reported)) told
+    no_more = ⊎_elim (λ to. omega (arith, to)) (λ stays. omega (arith, stays, is.reported)) reported
 
-    pub report_kept : IsHistory n → KeepsTold g h s n s
+    pub report_kept : IsHistory n → KeepsReported g h s n s
     report_kept valid =
         let store = store_more h n s on no_more is in
         record {
@@ -450,14 +450,14 @@ module _ {D : Type 0} (g : Ghosts D) where
           valid = valid;
           store = store;
           no_less = omega arith;
-          told = no_more;
+          reported = no_more;
           moments = started g s.commit.disk (IsFileIn n s.commit.root.version) (λ c left. store_leaves n s store c (at c left));
           by_device = fails_not s.commit;
           blocks = λ limit is. is;
         }
 
-    pub all_told : (s.commit.root.version ≤ (newest h).number → s.commit.root.version ≤ (newest n).durable) → s.commit.root.version ≤ (newest h).number → AllReported n s
-    all_told reached level = omega (arith, no_more, reached level)
+    pub all_reported : (s.commit.root.version ≤ (newest h).number → s.commit.root.version ≤ (newest n).durable) → s.commit.root.version ≤ (newest h).number → AllReported n s
+    all_reported reached level = omega (arith, no_more, reached level)
 
 Succeeds : {A B : Type 0} → Result A B → Type 0
 Succeeds (Ok x) = Unit {0}
@@ -472,10 +472,10 @@ never_both r x e is not = subst Succeeds (sym is ∙ not) tt
 pub begin_kept : {D A : Type 0} (g : Ghosts D) (h : History) (s new : Flusher D g) (v : Version) (r : Result A StoreFault) → OnlyNow g s
     → is_busy s.commit.phase ≡ false → IsHistory h → v ≡ newest h → (s.commit.phase ≡ Failed → r ≡ Err fault.Failed)
     → ((x : Kept) → StoreStandsFor g s.commit x → OnOk r ((y : Kept) × IsCommitOf v y × RunsFrom g new.commit x y)) → new.commit.root.version ≡ s.commit.root.version
-    → OnOk r (new.commit.phase ≡ Close) → new.commit.disk ≡ s.commit.disk → KeepsLimit s new → OnErr r (new ≡ s) → IsStoreOf g h s → KeepsTold g h s h new
+    → OnOk r (new.commit.phase ≡ Close) → new.commit.disk ≡ s.commit.disk → KeepsLimit s new → OnErr r (new ≡ s) → IsStoreOf g h s → KeepsReported g h s h new
 begin_kept g h s new v (Ok u) at idle history latest failed begins stored busy disk limit same is =
     kept g h h s new
     (commit_begins g h s new v idle (λ why. never_both (Ok u) u fault.Failed refl (failed why)) history latest begins stored busy disk at limit is)
     history is.reported
 begin_kept {D} g h s new v (Err why) at idle history latest failed begins stored busy disk limit same is =
-    subst (λ (f : Flusher D g). KeepsTold g h s h f) (sym same) (kept g h h s s (begun g h s at is) history is.reported)
+    subst (λ (f : Flusher D g). KeepsReported g h s h f) (sym same) (kept g h h s s (begun g h s at is) history is.reported)

@@ -9,7 +9,7 @@ use Rattle.root_store.specs.Running.{StoreStandsFor}
 use Rattle.flush_core.specs.declared.flusher.Flusher.{Flusher}
 use Rattle.flush_core.specs.Stored.{IsImageOf}
 use Rattle.store_flushing.specs.Among.{IsFileIn}
-use Rattle.store_flushing.specs.Storing.{IsStoreOf, KeepsTold}
+use Rattle.store_flushing.specs.Storing.{IsStoreOf, KeepsReported}
 use Rattle.store_flushing.specs.Since.{reported_in}
 
 -- a store that holds a version, of which no more is durable than stored, is one of the history that begins with it
@@ -31,8 +31,8 @@ StoreIsKnown {D = D} g = (history : History) (f : Flusher D g) → g.is_honest f
     → Leaves g f.commit.disk (IsFileIn history f.commit.root.version) → IsStoreOf g history f
 
 -- at each moment of a keeper's call a crash leaves a version no older than what the history reports durable by its end
-abbrev pub ToldIsLeft : {D : Type 0} → Ghosts D → Type 0
-ToldIsLeft {D = D} g = (was now : History) (old new : Flusher D g) → KeepsTold g was old now new
+abbrev pub ReportedIsLeft : {D : Type 0} → Ghosts D → Type 0
+ReportedIsLeft {D = D} g = (was now : History) (old new : Flusher D g) → KeepsReported g was old now new
     → LeavesOnly g old.commit.disk new.commit.disk (IsFileIn now (newest now).durable)
 
 -- the durable number of a history's newest version is that of its start, or among those reported in its entries

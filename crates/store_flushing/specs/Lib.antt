@@ -3,7 +3,7 @@ pub mod Laws
 pub mod Since
 pub mod Stores
 pub mod Storing
-pub mod ToldFaults
-pub mod Told
+pub mod ReportedFaults
+pub mod ReportNote
 pub mod Unstored
 pub mod Failing

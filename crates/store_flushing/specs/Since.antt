@@ -19,13 +19,13 @@ abbrev pub kept_in : List Entry → List Finished
 kept_in entries = filter_map (λ (e : Entry). tile_kept e.event) entries
 
 -- the number that an event reports durable
-abbrev pub number_told : Event → Option ℕ
-number_told (durable_to number) = Some number
-number_told event = None
+abbrev pub number_reported : Event → Option ℕ
+number_reported (durable_to number) = Some number
+number_reported event = None
 
 -- the numbers that were reported durable in some entries, in order
 abbrev pub reported_in : List Entry → List ℕ
-reported_in entries = filter_map (λ (e : Entry). number_told e.event) entries
+reported_in entries = filter_map (λ (e : Entry). number_reported e.event) entries
 
 -- each tile of a later version is the earlier one's
 abbrev pub HasTilesOf : Version → Version → Type 0
@@ -46,13 +46,13 @@ abbrev pub AreFew : Version → ℕ → Version → Type 0
 AreFew old entries new = old.number + entries ≤ new.number + reports_between old new
 
 -- then no tile was kept between them; and they are that few wherever none was, and at most one number was reported
-pub record AreToldByNumbers (version : Version) (entries : List Entry) : Type 0 where
+pub record AreReportedByNumbers (version : Version) (entries : List Entry) : Type 0 where
   pub none : AreFew version (length entries) (last_version version entries) → kept_in entries ≡ []
   pub few : kept_in entries ≡ [] → length (reported_in entries) ≤ 1
       → AreFew version (length entries) (last_version version entries)
 
 abbrev pub NumbersTell : Type 0
-NumbersTell = (version : Version) (entries : List Entry) → AllFollow version entries → AreToldByNumbers version entries
+NumbersTell = (version : Version) (entries : List Entry) → AllFollow version entries → AreReportedByNumbers version entries
 
 -- what is remembered of a root: its tiles are those of the version that ends a log of the store's book
 abbrev pub IsRemembered : Book → LiveContent → Option BookLog → Type 0

@@ -3,10 +3,10 @@ use Rattle.std.specs.Prelude.{List, [], Option, Some, None}
 use Rattle.disk_model.specs.declared.disk.Disk.{Ghosts}
 use Rattle.flush_core.specs.declared.flusher.Flusher.{Flusher}
 use Rattle.book_lock.specs.Heard.{Heard}
-use Rattle.store_flushing.specs.Told.{told_in}
+use Rattle.store_flushing.specs.ReportNote.{notes_in}
 use Rattle.store_flushing.specs.declared.keeper.store.Store.{Store}
 use Rattle.store_flushing.specs.declared.keeper.store.Store.TheVariants.{Kept, Alone}
-use Rattle.store_flushing.specs.declared.keeper.told_log.Told.{Told}
+use Rattle.store_flushing.specs.declared.keeper.report_log.ReportNote.{ReportNote}
 
 module _ {D : Type 0} {g : Ghosts D} where
   -- the one reporter
@@ -20,6 +20,6 @@ module _ {D : Type 0} {g : Ghosts D} where
   flusher_in (Alone reporter) = None
 
   -- what was reported durable
-  abbrev pub told_by : Store D g → List Told
-  told_by (Kept keeper) = told_in keeper.told
-  told_by (Alone reporter) = []
+  abbrev pub notes_by : Store D g → List ReportNote
+  notes_by (Kept keeper) = notes_in keeper.reported
+  notes_by (Alone reporter) = []

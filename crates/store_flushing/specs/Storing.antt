@@ -70,13 +70,13 @@ pub record Flushes {D : Type 0} (g : Ghosts D) (was : History) (old : Flusher D 
 
 -- a call of a store's keeper: what the reporter has seen goes on and is a history, the store is one of it, and it fails
 -- by its device alone. What was stored as it began has all that is reported by its end; no crash within it leaves less
-pub record KeepsTold {D : Type 0} (g : Ghosts D) (was : History) (old : Flusher D g) (now : History) (new : Flusher D g)
+pub record KeepsReported {D : Type 0} (g : Ghosts D) (was : History) (old : Flusher D g) (now : History) (new : Flusher D g)
     : Type 0 where
   pub goes_on : BeginsWith now was
   pub valid : IsHistory now
   pub store : IsStoreOf g now new
   pub no_less : old.commit.root.version ≤ new.commit.root.version
-  pub told : (newest now).durable ≤ old.commit.root.version
+  pub reported : (newest now).durable ≤ old.commit.root.version
   pub moments : LeavesOnly g old.commit.disk new.commit.disk (IsFileIn now old.commit.root.version)
   pub by_device : FailsByDevice g old.commit new.commit
   pub blocks : KeepsLimit old new
@@ -84,7 +84,7 @@ pub record KeepsTold {D : Type 0} (g : Ghosts D) (was : History) (old : Flusher 
 -- the same of a reporter and its store, where the store is one of the history that the reporter has seen
 abbrev pub Keeps : {D : Type 0} (g : Ghosts D) → Heard → Flusher D g → Heard → Flusher D g → Type 0
 Keeps g was old now new =
-    IsStoreOf g (history_of was.log) old → KeepsTold g (history_of was.log) old (history_of now.log) new
+    IsStoreOf g (history_of was.log) old → KeepsReported g (history_of was.log) old (history_of now.log) new
 
 -- a store was followed: its history went on, it is one of it, stores nothing older, and a crash since left no older version
 pub record IsFollowed {D : Type 0} (g : Ghosts D) (was : History) (old : Flusher D g) (now : History) (new : Flusher D g)

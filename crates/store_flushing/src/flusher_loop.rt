@@ -6,7 +6,7 @@ ghost use Rattle.root_store.specs.declared.phase.Phase.TheVariants as phases;
 ghost use Rattle.book_history.specs.Logs.{history_of};
 ghost use Rattle.store_flushing.specs.Failing.{HoldsOfFailed};
 ghost use Rattle.store_flushing.specs.Storing.{HoldsOfStored, IsStoreOf, Flushes};
-ghost use Rattle.store_flushing.specs.Told.{KeepsTelling};
+ghost use Rattle.store_flushing.specs.ReportNote.{KeepsTelling};
 
 use crate::keeper::Keeper;
 use disk_model::disk::Disk;

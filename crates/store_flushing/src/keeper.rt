@@ -10,12 +10,12 @@ ghost use Rattle.flush_core.specs.Stored.{HasNoRoomFor, stored_after};
 ghost use Rattle.book_history.specs.Fault.{passes};
 ghost use Rattle.book_history.specs.Logs.{history_of, newest_in};
 ghost use Rattle.store_flushing.specs.Storing.{AllReported, IsStoreOf, Keeps};
-ghost use Rattle.store_flushing.specs.ToldFaults.{told_fault_of};
+ghost use Rattle.store_flushing.specs.ReportedFaults.{reported_fault_of};
 
 pub use crate::flusher_loop::flush;
 use crate::keeper::held_store::HeldStore;
 pub use crate::keeper::held_store::flusher_loop;
-use crate::keeper::told_log::ToldLog;
+use crate::keeper::report_log::ReportLog;
 use crate::reports;
 use commit_plan::fault::StoreFault;
 use disk_model::disk::Disk;
@@ -32,7 +32,7 @@ use versions::Version;
 mod held_store;
 pub mod opened;
 pub mod store;
-pub mod told_log;
+pub mod report_log;
 mod version_mark;
 
 /// A store, and the one token that may report what it stores. Both are reached by its calls alone. None of them moves
@@ -43,39 +43,39 @@ mod version_mark;
 pub struct Keeper<D: Disk> {
     reporter: Reporter,
     held: HeldStore<D>,
-    told: ToldLog,
+    reported: ReportLog,
     ghost same_book: { ∥ held.seen_log.book ≡ reporter.book ∥₁ },
 }
 
 impl<D: Disk> Keeper<D> {
-    ghost use Rattle.store_flushing.specs.Told.{KeepsTelling, news_in, told_at, told_in};
+    ghost use Rattle.store_flushing.specs.ReportNote.{KeepsTelling, news_in, notes_at, notes_in};
 
     /// A keeper of a reporter, a store, and what was reported durable.
-    fn of(reporter: Reporter, held: HeldStore<D>, told: ToldLog) -> Keeper<D>
+    fn of(reporter: Reporter, held: HeldStore<D>, reported: ReportLog) -> Keeper<D>
         requires { held.seen_log.book ≡ reporter.book }
         ensures reporter { result.reporter ≡ reporter }
         ensures held { result.held ≡ held }
-        ensures told { result.told ≡ told }
+        ensures reported { result.reported ≡ reported }
     {
         Keeper {
             reporter,
             held,
-            told,
+            reported,
         }
     }
 
     /// What it was made of, as its calls left it.
-    fn into_parts(self) -> (Reporter, HeldStore<D>, ToldLog)
+    fn into_parts(self) -> (Reporter, HeldStore<D>, ReportLog)
         ensures reporter { result.0 ≡ self.reporter }
         ensures held { result.1 ≡ self.held }
-        ensures told { result.2 ≡ self.told }
+        ensures reported { result.2 ≡ self.reported }
     {
         let Keeper {
             reporter,
             held,
-            told,
+            reported,
         } = self;
-        (reporter, held, told)
+        (reporter, held, reported)
     }
 
     /// Whether a commit is under way.
@@ -99,7 +99,7 @@ impl<D: Disk> Keeper<D> {
         ensures durable { (newest_in self.new.reporter.log).durable ≡ (newest_in self.old.reporter.log).durable }
         ensures none { IfOk result (λ o. IfNone o (self.new ≡ self.old)) }
         ensures held { self.new.held ≡ self.old.held }
-        ensures told { self.new.told ≡ self.old.told }
+        ensures reported { self.new.reported ≡ self.old.reported }
         ensures same { self.new.reporter.book ≡ self.old.reporter.book }
     {
         let looked = shared.next_version(rt, &mut self.reporter);
@@ -117,7 +117,7 @@ impl<D: Disk> Keeper<D> {
         ensures tells { KeepsTelling D.Disk self.old self.new }
         ensures stored { self.new.held.flusher.commit.root.version ≡ self.old.held.flusher.commit.root.version }
         ensures reporter { self.new.reporter ≡ self.old.reporter }
-        ensures told { self.new.told ≡ self.old.told }
+        ensures reported { self.new.reported ≡ self.old.reported }
         ensures err { OnErr result (self.new ≡ self.old) }
         ensures errors { IfErr result
             (λ fault. IsReason self.old.held.flusher.commit.phase self.old.held.flusher.commit.root
@@ -141,7 +141,7 @@ impl<D: Disk> Keeper<D> {
         ensures cause { D.is_honest self.old.held.flusher.commit.disk → IfErr result (λ fault. (fault ≡ StoreFault.Failed)
             ⊎ ((fault ≡ StoreFault.Device) × Failed (D.faults self.old.held.flusher.commit.disk) (D.faults self.new.held.flusher.commit.disk))) }
         ensures reporter { self.new.reporter ≡ self.old.reporter }
-        ensures told { self.new.told ≡ self.old.told }
+        ensures reported { self.new.reported ≡ self.old.reported }
     {
         // What the reporter has seen is a history: the clauses rest on that.
         let _ = self.reporter.given();
@@ -162,15 +162,15 @@ impl<D: Disk> Keeper<D> {
         ensures history { IsHistory (history_of self.new.reporter.log) }
         ensures reported { IsStoreOf D.Disk (history_of self.old.reporter.log) self.old.held.flusher
             → AllReported (history_of self.new.reporter.log) self.new.held.flusher }
-        ensures written { told_in self.new.told
-            ≡ told_in self.old.told ++ told_at (D.moment self.old.held.flusher.commit.disk)
+        ensures written { notes_in self.new.reported
+            ≡ notes_in self.old.reported ++ notes_at (D.moment self.old.held.flusher.commit.disk)
             (news_in (history_of self.old.reporter.log) (history_of self.new.reporter.log)) }
         ensures held { self.new.held ≡ self.old.held }
         ensures same { self.new.reporter.book ≡ self.old.reporter.book }
     {
         let was = Snapshot::of(&self.reporter);
         reports::report(rt, alloc, shared, &mut self.reporter, self.held.stored());
-        self.told.write(&was, &self.reporter, &self.held);
+        self.reported.write(&was, &self.reporter, &self.held);
         // What the reporter has seen is a history: the clauses rest on that.
         let _ = self.reporter.given();
     }
@@ -183,9 +183,9 @@ impl<D: Disk> Keeper<D> {
         fault: StoreFault,
     ) -> bool
         requires book { self.old.reporter.book ≡ J.book }
-        requires failed { J.failed self.old.reporter.log (told_fault_of fault) }
+        requires failed { J.failed self.old.reporter.log (reported_fault_of fault) }
         ensures nothing { self.new ≡ self.old }
-        ensures passes { result ≡ passes (told_fault_of fault) }
+        ensures passes { result ≡ passes (reported_fault_of fault) }
     {
         reports::tell(rt, shared, &mut self.reporter, fault)
     }

@@ -1,5 +1,5 @@
 //! Laws over the definitions: each function does nothing, and its contract is the law.
-ghost use Rattle.store_flushing.specs.Laws.{DurableIsReported, StoreBegins, StoreLeaves, StoreIsKnown, ToldIsLeft};
+ghost use Rattle.store_flushing.specs.Laws.{DurableIsReported, StoreBegins, StoreLeaves, StoreIsKnown, ReportedIsLeft};
 ghost use Rattle.store_flushing.specs.Since.{NumbersTell, TilesStay};
 
 use disk_model::disk::Disk;
@@ -22,8 +22,8 @@ pub fn store_is_known<D: Disk>()
 
 /// At every moment of a keeper's call a crash leaves a version of the history that is no older than what is reported
 /// durable by the call's end.
-pub fn told_is_left<D: Disk>()
-    ensures { ToldIsLeft D.Disk }
+pub fn reported_is_left<D: Disk>()
+    ensures { ReportedIsLeft D.Disk }
 {}
 
 /// The number that the newest version of a history has as durable is that of its start, or among those that were

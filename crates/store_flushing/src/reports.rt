@@ -3,12 +3,12 @@ ghost use Rattle.std.specs.Prelude.{◌≡◌, ◌⊎◌, ◌≤◌};
 ghost use Rattle.overlay_terms.specs.Histories.{BeginsWith, IsHistory, newest};
 ghost use Rattle.book_history.specs.Fault.{passes};
 ghost use Rattle.book_history.specs.Logs.{history_of};
-ghost use Rattle.store_flushing.specs.ToldFaults.{told_fault_of};
+ghost use Rattle.store_flushing.specs.ReportedFaults.{reported_fault_of};
 
 use commit_plan::fault::StoreFault;
 use std::alloc::Global;
 use std::sync::Wait;
-use version_book::fault::ToldFault as Told;
+use version_book::fault::ReportedFault;
 use version_book::reporter::Reporter;
 use version_book::resting::rest;
 use version_book::seen_log::BookName;
@@ -52,24 +52,24 @@ pub(crate) fn tell<J: BookName, R: Wait + Drop, W: Wait>(
     fault: StoreFault,
 ) -> bool
     requires book { me.old.book ≡ J.book }
-    requires failed { J.failed me.old.log (told_fault_of fault) }
+    requires failed { J.failed me.old.log (reported_fault_of fault) }
     ensures nothing { me.new ≡ me.old }
-    ensures passes { result ≡ passes (told_fault_of fault) }
+    ensures passes { result ≡ passes (reported_fault_of fault) }
 {
-    let told = told(fault);
-    shared.store_failed(rt, me, told);
-    told.passes()
+    let fault = reported_fault(fault);
+    shared.store_failed(rt, me, fault);
+    fault.passes()
 }
 
 /// A fault of a store, as it is reported to the book.
-fn told(fault: StoreFault) -> Told
-    ensures { result ≡ told_fault_of fault }
+fn reported_fault(fault: StoreFault) -> ReportedFault
+    ensures { result ≡ reported_fault_of fault }
 {
     match fault {
-        StoreFault::Full => Told::Full,
-        StoreFault::Failed => Told::Failed,
-        StoreFault::SequenceLimit => Told::SequenceLimit,
-        StoreFault::OutOfMemory => Told::OutOfMemory,
-        StoreFault::Device | StoreFault::Damaged(_) | StoreFault::NotEmpty => Told::Device,
+        StoreFault::Full => ReportedFault::Full,
+        StoreFault::Failed => ReportedFault::Failed,
+        StoreFault::SequenceLimit => ReportedFault::SequenceLimit,
+        StoreFault::OutOfMemory => ReportedFault::OutOfMemory,
+        StoreFault::Device | StoreFault::Damaged(_) | StoreFault::NotEmpty => ReportedFault::Device,
     }
 }

@@ -137,7 +137,7 @@ fn each_damage_has_its_number(rt: HostRuntime) {
 }
 
 #[test]
-fn of_several_damages_the_first_is_told(rt: HostRuntime) {
+fn of_several_damages_the_first_is_reported(rt: HostRuntime) {
     let alloc = rt.alloc();
     let mut file = stored(&rt, alloc);
     for &case in GROWING {

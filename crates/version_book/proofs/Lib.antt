@@ -1,7 +1,7 @@
 pub mod Results
 pub mod Sent
 pub mod SentBook
-pub mod Told
+pub mod Answered
 pub mod Marking
 pub mod HandingOut
 pub mod StripLemmas

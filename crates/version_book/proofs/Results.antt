@@ -82,9 +82,9 @@ module _ (was now : Known) (log : List Entry) where
   looks_own (Ok n) h = looked_own was now log h
   looks_own (Err f) h = tt
 
-  pub looks_told : (r : Result ℕ BookFault) (P : List Entry → Type 0) → Looks r was log now → IfOk r (λ _. P log) → IfOk r (λ _. P now.log)
-  looks_told (Ok n) P h told = subst (λ (k : Known). P k.log) (sym h.knows) told
-  looks_told (Err f) P h told = tt
+  pub looks_reported : (r : Result ℕ BookFault) (P : List Entry → Type 0) → Looks r was log now → IfOk r (λ _. P log) → IfOk r (λ _. P now.log)
+  looks_reported (Ok n) P h reported = subst (λ (k : Known). P k.log) (sym h.knows) reported
+  looks_reported (Err f) P h reported = tt
 
   pub looks_failed : (r : Result ℕ BookFault) (P : List Entry → BookFault → Type 0) → ((l : List Entry) → P l fault.Gone) → Looks r was log now → IfErr r (P log) → IfErr r (P now.log)
   looks_failed (Ok n) P gone h failed = tt
@@ -127,10 +127,10 @@ refusal_other : (refusal : BatchRefusal) → batch_code (batch_fault_of refusal)
 refusal_other (at place reason) e = reason_other reason e
 refusal_other (wholly reason) e = reason_other reason e
 
-reported : (o : Option BatchRefusal) (f : BatchFault) → option_map batch_fault_of o ≡ Some f
+refused_as : (o : Option BatchRefusal) (f : BatchFault) → option_map batch_fault_of o ≡ Some f
     → (refusal : BatchRefusal) × (f ≡ batch_fault_of refusal)
-reported None f e = absurd (cc)
-reported (Some refusal) f e = (refusal, cc)
+refused_as None f e = absurd (cc)
+refused_as (Some refusal) f e = (refusal, cc)
 
 -- a version does not refuse a batch by the fault of a book that is gone
 not_gone : (v : Version) (b : Batch) (f : BatchFault) → RefusesBatch v b f → f ≡ whole fault.Gone → ⊥
@@ -138,7 +138,7 @@ not_gone v b f (inl memory) gone =
     let n : 40 ≡ 44 = sym (ap batch_code memory.0) ∙ ap batch_code gone in
     absurd (omega (arith, n))
 not_gone v b f (inr by) gone =
-    let r = reported (batch_refusal_at v.number v.layers b) f by in
+    let r = refused_as (batch_refusal_at v.number v.layers b) f by in
     refusal_other r.0 (sym (ap batch_code r.1) ∙ ap batch_code gone)
 
 -- ---- of what a session submits
@@ -162,7 +162,7 @@ module _ (was now : Known) (log after : List Entry) (batch : Batch) (n : ℕ) (a
     between = a.longer.0;
     version = newest_in after;
     goes_on = history_more was.log log now.log last a.longer long (end ∙ a.added);
-    told = a.numbered;
+    reported = a.numbered;
   }
 
   pub accepted_own : IsOwn now

@@ -3,18 +3,18 @@ use Rattle.std.specs.Prelude.{◌≡◌, ℕ, ◌+◌, ◌%◌, ◌^◌, Bool, t
 use Rattle.book_history.specs.Fault.{passes}
 use Rattle.version_book.specs.HeldTiles.{unmarked}
 use Rattle.version_book.specs.declared.held_tiles.HeldTile.{HeldTile}
-use Rattle.book_history.specs.declared.fault.ToldFault.{ToldFault}
+use Rattle.book_history.specs.declared.fault.ReportedFault.{ReportedFault}
 use Rattle.version_book.specs.declared.book_state.BookState.{BookState}
 
 -- what is left of a store's fault once a command is accepted
-abbrev pub left_over : Option ToldFault → Option ToldFault
+abbrev pub left_over : Option ReportedFault → Option ReportedFault
 left_over (Some fault) = if passes fault then None else Some fault
 left_over None = None
 
 -- which fault holds once the store reports one: one that stays for good keeps its place
-abbrev pub told : Option ToldFault → ToldFault → Option ToldFault
-told (Some old) fault = if passes old then Some fault else Some old
-told None fault = Some fault
+abbrev pub reported : Option ReportedFault → ReportedFault → Option ReportedFault
+reported (Some old) fault = if passes old then Some fault else Some old
+reported None fault = Some fault
 
 -- the count of news after this one
 abbrev pub next_news : ℕ → ℕ
@@ -53,8 +53,8 @@ pub record IsAfterFinish (old : BookState) (tiles : List HeldTile) (is_kept : Bo
   pub news : new.news ≡ (if is_kept then next_news old.news else old.news)
 
 -- the store reported a fault: it holds where none stays for good, and the reporter rests
-pub record IsAfterFailure (old : BookState) (fault : ToldFault) (new : BookState) : Type 0 where
-  pub fault_told : new.fault ≡ told old.fault fault
+pub record IsAfterFailure (old : BookState) (fault : ReportedFault) (new : BookState) : Type 0 where
+  pub fault_reported : new.fault ≡ reported old.fault fault
   pub resting : new.resting ≡ true
   pub held : new.held ≡ old.held
   pub closing : new.closing ≡ old.closing

@@ -2,15 +2,15 @@
 use Rattle.std.specs.Prelude.{List, Option, IfSome}
 use Rattle.overlay_terms.specs.Histories.{Entry}
 use Rattle.book_history.specs.Telling.{MayTell}
-use Rattle.book_history.specs.declared.fault.ToldFault.{ToldFault}
+use Rattle.book_history.specs.declared.fault.ReportedFault.{ReportedFault}
 use Rattle.book_history.specs.declared.fault.BookFault.{BookFault}
 use Rattle.book_history.specs.declared.fault.BookFault.TheVariants.{Store}
 
 -- of a beginning of a log a store failed for this fault, if there is one
-abbrev pub HasFailed : (List Entry → ToldFault → Type 0) → List Entry → Option ToldFault → Type 0
+abbrev pub HasFailed : (List Entry → ReportedFault → Type 0) → List Entry → Option ReportedFault → Type 0
 HasFailed failed log fault = ∥ IfSome fault (MayTell failed log) ∥₁
 
 -- a refusal by a store's fault: of a beginning of a log the store failed for it
-abbrev pub IsToldFault : (List Entry → ToldFault → Type 0) → List Entry → BookFault → Type 0
-IsToldFault failed log (Store fault) = ∥ MayTell failed log fault ∥₁
-IsToldFault failed log refused = Unit {0}
+abbrev pub IsReportedFault : (List Entry → ReportedFault → Type 0) → List Entry → BookFault → Type 0
+IsReportedFault failed log (Store fault) = ∥ MayTell failed log fault ∥₁
+IsReportedFault failed log refused = Unit {0}

@@ -2,10 +2,10 @@
 ghost use Rattle.std.specs.Prelude.{◌≡◌};
 ghost use Rattle.version_book.specs.HeldTiles.{given_back, strip_given_back, strip_taken_in, taken_in, unmarked_of};
 ghost use Rattle.version_book.specs.BookState.{HasHeld, IsAfterClosing, IsAfterCommand, IsAfterFailure, IsAfterFinish};
-ghost use Rattle.version_book.specs.BookState.{IsFresh, left_over, told};
+ghost use Rattle.version_book.specs.BookState.{IsFresh, left_over, reported};
 
 use crate::held_tiles::HeldTiles;
-use book_history::fault::ToldFault;
+use book_history::fault::ReportedFault;
 use layer_expr::name::Name;
 use plane_base::Column;
 use std::alloc::Global;
@@ -15,7 +15,7 @@ use std::alloc::Global;
 pub struct BookState {
     pub held: HeldTiles,
     /// What the store reported, while it holds.
-    pub fault: Option<ToldFault>,
+    pub fault: Option<ReportedFault>,
     /// Whether the reporter waits for an accepted command.
     pub resting: bool,
     pub closing: bool,
@@ -68,10 +68,10 @@ impl BookState {
     }
 
     /// The store reported a fault.
-    pub fn store_failed(&mut self, fault: ToldFault)
+    pub fn store_failed(&mut self, fault: ReportedFault)
         ensures { IsAfterFailure self.old fault self.new }
     {
-        self.fault = told(self.fault, fault);
+        self.fault = reported(self.fault, fault);
         self.resting = true;
     }
 
@@ -104,7 +104,7 @@ impl BookState {
     }
 }
 
-fn left_over(old: Option<ToldFault>) -> Option<ToldFault>
+fn left_over(old: Option<ReportedFault>) -> Option<ReportedFault>
     ensures { result ≡ left_over old }
 {
     match old {
@@ -113,8 +113,8 @@ fn left_over(old: Option<ToldFault>) -> Option<ToldFault>
     }
 }
 
-fn told(old: Option<ToldFault>, fault: ToldFault) -> Option<ToldFault>
-    ensures { result ≡ told old fault }
+fn reported(old: Option<ReportedFault>, fault: ReportedFault) -> Option<ReportedFault>
+    ensures { result ≡ reported old fault }
 {
     match old {
         Some(first) => if first.passes() { Some(fault) } else { old },

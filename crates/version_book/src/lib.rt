@@ -27,7 +27,7 @@ pub mod strip_job {
 
 /// Why a call on the book is refused.
 pub mod fault {
-    pub use book_history::fault::{BookFault, ToldFault};
+    pub use book_history::fault::{BookFault, ReportedFault};
 }
 
 /// What a thread does that was refused memory, before it asks again.

@@ -8,8 +8,8 @@ ghost use Rattle.book_history.specs.Fault.{IsBatchRefused, IsCommandRefused, no_
 ghost use Rattle.book_history.specs.Known.{seen, IsOwn, LeavesSession};
 ghost use Rattle.book_history.specs.Logs.{entry, history_of, newest_in, no_event, IsAccepted, IsLog};
 ghost use Rattle.book_history.specs.Rules.{head_of};
-ghost use Rattle.book_history.specs.Telling.{IsToldIn};
-ghost use Rattle.version_book.specs.Failing.{IsToldFault};
+ghost use Rattle.book_history.specs.Telling.{ReportsStored};
+ghost use Rattle.version_book.specs.Failing.{IsReportedFault};
 ghost use Rattle.book_lock.specs.Steps.{beginners, HasAllOf, IsAcceptedIn, IsRefusedIn};
 ghost use Rattle.book_lock.specs.Heard.{HasHeard, IsReportedBy};
 ghost use Rattle.version_book.specs.Jobs.{IsFinishedBy, IsJob};
@@ -26,7 +26,7 @@ use crate::locked_book::waits::{Awaited, tell_built, tell_durable, tell_news, te
 use crate::strip_job::StripJob;
 use crate::turns::{TurnKind, Turns};
 use arrange::TileInput;
-use book_history::fault::{BookFault, NO_MEMORY, ToldFault};
+use book_history::fault::{BookFault, NO_MEMORY, ReportedFault};
 use book_history::seen_log::{BookName, LogWord, SeenLog};
 use book_lock::change::Change;
 use book_lock::locked_log::LockedLog;
@@ -312,11 +312,11 @@ impl<J: BookName, R: Wait + Drop> Shared<J, R> {
         let mut turn = self
             .turns
             .behind(rt, &Awaited::Built(name), TurnKind::Unsaid);
-        let told = tell_built(&mut turn.book, me, name);
-        turn.kind = TurnKind::Told {
-            fault: told.is_err(),
+        let reported = tell_built(&mut turn.book, me, name);
+        turn.kind = TurnKind::Answered {
+            fault: reported.is_err(),
         };
-        told
+        reported
     }
 
     /// Waits until the newest version that a session has seen is durable, and answers the durable number.
@@ -325,12 +325,12 @@ impl<J: BookName, R: Wait + Drop> Shared<J, R> {
         ensures goes_on { BeginsWith (seen me.new) (seen me.old) }
         ensures history { IsHistory (seen me.new) }
         ensures ok { IfOk result (λ n. ((newest (seen me.new)).durable ≡ n) × ((newest (seen me.old)).number ≤ n)) }
-        ensures told { IfOk result (λ _. IsToldIn J.stored me.new.log) }
+        ensures reported { IfOk result (λ _. ReportsStored J.stored me.new.log) }
         ensures own { IfOk result (λ _. IsOwn me.new) }
         ensures err { IfErr result (LeavesSession BookFault.Gone me.old me.new) }
         ensures refused { IfErr result
             (λ fault. IsSyncRefused (newest (seen me.old)).number (newest (seen me.new)) fault) }
-        ensures failed { IfErr result (IsToldFault J.failed me.new.log) }
+        ensures failed { IfErr result (IsReportedFault J.failed me.new.log) }
         ensures only_without { result ≡ Err BookFault.NoStore → has_store self.now ≡ false }
         ensures without { has_store self.now ≡ false
             → IsErrAnd result (λ fault. (fault ≡ BookFault.NoStore) ⊎ (fault ≡ BookFault.Gone)) }
@@ -399,7 +399,7 @@ impl<J: BookName, R: Wait + Drop> Shared<J, R> {
     }
 
     /// The store reported a fault: the reporter rests until a command is accepted.
-    pub fn store_failed<W: Wait>(&self, rt: &W, me: &mut Reporter, fault: ToldFault)
+    pub fn store_failed<W: Wait>(&self, rt: &W, me: &mut Reporter, fault: ReportedFault)
         requires book { me.old.book ≡ J.book }
         requires failed { J.failed me.old.log fault }
         ensures { me.new ≡ me.old }

@@ -40,7 +40,7 @@ pub(crate) enum TurnKind {
     /// Tiles were let go, and can be handed out again.
     LetGo,
     /// A session learnt how a wait for a layer's tiles ends, by a fault or by their number.
-    Told { fault: bool },
+    Answered { fault: bool },
     /// A session or the reporter looked, and changed nothing.
     Looked,
     /// A number was reported durable.
@@ -85,10 +85,10 @@ impl TurnKind {
             }
             TurnKind::Finished { .. } => Ended::All,
             // The layer's marks may have gone with a fault.
-            TurnKind::Told { fault: true } => Ended::All,
+            TurnKind::Answered { fault: true } => Ended::All,
             TurnKind::LetGo => Ended::Workers,
             TurnKind::GivenBack | TurnKind::Reported | TurnKind::StoreFailed => Ended::Sessions,
-            TurnKind::HandedOut | TurnKind::Looked | TurnKind::Told { fault: false } => {
+            TurnKind::HandedOut | TurnKind::Looked | TurnKind::Answered { fault: false } => {
                 Ended::Nothing
             }
         }

@@ -24,7 +24,7 @@ fn stored(alloc: Global) -> Result<Vec<u8>, Fail> {
 }
 
 /// The fault, where nothing was written.
-fn told(refused: &Refused<MemDisk>) -> Result<StoreFault, Fail> {
+fn reported(refused: &Refused<MemDisk>) -> Result<StoreFault, Fail> {
     if !writes_nothing(refused.disk.calls()) {
         return Err(Fail::new("written"));
     }
@@ -35,7 +35,7 @@ fn told(refused: &Refused<MemDisk>) -> Result<StoreFault, Fail> {
 fn refusal(alloc: Global, file: &[u8]) -> Result<StoreFault, Fail> {
     match Machine::recover(alloc, disk_of(alloc, file)?, BLOCKS) {
         Ok(_) => Err(Fail::new("recovered")),
-        Err(refused) => told(&refused),
+        Err(refused) => reported(&refused),
     }
 }
 
@@ -60,7 +60,7 @@ fn a_file_of_one_byte_is_made_no_store(rt: HostRuntime) -> Result<(), Fail> {
     match Machine::create(rt.alloc(), disk, BLOCKS) {
         Ok(_) => Err(Fail::new("made")),
         Err(refused) => {
-            assert_eq!(rt; told(&refused)?.code(), 34);
+            assert_eq!(rt; reported(&refused)?.code(), 34);
             assert_eq!(rt; refused.disk.bytes().len(), 1);
             Ok(())
         }

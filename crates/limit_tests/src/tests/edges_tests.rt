@@ -31,13 +31,13 @@ fn refusal(rt: &impl Abort, alloc: Global, version: &Version, layer: &str, colum
 fn a_version_without_workers_tells_that_its_tiles_are_pending(rt: HostRuntime) {
     let version = overlap(&rt, rt.alloc());
     for &(layer, column, fault) in REFUSED {
-        let told = refusal(&rt, rt.alloc(), &version, layer, column);
-        assert!(rt; told == fault, "{layer} {column}: {told}");
+        let reported = refusal(&rt, rt.alloc(), &version, layer, column);
+        assert!(rt; reported == fault, "{layer} {column}: {reported}");
     }
 }
 
 #[test]
-fn a_tile_that_is_kept_is_told_and_no_other(rt: HostRuntime) {
+fn a_tile_that_is_kept_is_reported_and_no_other(rt: HostRuntime) {
     let version = with_tile(&rt, rt.alloc());
     let name = name_of(&rt, rt.alloc(), "I");
     let text = version.edges(rt.alloc(), &name, 16).expect(&rt, "a text");

@@ -104,8 +104,8 @@ fn check_pieces(rt: &impl Abort, alloc: Global, version: &Version) {
         Some(Tile::Pieces(pieces)) => assert!(rt; pieces.len() == 65_536),
         _ => panic!(rt; "no pieces"),
     }
-    let told = version.edges(alloc, &name, 16).expect(rt, "a text");
-    assert!(rt; told.starts_with(b"edges 65536\n"));
+    let reported = version.edges(alloc, &name, 16).expect(rt, "a text");
+    assert!(rt; reported.starts_with(b"edges 65536\n"));
     let verdict = version.verify(alloc, &name, 16).expect(rt, "compared");
     assert!(rt; verdict == Verdict::Same);
 }

@@ -4,7 +4,7 @@ use crate::tests::books::{Call, Late, Row, WaitFor, play};
 use crate::tests::testing::{Change, Corners, LEFT_HALF, SHIFTED, SQUARE};
 use layer_book::batch_fault::BatchFault;
 use layer_book::fault::LayerFault;
-use version_book::fault::{BookFault, ToldFault};
+use version_book::fault::{BookFault, ReportedFault};
 use versions::VersionFault;
 
 const PUT_A: Call = Call::Submit(Change::Put("A", SQUARE));
@@ -230,9 +230,9 @@ const DURABLE: &[&[Row]] = &[&[
     Row::Calls(Call::Report(1), Ok(Some(1))),
     Row::Calls(Call::Report(9), Ok(Some(1))),
     Row::Calls(Call::WaitDurable, Ok(Some(1))),
-    Row::Calls(Call::StoreFailed(ToldFault::Device), Ok(None)),
+    Row::Calls(Call::StoreFailed(ReportedFault::Device), Ok(None)),
     Row::Calls(PUT_A, Ok(Some(2))),
-    Row::Calls(Call::WaitDurable, Err(BookFault::Store(ToldFault::Device))),
+    Row::Calls(Call::WaitDurable, Err(BookFault::Store(ReportedFault::Device))),
 ]];
 
 #[test]
@@ -246,8 +246,8 @@ const ENDED: &[&[Row]] = &[&[
     Row::Calls(PUT_A, Ok(Some(2))),
     Row::WaitsBeside(
         WaitFor::Durable,
-        Call::StoreFailed(ToldFault::Full),
-        Err(BookFault::Store(ToldFault::Full)),
+        Call::StoreFailed(ReportedFault::Full),
+        Err(BookFault::Store(ReportedFault::Full)),
     ),
     Row::Calls(PUT_A, Ok(Some(3))),
     Row::WaitsBeside(WaitFor::Durable, Call::BeginClose, Err(BookFault::Closing)),
@@ -260,24 +260,24 @@ fn a_report_a_fault_and_closing_each_end_a_wait(rt: HostRuntime) {
 
 const TOLD: &[&[Row]] = &[&[
     Row::Calls(PUT_A, Ok(Some(1))),
-    Row::Calls(Call::StoreFailed(ToldFault::SequenceLimit), Ok(None)),
+    Row::Calls(Call::StoreFailed(ReportedFault::SequenceLimit), Ok(None)),
     Row::Calls(
         Call::WaitDurable,
-        Err(BookFault::Store(ToldFault::SequenceLimit)),
+        Err(BookFault::Store(ReportedFault::SequenceLimit)),
     ),
     Row::Calls(PUT_A, Ok(Some(2))),
-    Row::Calls(Call::StoreFailed(ToldFault::OutOfMemory), Ok(None)),
+    Row::Calls(Call::StoreFailed(ReportedFault::OutOfMemory), Ok(None)),
     Row::Calls(
         Call::WaitDurable,
-        Err(BookFault::Store(ToldFault::OutOfMemory)),
+        Err(BookFault::Store(ReportedFault::OutOfMemory)),
     ),
     Row::Calls(PUT_A, Ok(Some(3))),
-    Row::Calls(Call::StoreFailed(ToldFault::Failed), Ok(None)),
-    Row::Calls(Call::WaitDurable, Err(BookFault::Store(ToldFault::Failed))),
+    Row::Calls(Call::StoreFailed(ReportedFault::Failed), Ok(None)),
+    Row::Calls(Call::WaitDurable, Err(BookFault::Store(ReportedFault::Failed))),
 ]];
 
 #[test]
-fn a_fault_of_the_store_is_told_as_it_is(rt: HostRuntime) {
+fn a_fault_of_the_store_is_reported_as_it_is(rt: HostRuntime) {
     play(&rt, rt.alloc(), true, TOLD, 3);
 }
 

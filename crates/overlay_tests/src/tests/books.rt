@@ -18,7 +18,7 @@ use std::sync::Wait;
 use std::thread::Threads;
 use std::time::Clock;
 use tile_build::Built;
-use version_book::fault::{BookFault, ToldFault};
+use version_book::fault::{BookFault, ReportedFault};
 use version_book::job::Job;
 use version_book::reporter::Reporter;
 use version_book::seen_log::{BookName, LogWord, SeenLog, open};
@@ -38,7 +38,7 @@ pub enum Call {
     WaitDurable,
     NextVersion,
     Report(u64),
-    StoreFailed(ToldFault),
+    StoreFailed(ReportedFault),
     /// A tile is taken and built, which is kept.
     Build,
     /// A tile is taken and given back, as if memory had run out.
@@ -215,14 +215,14 @@ fn play_row<J: BookName + Send + Sync, R: Threads + Wait + Clock + Abort + Sync>
     match row {
         Row::Calls(asked, want) => {
             let Tokens { reporter, me, .. } = tokens;
-            let told = answer(rt, alloc, shared, reporter, me, asked);
-            check(rt, at, &told, want);
+            let reported = answer(rt, alloc, shared, reporter, me, asked);
+            check(rt, at, &reported, want);
             None
         }
         Row::SubmitsAll(changes, want) => {
             let batch = batch(rt, alloc, changes);
-            let told = shared.submit_all(rt, alloc, &mut tokens.other, &batch);
-            check(rt, at, &told, want);
+            let reported = shared.submit_all(rt, alloc, &mut tokens.other, &batch);
+            check(rt, at, &reported, want);
             None
         }
         Row::Builds(is_kept) => Some((take(rt, alloc, shared).expect(rt, "no tile"), *is_kept)),
@@ -231,8 +231,8 @@ fn play_row<J: BookName + Send + Sync, R: Threads + Wait + Clock + Abort + Sync>
             None
         }
         Row::BuildsStrip(asked, count, kept) => {
-            let told = build_late(rt, alloc, shared, tokens, asked);
-            check(rt, at, &told, &(*count, *kept));
+            let reported = build_late(rt, alloc, shared, tokens, asked);
+            check(rt, at, &reported, &(*count, *kept));
             None
         }
         Row::GivesBackStrip(count) => {
@@ -263,8 +263,8 @@ fn play_row<J: BookName + Send + Sync, R: Threads + Wait + Clock + Abort + Sync>
             None
         }
         Row::StaleBeside(asked, want) => {
-            let told = ask_beside_stale(rt, alloc, shared, tokens, asked);
-            check(rt, at, &told, want);
+            let reported = ask_beside_stale(rt, alloc, shared, tokens, asked);
+            check(rt, at, &reported, want);
             None
         }
         Row::NewsBeside(late, want) => {
@@ -273,8 +273,8 @@ fn play_row<J: BookName + Send + Sync, R: Threads + Wait + Clock + Abort + Sync>
                 Late::Submits(change) => Work::SubmitsLate(command(rt, alloc, change)),
                 Late::BeginsToClose => Work::ClosesLate,
             };
-            let told = news_beside(rt, alloc, shared, tokens, &work);
-            check(rt, at, &told, want);
+            let reported = news_beside(rt, alloc, shared, tokens, &work);
+            check(rt, at, &reported, want);
             None
         }
         Row::SubmitBeside(first, second) => {
@@ -346,7 +346,7 @@ pub fn answer<J: BookName, R: Wait + Abort>(
     match asked {
         Call::Submit(change) => {
             let change = command(rt, alloc, change);
-            told(shared.submit(rt, alloc, me, &change))
+            reported(shared.submit(rt, alloc, me, &change))
         }
         Call::SubmitAll(changes) => {
             let batch = batch(rt, alloc, changes);
@@ -359,11 +359,11 @@ pub fn answer<J: BookName, R: Wait + Abort>(
         }
         Call::WaitBuilt(name) => {
             let name = name_of(rt, alloc, name);
-            told(shared.wait_built(rt, me, &name))
+            reported(shared.wait_built(rt, me, &name))
         }
-        Call::WaitDurable => told(shared.wait_durable(rt, me)),
+        Call::WaitDurable => reported(shared.wait_durable(rt, me)),
         Call::NextVersion => news(rt, shared, reporter),
-        Call::Report(number) => told(shared.report(rt, alloc, reporter, *number)),
+        Call::Report(number) => reported(shared.report(rt, alloc, reporter, *number)),
         Call::StoreFailed(fault) => {
             shared.store_failed(rt, reporter, *fault);
             Ok(None)
@@ -396,7 +396,7 @@ pub fn news<J: BookName, R: Wait>(rt: &R, shared: &Shared<J, &R>, reporter: &mut
 }
 
 /// The answer of a call that returns a number.
-fn told(done: Result<u64, BookFault>) -> Answer {
+fn reported(done: Result<u64, BookFault>) -> Answer {
     Ok(Some(done?))
 }
 

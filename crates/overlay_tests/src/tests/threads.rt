@@ -177,12 +177,12 @@ pub fn news_beside<J: BookName + Send + Sync, R: Threads + Wait + Clock + Abort 
     ensures { tokens.new.reporter.book ≡ tokens.old.reporter.book }
 {
     let Tokens { reporter, me, .. } = tokens;
-    let (told, _) = join_mut(
+    let (reported, _) = join_mut(
         rt,
         &mut || news(rt, shared, reporter),
         &mut || carry_out(rt, alloc, shared, me, work),
     );
-    told
+    reported
 }
 
 /// What two sessions do in threads of their own, and the numbers that each returns.

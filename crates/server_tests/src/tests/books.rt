@@ -5,7 +5,7 @@ ghost use Rattle.book_history.specs.Rules.{head_of};
 
 use disk_model::mem_disk::MemDisk;
 use flush_core::flusher::Flusher;
-use overlay_server::{SessionEnd, ToldLog, close, session_run};
+use overlay_server::{SessionEnd, ReportLog, close, session_run};
 use std::alloc::Global;
 use std::io::{Read, Write};
 use std::marker::Brand;
@@ -66,7 +66,7 @@ where
         shared,
         reporter,
         None::<Flusher<MemDisk>>,
-        ToldLog::none(),
+        ReportLog::none(),
         sessions,
     );
     end

@@ -151,7 +151,7 @@ fn a_line_holds_65536_bytes_without_its_ending(rt: HostRuntime) -> Result<(), Fa
 }
 
 #[test]
-fn a_read_fault_is_told_behind_a_read_that_failed(rt: HostRuntime) {
+fn a_read_fault_is_reported_behind_a_read_that_failed(rt: HostRuntime) {
     for &(script, text) in &[
         (b"".as_slice(), "error 48 read\n"),
         (b"HELLO\nHELLO", "error 41 command syntax\nerror 48 read\n"),
@@ -185,12 +185,12 @@ fn expect_writes(
     let is_cut = writes < 11;
     let wanted = SessionEnd::Failed(if is_cut { 49 } else { 48 });
     check_end(rt, end, wanted, writer.refused, is_cut);
-    let told = text.len().min(writes.saturating_mul(6));
-    check_written(rt, &writer.text, &text[..told], "at write", writes as u64);
+    let reported = text.len().min(writes.saturating_mul(6));
+    check_written(rt, &writer.text, &text[..reported], "at write", writes as u64);
 }
 
 #[test]
-fn a_write_fault_is_told_behind_a_write_that_was_refused(rt: HostRuntime) {
+fn a_write_fault_is_reported_behind_a_write_that_was_refused(rt: HostRuntime) {
     for &fault in &[Some(ErrorKind::Other), Some(ErrorKind::Interrupted), None] {
         for &writes in &[0, 1, 2, 3, 7, 8, 9, 10, 11] {
             expect_writes(&rt, writes, fault);

@@ -74,7 +74,7 @@ fn a_sync_ends_with_a_durable_version(rt: HostRuntime) -> Result<(), Fail> {
 }
 
 #[test]
-fn a_sync_is_told_why_nothing_is_stored(rt: HostRuntime) -> Result<(), Fail> {
+fn a_sync_is_reported_why_nothing_is_stored(rt: HostRuntime) -> Result<(), Fail> {
     let alloc = rt.alloc();
     let full = first_run(&rt, alloc, empty_disk(alloc)?, 4, PUT_AND_SYNC)?;
     expect(&rt, &full, 0, "ok 1\nerror 31 full\n");
@@ -105,12 +105,12 @@ const STOPS: &[(u64, &str, &str)] = &[
 const A_LISTED: &str = "layers 1\nA MULTIPOLYGON (((0 0, 10 0, 10 10, 0 10, 0 0)))\n";
 
 #[test]
-fn a_disk_that_stops_has_what_was_told_durable(rt: HostRuntime) -> Result<(), Fail> {
+fn a_disk_that_stops_has_what_was_reported_durable(rt: HostRuntime) -> Result<(), Fail> {
     let alloc = rt.alloc();
-    for &(calls, told, left) in STOPS {
+    for &(calls, reported, left) in STOPS {
         let disk = StopDisk::new(empty_disk(alloc)?, calls);
         let stopped = first_run(&rt, alloc, disk, BLOCKS, PUT_AND_SYNC)?;
-        expect(&rt, &stopped, 0, told);
+        expect(&rt, &stopped, 0, reported);
         let below = works_again(stopped.into_disk())?;
         let next = next_run(&rt, alloc, Some(below), b"LAYERS\n")?;
         expect(&rt, &next, 0, left);
@@ -144,7 +144,7 @@ fn a_layer_is_there_when_the_file_is_opened_again(rt: HostRuntime) -> Result<(),
 }
 
 #[test]
-fn a_file_has_what_is_told_durable(rt: HostRuntime) -> Result<(), Fail> {
+fn a_file_has_what_is_reported_durable(rt: HostRuntime) -> Result<(), Fail> {
     over_a_file(&rt, "synced-store", PUT_AND_SYNC, "ok 1\ndurable 1\n")
 }
 

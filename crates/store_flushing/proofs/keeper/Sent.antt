@@ -16,7 +16,7 @@ use Rattle.root_store.proofs.phase.Phase.TheSendSync as phases
 use Rattle.root_store.specs.contracts.commit.Commit as commit
 use Rattle.flush_core.specs.contracts.flusher.Flusher as flusher
 use Rattle.version_book.proofs.Sent.{reporter_send}
-use Rattle.store_flushing.proofs.keeper.told_log.ToldLog.TheSendSync as tolds
+use Rattle.store_flushing.proofs.keeper.report_log.ReportLog.TheSendSync as fault_texts
 use Rattle.store_flushing.proofs.keeper.version_mark.VersionMark.TheSendSync as marks
 use Rattle.store_flushing.specs.contracts.keeper.Keeper as keeper
 use Rattle.store_flushing.specs.contracts.keeper.held_store.HeldStore as held
@@ -57,7 +57,7 @@ module _ (D : RattleType) (g : Ghosts D.Denot) (d : IsSend D) where
   )
 
   keeper_send : IsSend (keeper.the_field D g).row
-  keeper_send = struct_send (shape (keeper.the_type D g)) (reporter_send, (held_send, (tolds.the_field_send, tt)))
+  keeper_send = struct_send (shape (keeper.the_type D g)) (reporter_send, (held_send, (fault_texts.the_field_send, tt)))
 
   pub store_send : IsSend (store.the_row D g)
   store_send =

@@ -10,7 +10,7 @@ ghost use Rattle.book_history.specs.Logs.{history_of, newest_in};
 ghost use Rattle.commit_plan.specs.Live.{live_content};
 ghost use Rattle.commit_plan.specs.RecordPlaces.{AreKnown};
 ghost use Rattle.store_flushing.specs.Since.{IsRemembered};
-ghost use Rattle.store_flushing.specs.Storing.{IsStoreOf, Keeps, KeepsTold};
+ghost use Rattle.store_flushing.specs.Storing.{IsStoreOf, Keeps, KeepsReported};
 ghost use Rattle.store_flushing.specs.Unstored.{IsReasonGiven};
 
 use crate::closed::{StoreLeft, left_of};
@@ -120,7 +120,7 @@ impl<D: Disk> HeldStore<D> {
     /// Makes one device call; none where no commit is under way. It stays a store of whichever history it is one of.
     pub(super) fn step(&mut self) -> Result<Progress, StoreFault>
         ensures keeps { (history : History) → IsHistory history → IsStoreOf D.Disk history self.old.flusher
-            → KeepsTold D.Disk history self.old.flusher history self.new.flusher }
+            → KeepsReported D.Disk history self.old.flusher history self.new.flusher }
         ensures stored { self.new.flusher.commit.root.version
             ≡ stored_after result self.old.flusher.commit.root.version }
         ensures counted { IfOk result

@@ -4,15 +4,15 @@ ghost use Rattle.std.specs.Arc.{arc_value};
 ghost use Rattle.book_history.specs.Logs.{newest_in, IsLog};
 ghost use Rattle.book_lock.specs.Heard.{HasHeard};
 ghost use Rattle.book_lock.specs.Steps.{HasAllOf};
-ghost use Rattle.store_flushing.specs.Stores.{flusher_in, reporter_of, told_by};
-ghost use Rattle.store_flushing.specs.Told.{told_in};
+ghost use Rattle.store_flushing.specs.Stores.{flusher_in, reporter_of, notes_by};
+ghost use Rattle.store_flushing.specs.ReportNote.{notes_in};
 ghost use Rattle.store_flushing.specs.Unstored.{IsReasonGiven};
 
 use crate::closed::{Closed, StoreLeft, end_book};
 use crate::keeper::Keeper;
 use crate::keeper::held_store::HeldStore;
 use crate::keeper::opened::{Opened, Shut};
-use crate::keeper::told_log::ToldLog;
+use crate::keeper::report_log::ReportLog;
 use disk_model::disk::Disk;
 use std::alloc::Global;
 use std::sync::Wait;
@@ -34,12 +34,12 @@ impl<D: Disk> Store<D> {
         requires book { reporter.book ≡ J.book }
         ensures reporter { reporter_of result ≡ reporter }
         ensures flusher { flusher_in result ≡ opened.flusher }
-        ensures told { told_by result ≡ [] }
+        ensures reported { notes_by result ≡ [] }
     {
         match opened.into_flusher() {
             Some(flusher) => {
                 let held = HeldStore::of(&reporter, flusher);
-                Store::Kept(Keeper::of(reporter, held, ToldLog::none()))
+                Store::Kept(Keeper::of(reporter, held, ReportLog::none()))
             }
             None => Store::Alone(reporter),
         }
@@ -68,14 +68,14 @@ impl<D: Disk> Store<D> {
         // Where the newest version is not stored and the store would not begin its commit, the book is given the reason.
         ensures fault { MatchOption (flusher_in self) (result.fault ≡ None)
             (λ f. IsReasonGiven result.fault f (arc_value result.version)) }
-        ensures told { told_in result.told ≡ told_by self }
+        ensures reported { notes_in result.reported ≡ notes_by self }
     {
         match self {
             Store::Kept(keeper) => {
                 let Keeper {
                     reporter,
                     held,
-                    told,
+                    reported,
                 } = keeper;
                 let book = end_book(rt, shared, &reporter, sessions);
                 let StoreLeft {
@@ -89,7 +89,7 @@ impl<D: Disk> Store<D> {
                     stored,
                     fault,
                     disk,
-                    told,
+                    reported,
                 }
             }
             Store::Alone(reporter) => {
@@ -100,7 +100,7 @@ impl<D: Disk> Store<D> {
                     stored: 0,
                     fault: None,
                     disk: None,
-                    told: ToldLog::none(),
+                    reported: ReportLog::none(),
                 }
             }
         }
@@ -115,7 +115,7 @@ impl<D: Disk> Store<D> {
                 let Keeper {
                     reporter: _reporter,
                     held,
-                    told: _told,
+                    reported: _reported,
                 } = keeper;
                 held.into_disk()
             }

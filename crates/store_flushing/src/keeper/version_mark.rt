@@ -53,7 +53,7 @@ impl VersionMark {
         requires { later.now.book ≡ self.now.book }
         ensures known { IsTrue result → HasTilesOf (newest_in self.now.log) (newest_in later.now.log) }
         // It is wherever no tile was kept since, and at most one number was reported.
-        ensures told { (since : List Entry) → later.now.log ≡ self.now.log ++ since → kept_in since ≡ []
+        ensures reported { (since : List Entry) → later.now.log ≡ self.now.log ++ since → kept_in since ≡ []
             → length (reported_in since) ≤ 1 → IsTrue result }
     {
         // Of two logs of one book the shorter begins the longer: the clauses rest on that.

@@ -7,7 +7,7 @@ ghost use Rattle.book_lock.specs.Steps.{IsReportedIn};
 ghost use Rattle.book_lock.specs.Heard.{HasHeard};
 
 use crate::locked_book::LockedBook;
-use book_history::fault::{BookFault, ToldFault};
+use book_history::fault::{BookFault, ReportedFault};
 use book_history::seen_log::BookName;
 use book_lock::reporter::Reporter;
 use book_lock::room::Room;
@@ -47,7 +47,7 @@ pub(crate) fn report<J: BookName, R: Wait + Drop>(
 pub(crate) fn store_failed<J: BookName, R: Wait + Drop>(
     locked: &mut LockedBook<J, R>,
     me: &Reporter,
-    fault: ToldFault,
+    fault: ReportedFault,
 )
     requires book { me.now.book ≡ J.book }
     requires failed { J.failed me.now.log fault }

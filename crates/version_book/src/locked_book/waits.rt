@@ -3,11 +3,11 @@ ghost use Rattle.std.specs.Prelude.{◌≡◌, ◌⊎◌, ◌<◌, ◌≤◌, �
 ghost use Rattle.std.specs.Arc.{arc_value};
 ghost use Rattle.book_history.specs.Fault.{no_memory};
 ghost use Rattle.book_history.specs.Logs.{newest_in, IsLog};
-ghost use Rattle.book_history.specs.Telling.{IsToldIn};
-ghost use Rattle.version_book.specs.Failing.{IsToldFault};
+ghost use Rattle.book_history.specs.Telling.{ReportsStored};
+ghost use Rattle.version_book.specs.Failing.{IsReportedFault};
 ghost use Rattle.book_lock.specs.Steps.{IsLevel};
 ghost use Rattle.book_lock.specs.Heard.{HasHeard};
-ghost use Rattle.version_book.specs.Waits.{IsAfterTold, IsBuilding, IsBuiltAt, IsIdle, IsQuiet, IsSyncRefusedAt};
+ghost use Rattle.version_book.specs.Waits.{IsAfterReported, IsBuilding, IsBuiltAt, IsIdle, IsQuiet, IsSyncRefusedAt};
 ghost use Rattle.version_book.specs.Waits.{IsWaitRefused, IsWriting, Looks, Waits};
 
 use crate::locked_book::LockedBook;
@@ -96,7 +96,7 @@ pub(crate) fn tell_built<J: BookName, R: Wait + Drop>(
     ensures seen { Looks result me.old locked.old.log me.new }
     ensures gone { result ≡ Err BookFault.Gone → ¬ (IsLevel locked.old.log me.old) }
     ensures log { locked.new.log ≡ locked.old.log }
-    ensures state { IsAfterTold (newest_in locked.old.log) locked.old.state name.now result locked.new.state }
+    ensures state { IsAfterReported (newest_in locked.old.log) locked.old.state name.now result locked.new.state }
 {
     let number = locked.log.show(me)?;
     let version = &locked.log.last().version;
@@ -122,10 +122,10 @@ pub(crate) fn tell_durable<J: BookName, R: Wait + Drop>(
     requires book { me.old.book ≡ J.book }
     requires ready { ¬ (IsWriting (newest_in locked.now.log) locked.now.state number) }
     ensures ok { IfOk result (λ n. ((newest_in locked.now.log).durable ≡ n) × (number ≤ n)) }
-    ensures told { IfOk result (λ _. IsToldIn J.stored locked.now.log) }
+    ensures reported { IfOk result (λ _. ReportsStored J.stored locked.now.log) }
     ensures refused { IfErr result
         (λ fault. IsSyncRefusedAt locked.now.state (newest_in locked.now.log) number fault) }
-    ensures failed { IfErr result (IsToldFault J.failed locked.now.log) }
+    ensures failed { IfErr result (IsReportedFault J.failed locked.now.log) }
     ensures seen { Looks result me.old locked.now.log me.new }
     ensures gone { result ≡ Err BookFault.Gone → ¬ (IsLevel locked.now.log me.old) }
 {

@@ -1,4 +1,4 @@
-use Rattle.overlay_engine.proofs.Told as lemmas
+use Rattle.overlay_engine.proofs.Reported as lemmas
 use Rattle.overlay_engine.proofs.laws.jobs_are_numbered.Goals as goal
 
 pub returns : goal.returns

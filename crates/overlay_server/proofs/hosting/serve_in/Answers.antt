@@ -30,12 +30,12 @@ run-requires-clause-failed g c κs within =
     subst (λ v. FailsAs g.D.Disk g.J.BookName.failed v (flusher_in hosted.hosted.store)) (sym hosted.ensures.version)
     (subst (FailsAs g.D.Disk g.J.BookName.failed c.args.version) (sym hosted.ensures.flusher) c.requires.failed)
 
-pub run-requires-clause-told : goal.run-requires-clause-told
-run-requires-clause-told g c κs within =
+pub run-requires-clause-reported : goal.run-requires-clause-reported
+run-requires-clause-reported g c κs within =
     let hosted = c.in-Ok in
     let may = g.W.ReplyWriter.may_report in
     subst (λ v. (history : History) (report : StoreReport) → IsReportedOf g.D.Disk v (flusher_in hosted.hosted.store) history report → may history report) (sym hosted.ensures.version)
-    (subst (λ f. (history : History) (report : StoreReport) → IsReportedOf g.D.Disk c.args.version f history report → may history report) (sym hosted.ensures.flusher) c.requires.told)
+    (subst (λ f. (history : History) (report : StoreReport) → IsReportedOf g.D.Disk c.args.version f history report → may history report) (sym hosted.ensures.flusher) c.requires.reported)
 
 pub run-requires-clause-from : goal.run-requires-clause-from
 run-requires-clause-from g c κs within =

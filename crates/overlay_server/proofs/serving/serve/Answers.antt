@@ -4,7 +4,7 @@ use Rattle.overlay_server.specs.Refusing.{IsRefusedFrom}
 use Rattle.overlay_server.specs.Serving.{IsLeftFrom, first_log, flusher_of, start_of}
 use Rattle.overlay_server.proofs.Disks.{disk_back, disk_left}
 use Rattle.overlay_server.proofs.Reporting.{has_engine}
-use Rattle.store_flushing.specs.Told.{told_in}
+use Rattle.store_flushing.specs.ReportNote.{notes_in}
 use Rattle.overlay_server.proofs.serving.serve.Goals as goal
 
 pub listen_in-requires-clause-begun : goal.listen_in-requires-clause-begun
@@ -20,7 +20,7 @@ pub returned_fault-requires : goal.returned_fault-requires
 returned_fault-requires g c =
     let fault = c.in-Err.fault in
     let handed = c.handed-version in
-    handed.ensures.key ∙ sym (disk_back g.D.Disk handed.result.0 fault.seen_log.log (told_in fault.told) handed.result.1.flusher fault.disk c.in-Err.ensures.refused.back)
+    handed.ensures.key ∙ sym (disk_back g.D.Disk handed.result.0 fault.seen_log.log (notes_in fault.reported) handed.result.1.flusher fault.disk c.in-Err.ensures.refused.back)
 
 pub returns-in-Ok-clause-left : goal.returns-in-Ok-clause-left
 returns-in-Ok-clause-left g c =

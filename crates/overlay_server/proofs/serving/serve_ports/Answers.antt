@@ -2,7 +2,7 @@ use Rattle.std.proofs.Common.{◌∙◌, Bool, ap, is_some, length, refl, subst,
 use Rattle.std.specs.List.{AllZip}
 use Rattle.book_lock.specs.Steps.{beginners}
 use Rattle.session_threads.specs.Fuse.{until_end}
-use Rattle.store_flushing.specs.Told.{told_in}
+use Rattle.store_flushing.specs.ReportNote.{notes_in}
 use Rattle.overlay_terms.specs.Histories.{History}
 use Rattle.script_form.specs.Transcript.{StoreReport}
 use Rattle.overlay_server.specs.Given.{given_to}
@@ -15,13 +15,13 @@ use Rattle.overlay_server.proofs.serving.serve_ports.Goals as goal
 pub serve_in-requires-clause-begun : goal.serve_in-requires-clause-begun
 serve_in-requires-clause-begun g c κs within = c.history_of-opened.ensures.begun ∙ ap first_log (sym c.handed-version.ensures.version)
 
-pub serve_in-requires-clause-told : goal.serve_in-requires-clause-told
-serve_in-requires-clause-told g c κs within =
+pub serve_in-requires-clause-reported : goal.serve_in-requires-clause-reported
+serve_in-requires-clause-reported g c κs within =
     let engine = c.args.engine in
     let handed = c.handed-version in
     let may = g.W.ReplyWriter.may_report in
     subst (λ v. (history : History) (report : StoreReport) → IsReportedOf g.D.Disk v handed.result.1.flusher history report → may history report) (sym handed.ensures.version)
-    (subst (λ f. (history : History) (report : StoreReport) → IsReportedOf g.D.Disk (start_of engine) f history report → may history report) (sym handed.ensures.flusher) c.requires.told)
+    (subst (λ f. (history : History) (report : StoreReport) → IsReportedOf g.D.Disk (start_of engine) f history report → may history report) (sym handed.ensures.flusher) c.requires.reported)
 
 pub serve_in-requires-clause-from : goal.serve_in-requires-clause-from
 serve_in-requires-clause-from g c κs within =
@@ -41,7 +41,7 @@ pub returned_fault-requires : goal.returned_fault-requires
 returned_fault-requires g c =
     let fault = c.in-Err.refused.fault in
     let handed = c.handed-version in
-    handed.ensures.key ∙ sym (disk_back g.D.Disk handed.result.0 fault.seen_log.log (told_in fault.told) handed.result.1.flusher fault.disk c.in-Err.ensures.refused.fault.back)
+    handed.ensures.key ∙ sym (disk_back g.D.Disk handed.result.0 fault.seen_log.log (notes_in fault.reported) handed.result.1.flusher fault.disk c.in-Err.ensures.refused.fault.back)
 
 pub returns-in-Ok-clause-left : goal.returns-in-Ok-clause-left
 returns-in-Ok-clause-left g c =

@@ -1,14 +1,14 @@
 use Rattle.std.proofs.Common.{refl, sym, ◌∙◌, ap, subst, Ok}
 use Rattle.store_terms.specs.StandsFor.{reading}
 use Rattle.store_terms.specs.Image.{Held}
-use Rattle.root_store.proofs.OpeningLemmas.{stops_told, tells_of, failed_of, memory_of}
+use Rattle.root_store.proofs.OpeningLemmas.{stops_reported, tells_of, failed_of, memory_of}
 use Rattle.std.proofs.lemmas.Grind.{merely}
 use Rattle.commit_plan.specs.Kept.{Kept}
 use Rattle.root_store.specs.declared.phase.Phase.TheVariants as phases
 use Rattle.root_store.specs.Content.{IsAtRest}
 use Rattle.root_store.proofs.Known.{content_is}
 use Rattle.commit_plan.specs.Loaded.{kept_in}
-use Rattle.commit_plan.specs.Fault.{fault_told}
+use Rattle.commit_plan.specs.Fault.{fault_reported}
 use Rattle.root_store.proofs.opening.open.Goals as goal
 
 pub returns-in-Ok-clause-opens : goal.returns-in-Ok-clause-opens
@@ -45,19 +45,19 @@ returns-in-Err-clause-opens g c honest =
     let k = g.D.Disk in
     let l = c.in-Err.ensures.loads honest in
     let fault = c.in-Err.fault in
-    let told = c.told.result in
+    let reported = c.reported.result in
     record {
-      gives = tells_of fault told (reading (k.seen c.args.disk)) c.told.ensures l.loads.gives;
+      gives = tells_of fault reported (reading (k.seen c.args.disk)) c.reported.ensures l.loads.gives;
       ok = tt;
       err = (l.loads.honest, l.loads.err, l.loads.run);
       phases = tt;
-      stops = stops_told k c.args.disk c.load.new.disk fault told c.told.ensures l.stops;
+      stops = stops_reported k c.args.disk c.load.new.disk fault reported c.reported.ensures l.stops;
       writes = l.writes;
       completed = tt;
       completes = tt;
-      untouched = λ other. l.untouched (λ is. other (c.told.ensures ∙ ap fault_told is));
-      memory = λ memory. l.memory (memory_of fault (sym c.told.ensures ∙ memory));
-      cause = failed_of fault told (k.faults c.args.disk) (k.faults c.load.new.disk) c.told.ensures l.cause;
+      untouched = λ other. l.untouched (λ is. other (c.reported.ensures ∙ ap fault_reported is));
+      memory = λ memory. l.memory (memory_of fault (sym c.reported.ensures ∙ memory));
+      cause = failed_of fault reported (k.faults c.args.disk) (k.faults c.load.new.disk) c.reported.ensures l.cause;
     }
 
 pub returns-in-Ok-clause-number : goal.returns-in-Ok-clause-number

@@ -3,7 +3,7 @@ use Rattle.std.proofs.lemmas.Int.{to_z-of_z}
 use Rattle.std.proofs.lemmas.Result.{err_from_is_err_and}
 use Rattle.script_form.specs.Transcript.{asked_column}
 use Rattle.server_session.specs.Stores.{no_store}
-use Rattle.server_session.proofs.TileAnswers.{edges_unnamed, edges_gone, edges_refused, edges_told}
+use Rattle.server_session.proofs.TileAnswers.{edges_unnamed, edges_gone, edges_refused, edges_reported}
 use Rattle.server_session.proofs.answering.answer_edges.Goals as goal
 
 pub returns-in_err-name : goal.returns-in_err-name
@@ -30,4 +30,4 @@ returns c =
     let named = c.in_ok-name.ensures.ok in
     let column = c.asked_column.ensures ∙ ap asked_column (to_z-of_z w64 c.args.number c.ranges.number) in
     let e = c.look.ensures in
-    edges_told c.args.me.now c.look.new.me e.stays e.made no_store c.args.name.now _ c.args.number _ _ _ (c.deref.ensures ∙ c.in_ok-version.ensures.newest) named.0 column named.1 c.in_ok-lines.ensures.accepted c.in_ok-lines.ensures.ok
+    edges_reported c.args.me.now c.look.new.me e.stays e.made no_store c.args.name.now _ c.args.number _ _ _ (c.deref.ensures ∙ c.in_ok-version.ensures.newest) named.0 column named.1 c.in_ok-lines.ensures.accepted c.in_ok-lines.ensures.ok

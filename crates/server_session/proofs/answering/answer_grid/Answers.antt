@@ -3,7 +3,7 @@ use Rattle.std.proofs.lemmas.Bool.{false≢true}
 use Rattle.std.proofs.lemmas.Int.{to_z-of_z}
 use Rattle.std.proofs.lemmas.Result.{err_from_is_err_and}
 use Rattle.server_session.specs.Stores.{no_store}
-use Rattle.server_session.proofs.AnswerLemmas.{size_read, points_read, grid_unnamed, grid_of_no_size, grid_gone, grid_refused, grid_told}
+use Rattle.server_session.proofs.AnswerLemmas.{size_read, points_read, grid_unnamed, grid_of_no_size, grid_gone, grid_refused, grid_reported}
 use Rattle.server_session.proofs.answering.answer_grid.Goals as goal
 
 pub returns-in_err-name : goal.returns-in_err-name
@@ -59,5 +59,5 @@ returns g c =
     let points = points_read c.args.x c.args.y c.args.step c.args.nx c.args.ny _ _ _ _ _ _ x y step nx ny c.in_ok-points.ensures.ok in
     let e = c.look.ensures in
     let drawn = c.in_ok-picture.ensures in
-    grid_told c.args.me.now c.look.new.me e.stays e.made no_store c.args.name.now _ c.args.x c.args.y c.args.step c.args.nx c.args.ny _ _ _
+    grid_reported c.args.me.now c.look.new.me e.stays e.made no_store c.args.name.now _ c.args.x c.args.y c.args.step c.args.nx c.args.ny _ _ _
     (c.deref.ensures ∙ c.in_ok-version.ensures.newest) named.0 points named.1 size drawn.accepted drawn.ok

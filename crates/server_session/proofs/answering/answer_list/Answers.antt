@@ -2,7 +2,7 @@ use Rattle.std.proofs.Common.{◌∙◌, ap}
 use Rattle.std.proofs.lemmas.Result.{err_from_is_err_and}
 use Rattle.layer_book.specs.Listing.{layers_text}
 use Rattle.server_session.specs.Stores.{no_store}
-use Rattle.server_session.proofs.AnswerLemmas.{list_gone, list_no_memory, list_told}
+use Rattle.server_session.proofs.AnswerLemmas.{list_gone, list_no_memory, list_reported}
 use Rattle.server_session.proofs.answering.answer_list.Goals as goal
 
 pub returns-in_err-version : goal.returns-in_err-version
@@ -20,4 +20,4 @@ returns-in_err-list c =
 pub returns : goal.returns
 returns c =
     let e = c.look.ensures in
-    list_told c.args.me.now c.look.new.me e.stays e.made no_store _ _ (c.deref.ensures ∙ c.in_ok-version.ensures.newest) (c.in_ok-list.ensures ∙ ap layers_text c.layers.ensures.value)
+    list_reported c.args.me.now c.look.new.me e.stays e.made no_store _ _ (c.deref.ensures ∙ c.in_ok-version.ensures.newest) (c.in_ok-list.ensures ∙ ap layers_text c.layers.ensures.value)

@@ -4,7 +4,7 @@ use Rattle.std.proofs.lemmas.Int.{to_z-of_z}
 use Rattle.std.proofs.lemmas.Result.{err_from_is_err_and}
 use Rattle.layer_book.specs.Place.{location}
 use Rattle.server_session.specs.Stores.{no_store}
-use Rattle.server_session.proofs.AnswerLemmas.{query_read, point_read, locate_unnamed, locate_out_of_range, locate_gone, locate_refused, locate_told, unknown_stands}
+use Rattle.server_session.proofs.AnswerLemmas.{query_read, point_read, locate_unnamed, locate_out_of_range, locate_gone, locate_refused, locate_reported, unknown_stands}
 use Rattle.server_session.proofs.answering.answer_locate.Goals as goal
 
 pub returns-in_err-name : goal.returns-in_err-name
@@ -53,4 +53,4 @@ returns c =
     let query = query_read c.args.x c.args.y c.args.w _ _ _ x y w (asked.in_range.0 refl) in
     let point = point_read c.args.x c.args.y c.args.w _ _ _ _ x y w asked.ok in
     let e = c.look.ensures in
-    locate_told c.args.me.now c.look.new.me e.stays e.made no_store c.args.name.now _ c.args.x c.args.y c.args.w _ _ (location c.in_ok-place.place) (c.deref.ensures ∙ c.in_ok-version.ensures.newest) named.0 point named.1 query (found.known.0 refl) found.ok
+    locate_reported c.args.me.now c.look.new.me e.stays e.made no_store c.args.name.now _ c.args.x c.args.y c.args.w _ _ (location c.in_ok-place.place) (c.deref.ensures ∙ c.in_ok-version.ensures.newest) named.0 point named.1 query (found.known.0 refl) found.ok

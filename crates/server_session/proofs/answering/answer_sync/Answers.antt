@@ -1,11 +1,11 @@
 use Rattle.std.proofs.Common.{refl}
-use Rattle.server_session.proofs.TileAnswers.{may_tell, sync_refused, sync_told}
+use Rattle.server_session.proofs.TileAnswers.{may_tell, sync_refused, sync_reported}
 use Rattle.server_session.proofs.answering.answer_sync.Goals as goal
 
 pub returns-in-Ok : goal.returns-in-Ok
 returns-in-Ok g c =
     let e = c.wait_durable.ensures in
-    sync_told _ c.args.me.now c.wait_durable.new.me _ c.in-Ok.number c.in-Ok.is e.goes_on e.same e.without c.in-Ok.ensures.ok (c.wait_durable.new.me.log, refl, c.in-Ok.ensures.told)
+    sync_reported _ c.args.me.now c.wait_durable.new.me _ c.in-Ok.number c.in-Ok.is e.goes_on e.same e.without c.in-Ok.ensures.ok (c.wait_durable.new.me.log, refl, c.in-Ok.ensures.reported)
 
 pub returns-in-Err : goal.returns-in-Err
 returns-in-Err g c =

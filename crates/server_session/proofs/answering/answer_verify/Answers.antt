@@ -3,7 +3,7 @@ use Rattle.std.proofs.lemmas.Int.{to_z-of_z}
 use Rattle.std.proofs.lemmas.Result.{err_from_is_err_and}
 use Rattle.script_form.specs.Transcript.{asked_column}
 use Rattle.server_session.specs.Stores.{no_store}
-use Rattle.server_session.proofs.TileAnswers.{verify_unnamed, verify_gone, verify_refused, verify_told}
+use Rattle.server_session.proofs.TileAnswers.{verify_unnamed, verify_gone, verify_refused, verify_reported}
 use Rattle.server_session.proofs.answering.answer_verify.Goals as goal
 
 pub returns-in_err-name : goal.returns-in_err-name
@@ -30,4 +30,4 @@ returns c =
     let named = c.in_ok-name.ensures.ok in
     let column = c.asked_column.ensures ∙ ap asked_column (to_z-of_z w64 c.args.number c.ranges.number) in
     let e = c.look.ensures in
-    verify_told c.args.me.now c.look.new.me e.stays e.made no_store c.args.name.now _ c.args.number _ _ _ (c.deref.ensures ∙ c.in_ok-version.ensures.newest) named.0 column named.1 c.in_ok-verdict.ensures.accepted c.in_ok-verdict.ensures.same
+    verify_reported c.args.me.now c.look.new.me e.stays e.made no_store c.args.name.now _ c.args.number _ _ _ (c.deref.ensures ∙ c.in_ok-version.ensures.newest) named.0 column named.1 c.in_ok-verdict.ensures.accepted c.in_ok-verdict.ensures.same

@@ -1,5 +1,5 @@
 use Rattle.std.proofs.lemmas.Result.{err_from_is_err_and}
-use Rattle.server_session.proofs.TileAnswers.{wait_unnamed, wait_refused, wait_told}
+use Rattle.server_session.proofs.TileAnswers.{wait_unnamed, wait_refused, wait_reported}
 use Rattle.server_session.proofs.answering.answer_wait.Goals as goal
 
 pub returns-in_err-name : goal.returns-in_err-name
@@ -11,7 +11,7 @@ pub returns-in-Ok : goal.returns-in-Ok
 returns-in-Ok g c =
     let named = c.in_ok-name.ensures.ok in
     let e = c.wait_built.ensures in
-    wait_told _ c.args.me.now c.wait_built.new.me c.args.name.now _ c.in-Ok.number e.goes_on e.same named.0 named.1 c.in-Ok.ensures.ok
+    wait_reported _ c.args.me.now c.wait_built.new.me c.args.name.now _ c.in-Ok.number e.goes_on e.same named.0 named.1 c.in-Ok.ensures.ok
 
 pub returns-in-Err : goal.returns-in-Err
 returns-in-Err g c =

@@ -26,11 +26,11 @@ returns-in-Err-clause-run g c =
 pub returns-in-Err-clause-stays : goal.returns-in-Err-clause-stays
 returns-in-Err-clause-stays g c = c.loop-taken.invariant.stays
 
-pub finish-requires-clause-told : goal.finish-requires-clause-told
-finish-requires-clause-told g c κs within = may_report-on _ _ _ _ c.args.me.now c.loop-taken.me c.loop-taken.invariant.stays c.requires.told
+pub finish-requires-clause-reported : goal.finish-requires-clause-reported
+finish-requires-clause-reported g c κs within = may_report-on _ _ _ _ c.args.me.now c.loop-taken.me c.loop-taken.invariant.stays c.requires.reported
 
-pub take-told-requires-clause-told : goal.take-told-requires-clause-told
-take-told-requires-clause-told g c κs within = may_report-on _ _ _ _ c.args.me.now c.loop-taken.me c.loop-taken.invariant.stays c.requires.told
+pub take-reported-requires-clause-reported : goal.take-reported-requires-clause-reported
+take-reported-requires-clause-reported g c κs within = may_report-on _ _ _ _ c.args.me.now c.loop-taken.me c.loop-taken.invariant.stays c.requires.reported
 
 pub returns-in-Ok-eq0-clause-run : goal.returns-in-Ok-eq0-clause-run
 returns-in-Ok-eq0-clause-run g c =
@@ -46,32 +46,32 @@ returns-in-Ok-eq0-clause-stays g c = stays_trans _ _ _ c.loop-taken.invariant.st
 pub returns-then-is_err-clause-run : goal.returns-then-is_err-clause-run
 returns-then-is_err-clause-run g c =
     let within : c.loop-taken.taken ≤ c.args.most = c.loop-taken-test.true in
-    let stops = when_err _ c.take-told.result (sym c.if-is_err.ensures.value) c.take-told.ensures.stops in
-    ends-stopped c.args.most _ c.args.me.now _ (g.R.Read.remaining c.loop-taken.reader) (g.R.Read.remaining c.read_chunk.new.reader) _ (g.W.ReplyWriter.contents c.loop-taken.writer) (g.W.ReplyWriter.contents c.take-told.new.writer)
-    _ c.in-Ok.count c.min-allowed.result c.read_chunk.new.chunk c.loop-taken.state c.loop-taken.me c.take-told.new.me
+    let stops = when_err _ c.take-reported.result (sym c.if-is_err.ensures.value) c.take-reported.ensures.stops in
+    ends-stopped c.args.most _ c.args.me.now _ (g.R.Read.remaining c.loop-taken.reader) (g.R.Read.remaining c.read_chunk.new.reader) _ (g.W.ReplyWriter.contents c.loop-taken.writer) (g.W.ReplyWriter.contents c.take-reported.new.writer)
+    _ c.in-Ok.count c.min-allowed.result c.read_chunk.new.chunk c.loop-taken.state c.loop-taken.me c.take-reported.new.me
     c.loop-taken.invariant.way c.loop-taken.invariant.stays within c.min-allowed.ensures c.in-Ok.ensures.bytes stops
 
 pub returns-then-is_err-clause-stays : goal.returns-then-is_err-clause-stays
-returns-then-is_err-clause-stays g c = stays_trans _ _ _ c.loop-taken.invariant.stays c.take-told.ensures.stays
+returns-then-is_err-clause-stays g c = stays_trans _ _ _ c.loop-taken.invariant.stays c.take-reported.ensures.stays
 
 pub loop-taken-preserved : goal.loop-taken-preserved
 loop-taken-preserved g c =
     let within : c.loop-taken.taken ≤ c.args.most = c.loop-taken-test.true in
     let works = sym c.if-is_err.ensures.value in
-    let takes = when_ok _ c.take-told.result works c.take-told.ensures.takes in
-    let answers = when_ok _ c.take-told.result works c.take-told.ensures.answers in
+    let takes = when_ok _ c.take-reported.result works c.take-reported.ensures.takes in
+    let answers = when_ok _ c.take-reported.result works c.take-reported.ensures.answers in
     record {
       limited = c.in-Ok.ensures.in_limit;
       room = search rules;
-      going = c.take-told.ensures.ended ∙ works;
-      stays = stays_trans _ _ _ c.loop-taken.invariant.stays c.take-told.ensures.stays;
-      from = when_ok _ c.take-told.result works c.take-told.ensures.from;
-      limit = λ past. when_ok _ c.take-told.result works c.take-told.ensures.limit (c.loop-taken.invariant.limit past);
-      own = reads_on c.args.most c.loop-taken.taken c.in-Ok.count c.min-allowed.result c.read_chunk.new.chunk _ _ within c.min-allowed.ensures c.in-Ok.ensures.bytes c.loop-taken.state c.take-told.new.self takes
-          (g.W.ReplyWriter.left c.loop-taken.writer) (g.W.ReplyWriter.left c.take-told.new.writer) (when_ok _ c.take-told.result works c.take-told.ensures.left) c.loop-taken.invariant.own;
+      going = c.take-reported.ensures.ended ∙ works;
+      stays = stays_trans _ _ _ c.loop-taken.invariant.stays c.take-reported.ensures.stays;
+      from = when_ok _ c.take-reported.result works c.take-reported.ensures.from;
+      limit = λ past. when_ok _ c.take-reported.result works c.take-reported.ensures.limit (c.loop-taken.invariant.limit past);
+      own = reads_on c.args.most c.loop-taken.taken c.in-Ok.count c.min-allowed.result c.read_chunk.new.chunk _ _ within c.min-allowed.ensures c.in-Ok.ensures.bytes c.loop-taken.state c.take-reported.new.self takes
+          (g.W.ReplyWriter.left c.loop-taken.writer) (g.W.ReplyWriter.left c.take-reported.new.writer) (when_ok _ c.take-reported.result works c.take-reported.ensures.left) c.loop-taken.invariant.own;
       way =
-          goes_on c.args.most _ c.args.me.now _ (g.R.Read.remaining c.loop-taken.reader) (g.R.Read.remaining c.read_chunk.new.reader) _ (g.W.ReplyWriter.contents c.loop-taken.writer) (g.W.ReplyWriter.contents c.take-told.new.writer)
-          c.loop-taken.taken c.in-Ok.count c.min-allowed.result c.read_chunk.new.chunk c.loop-taken.state c.take-told.new.self c.loop-taken.me c.take-told.new.me
+          goes_on c.args.most _ c.args.me.now _ (g.R.Read.remaining c.loop-taken.reader) (g.R.Read.remaining c.read_chunk.new.reader) _ (g.W.ReplyWriter.contents c.loop-taken.writer) (g.W.ReplyWriter.contents c.take-reported.new.writer)
+          c.loop-taken.taken c.in-Ok.count c.min-allowed.result c.read_chunk.new.chunk c.loop-taken.state c.take-reported.new.self c.loop-taken.me c.take-reported.new.me
           c.loop-taken.invariant.way c.loop-taken.invariant.stays within c.in-Ok.ensures.within c.min-allowed.ensures c.in-Ok.ensures.bytes takes answers;
     }
 
@@ -102,7 +102,7 @@ finish-requires-clause-own g c κs within =
     (reads_none _ _ c.in-Ok-eq0.field-0 c.read_chunk.new.chunk c.in-Ok-eq0.field-0-test c.in-Ok-eq0.ensures.bytes)
     (c.in-Ok-eq0.ensures.at_end c.in-Ok-eq0.field-0-test)) c.loop-taken.invariant.own
 
-pub take-told-requires-clause-own : goal.take-told-requires-clause-own
-take-told-requires-clause-own g c κs within =
+pub take-reported-requires-clause-own : goal.take-reported-requires-clause-own
+take-reported-requires-clause-own g c κs within =
     let short : c.loop-taken.taken ≤ c.args.most = c.loop-taken-test.true in
     some_then _ (reads_next c.args.most c.loop-taken.taken c.in-Ok.count c.min-allowed.result c.read_chunk.new.chunk _ _ short c.min-allowed.ensures c.in-Ok.ensures.bytes c.loop-taken.state) c.loop-taken.invariant.own

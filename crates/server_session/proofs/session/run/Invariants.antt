@@ -10,7 +10,7 @@ use Rattle.server_session.proofs.session.run.Given as goal
 
 -- so many bytes are taken of the script, and the turns are answered that those within the limit end; the writer goes on from
 -- what the session knows, and has the other turns left
--- and, where the script is longer than it may be, can be told so
+-- and, where the script is longer than it may be, can be reported so
 abbrev pub invariant-loop-taken : goal.invariant-loop-taken
 invariant-loop-taken g l = record {
   limited : l.taken ≤ l.most + 1;

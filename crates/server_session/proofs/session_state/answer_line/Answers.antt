@@ -17,13 +17,13 @@ reply-requires g c =
     record {
       right =
           some_then _ (next_reply (g.W.ReplyWriter.from c.args.writer.now) stored failed there may c.args.me.now c.answer.new.me c.args.waiting.now c.answer.new.waiting c.args.line.now c.in-Some.reply
-          c.requires.from c.requires.told was.takes was.ends) c.requires.own;
-      told = (
+          c.requires.from c.requires.reported was.takes was.ends) c.requires.own;
+      reported = (
         there,
         c.args.me.now,
         c.requires.from,
         was.takes.stays,
-        reply_since (IsReportOf stored failed) may there (seen c.args.me.now) c.requires.told c.args.me.now c.answer.new.me _ was.takes.stays.goes_on was.right,
+        reply_since (IsReportOf stored failed) may there (seen c.args.me.now) c.requires.reported c.args.me.now c.answer.new.me _ was.takes.stays.goes_on was.right,
       );
     }
 

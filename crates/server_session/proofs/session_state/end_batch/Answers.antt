@@ -10,7 +10,7 @@ reply-requires g c =
     let me = c.args.me.now in
     record {
       right = some_then _ (cut_off_some (g.W.ReplyWriter.from c.args.writer.now) c.requires.from.0 g.W.ReplyWriter.may_report me _ c.if-is_none.ensures c.requires.from.1) c.requires.own;
-      told = (c.requires.from.0, me, c.requires.from.1, stays_self me, cut_off_right _ me);
+      reported = (c.requires.from.0, me, c.requires.from.1, stays_self me, cut_off_right _ me);
     }
 
 pub returns-then-is_none-clause-ends : goal.returns-then-is_none-clause-ends

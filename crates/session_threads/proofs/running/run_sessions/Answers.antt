@@ -20,13 +20,13 @@ start_session-requires-clause-book g c κs within =
     in_middle (λ script. script.session.book ≡ g.J.BookName.book) at.yielded c.in-Some.script rest
     (subst (All (λ script. script.session.book ≡ g.J.BookName.book)) (sym parts) c.requires.scripts)
 
-pub start_session-requires-clause-told : goal.start_session-requires-clause-told
-start_session-requires-clause-told g c κs within =
+pub start_session-requires-clause-reported : goal.start_session-requires-clause-reported
+start_session-requires-clause-reported g c κs within =
     let at = c.loop-script in
     let rest = into_iter_items c.next.new.self in
     let parts = ap (λ ss. at.yielded ++ ss) (sym c.in-Some.ensures.steps.0) ∙ at.invariant.all ∙ c.into_iter-script-iterator.ensures.into_iter_gives.0 in
     let may : Script _ _ → Type 0 = λ script. MayReport g.J.BookName.stored g.J.BookName.failed (has_store c.args.shared.now) script.session g.W.ReplyWriter.may_report in
-    in_middle may at.yielded c.in-Some.script rest (subst (All may) (sym parts) c.requires.told)
+    in_middle may at.yielded c.in-Some.script rest (subst (All may) (sym parts) c.requires.reported)
 
 pub start_session-requires-clause-own : goal.start_session-requires-clause-own
 start_session-requires-clause-own g c κs within =

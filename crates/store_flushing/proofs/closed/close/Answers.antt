@@ -2,8 +2,8 @@ use Rattle.std.proofs.Common.{All, subst}
 use Rattle.book_history.specs.Logs.{history_of}
 use Rattle.book_history.proofs.Chains.{begins_with, is_history}
 use Rattle.book_lock.specs.Steps.{HasAllOf}
-use Rattle.store_flushing.specs.Told.{told_in}
-use Rattle.store_flushing.proofs.Closings.{exactly_left, files_left, reported_left, told_left}
+use Rattle.store_flushing.specs.ReportNote.{notes_in}
+use Rattle.store_flushing.proofs.Closings.{exactly_left, files_left, reported_left, notes_left}
 use Rattle.store_flushing.proofs.closed.close.Goals as goal
 
 pub returns-clause-sessions : goal.returns-clause-sessions
@@ -29,11 +29,11 @@ returns-clause-exactly g c =
     let ended = c.end_book-book.ensures in
     exactly_left g.D.Disk (history_of was) (history_of left.seen_log.log) (begins_with was left.seen_log.log ended.begun ended.reporter.longer) c.args.flusher c.left_of-stored.result.stored c.left_of-stored.result.disk c.left_of-stored.ensures.some
 
-pub returns-clause-told : goal.returns-clause-told
-returns-clause-told g c =
+pub returns-clause-tells : goal.returns-clause-tells
+returns-clause-tells g c =
     let was = c.args.reporter.log in
     let left = c.end_book-book.result in
     let now = left.seen_log.log in
     let ended = c.end_book-book.ensures in
-    told_left g.D.Disk (history_of was) (history_of now) (begins_with was now ended.begun ended.reporter.longer)
-    (is_history now ended.log.1) ended.reporter.durable (told_in c.args.told) c.args.flusher c.left_of-stored.result.stored c.left_of-stored.result.disk c.left_of-stored.ensures.some
+    notes_left g.D.Disk (history_of was) (history_of now) (begins_with was now ended.begun ended.reporter.longer)
+    (is_history now ended.log.1) ended.reporter.durable (notes_in c.args.reported) c.args.flusher c.left_of-stored.result.stored c.left_of-stored.result.disk c.left_of-stored.ensures.some

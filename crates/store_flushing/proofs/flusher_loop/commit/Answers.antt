@@ -3,14 +3,14 @@ use Rattle.book_history.specs.Logs.{history_of, newest_in}
 use Rattle.book_lock.specs.Heard.{Heard}
 use Rattle.store_flushing.specs.Storing.{Flushes}
 use Rattle.store_flushing.specs.declared.keeper.Keeper.{Keeper}
-use Rattle.store_flushing.specs.Told.{KeepsTelling}
+use Rattle.store_flushing.specs.ReportNote.{KeepsTelling}
 use Rattle.overlay_terms.specs.Histories.{Version}
 use Rattle.store_flushing.specs.Failing.{Fails}
-use Rattle.store_flushing.specs.ToldFaults.{told_fault_of}
+use Rattle.store_flushing.specs.ReportedFaults.{reported_fault_of}
 use Rattle.store_flushing.proofs.FailLemmas.{err_is, failed_on, refused_fails}
 use Rattle.store_flushing.proofs.Following.{by_call, handed_on}
 use Rattle.store_flushing.proofs.Storage.{kept_on, then}
-use Rattle.store_flushing.proofs.ToldLemmas.{telling_then}
+use Rattle.store_flushing.proofs.ReportedLemmas.{telling_then}
 use Rattle.store_flushing.proofs.flusher_loop.commit.Goals as goal
 
 pub returns-in-Ok-clause-flushes : goal.returns-in-Ok-clause-flushes
@@ -70,7 +70,7 @@ tell-requires-clause-failed g c =
     let mid = c.begin.new.self in
     let h = history_of old.reporter.log in
     let m = history_of mid.reporter.log in
-    let fault = told_fault_of c.in-Err.fault in
+    let fault = reported_fault_of c.in-Err.fault in
     let newest = c.requires.newest ∙ sym (ap (λ (r : Heard). newest_in r.log) c.begin.ensures.reporter) in
     let refused : Fails old.held.flusher old.held.flusher c.args.version.now fault =
     refused_fails d old.held.flusher c.args.version.now c.in-Err.fault c.requires.idle (λ at. err_is c.begin.result _ _ c.in-Err.is (c.begin.ensures.failed at)) c.in-Err.ensures.errors in

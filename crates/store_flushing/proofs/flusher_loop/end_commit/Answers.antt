@@ -5,13 +5,13 @@ use Rattle.book_history.specs.Logs.{history_of, newest_in}
 use Rattle.book_lock.specs.Heard.{Heard}
 use Rattle.flush_core.specs.Stored.{stored_after}
 use Rattle.store_flushing.specs.Storing.{Flushes}
-use Rattle.store_flushing.specs.Told.{KeepsTelling}
+use Rattle.store_flushing.specs.ReportNote.{KeepsTelling}
 use Rattle.store_flushing.specs.declared.keeper.Keeper.{Keeper}
-use Rattle.store_flushing.specs.ToldFaults.{told_fault_of}
+use Rattle.store_flushing.specs.ReportedFaults.{reported_fault_of}
 use Rattle.store_flushing.proofs.FailLemmas.{failed_then, on_err, step_fails}
 use Rattle.store_flushing.proofs.Following.{by_call, by_run, further}
-use Rattle.store_flushing.proofs.Storage.{begun, kept_on, then, told_all}
-use Rattle.store_flushing.proofs.ToldLemmas.{telling_self, telling_then}
+use Rattle.store_flushing.proofs.Storage.{begun, kept_on, then, reported_all}
+use Rattle.store_flushing.proofs.ReportedLemmas.{telling_self, telling_then}
 use Rattle.store_flushing.proofs.flusher_loop.end_commit.Goals as goal
 
 pub calls-init : goal.calls-init
@@ -62,14 +62,14 @@ returns-in-Ok-Done-clause-flushes g c is =
     let first = c.args.keeper.now in
     let mid = c.calls.keeper in
     let done = c.step.new.self in
-    let told = c.report.new.self in
+    let reported = c.report.new.self in
     let was = c.calls.invariant.1 is in
     let m = history_of mid.reporter.log in
     let k = history_of done.reporter.log in
-    let n = history_of told.reporter.log in
+    let n = history_of reported.reporter.log in
     let one = c.step.ensures.keeps was.store in
-    then d (history_of first.reporter.log) m n first.held.flusher mid.held.flusher told.held.flusher was
-    (told_all d m k n mid.held.flusher done.held.flusher told.held.flusher one (c.report.ensures.keeps one.store) (c.report.ensures.reported one.store))
+    then d (history_of first.reporter.log) m n first.held.flusher mid.held.flusher reported.held.flusher was
+    (reported_all d m k n mid.held.flusher done.held.flusher reported.held.flusher one (c.report.ensures.keeps one.store) (c.report.ensures.reported one.store))
 
 pub returns-in-Err-clause-flushes : goal.returns-in-Err-clause-flushes
 returns-in-Err-clause-flushes g c is =
@@ -128,7 +128,7 @@ tell-requires-clause-failed g c =
     let h = history_of first.reporter.log in
     let m = history_of mid.reporter.log in
     let n = history_of new.reporter.log in
-    let fault = told_fault_of c.in-Err.fault in
+    let fault = reported_fault_of c.in-Err.fault in
     c.requires.failed new.reporter.log fault (λ is.
     let run = c.calls.invariant.1 is in
     let kept = c.step.ensures.keeps run.store in

@@ -3,7 +3,7 @@ use Rattle.book_history.specs.Logs.{history_of}
 use Rattle.store_flushing.proofs.FailLemmas.{failed_on}
 use Rattle.store_flushing.proofs.Following.{by_run, handed_on}
 use Rattle.store_flushing.proofs.Storage.{begun, then}
-use Rattle.store_flushing.proofs.ToldLemmas.{telling_self, telling_then}
+use Rattle.store_flushing.proofs.ReportedLemmas.{telling_self, telling_then}
 use Rattle.store_flushing.proofs.flusher_loop.flush.Goals as goal
 
 pub rounds-init : goal.rounds-init

@@ -1,7 +1,7 @@
 use Rattle.std.proofs.Common.{◌≡◌}
 use Rattle.book_history.specs.Logs.{history_of}
 use Rattle.store_flushing.specs.Storing.{IsStoreOf, Flushes}
-use Rattle.store_flushing.specs.Told.{KeepsTelling}
+use Rattle.store_flushing.specs.ReportNote.{KeepsTelling}
 use Rattle.store_flushing.proofs.flusher_loop.flush.Given as goal
 
 -- a run so far

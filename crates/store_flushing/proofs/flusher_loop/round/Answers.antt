@@ -4,7 +4,7 @@ use Rattle.store_flushing.specs.declared.keeper.held_store.HeldStore.{HeldStore}
 use Rattle.store_flushing.proofs.FailLemmas.{failed_on}
 use Rattle.store_flushing.proofs.Following.{by_call, handed_on}
 use Rattle.store_flushing.proofs.Storage.{kept_on, then}
-use Rattle.store_flushing.proofs.ToldLemmas.{telling_then}
+use Rattle.store_flushing.proofs.ReportedLemmas.{telling_then}
 use Rattle.store_flushing.proofs.flusher_loop.round.Goals as goal
 
 pub returns-in-Ok-Some-clause-flushes : goal.returns-in-Ok-Some-clause-flushes

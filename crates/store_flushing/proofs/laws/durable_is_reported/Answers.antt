@@ -1,4 +1,4 @@
-use Rattle.store_flushing.proofs.ToldLemmas as lemmas
+use Rattle.store_flushing.proofs.ReportedLemmas as lemmas
 use Rattle.store_flushing.proofs.laws.durable_is_reported.Goals as goal
 
 pub returns : goal.returns

@@ -4,12 +4,12 @@ ghost use Rattle.root_store.specs.Running.{is_busy};
 ghost use Rattle.book_history.specs.Logs.{history_of};
 ghost use Rattle.store_flushing.specs.Failing.{HoldsOfFailed};
 ghost use Rattle.store_flushing.specs.Storing.{HoldsOfStored, IsStoreOf, Flushes};
-ghost use Rattle.store_flushing.specs.Told.{TellsOn, told_in};
+ghost use Rattle.store_flushing.specs.ReportNote.{TellsOn, notes_in};
 
 use crate::flusher_loop::flush;
 use crate::keeper::Keeper;
 use crate::keeper::held_store::HeldStore;
-use crate::keeper::told_log::ToldLog;
+use crate::keeper::report_log::ReportLog;
 use disk_model::disk::Disk;
 use flush_core::flusher::Flusher;
 use std::alloc::Global;
@@ -26,8 +26,8 @@ pub fn flusher_loop<J: BookName, R: Wait + Drop, D: Disk, W: Wait>(
     shared: &Shared<J, R>,
     reporter: Reporter,
     flusher: Flusher<D>,
-    told: ToldLog,
-) -> (Reporter, Flusher<D>, ToldLog)
+    reported: ReportLog,
+) -> (Reporter, Flusher<D>, ReportLog)
     requires book { reporter.book ≡ J.book }
     // What this store holds may be reported durable, whenever it is reported.
     requires stored { HoldsOfStored D.Disk J.stored (history_of reporter.log) flusher }
@@ -38,13 +38,13 @@ pub fn flusher_loop<J: BookName, R: Wait + Drop, D: Disk, W: Wait>(
     ensures rests { is_busy result.1.commit.phase ≡ false }
     ensures same { result.0.book ≡ reporter.book }
     // What it reports durable is written down at once, and from that moment on a crash leaves no older version.
-    ensures told { IsStoreOf D.Disk (history_of reporter.log) flusher
-        → TellsOn D.Disk (history_of reporter.log) (told_in told) flusher.commit.disk
-        (history_of result.0.log) (told_in result.2) result.1.commit.disk }
+    ensures reported { IsStoreOf D.Disk (history_of reporter.log) flusher
+        → TellsOn D.Disk (history_of reporter.log) (notes_in reported) flusher.commit.disk
+        (history_of result.0.log) (notes_in result.2) result.1.commit.disk }
 {
     let held = HeldStore::of(&reporter, flusher);
-    let mut keeper = Keeper::of(reporter, held, told);
+    let mut keeper = Keeper::of(reporter, held, reported);
     flush(rt, alloc, shared, &mut keeper);
-    let (reporter, held, told) = keeper.into_parts();
-    (reporter, held.into_flusher(), told)
+    let (reporter, held, reported) = keeper.into_parts();
+    (reporter, held.into_flusher(), reported)
 }

@@ -2,7 +2,7 @@ use Rattle.std.proofs.Common.{length, ap, sym, ◌∙◌, subst, refl, arith, in
 use Rattle.overlay_terms.specs.Histories.{accepted, commands_of, FollowsBatch}
 use Rattle.book_history.specs.Logs.{newest_in}
 use Rattle.book_history.proofs.Owned.{own_le, own_then}
-use Rattle.book_lock.proofs.Growing.{newest_of, told_by}
+use Rattle.book_lock.proofs.Growing.{newest_of, entry_by}
 use Rattle.book_lock.proofs.locked_log.LockedLog.accept.Goals as goal
 
 pub made_one-requires-clause-own : goal.made_one-requires-clause-own
@@ -28,7 +28,7 @@ returns-clause-ok g c =
     let level = c.requires.level.has_all in
     let log = ap (λ t. t.log) c.last-last.ensures.seen_log in
     let cause = ap (accepted c.number-by.result) c.commands.ensures ∙ ap (λ s. accepted s batch) c.number-by.ensures.value in
-    let added = told_by old after _ _ _ cause is in
+    let added = entry_by old after _ _ _ cause is in
     let own = own_then me.session me.session old after me.made batch (newest_in after) refl added level.own in
     let made = ap (commands_of me.session) log ∙ own in
     record {
@@ -42,4 +42,4 @@ returns-clause-ok g c =
     }
 
 pub add-requires : goal.add-requires
-add-requires g c = record { follows = search rules; seat = search rules; told = inl c.requires.follows.durable }
+add-requires g c = record { follows = search rules; seat = search rules; reported = inl c.requires.follows.durable }

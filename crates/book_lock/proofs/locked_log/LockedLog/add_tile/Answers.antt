@@ -9,7 +9,7 @@ use Rattle.book_history.specs.Logs.{entry, newest_in}
 use Rattle.book_history.specs.Rules.{head_of}
 use Rattle.book_history.proofs.Gone.{passed}
 use Rattle.book_history.proofs.Holding.{none_kept}
-use Rattle.book_lock.proofs.Growing.{newest_of, told_by}
+use Rattle.book_lock.proofs.Growing.{newest_of, entry_by}
 use Rattle.book_lock.proofs.locked_log.LockedLog.add_tile.Goals as goal
 
 pub returns-in_err-is_kept : goal.returns-in_err-is_kept
@@ -48,12 +48,12 @@ add-requires g c =
     let name = c.args.name.now in
     let input = c.args.built.now.0 in
     let column = c.column-column.ensures.value in
-    let told = subst (λ v. FollowsTile v name input.column c.args.built.now.1 c.kept.new.version) c.requires.last (c.in_ok-is_kept.ensures.kept c.if-not-is_kept.false) in
+    let reported = subst (λ v. FollowsTile v name input.column c.args.built.now.1 c.kept.new.version) c.requires.last (c.in_ok-is_kept.ensures.kept c.if-not-is_kept.false) in
     record {
       head = c.self.invariant.0 ∙ ap head_of (sym c.requires.book);
       room = search (rules, arith);
-      follows = subst (λ e. Follows (newest_in log) e c.kept.new.version) (λ i. kept name (sym column i) (sym c.tile.ensures.value i)) told;
-      told = inl told.durable;
+      follows = subst (λ e. Follows (newest_in log) e c.kept.new.version) (λ i. kept name (sym column i) (sym c.tile.ensures.value i)) reported;
+      reported = inl reported.durable;
     }
 
 pub returns-then-add : goal.returns-then-add
@@ -75,7 +75,7 @@ returns-then-add g c =
       finished = (
         awaited,
         subst (FollowsTile (newest_in log) name input.column c.args.built.now.1) (sym newest) follows,
-        told_by log c.add.new.self.log _ _ _ (λ i. kept name (column i) (c.tile.ensures.value i)) is,
+        entry_by log c.add.new.self.log _ _ _ (λ i. kept name (column i) (c.tile.ensures.value i)) is,
       );
       err = tt;
     }

@@ -2,7 +2,7 @@ use Rattle.std.proofs.Common.{◌≡◌, ◌<◌, ◌++◌, List, length, take, 
 use Rattle.std.proofs.lemmas.Result.{IfOk-from_err}
 use Rattle.overlay_terms.specs.Histories.{Entry, commands_of}
 use Rattle.book_history.specs.BookLogs.{BookLog}
-use Rattle.book_history.specs.Telling.{IsToldIn}
+use Rattle.book_history.specs.Telling.{ReportsStored}
 use Rattle.book_history.proofs.Gone.{passed}
 use Rattle.book_lock.specs.Steps.{AreFinishedIn}
 use Rattle.book_lock.proofs.Finishing.{begun, all_stay}
@@ -47,7 +47,7 @@ invariant_of-self g c =
       ap (λ (t : BookLog). t.book) shown ∙ c.in_ok-next.ensures.book,
       c.put_out.ensures.pending,
       (λ k low. i.3 k low ∙ ap (λ (l : List Entry). length (commands_of k l)) log ∙ sym (stays.own k) ∙ sym (ap (λ (l : List Entry). length (commands_of k l)) after)),
-      subst (IsToldIn stored) (sym after) (stays.told (begun old c.with_tiles.ensures.begun) (subst (IsToldIn stored) log i.4)),
+      subst (ReportsStored stored) (sym after) (stays.reported (begun old c.with_tiles.ensures.begun) (subst (ReportsStored stored) log i.4)),
     )
 
 pub returns : goal.returns

@@ -1,6 +1,6 @@
 use Rattle.std.proofs.Common.{◌∙◌, ap, subst}
 use Rattle.book_history.specs.Logs.{newest_in, IsLog}
-use Rattle.book_history.specs.Telling.{IsToldIn}
+use Rattle.book_history.specs.Telling.{ReportsStored}
 use Rattle.book_lock.proofs.locked_log.LockedLog.last.Goals as goal
 
 pub returns : goal.returns
@@ -11,5 +11,5 @@ returns g c =
       seen_log = ap (λ p. p.seen_log) shown ∙ (λ i. record { book = c.self.invariant.1 i; log = c.self.view_is i });
       version = c.published-last.result.now.last ∙ ap newest_in log;
       log = subst IsLog log c.at.ensures.chain;
-      told = subst (IsToldIn g.J.BookName.stored) c.self.view_is c.self.invariant.4;
+      reported = subst (ReportsStored g.J.BookName.stored) c.self.view_is c.self.invariant.4;
     }

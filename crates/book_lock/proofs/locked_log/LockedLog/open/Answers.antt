@@ -4,7 +4,7 @@ use Rattle.overlay_terms.specs.Histories.{commands_of}
 use Rattle.book_history.specs.Logs.{newest_in}
 use Rattle.book_history.specs.BookLogs.{BookLog}
 use Rattle.book_lock.specs.Steps.{beginners}
-use Rattle.book_history.specs.Telling.{IsToldIn}
+use Rattle.book_history.specs.Telling.{ReportsStored}
 use Rattle.book_lock.proofs.Beginning.{none_yet}
 use Rattle.book_history.proofs.Gone.{passed}
 use Rattle.book_lock.proofs.locked_log.LockedLog.open.Goals as goal
@@ -49,7 +49,7 @@ invariant_of-log g c =
       ap (λ (t : BookLog). t.book) shown ∙ c.requires.seen_log.0,
       (λ i. drop (kept.2 i) (kept.1 i).items) ∙ c.in-Some.ensures.1,
       (λ by low. none_yet by ∙ sym (ap (λ l. length (commands_of by l)) log)),
-      subst (IsToldIn g.J.BookName.stored) (sym log) (inl refl),
+      subst (ReportsStored g.J.BookName.stored) (sym log) (inl refl),
     )
 
 pub returns-in_err-list : goal.returns-in_err-list

@@ -4,7 +4,7 @@ use Rattle.book_history.specs.Logs.{newest_in}
 use Rattle.book_history.specs.Telling.{MayTell}
 use Rattle.std.proofs.lemmas.Result.{IfOk-from_err}
 use Rattle.book_history.proofs.Gone.{passed}
-use Rattle.book_lock.proofs.Growing.{newest_of, told_by, reports}
+use Rattle.book_lock.proofs.Growing.{newest_of, entry_by, reports}
 use Rattle.book_lock.proofs.locked_log.LockedLog.raise.Goals as goal
 use Rattle.book_lock.proofs.locked_log.LockedLog.raise.Goals.{then-number-durable-via-then-number-durable, then-number-durable-via-else-number-durable+then-number}
 
@@ -30,8 +30,8 @@ add-requires g c =
     let durable = c.durable-durable.ensures.value ∙ ap (λ v. v.durable) (c.deref.ensures ∙ c.last.ensures.version) in
     let number = c.number.ensures.value ∙ ap (λ v. v.number) (c.deref-else-number-durable.ensures ∙ c.last.ensures.version) in
     let old = c.deref-2.ensures ∙ c.last.ensures.version in
-    let told = reports _ last _ c.args.number _ _ old c.in_ok-version.ensures.ok durable number c.if-number-durable.false c.if-number.false in
-    record { follows = told; seat = tt; told = inr (subst (MayTell g.J.BookName.stored c.args.self.now) (sym told.durable) c.requires.stored) }
+    let reported = reports _ last _ c.args.number _ _ old c.in_ok-version.ensures.ok durable number c.if-number-durable.false c.if-number.false in
+    record { follows = reported; seat = tt; reported = inr (subst (MayTell g.J.BookName.stored c.args.self.now) (sym reported.durable) c.requires.stored) }
 
 pub returns-in_err-add : goal.returns-in_err-add
 returns-in_err-add g c =
@@ -47,6 +47,6 @@ returns g c =
     let durable = c.durable-durable.ensures.value ∙ ap (λ v. v.durable) (c.deref.ensures ∙ c.last.ensures.version) in
     let number = c.number.ensures.value ∙ ap (λ v. v.number) (c.deref-else-number-durable.ensures ∙ c.last.ensures.version) in
     let old = c.deref-2.ensures ∙ c.last.ensures.version in
-    let told = reports _ last _ c.args.number _ _ old c.in_ok-version.ensures.ok durable number c.if-number-durable.false c.if-number.false in
-    let then : FollowsReport last c.args.number (newest_in c.add.new.self) = subst (FollowsReport last c.args.number) (sym new) told in
-    record { ok = (inl (then, told_by c.args.self.now c.add.new.self _ _ _ refl is), then.durable); err = tt }
+    let reported = reports _ last _ c.args.number _ _ old c.in_ok-version.ensures.ok durable number c.if-number-durable.false c.if-number.false in
+    let then : FollowsReport last c.args.number (newest_in c.add.new.self) = subst (FollowsReport last c.args.number) (sym new) reported in
+    record { ok = (inl (then, entry_by c.args.self.now c.add.new.self _ _ _ refl is), then.durable); err = tt }

@@ -40,7 +40,7 @@ returns-in-Err-clause-refused g c =
       fault =
           refused_at_once g.D.Disk self.version.value (flusher_in self.store) (given c.args.ports.items) fault self.answer
           (record { code = c.refused.ensures.code; same = c.refused.ensures.answer; may = subst MayAnswer (sym c.requires.hosted.answer) tt })
-          (ap (λ (l : BookLog). l.log) c.refused.ensures.seen_log ∙ c.requires.hosted.first) c.refused.ensures.told c.refused.ensures.sessions
+          (ap (λ (l : BookLog). l.log) c.refused.ensures.seen_log ∙ c.requires.hosted.first) c.refused.ensures.reported c.refused.ensures.sessions
           (stopped_at_once g.D.Disk self.version.value (flusher_in self.store) fault.disk c.requires.hosted.now
           (subst (λ o. MatchOption (flusher_in self.store) (o ≡ None) (λ f. o ≡ Some f.commit.disk)) (sym c.refused.ensures.disk) c.into_disk.ensures));
       ports = (ap (λ (ps : Vec (Port _ _) Global). given ps.items) c.in-Err.ensures.refused, c.refused.ensures.sessions);
@@ -57,9 +57,9 @@ run_threads-worked-requires-after_bounds g c κs within =
       store = c.requires.hosted.of;
       durable = holds_first g.D.Disk g.J.BookName.stored g.J.BookName.failed start self.store c.requires.hosted.begun c.requires.meant c.requires.failed;
       scripts = all_of_book g.J.BookName.book start ports seats.scripts.items seated;
-      told = may_report_all g.D.Disk c.requires.hosted.now start g.J.BookName.stored g.J.BookName.failed (flusher_in self.store)
+      reported = may_report_all g.D.Disk c.requires.hosted.now start g.J.BookName.stored g.J.BookName.failed (flusher_in self.store)
           (record { stored_is = λ log number. (c.requires.meant log number).0; failed_is = λ log fault. (c.requires.failed log fault).0 })
-          g.W.ReplyWriter.may_report c.requires.told _ c.requires.hosted.stored seats.scripts.items (begin_there g.J.BookName.book start ports seats.scripts.items seated);
+          g.W.ReplyWriter.may_report c.requires.reported _ c.requires.hosted.stored seats.scripts.items (begin_there g.J.BookName.book start ports seats.scripts.items seated);
       goes_on = goes_of (λ port me. g.W.ReplyWriter.from port.writer (has_store self.shared) me) ports self.sessions.items seats.scripts.items c.in-Ok.ensures.ports c.in-Ok.ensures.sessions c.requires.from;
       own = own_of (λ port. IfSome (g.W.ReplyWriter.left port.writer) (IsAtStart (g.R.Read.remaining port.reader))) ports seats.scripts.items c.in-Ok.ensures.ports c.requires.own;
       limit = own_of (λ port. IsPastMost port.most (g.R.Read.remaining port.reader) → g.W.ReplyWriter.may_pass_limit port.writer) ports seats.scripts.items c.in-Ok.ensures.ports c.requires.limit;
@@ -97,7 +97,7 @@ returns-then-is_set-clause-refused g c =
     (record { stored_is = λ log number. (c.requires.meant log number).0; failed_is = λ log fault. (c.requires.failed log fault).0 }) scripts left.ended (begin_there g.J.BookName.book start ports scripts seated) there in
     let refused = c.stopped in
     stopped_of g.D.Disk g.J.BookName.book g.R.Read.remaining g.W.ReplyWriter.contents start ports self.store after scripts left.ended refused.result
-    (record { log = c.requires.hosted.begun; none_told = c.requires.hosted.untold; some = c.requires.ports; seated = seated })
+    (record { log = c.requires.hosted.begun; none_reported = c.requires.hosted.unreported; some = c.requires.ports; seated = seated })
     (record { sessions = held; kept = kept_twice g.D.Disk g.J.BookName.book self.store work.result.store after work.ensures.store c.keep_store-store.ensures })
     self.answer closed.result
     (record { code = refused.ensures.code; same = refused.ensures.answer; may = subst MayAnswer (sym c.requires.hosted.answer) tt })
@@ -115,7 +115,7 @@ returns-then-is_set-clause-refused g c =
         durable = closed.ensures.durable;
         store = closed.ensures.store;
         fault = closed.ensures.fault;
-        told = closed.ensures.told;
+        reported = closed.ensures.reported;
       };
     })
     refused.ensures.closed work.result.finished left.finished_are refused.ensures.back
@@ -139,7 +139,7 @@ returns-clause-left g c =
     (record { stored_is = λ log number. (c.requires.meant log number).0; failed_is = λ log fault. (c.requires.failed log fault).0 }) scripts left.ended (begin_there g.J.BookName.book start ports scripts seated) there in
     served_from g.D.Disk g.J.BookName.book g.R.Read.remaining g.W.ReplyWriter.contents start ports self.store after scripts left.ended
     (record { sessions = work.result.finished; closed = closed.result })
-    (record { log = c.requires.hosted.begun; none_told = c.requires.hosted.untold; some = c.requires.ports; seated = seated })
+    (record { log = c.requires.hosted.begun; none_reported = c.requires.hosted.unreported; some = c.requires.ports; seated = seated })
     (record { sessions = held; kept = kept_twice g.D.Disk g.J.BookName.book self.store work.result.store after work.ensures.store c.keep_store-store.ensures })
     (record {
       version = closed.ensures.version;
@@ -155,7 +155,7 @@ returns-clause-left g c =
         durable = closed.ensures.durable;
         store = closed.ensures.store;
         fault = closed.ensures.fault;
-        told = closed.ensures.told;
+        reported = closed.ensures.reported;
       };
     })
     left.finished_are

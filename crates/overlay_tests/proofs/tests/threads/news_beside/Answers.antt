@@ -24,6 +24,6 @@ module _ (J R : RattleType) (g : book_name.Ghosts J.Denot) (j : IsSend J) (s : I
       let book = shared_sync J (ShrRef d d' R) g j (shr_send d d' R s) in
       recorded_send _ _ _ O.to_one (struct_send (shape O) (shr_send a a' R s, (shr_send c c' _ book, (mut_send e e' reporter.the_row reporter_send, tt))))
 
-pub join_mut-told-requires-send-F : goal.join_mut-told-requires-send-F
-join_mut-told-requires-send-F g c κs within =
+pub join_mut-reported-requires-send-F : goal.join_mut-reported-requires-send-F
+join_mut-reported-requires-send-F g c κs within =
     param_send 1 _ (arg_send _ no _ (captures_send (param 0 g.row.J) (param 1 g.row.R) g.J.BookName c.type_bounds.send-J c.type_bounds.sync-R _ _ _ _ _ _ _ _ _))

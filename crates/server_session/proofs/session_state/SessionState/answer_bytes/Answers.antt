@@ -16,8 +16,8 @@ loop-byte-init g c = record {
   left = away_none c.args.self.now (g.W.ReplyWriter.left c.args.writer.now);
 }
 
-pub take_byte-requires-clause-told : goal.take_byte-requires-clause-told
-take_byte-requires-clause-told g c κs within = may_report-on _ _ _ _ c.args.me.now c.loop-byte.me c.loop-byte.invariant.stays c.requires.told
+pub take_byte-requires-clause-reported : goal.take_byte-requires-clause-reported
+take_byte-requires-clause-reported g c κs within = may_report-on _ _ _ _ c.args.me.now c.loop-byte.me c.loop-byte.invariant.stays c.requires.reported
 
 pub take_byte-requires-clause-own : goal.take_byte-requires-clause-own
 take_byte-requires-clause-own g c κs within =

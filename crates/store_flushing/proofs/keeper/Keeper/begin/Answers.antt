@@ -1,9 +1,9 @@
 use Rattle.std.proofs.Common.{◌≡◌, refl, subst, sym}
 use Rattle.book_history.specs.BookLogs.{BookLog}
 use Rattle.book_history.specs.Logs.{history_of}
-use Rattle.store_flushing.specs.Told.{told_in}
+use Rattle.store_flushing.specs.ReportNote.{notes_in}
 use Rattle.store_flushing.proofs.Remembered.{of_book, refused_so, same_keeper}
-use Rattle.store_flushing.proofs.ToldLemmas.{none_told}
+use Rattle.store_flushing.proofs.ReportedLemmas.{none_reported}
 use Rattle.store_flushing.proofs.keeper.Keeper.begin.Goals as goal
 
 pub begin-requires-clause-book : goal.begin-requires-clause-book
@@ -13,7 +13,7 @@ pub returns-clause-tells : goal.returns-clause-tells
 returns-clause-tells g c is =
     let k = c.args.self.now in
     let h = history_of k.reporter.log in
-    none_told g.D.Disk h h k.held.flusher c.begin.new.self.flusher (told_in k.told) (c.begin.ensures.keeps is) refl
+    none_reported g.D.Disk h h k.held.flusher c.begin.new.self.flusher (notes_in k.reported) (c.begin.ensures.keeps is) refl
 
 pub returns-clause-err : goal.returns-clause-err
 returns-clause-err g c =

@@ -2,10 +2,10 @@ use Rattle.std.proofs.Common.{◌≡◌, refl, subst, sym, arith}
 use Rattle.logbook.specs.Pages.{Book}
 use Rattle.book_history.specs.Logs.{history_of}
 use Rattle.book_history.proofs.Chains.{is_history}
-use Rattle.store_flushing.specs.Told.{told_in}
+use Rattle.store_flushing.specs.ReportNote.{notes_in}
 use Rattle.store_flushing.proofs.Remembered.{none_so, same_keeper}
 use Rattle.store_flushing.proofs.Storage.{kept, longer}
-use Rattle.store_flushing.proofs.ToldLemmas.{none_told}
+use Rattle.store_flushing.proofs.ReportedLemmas.{none_reported}
 use Rattle.store_flushing.proofs.keeper.Keeper.look.Goals as goal
 
 pub returns-clause-history : goal.returns-clause-history
@@ -25,7 +25,7 @@ pub returns-clause-tells : goal.returns-clause-tells
 returns-clause-tells g c is =
     let s = c.args.self.now.held.flusher in
     let log = c.next_version-looked.new.me.log in
-    none_told g.D.Disk (history_of c.args.self.now.reporter.log) (history_of log) s s (told_in c.args.self.now.told) (returns-clause-keeps g c is)
+    none_reported g.D.Disk (history_of c.args.self.now.reporter.log) (history_of log) s s (notes_in c.args.self.now.reported) (returns-clause-keeps g c is)
     c.next_version-looked.ensures.durable
 
 pub invariant_of-self : goal.invariant_of-self

@@ -3,9 +3,9 @@ use Rattle.logbook.specs.Pages.{Book}
 use Rattle.book_history.specs.Logs.{history_of, newest_in}
 use Rattle.book_history.proofs.Chains.{is_history}
 use Rattle.book_lock.specs.Heard.{Heard}
-use Rattle.store_flushing.specs.Told.{news_in, told_at, told_in}
-use Rattle.store_flushing.proofs.Storage.{all_told, report_kept, stored_level}
-use Rattle.store_flushing.proofs.ToldLemmas.{news_told}
+use Rattle.store_flushing.specs.ReportNote.{news_in, notes_at, notes_in}
+use Rattle.store_flushing.proofs.Storage.{all_reported, report_kept, stored_level}
+use Rattle.store_flushing.proofs.ReportedLemmas.{news_reported}
 use Rattle.store_flushing.proofs.keeper.Keeper.report.Goals as goal
 
 pub report-requires-clause-stored : goal.report-requires-clause-stored
@@ -21,8 +21,8 @@ returns-clause-keeps g c is =
     let n = history_of c.report.new.me.log in
     let s = c.args.self.now.held.flusher in
     let e = c.report.ensures in
-    let told = subst (λ (k : ℕ). ((newest_in c.report.new.me.log).durable ≡ k) ⊎ ((newest_in c.report.new.me.log).durable ≡ (newest_in c.args.self.now.reporter.log).durable)) c.stored.ensures e.reported in
-    report_kept d h n s (λ k left. g.met.D.Disk.only_now s.commit.disk k is.honest left) e.goes_on told is (returns-clause-history g c)
+    let reported = subst (λ (k : ℕ). ((newest_in c.report.new.me.log).durable ≡ k) ⊎ ((newest_in c.report.new.me.log).durable ≡ (newest_in c.args.self.now.reporter.log).durable)) c.stored.ensures e.reported in
+    report_kept d h n s (λ k left. g.met.D.Disk.only_now s.commit.disk k is.honest left) e.goes_on reported is (returns-clause-history g c)
 
 pub returns-clause-reported : goal.returns-clause-reported
 returns-clause-reported g c is =
@@ -31,17 +31,17 @@ returns-clause-reported g c is =
     let n = history_of c.report.new.me.log in
     let s = c.args.self.now.held.flusher in
     let e = c.report.ensures in
-    let told = subst (λ (k : ℕ). ((newest_in c.report.new.me.log).durable ≡ k) ⊎ ((newest_in c.report.new.me.log).durable ≡ (newest_in c.args.self.now.reporter.log).durable)) c.stored.ensures e.reported in
+    let reported = subst (λ (k : ℕ). ((newest_in c.report.new.me.log).durable ≡ k) ⊎ ((newest_in c.report.new.me.log).durable ≡ (newest_in c.args.self.now.reporter.log).durable)) c.stored.ensures e.reported in
     let reached = subst (λ (k : ℕ). k ≤ (newest_in c.args.self.now.reporter.log).number → k ≤ (newest_in c.report.new.me.log).durable) c.stored.ensures e.reached in
-    all_told d h n s (λ k left. g.met.D.Disk.only_now s.commit.disk k is.honest left) e.goes_on told is reached (stored_level d g.met.D.Disk.seen_may_stay h s e.history is)
+    all_reported d h n s (λ k left. g.met.D.Disk.only_now s.commit.disk k is.honest left) e.goes_on reported is reached (stored_level d g.met.D.Disk.seen_may_stay h s e.history is)
 
 pub returns-clause-tells : goal.returns-clause-tells
 returns-clause-tells g c is =
     let s = c.args.self.now.held.flusher in
     let log = c.report.new.me.log in
-    news_told g.D.Disk (history_of c.args.self.now.reporter.log) (history_of log) s (told_in c.args.self.now.told) (told_in c.write.new.self)
+    news_reported g.D.Disk (history_of c.args.self.now.reporter.log) (history_of log) s (notes_in c.args.self.now.reported) (notes_in c.write.new.self)
     (λ k left. g.met.D.Disk.only_now s.commit.disk k is.honest left) (returns-clause-keeps g c is)
-    (subst (λ (r : Heard). told_in c.write.new.self ≡ told_in c.args.self.now.told ++ told_at (g.D.Disk.moment s.commit.disk) (news_in (history_of r.log) (history_of log)))
+    (subst (λ (r : Heard). notes_in c.write.new.self ≡ notes_in c.args.self.now.reported ++ notes_at (g.D.Disk.moment s.commit.disk) (news_in (history_of r.log) (history_of log)))
     c.of-was.ensures c.write.ensures)
 
 pub invariant_of-self : goal.invariant_of-self

@@ -2,8 +2,8 @@ use Rattle.std.proofs.Common.{◌≡◌, refl, subst, sym}
 use Rattle.book_history.specs.BookLogs.{BookLog}
 use Rattle.book_history.specs.Logs.{history_of}
 use Rattle.book_history.proofs.Chains.{is_history}
-use Rattle.store_flushing.specs.Told.{told_in}
-use Rattle.store_flushing.proofs.ToldLemmas.{none_told}
+use Rattle.store_flushing.specs.ReportNote.{notes_in}
+use Rattle.store_flushing.proofs.ReportedLemmas.{none_reported}
 use Rattle.store_flushing.proofs.keeper.Keeper.step.Goals as goal
 
 pub returns-clause-keeps : goal.returns-clause-keeps
@@ -15,7 +15,7 @@ pub returns-clause-tells : goal.returns-clause-tells
 returns-clause-tells g c is =
     let k = c.args.self.now in
     let h = history_of k.reporter.log in
-    none_told g.D.Disk h h k.held.flusher c.step.new.self.flusher (told_in k.told) (returns-clause-keeps g c is) refl
+    none_reported g.D.Disk h h k.held.flusher c.step.new.self.flusher (notes_in k.reported) (returns-clause-keeps g c is) refl
 
 pub invariant_of-self : goal.invariant_of-self
 invariant_of-self g c =

@@ -4,7 +4,7 @@ use mathlib.Core.Bool.{true≢false}
 use Rattle.book_history.proofs.Gone.{passed}
 use Rattle.book_lock.proofs.Turning.{refused_by, refused_more}
 use Rattle.version_book.proofs.Failures.{left_failed}
-use Rattle.version_book.proofs.Told.{away_told}
+use Rattle.version_book.proofs.Answered.{away_reported}
 use Rattle.version_book.proofs.locked_book.LockedBook.submit.Goals as goal
 
 pub returns-then-self : goal.returns-then-self
@@ -18,7 +18,7 @@ returns-then-self g c =
       ok = tt;
       accepted = tt;
       err = (refl, refl, refused_by log me now refuses _ _ _ away (λ looked. (c.if-self.true, looked)));
-      closing = λ _. away_told log me now _ away;
+      closing = λ _. away_reported log me now _ away;
     }
 
 pub returns-in_err-number : goal.returns-in_err-number

@@ -2,7 +2,7 @@ use Rattle.std.proofs.Common.{◌≡◌, false, rules, refl, ap, sym, ◌∙◌,
 use mathlib.Core.Bool.{true≢false}
 use Rattle.version_book.specs.HeldTiles.{handed_out}
 use Rattle.version_book.specs.Jobs.{IsJob}
-use Rattle.version_book.proofs.Told.{handed_of, job_of, on_err, on_ok}
+use Rattle.version_book.proofs.Answered.{handed_of, job_of, on_err, on_ok}
 use Rattle.version_book.proofs.locked_book.LockedBook.take.Goals as goal
 
 pub returns-in_default : goal.returns-in_default

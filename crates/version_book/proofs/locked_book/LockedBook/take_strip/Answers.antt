@@ -4,7 +4,7 @@ use Rattle.overlay_terms.specs.Histories.{Version}
 use Rattle.book_history.specs.Logs.{newest_in}
 use Rattle.version_book.specs.HeldTiles.{strip_handed_out}
 use Rattle.version_book.specs.Strips.{HandedStrip, IsStripJob}
-use Rattle.version_book.proofs.Told.{on_err, on_ok}
+use Rattle.version_book.proofs.Answered.{on_err, on_ok}
 use Rattle.version_book.proofs.StripLemmas.{strip_handed, strip_of_free}
 use Rattle.version_book.proofs.locked_book.LockedBook.take_strip.Goals as goal
 

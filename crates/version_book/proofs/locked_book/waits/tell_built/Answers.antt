@@ -1,7 +1,7 @@
 use Rattle.std.proofs.Common.{inl, inr, rules, refl, ap, sym, ◌∙◌}
 use Rattle.book_history.specs.Logs.{newest_in}
 use Rattle.versions.specs.Building.{wait_refusal, IsBuilt}
-use Rattle.version_book.proofs.Told.{gone_err, gone_looks, gone_ok, gone_told, keeps_marks, loses_marks, not_false, test_fails, test_holds}
+use Rattle.version_book.proofs.Answered.{gone_err, gone_looks, gone_ok, gone_reported, keeps_marks, loses_marks, not_false, test_fails, test_holds}
 use Rattle.version_book.proofs.locked_book.waits.tell_built.Goals as goal
 
 pub returns-in_err-number : goal.returns-in_err-number
@@ -14,7 +14,7 @@ returns-in_err-number g c =
       seen = gone_looks r _ _ _ _ c.from_residual.ensures.1 gone.0 gone.1;
       gone = λ _. c.in_err-number.ensures.behind;
       log = refl;
-      state = gone_told r _ (newest_in c.args.locked.now.log) _ c.args.name.now c.from_residual.ensures.1 gone.0;
+      state = gone_reported r _ (newest_in c.args.locked.now.log) _ c.args.name.now c.from_residual.ensures.1 gone.0;
     }
 
 pub returns-in-Some : goal.returns-in-Some

@@ -1,5 +1,5 @@
 use Rattle.std.proofs.Common.{inl, inr, refl}
-use Rattle.version_book.proofs.Told.{gone_looks, err_and}
+use Rattle.version_book.proofs.Answered.{gone_looks, err_and}
 use Rattle.version_book.proofs.locked_book.waits.tell_no_store.Goals as goal
 
 pub returns-in_err-show : goal.returns-in_err-show

@@ -3,7 +3,7 @@ use Rattle.std.specs.List.{All}
 use Rattle.book_history.specs.Known.{Known}
 use Rattle.book_lock.proofs.Beginning.{all_begin, count_of}
 use Rattle.book_history.proofs.Gone.{passed}
-use Rattle.version_book.proofs.Told.{gone_ok}
+use Rattle.version_book.proofs.Answered.{gone_ok}
 use Rattle.version_book.proofs.shared.Shared.start.Goals as goal
 
 pub returns-in_err-log : goal.returns-in_err-log

@@ -6,7 +6,7 @@ use Rattle.version_book.proofs.shared.Shared.wait_built.Goals as goal
 
 pub returns : goal.returns
 returns g c =
-    let s = c.tell_built-told in
+    let s = c.tell_built-reported in
     let me = c.args.me.now in
     let now = s.new.me in
     let locked = c.deref_mut.result.now in

@@ -16,9 +16,9 @@ has_tiles_of-requires g c =
     (λ known. c.requires ∙ sym (subst (IsRemembered h.seen_log.book (live_content h.flusher.commit.live)) c.in-Some.is known).0)
 
 pub returns-in-Some : goal.returns-in-Some
-returns-in-Some g c told name column tile there =
+returns-in-Some g c reported name column tile there =
     let h = c.args.self.now in
     ∥∥₁_elim h.live_tiles (Coded-set (coded_option tile_code) _ _)
     (λ known.
     let is = subst (IsRemembered h.seen_log.book (live_content h.flusher.commit.live)) c.in-Some.is known in
-    ap (λ ts. tile_at ts name column) is.1 ∙ c.has_tiles_of.ensures.known told name column tile there)
+    ap (λ ts. tile_at ts name column) is.1 ∙ c.has_tiles_of.ensures.known reported name column tile there)

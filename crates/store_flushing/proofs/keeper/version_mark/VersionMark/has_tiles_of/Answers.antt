@@ -4,7 +4,7 @@ use Rattle.std.proofs.lemmas.Bool.{leb-true, le-leb}
 use mathlib.Core.List.{IsPrefix}
 use Rattle.book_history.specs.BookLogs.{BookLog}
 use Rattle.book_history.specs.Logs.{IsLog, newest_in}
-use Rattle.store_flushing.proofs.SinceLemmas.{known_by_numbers, told_by_numbers}
+use Rattle.store_flushing.proofs.SinceLemmas.{known_by_numbers, reported_by_numbers}
 use Rattle.store_flushing.proofs.keeper.version_mark.VersionMark.has_tiles_of.Goals as goal
 
 pub returns-clause-known : goal.returns-clause-known
@@ -32,10 +32,10 @@ returns-clause-known c is =
       ap (λ (t : BookLog). (newest_in t.log).number) c.later.view_is,
     ))
 
-pub returns-clause-told : goal.returns-clause-told
-returns-clause-told c since is none one =
+pub returns-clause-reported : goal.returns-clause-reported
+returns-clause-reported c since is none one =
     let few =
-    told_by_numbers c.args.self.now.log c.args.later.now.log
+    reported_by_numbers c.args.self.now.log c.args.later.now.log
     (subst (λ (t : BookLog). IsLog t.log) c.self.view_is c.at-first.ensures.chain)
     (subst (λ (t : BookLog). IsLog t.log) c.later.view_is c.at-last.ensures.chain)
     c.at-first.result c.at-last.result c.reports_until.result

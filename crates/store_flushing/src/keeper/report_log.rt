@@ -1,7 +1,7 @@
 //! The numbers that were reported durable, each with the disk's moment as it was reported.
 ghost use Rattle.std.specs.Prelude.{◌≡◌, ◌++◌, []};
 ghost use Rattle.book_history.specs.Logs.{history_of};
-ghost use Rattle.store_flushing.specs.Told.{news_in, told_at, told_in};
+ghost use Rattle.store_flushing.specs.ReportNote.{news_in, notes_at, notes_in};
 
 use crate::keeper::held_store::HeldStore;
 use disk_model::disk::Disk;
@@ -13,7 +13,7 @@ use version_book::reporter::Reporter;
 /// A number that was reported durable, and the disk's moment then. No value of it is made: it is what a list of
 /// them holds for the proofs.
 #[derive(Drop)]
-pub struct Told {
+pub struct ReportNote {
     pub number: u64,
     pub moment: u64,
 }
@@ -21,7 +21,7 @@ pub struct Told {
 /// A list that one hand keeps has no rule of its own.
 struct NoRule;
 
-impl Rule<Told, u64> for NoRule {
+impl Rule<ReportNote, u64> for NoRule {
     ghost use Rattle.std.specs.Prelude.{[]};
     ghost use base.Fml.{ftrue};
 
@@ -41,7 +41,7 @@ impl Rule<Told, u64> for NoRule {
 /// Nothing is written down.
 struct Nothing;
 
-impl Opening<(), Told> for Nothing {
+impl Opening<(), ReportNote> for Nothing {
     ghost use Rattle.std.specs.Prelude.{[]};
 
     ghost log = { λ n nothing. [] };
@@ -50,7 +50,7 @@ impl Opening<(), Told> for Nothing {
 /// A list, a reporter before and after a call, and the store whose disk has the moment.
 #[derive(Clone, Copy)]
 struct News<'a, D: Disk> {
-    told: &'a ToldLog,
+    reported: &'a ReportLog,
     was: &'a Snapshot<Reporter>,
     reporter: &'a Reporter,
     held: &'a HeldStore<D>,
@@ -59,37 +59,37 @@ struct News<'a, D: Disk> {
 /// What was written down, and after it the news with the disk's moment.
 struct WithNews;
 
-impl<'a, D: Disk> Opening<News<'a, D>, Told> for WithNews {
+impl<'a, D: Disk> Opening<News<'a, D>, ReportNote> for WithNews {
     ghost use Rattle.std.specs.Prelude.{◌++◌};
     ghost use Rattle.book_history.specs.Logs.{history_of};
-    ghost use Rattle.store_flushing.specs.Told.{news_in, told_at, told_in};
+    ghost use Rattle.store_flushing.specs.ReportNote.{news_in, notes_at, notes_in};
 
-    ghost log = { λ n news. told_in news.told.now
-        ++ told_at (D.moment news.held.now.flusher.commit.disk)
+    ghost log = { λ n news. notes_in news.reported.now
+        ++ notes_at (D.moment news.held.now.flusher.commit.disk)
         (news_in (history_of news.was.now.value.log) (history_of news.reporter.now.log)) };
 }
 
 /// The numbers that were reported durable, in order, each with the disk's moment then. It has no bytes, and its
 /// keeper alone can write it.
 #[derive(Drop)]
-pub struct ToldLog {
-    seen: Seen<Told, u64, NoRule>,
+pub struct ReportLog {
+    seen: Seen<ReportNote, u64, NoRule>,
 }
 
-impl fmt::Debug for ToldLog {
+impl fmt::Debug for ReportLog {
     fn fmt<W: fmt::Write>(&self, f: &mut fmt::Formatter<W>) -> fmt::Result {
-        f.debug_struct("ToldLog").finish_non_exhaustive()
+        f.debug_struct("ReportLog").finish_non_exhaustive()
     }
 }
 
-impl ToldLog {
+impl ReportLog {
     /// Nothing was reported.
-    pub fn none() -> ToldLog
-        ensures { told_in result ≡ [] }
+    pub fn none() -> ReportLog
+        ensures { notes_in result ≡ [] }
     {
         let nothing = ();
         let (seen, _pens) = Seen::open_row::<(), Nothing>(&nothing, Start::alone(), 0);
-        ToldLog { seen }
+        ReportLog { seen }
     }
 
     /// Writes down what a reporter has seen reported since, with the moment that the store's disk has now.
@@ -99,11 +99,11 @@ impl ToldLog {
         reporter: &Reporter,
         held: &HeldStore<D>,
     )
-        ensures { told_in self.new ≡ told_in self.old ++ told_at (D.moment held.now.flusher.commit.disk)
+        ensures { notes_in self.new ≡ notes_in self.old ++ notes_at (D.moment held.now.flusher.commit.disk)
             (news_in (history_of was.now.value.log) (history_of reporter.now.log)) }
     {
         let news = News {
-            told: &*self,
+            reported: &*self,
             was,
             reporter,
             held,

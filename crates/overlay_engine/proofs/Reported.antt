@@ -10,11 +10,11 @@ use Rattle.overlay_engine.specs.declared.step.Reply.TheVariants.{Accepted, Refus
 use Rattle.overlay_engine.specs.Acts.{Acts}
 use Rattle.overlay_engine.specs.Devices.{Calls, Devices}
 use Rattle.overlay_engine.specs.Runs.{Made, EachFollows}
-use Rattle.overlay_engine.specs.Telling.{HasNumber, next_after, Numbered, told_after, told_in, JobsAreNumbered, DurableIsTold, CrashKeepsTold}
+use Rattle.overlay_engine.specs.Telling.{HasNumber, next_after, Numbered, reported_after, last_reported, JobsAreNumbered, DurableIsLastReported, CrashKeepsReported}
 
 -- what a reply says of the numbers before and after its step
 abbrev Tells : ℕ → ℕ → Reply → ℕ → ℕ → Type 0
-Tells job durable reply next now = HasNumber job reply × (next ≡ next_after job reply) × (now ≡ told_after durable reply)
+Tells job durable reply next now = HasNumber job reply × (next ≡ next_after job reply) × (now ≡ reported_after durable reply)
 
 module _ {D : Type 0} (g : Ghosts D) where
   abbrev TellsOf : Engine D g → Reply → Engine D g → Type 0
@@ -49,7 +49,7 @@ module _ {D : Type 0} (g : Ghosts D) where
   device_tells old reply new (inr (inl (idle, mid, begins, calls))) =
       from old mid new reply (ap (λ (e : Engine D g). e.next_job) begins.rest) (ap (λ (e : Engine D g). e.version.durable) begins.rest) (called_tells mid reply new calls)
   device_tells old reply new (inr (inr (idle, not_begun))) =
-      subst (λ (r : Reply). TellsOf old r new) (sym not_begun.told) (tt, job_of old new not_begun.same, durable_of old new not_begun.same)
+      subst (λ (r : Reply). TellsOf old r new) (sym not_begun.reported) (tt, job_of old new not_begun.same, durable_of old new not_begun.same)
 
   acts_tell : (step : Step) (old : Engine D g) (reply : Reply) (new : Engine D g) → Acts g step old reply new → TellsOf old reply new
   acts_tell (Submit change) old (Accepted number) new acts = (tt, ap (λ (e : Engine D g). e.next_job) acts.2, acts.0.durable)
@@ -93,7 +93,7 @@ module _ {D : Type 0} (g : Ghosts D) where
   acts_tell (Finish job) old (Done number) new acts = absurd acts
   acts_tell (Finish job) old (Durable number) new acts = absurd acts
   acts_tell Device old reply new acts = device_tells old reply new acts
-  acts_tell Report old (Durable number) new (reported, told, same) = (tt, ap (λ (e : Engine D g). e.next_job) same, sym told)
+  acts_tell Report old (Durable number) new (reports, durable, same) = (tt, ap (λ (e : Engine D g). e.next_job) same, sym durable)
   acts_tell Report old (Refused code) new acts = (tt, job_of old new acts.1, durable_of old new acts.1)
   acts_tell Report old (Accepted number) new acts = absurd acts
   acts_tell Report old (Taken number) new acts = absurd acts
@@ -114,18 +114,18 @@ module _ {D : Type 0} (g : Ghosts D) where
       let t = joined made old joins acts in
       (t.0, subst (λ (n : ℕ). Numbered n run) t.1 (jobs_are_numbered made.new run new leads))
 
-  pub durable_is_told : DurableIsTold g
-  durable_is_told old [] new same = durable_of old new same
-  durable_is_told old (made ∷ run) new (joins, acts, leads) =
+  pub durable_is_last_reported : DurableIsLastReported g
+  durable_is_last_reported old [] new same = durable_of old new same
+  durable_is_last_reported old (made ∷ run) new (joins, acts, leads) =
       let t = joined made old joins acts in
-      durable_is_told made.new run new leads ∙ ap (λ (n : ℕ). told_in n run) t.2
+      durable_is_last_reported made.new run new leads ∙ ap (λ (n : ℕ). last_reported n run) t.2
 
   -- the first steps of a run
   first_steps : (before after : List (Made D g)) (made : Made D g) (old new : Engine D g) → EachFollows g old (before ++ made ∷ after) new → EachFollows g old before made.old
   first_steps [] after made old new (joins, acts, leads) = joins
   first_steps (one ∷ before) after made old new (joins, acts, leads) = (joins, acts, first_steps before after made one.new new leads)
 
-  pub crash_keeps_told : CrashKeepsTold g
-  crash_keeps_told old run new disk leads crash =
-      durable_is_told old crash.before crash.made.old
+  pub crash_keeps_reported : CrashKeepsReported g
+  crash_keeps_reported old run new disk leads crash =
+      durable_is_last_reported old crash.before crash.made.old
       (first_steps crash.before crash.after crash.made old new (subst (λ (r : List (Made D g)). EachFollows g old r new) crash.among leads))

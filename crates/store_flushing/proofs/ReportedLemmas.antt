@@ -12,28 +12,28 @@ use Rattle.book_history.specs.Logs.{history_of}
 use Rattle.book_history.proofs.Fronts.{prefix_self, prefix_trans}
 use Rattle.store_flushing.specs.Among.{IsFileIn}
 use Rattle.store_flushing.specs.Laws.{DurableIsReported}
-use Rattle.store_flushing.specs.Storing.{IsStoreOf, KeepsTold}
-use Rattle.store_flushing.specs.Since.{number_told, reported_in}
-use Rattle.store_flushing.specs.Told.{news_in, told_then, told_at, told_in, StaysTold, TellsOn, KeepsTelling}
+use Rattle.store_flushing.specs.Storing.{IsStoreOf, KeepsReported}
+use Rattle.store_flushing.specs.Since.{number_reported, reported_in}
+use Rattle.store_flushing.specs.ReportNote.{news_in, note_then, notes_at, notes_in, StaysReported, TellsOn, KeepsTelling}
 use Rattle.store_flushing.specs.declared.keeper.Keeper.{Keeper}
-use Rattle.store_flushing.specs.declared.keeper.told_log.Told.{Told}
+use Rattle.store_flushing.specs.declared.keeper.report_log.ReportNote.{ReportNote}
 use Rattle.store_flushing.proofs.Histories.{begins_self, file_more, follow_rest, last_append}
 use Rattle.store_flushing.proofs.Storage.{OnlyNow, store_leaves}
 
 -- ---- the numbers that entries report
 
-told_rises : (old new : Version) (event : Event) → Follows old event new → old.durable ≤ new.durable
-told_rises old new (accepted session batch) f = omega (arith, f.durable)
-told_rises old new (kept name column tile) f = omega (arith, f.durable)
-told_rises old new (durable_to number) f = omega (arith, f.risen, f.durable)
+reported_rises : (old new : Version) (event : Event) → Follows old event new → old.durable ≤ new.durable
+reported_rises old new (accepted session batch) f = omega (arith, f.durable)
+reported_rises old new (kept name column tile) f = omega (arith, f.durable)
+reported_rises old new (durable_to number) f = omega (arith, f.risen, f.durable)
 
 durable_rises : (v : Version) (es : List Entry) → AllFollow v es → v.durable ≤ (last_version v es).durable
 durable_rises v [] f = omega arith
-durable_rises v (e ∷ es) f = omega (arith, told_rises v e.version e.event f.0, durable_rises e.version es f.1)
+durable_rises v (e ∷ es) f = omega (arith, reported_rises v e.version e.event f.0, durable_rises e.version es f.1)
 
 -- none of them is greater than the durable number at the end
 low_by : (top : ℕ) (old new : Version) (event : Event) (rest : List ℕ) → Follows old event new → new.durable ≤ top
-    → AllByRecursion (λ n. n ≤ top) rest → AllByRecursion (λ n. n ≤ top) (cons_option (number_told event) rest)
+    → AllByRecursion (λ n. n ≤ top) rest → AllByRecursion (λ n. n ≤ top) (cons_option (number_reported event) rest)
 low_by top old new (accepted session batch) rest f low all = all
 low_by top old new (kept name column tile) rest f low all = all
 low_by top old new (durable_to number) rest f low all = (omega (arith, f.durable, low), all)
@@ -44,7 +44,7 @@ low_in v (e ∷ es) f =
     low_by (last_version e.version es).durable v e.version e.event (reported_in es) f.0 (durable_rises e.version es f.1) (low_in e.version es f.1)
 
 -- where as much is durable at the end, none was reported
-none_by : (old new : Version) (event : Event) (rest : List ℕ) → Follows old event new → new.durable ≤ old.durable → rest ≡ [] → cons_option (number_told event) rest ≡ []
+none_by : (old new : Version) (event : Event) (rest : List ℕ) → Follows old event new → new.durable ≤ old.durable → rest ≡ [] → cons_option (number_reported event) rest ≡ []
 none_by old new (accepted session batch) rest f same none = none
 none_by old new (kept name column tile) rest f same none = none
 none_by old new (durable_to number) rest f same none = absurd (omega (arith, f.risen, f.durable, same))
@@ -53,15 +53,15 @@ pub none_in : (v : Version) (es : List Entry) → AllFollow v es → (last_versi
 none_in v [] f same = refl
 none_in v (e ∷ es) f same =
     none_by v e.version e.event (reported_in es) f.0 (omega (arith, durable_rises e.version es f.1, same))
-    (none_in e.version es f.1 (omega (arith, told_rises v e.version e.event f.0, same)))
+    (none_in e.version es f.1 (omega (arith, reported_rises v e.version e.event f.0, same)))
 
 module _ (was now : History) (on : BeginsWith now was) where
   -- what a longer history reports: what it reported, and its news
   entries_on : reported_in now.entries ≡ reported_in was.entries ++ reported_in on.0
-  entries_on = ap (λ (h : History). reported_in h.entries) on.1 ∙ filter_map-append (λ (e : Entry). number_told e.event) was.entries on.0
+  entries_on = ap (λ (h : History). reported_in h.entries) on.1 ∙ filter_map-append (λ (e : Entry). number_reported e.event) was.entries on.0
 
-  pub told_on : reported_in now.entries ≡ reported_in was.entries ++ news_in was now
-  told_on =
+  pub reported_on : reported_in now.entries ≡ reported_in was.entries ++ news_in was now
+  reported_on =
       entries_on ∙ ap (λ (ns : List ℕ). reported_in was.entries ++ ns)
       (sym (ap (drop (length (reported_in was.entries))) entries_on ∙ drop-append_seam (reported_in was.entries) (reported_in on.0)))
 
@@ -69,8 +69,8 @@ module _ (was now : History) (on : BeginsWith now was) where
   last_on = ap newest on.1 ∙ last_append was.start was.entries on.0
 
   -- none, where as much is durable
-  pub told_same : IsHistory now → (newest now).durable ≡ (newest was).durable → reported_in now.entries ≡ reported_in was.entries
-  told_same history same =
+  pub reported_same : IsHistory now → (newest now).durable ≡ (newest was).durable → reported_in now.entries ≡ reported_in was.entries
+  reported_same history same =
       let rest : AllFollow (newest was) on.0 = follow_rest was.start was.entries on.0 (subst IsHistory on.1 history) in
       let level : (last_version (newest was) on.0).durable ≤ (newest was).durable = omega (arith, ap (λ (v : Version). v.durable) last_on, same) in
       entries_on ∙ ap (λ (ns : List ℕ). reported_in was.entries ++ ns) (none_in (newest was) on.0 rest level) ∙ append-nil (reported_in was.entries)
@@ -91,43 +91,43 @@ all_low h top history low =
     (All-from_recursion (λ n. n ≤ (newest h).durable) (reported_in h.entries) (low_in h.start h.entries history))
 
 -- the durable number at the end is that of the beginning, or was reported
-told_by : (old new : Version) (event : Event) (rest : List ℕ) (last : ℕ) → Follows old event new → (last ≡ new.durable) ⊎ Contains rest last
-    → (last ≡ old.durable) ⊎ Contains (cons_option (number_told event) rest) last
-told_by old new (accepted session batch) rest last f is = ⊎_elim (λ same. inl (same ∙ f.durable)) inr is
-told_by old new (kept name column tile) rest last f is = ⊎_elim (λ same. inl (same ∙ f.durable)) inr is
-told_by old new (durable_to number) rest last f is =
+notes_by : (old new : Version) (event : Event) (rest : List ℕ) (last : ℕ) → Follows old event new → (last ≡ new.durable) ⊎ Contains rest last
+    → (last ≡ old.durable) ⊎ Contains (cons_option (number_reported event) rest) last
+notes_by old new (accepted session batch) rest last f is = ⊎_elim (λ same. inl (same ∙ f.durable)) inr is
+notes_by old new (kept name column tile) rest last f is = ⊎_elim (λ same. inl (same ∙ f.durable)) inr is
+notes_by old new (durable_to number) rest last f is =
     inr (⊎_elim (λ same. (0, omega arith, sym (same ∙ f.durable))) (λ there. (suc there.0, omega (arith, there.1), there.2)) is)
 
-told_last : (v : Version) (es : List Entry) → AllFollow v es → ((last_version v es).durable ≡ v.durable) ⊎ Contains (reported_in es) (last_version v es).durable
-told_last v [] f = inl refl
-told_last v (e ∷ es) f = told_by v e.version e.event (reported_in es) (last_version e.version es).durable f.0 (told_last e.version es f.1)
+reported_last : (v : Version) (es : List Entry) → AllFollow v es → ((last_version v es).durable ≡ v.durable) ⊎ Contains (reported_in es) (last_version v es).durable
+reported_last v [] f = inl refl
+reported_last v (e ∷ es) f = notes_by v e.version e.event (reported_in es) (last_version e.version es).durable f.0 (reported_last e.version es f.1)
 
 pub durable_is_reported : DurableIsReported
-durable_is_reported h history = told_last h.start h.entries history
+durable_is_reported h history = reported_last h.start h.entries history
 
 -- ---- what was written down
 
-abbrev number_in : Told → ℕ
+abbrev number_in : ReportNote → ℕ
 number_in t = t.number
 
-numbers_at : (moment : ℕ) (ns : List ℕ) → map number_in (told_at moment ns) ≡ ns
+numbers_at : (moment : ℕ) (ns : List ℕ) → map number_in (notes_at moment ns) ≡ ns
 numbers_at moment [] = refl
 numbers_at moment (n ∷ ns) = ap (λ (ms : List ℕ). n ∷ ms) (numbers_at moment ns)
 
-small_in : (top : ℕ) (told : List Told) → All (λ n. n ≤ top) (map number_in told) → All (λ (t : Told). t.number ≤ top) told
-small_in top told all k d at =
-    subst (λ n. n ≤ top) (get_or-map number_in told k d (number_in d) at) (all k (number_in d) (omega (arith, at, length-map told number_in)))
+small_in : (top : ℕ) (reported : List ReportNote) → All (λ n. n ≤ top) (map number_in reported) → All (λ (t : ReportNote). t.number ≤ top) reported
+small_in top reported all k d at =
+    subst (λ n. n ≤ top) (get_or-map number_in reported k d (number_in d) at) (all k (number_in d) (omega (arith, at, length-map reported number_in)))
 
 module _ {D : Type 0} (g : Ghosts D) where
   -- a number stays reported, from the disk first on, up to this one
-  abbrev Stays : History → D → D → Told → Type 0
+  abbrev Stays : History → D → D → ReportNote → Type 0
   Stays history first last t =
       (g.moment first ≤ t.moment) × (t.moment ≤ g.moment last) × ((c : List ℕ) → g.left_since last t.moment c → IsFileIn history t.number c)
 
-  pub tells_self : (h : History) (told : List Told) (disk : D) → TellsOn g h told disk h told disk
-  tells_self h told disk = record { goes_on = prefix_self told; later = omega arith; stays = λ first from is. is }
+  pub tells_self : (h : History) (reported : List ReportNote) (disk : D) → TellsOn g h reported disk h reported disk
+  tells_self h reported disk = record { goes_on = prefix_self reported; later = omega arith; stays = λ first from is. is }
 
-  pub tells_then : (a b c : History) (x y z : List Told) (s t u : D) → TellsOn g a x s b y t → TellsOn g b y t c z u → TellsOn g a x s c z u
+  pub tells_then : (a b c : History) (x y z : List ReportNote) (s t u : D) → TellsOn g a x s b y t → TellsOn g b y t c z u → TellsOn g a x s c z u
   tells_then a b c x y z s t u one two = record {
     goes_on = prefix_trans x y z one.goes_on two.goes_on;
     later = omega (arith, one.later, two.later);
@@ -135,7 +135,7 @@ module _ {D : Type 0} (g : Ghosts D) where
   }
 
   -- the history goes on where as much is durable, and so does the disk
-  still : (was now : History) (top : ℕ) (first old new : D) (t : Told) → BeginsWith now was → LeavesOnly g old new (IsFileIn now top) → t.number ≤ top
+  still : (was now : History) (top : ℕ) (first old new : D) (t : ReportNote) → BeginsWith now was → LeavesOnly g old new (IsFileIn now top) → t.number ≤ top
       → Stays was first old t → Stays now first new t
   still was now top first old new t on run low is = (
     is.0,
@@ -144,67 +144,67 @@ module _ {D : Type 0} (g : Ghosts D) where
         (run.before t.moment c is.1 left),
   )
 
-  pub none_told : (was now : History) (s t : Flusher D g) (told : List Told) → KeepsTold g was s now t → (newest now).durable ≡ (newest was).durable
-      → TellsOn g was told s.commit.disk now told t.commit.disk
-  none_told was now s t told call same = record {
-    goes_on = prefix_self told;
+  pub none_reported : (was now : History) (s t : Flusher D g) (reported : List ReportNote) → KeepsReported g was s now t → (newest now).durable ≡ (newest was).durable
+      → TellsOn g was reported s.commit.disk now reported t.commit.disk
+  none_reported was now s t reported call same = record {
+    goes_on = prefix_self reported;
     later = call.moments.later;
     stays = λ first from is.
         let top = s.commit.root.version in
-        let each = told_same was now call.goes_on call.valid same ∙ is.each in
-        let small = small_in top told (subst (All (λ n. n ≤ top)) each (all_low now top call.valid call.told)) in
+        let each = reported_same was now call.goes_on call.valid same ∙ is.each in
+        let small = small_in top reported (subst (All (λ n. n ≤ top)) each (all_low now top call.valid call.reported)) in
         record {
           each = each;
-          stays = λ k d at. still was now top first s.commit.disk t.commit.disk (slice_index_or told k d) call.goes_on call.moments (small k d at) (is.stays k d at);
+          stays = λ k d at. still was now top first s.commit.disk t.commit.disk (slice_index_or reported k d) call.goes_on call.moments (small k d at) (is.stays k d at);
         };
   }
 
   -- news is reported, with the disk's moment
-  pub news_told : (was now : History) (s : Flusher D g) (told more : List Told) → OnlyNow g s → KeepsTold g was s now s
-      → more ≡ told ++ told_at (g.moment s.commit.disk) (news_in was now) → TellsOn g was told s.commit.disk now more s.commit.disk
-  news_told was now s told more at call is_more = subst (λ (l : List Told). TellsOn g was told s.commit.disk now l s.commit.disk) (sym is_more) (record {
-    goes_on = (told_at (g.moment s.commit.disk) (news_in was now), refl);
+  pub news_reported : (was now : History) (s : Flusher D g) (reported more : List ReportNote) → OnlyNow g s → KeepsReported g was s now s
+      → more ≡ reported ++ notes_at (g.moment s.commit.disk) (news_in was now) → TellsOn g was reported s.commit.disk now more s.commit.disk
+  news_reported was now s reported more at call is_more = subst (λ (l : List ReportNote). TellsOn g was reported s.commit.disk now l s.commit.disk) (sym is_more) (record {
+    goes_on = (notes_at (g.moment s.commit.disk) (news_in was now), refl);
     later = omega arith;
     stays = λ first from is.
         let top = s.commit.root.version in
         let m = g.moment s.commit.disk in
         let news = news_in was now in
         let disk = s.commit.disk in
-        let P : Told → Type 0 = Stays now first disk in
+        let P : ReportNote → Type 0 = Stays now first disk in
         record {
-          each = told_on was now call.goes_on ∙ ap (λ (ns : List ℕ). ns ++ news) is.each
-              ∙ ap (λ (ns : List ℕ). map number_in told ++ ns) (sym (numbers_at m news)) ∙ sym (map-append number_in told (told_at m news));
-          stays = All-append P told (told_at m news)
-              (All-weaker (Stays was first disk) P (λ (t : Told) old. (old.0, old.1, λ c left. file_more was now t.number t.number c call.goes_on (omega arith) (old.2 c left))) told is.stays)
-              (All-map P (told_then m) news (All-weaker (λ n. n ≤ top) (λ n. P (told_then m n))
+          each = reported_on was now call.goes_on ∙ ap (λ (ns : List ℕ). ns ++ news) is.each
+              ∙ ap (λ (ns : List ℕ). map number_in reported ++ ns) (sym (numbers_at m news)) ∙ sym (map-append number_in reported (notes_at m news));
+          stays = All-append P reported (notes_at m news)
+              (All-weaker (Stays was first disk) P (λ (t : ReportNote) old. (old.0, old.1, λ c left. file_more was now t.number t.number c call.goes_on (omega arith) (old.2 c left))) reported is.stays)
+              (All-map P (note_then m) news (All-weaker (λ n. n ≤ top) (λ n. P (note_then m n))
               (λ n low. (from, omega arith, λ c left. file_more now now top n c (begins_self now) low (store_leaves g now s call.store c (at c left))))
-              news (news_low was now call.goes_on top call.valid call.told)));
+              news (news_low was now call.goes_on top call.valid call.reported)));
         };
   })
 
   -- of a version alone nothing is reported
-  pub none_yet : (start : Version) (disk : D) → StaysTold g (record { start = start; entries = [] }) [] disk disk
+  pub none_yet : (start : Version) (disk : D) → StaysReported g (record { start = start; entries = [] }) [] disk disk
   none_yet start disk = record { each = refl; stays = λ k d at. absurd (omega (arith, at)) }
 
   -- a book that ends reports no more
-  pub told_at_end : (was now : History) (told : List Told) (disk : D) → BeginsWith now was → IsHistory now → (newest now).durable ≡ (newest was).durable → TellsOn g was told disk now told disk
-  told_at_end was now told disk on history same = record {
-    goes_on = prefix_self told;
+  pub reported_at_end : (was now : History) (reported : List ReportNote) (disk : D) → BeginsWith now was → IsHistory now → (newest now).durable ≡ (newest was).durable → TellsOn g was reported disk now reported disk
+  reported_at_end was now reported disk on history same = record {
+    goes_on = prefix_self reported;
     later = omega arith;
     stays = λ first from is. record {
-      each = told_same was now on history same ∙ is.each;
+      each = reported_same was now on history same ∙ is.each;
       stays = λ k d at. let old = is.stays k d at in
-          (old.0, old.1, λ c left. file_more was now (slice_index_or told k d).number (slice_index_or told k d).number c on (omega arith) (old.2 c left));
+          (old.0, old.1, λ c left. file_more was now (slice_index_or reported k d).number (slice_index_or reported k d).number c on (omega arith) (old.2 c left));
     };
   }
 
   -- ---- calls of a keeper, one after another
 
   pub telling_self : (k : Keeper D g) → KeepsTelling g k k
-  telling_self k is = tells_self (history_of k.reporter.log) (told_in k.told) k.held.flusher.commit.disk
+  telling_self k is = tells_self (history_of k.reporter.log) (notes_in k.reported) k.held.flusher.commit.disk
 
   pub telling_then : (a b c : Keeper D g) → KeepsTelling g a b → (IsStoreOf g (history_of a.reporter.log) a.held.flusher → IsStoreOf g (history_of b.reporter.log) b.held.flusher)
       → KeepsTelling g b c → KeepsTelling g a c
   telling_then a b c one store two is =
-      tells_then (history_of a.reporter.log) (history_of b.reporter.log) (history_of c.reporter.log) (told_in a.told) (told_in b.told) (told_in c.told)
+      tells_then (history_of a.reporter.log) (history_of b.reporter.log) (history_of c.reporter.log) (notes_in a.reported) (notes_in b.reported) (notes_in c.reported)
       a.held.flusher.commit.disk b.held.flusher.commit.disk c.held.flusher.commit.disk (one is) (two (store is))

@@ -18,7 +18,7 @@ use Rattle.book_lock.specs.Steps.{IsTurnedAway}
 use Rattle.book_lock.specs.declared.refused.Refused.{Refused}
 use Rattle.book_lock.specs.declared.refused.Refused.TheVariants.{Gone}
 use Rattle.version_book.specs.Jobs.{IsHandedOut, IsJob}
-use Rattle.version_book.specs.Waits.{IsAfterTold, Looks}
+use Rattle.version_book.specs.Waits.{IsAfterReported, Looks}
 
 -- what is not false is true
 pub not_false : (b : Bool) → (b ≡ false → ⊥) → IsTrue b
@@ -52,20 +52,20 @@ pub gone_looks : (r : Result ℕ BookFault) (x : BookFault) (was now : Known) (l
 gone_looks (Ok n) x was now log is gone same = absurd is
 gone_looks (Err f) x was now log is gone same = inl (is ∙ gone, same)
 
-pub gone_told : (r : Result ℕ BookFault) (x : BookFault) (v : Version) (old : BookState) (name : Name)
-    → IsErrAnd r (λ y. y ≡ x) → x ≡ fault.Gone → IsAfterTold v old name r old
-gone_told (Ok n) x v old name is gone = refl
-gone_told (Err f) x v old name is gone = subst (λ y. IsAfterTold v old name (Err y) old) (sym (is ∙ gone)) refl
+pub gone_reported : (r : Result ℕ BookFault) (x : BookFault) (v : Version) (old : BookState) (name : Name)
+    → IsErrAnd r (λ y. y ≡ x) → x ≡ fault.Gone → IsAfterReported v old name r old
+gone_reported (Ok n) x v old name is gone = refl
+gone_reported (Err f) x v old name is gone = subst (λ y. IsAfterReported v old name (Err y) old) (sym (is ∙ gone)) refl
 
 -- ---- of what a session submits
 abbrev refused_for : {F : Type 0} → Refused F → Result ℕ (Refused F)
 refused_for why = Err why
 
 -- who is turned away gets the reason, or that the book is gone
-pub away_told : {F : Type 0} (log : List Entry) (was now : Known) {why : Refused F} (told : Refused F)
-    → IsTurnedAway log was why told now → (refused_for told ≡ Err why) ⊎ (refused_for told ≡ Err Gone)
-away_told log was now told (inl h) = inl (ap refused_for h.0)
-away_told log was now told (inr h) = inr (ap refused_for h.0)
+pub away_reported : {F : Type 0} (log : List Entry) (was now : Known) {why : Refused F} (reported : Refused F)
+    → IsTurnedAway log was why reported now → (refused_for reported ≡ Err why) ⊎ (refused_for reported ≡ Err Gone)
+away_reported log was now reported (inl h) = inl (ap refused_for h.0)
+away_reported log was now reported (inr h) = inr (ap refused_for h.0)
 
 -- ---- of the marks after a wait
 pub keeps_marks : {A : Type 0} (o : Option A) (x : A) (P Q : Type 0) → o ≡ Some x → P → IfSome o (λ _. P) × IfNone o Q

@@ -8,39 +8,39 @@ use Rattle.store_flushing.specs.Among.{IsFileIn}
 use Rattle.store_flushing.specs.Since.{reported_in}
 use Rattle.store_flushing.specs.Storing.{IsStoreOf}
 use Rattle.store_flushing.specs.declared.keeper.Keeper.{Keeper}
-use Rattle.store_flushing.specs.declared.keeper.told_log.Told.{Told}
-use Rattle.store_flushing.specs.declared.keeper.told_log.ToldLog.{ToldLog}
+use Rattle.store_flushing.specs.declared.keeper.report_log.ReportNote.{ReportNote}
+use Rattle.store_flushing.specs.declared.keeper.report_log.ReportLog.{ReportLog}
 
 -- what was written down
-abbrev pub told_in : ToldLog → List Told
-told_in log = log.seen.log
+abbrev pub notes_in : ReportLog → List ReportNote
+notes_in log = log.seen.log
 
 -- the numbers that were reported durable since an earlier history
 abbrev pub news_in : History → History → List ℕ
 news_in was now = drop (length (reported_in was.entries)) (reported_in now.entries)
 
 -- a number that is reported at this moment
-abbrev pub told_then : ℕ → ℕ → Told
-told_then moment number = record { number = number; moment = moment }
+abbrev pub note_then : ℕ → ℕ → ReportNote
+note_then moment number = record { number = number; moment = moment }
 
 -- numbers that are reported at this moment
-abbrev pub told_at : ℕ → List ℕ → List Told
-told_at moment numbers = map (told_then moment) numbers
+abbrev pub notes_at : ℕ → List ℕ → List ReportNote
+notes_at moment numbers = map (note_then moment) numbers
 
 -- each number that a history reports durable has a note, in order; a crash at the note's moment or later leaves no less
-pub record StaysTold {D : Type 0} (g : Ghosts D) (history : History) (told : List Told) (old last : D) : Type 0 where
-  pub each : reported_in history.entries ≡ map (λ (t : Told). t.number) told
-  pub stays : All (λ (t : Told). (g.moment old ≤ t.moment) × (t.moment ≤ g.moment last)
-      × ((c : List ℕ) → g.left_since last t.moment c → IsFileIn history t.number c)) told
+pub record StaysReported {D : Type 0} (g : Ghosts D) (history : History) (reported : List ReportNote) (old last : D) : Type 0 where
+  pub each : reported_in history.entries ≡ map (λ (t : ReportNote). t.number) reported
+  pub stays : All (λ (t : ReportNote). (g.moment old ≤ t.moment) × (t.moment ≤ g.moment last)
+      × ((c : List ℕ) → g.left_since last t.moment c → IsFileIn history t.number c)) reported
 
 -- from a history, its notes and its disk to later ones: no note is struck out; if all held since `first`, all do now
-pub record TellsOn {D : Type 0} (g : Ghosts D) (was : History) (told : List Told) (old : D) (now : History) (more : List Told) (new : D) : Type 0 where
-  pub goes_on : IsPrefix told more
+pub record TellsOn {D : Type 0} (g : Ghosts D) (was : History) (reported : List ReportNote) (old : D) (now : History) (more : List ReportNote) (new : D) : Type 0 where
+  pub goes_on : IsPrefix reported more
   pub later : g.moment old ≤ g.moment new
-  pub stays : (first : D) → g.moment first ≤ g.moment old → StaysTold g was told first old → StaysTold g now more first new
+  pub stays : (first : D) → g.moment first ≤ g.moment old → StaysReported g was reported first old → StaysReported g now more first new
 
 -- the same from a keeper to what its calls make of it, where its store is one of the history that its reporter has seen
 abbrev pub KeepsTelling : {D : Type 0} (g : Ghosts D) → Keeper D g → Keeper D g → Type 0
 KeepsTelling g old new = IsStoreOf g (history_of old.reporter.log) old.held.flusher
-    → TellsOn g (history_of old.reporter.log) (told_in old.told) old.held.flusher.commit.disk
-    (history_of new.reporter.log) (told_in new.told) new.held.flusher.commit.disk
+    → TellsOn g (history_of old.reporter.log) (notes_in old.reported) old.held.flusher.commit.disk
+    (history_of new.reporter.log) (notes_in new.reported) new.held.flusher.commit.disk

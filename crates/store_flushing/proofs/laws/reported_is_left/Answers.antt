@@ -1,0 +1,5 @@
+use Rattle.store_flushing.proofs.Storage as lemmas
+use Rattle.store_flushing.proofs.laws.reported_is_left.Goals as goal
+
+pub returns : goal.returns
+returns g c = lemmas.reported_is_left g.D.Disk

@@ -1,5 +1,0 @@
-use Rattle.store_flushing.proofs.Storage as lemmas
-use Rattle.store_flushing.proofs.laws.told_is_left.Goals as goal
-
-pub returns : goal.returns
-returns g c = lemmas.told_is_left g.D.Disk
