@@ -31,8 +31,8 @@ use versions::Version;
 
 mod held_store;
 pub mod opened;
-pub mod store;
 pub mod report_log;
+pub mod store;
 mod version_mark;
 
 /// A store, and the one token that may report what it stores. Both are reached by its calls alone. None of them moves

@@ -232,7 +232,10 @@ const DURABLE: &[&[Row]] = &[&[
     Row::Calls(Call::WaitDurable, Ok(Some(1))),
     Row::Calls(Call::StoreFailed(ReportedFault::Device), Ok(None)),
     Row::Calls(PUT_A, Ok(Some(2))),
-    Row::Calls(Call::WaitDurable, Err(BookFault::Store(ReportedFault::Device))),
+    Row::Calls(
+        Call::WaitDurable,
+        Err(BookFault::Store(ReportedFault::Device)),
+    ),
 ]];
 
 #[test]
@@ -273,7 +276,10 @@ const TOLD: &[&[Row]] = &[&[
     ),
     Row::Calls(PUT_A, Ok(Some(3))),
     Row::Calls(Call::StoreFailed(ReportedFault::Failed), Ok(None)),
-    Row::Calls(Call::WaitDurable, Err(BookFault::Store(ReportedFault::Failed))),
+    Row::Calls(
+        Call::WaitDurable,
+        Err(BookFault::Store(ReportedFault::Failed)),
+    ),
 ]];
 
 #[test]

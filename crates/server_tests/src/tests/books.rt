@@ -5,7 +5,7 @@ ghost use Rattle.book_history.specs.Rules.{head_of};
 
 use disk_model::mem_disk::MemDisk;
 use flush_core::flusher::Flusher;
-use overlay_server::{SessionEnd, ReportLog, close, session_run};
+use overlay_server::{ReportLog, SessionEnd, close, session_run};
 use std::alloc::Global;
 use std::io::{Read, Write};
 use std::marker::Brand;

@@ -186,7 +186,13 @@ fn expect_writes(
     let wanted = SessionEnd::Failed(if is_cut { 49 } else { 48 });
     check_end(rt, end, wanted, writer.refused, is_cut);
     let reported = text.len().min(writes.saturating_mul(6));
-    check_written(rt, &writer.text, &text[..reported], "at write", writes as u64);
+    check_written(
+        rt,
+        &writer.text,
+        &text[..reported],
+        "at write",
+        writes as u64,
+    );
 }
 
 #[test]
