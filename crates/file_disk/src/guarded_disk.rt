@@ -1,4 +1,4 @@
-//! A disk that gives up once a write or a sync has failed.
+//! A disk that gives up once a write or a sync has failed, and refuses each write where it is read alone.
 ghost use Rattle.std.specs.Prelude.{◌≡◌, ◌⊎◌, ◌↔◌, ◌+◌, ◌≤◌, false, length, IfErr, IfOk, IsErr, OnErr, OnOk};
 ghost use Rattle.disk_model.specs.Disk.{part, Holds, Torn, OneStepOn, Only, CountsFailure};
 
