@@ -3,7 +3,7 @@ use Rattle.std.proofs.Common.{sym, ap, ◌∙◌, refl}
 use Rattle.tile_build.specs.Tile.{tile_of}
 use Rattle.commit_plan.specs.Staying.{holds_tile}
 use Rattle.commit_plan.proofs.EqualityTests.{tile_decides}
-use Rattle.commit_plan.proofs.live_records.LiveRecords.is_equal.Goals as goal
+use Rattle.commit_plan.proofs.live_records.LiveRecords.holds_tile.Goals as goal
 
 pub returns-then-known : goal.returns-then-known
 returns-then-known c =
