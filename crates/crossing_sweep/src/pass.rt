@@ -232,17 +232,17 @@ fn go_on(
         → count_settled progress.new.nodes progress.new.rows.items ≡ length progress.old.rows.items) }
     ensures few { OnOk result (progress.new.nodes ≤ nodes_max input.now) }
 {
-    let Some((at, name)) = progress.search.ahead.take_first() else {
+    let Some(node) = progress.search.ahead.take_first() else {
         return Ok(());
     };
     // An input has few segments: the count of nodes rests on that.
     let _ = input.marked();
     let number = progress.nodes;
     let rows = progress.rows.len();
-    progress.step(input, values, stay, &at, number)?;
+    progress.step(input, values, stay, &node, number)?;
     progress.nodes += 1;
     let needed = is_needed(rows, progress.rows.len(), stay);
-    keep(&mut progress.names, number, name, needed)?;
+    keep(&mut progress.names, number, node.name, needed)?;
     Ok(())
 }
 

@@ -7,15 +7,15 @@ ghost use Rattle.crossing_sweep.specs.Stepping.{IsStepped};
 ghost use Rattle.crossing_sweep.specs.Amid.{IsClosedAt};
 ghost use Rattle.crossing_sweep.specs.Values.{AreValues};
 
-use crate::bundle::bundle_at;
+use crate::bundle::near_bundle_at;
 use crate::member::Member;
 use crate::members_after::{count_entering, ends_after, turned};
 use crate::node_name::NodeName;
 use crate::pass_input::PassInput;
+use crate::ranked_place::RankedPlace;
 use crate::row::{Row, close, go_through, label, mask_over};
 use crate::search::Search;
 use crate::start::Start;
-use exact_point::HPoint;
 use std::alloc::AllocError;
 
 /// What a pass over a strip has when it has come to some place.
@@ -43,19 +43,20 @@ impl Progress {
         input: &PassInput,
         values: &[bool],
         stay: &mut Vec<Member>,
-        at: &HPoint,
+        node: &RankedPlace,
         begin: usize,
     ) -> Result<(), AllocError>
         requires few { self.old.entered ≤ length self.old.starts.items }
         requires known { AreValues input.now.steps values.now }
         ensures few { OnOk result (self.new.entered ≤ length self.new.starts.items) }
-        ensures stepped { OnOk result (is_in_strip input.now.strip (place at.now) ≡ true →
-            IsStepped input.now at.now begin self.old.status.items self.new.status.items
+        ensures stepped { OnOk result (is_in_strip input.now.strip (place node.now.at) ≡ true →
+            IsStepped input.now node.now.at begin self.old.status.items self.new.status.items
             (drop self.old.entered self.old.starts.items) (drop self.new.entered self.new.starts.items)
             self.old.search self.new.search self.old.rows.items self.new.rows.items) }
-        ensures closed { OnOk result (is_in_strip input.now.strip (place at.now) ≡ false →
-            IsClosedAt at.now begin self.old.status.items self.new.status.items self.old.rows.items self.new.rows.items) }
-        ensures searched { OnOk result (is_in_strip input.now.strip (place at.now) ≡ false
+        ensures closed { OnOk result (is_in_strip input.now.strip (place node.now.at) ≡ false →
+            IsClosedAt node.now.at begin self.old.status.items self.new.status.items
+            self.old.rows.items self.new.rows.items) }
+        ensures searched { OnOk result (is_in_strip input.now.strip (place node.now.at) ≡ false
             → self.new.search ≡ self.old.search) }
         ensures names { self.new.names ≡ self.old.names }
         ensures nodes { self.new.nodes ≡ self.old.nodes }
@@ -63,28 +64,34 @@ impl Progress {
         ensures members { OnOk result ((m : Member) → Contains self.new.status.items m
             → Contains self.old.status.items m ⊎ Contains stay.new.items m) }
     {
-        let (low, high) = bundle_at(&self.status, at, self.hint);
+        let (low, high) = near_bundle_at(&self.status, node.at, self.hint);
         close(&mut self.rows, &self.status[low..high], begin)?;
-        let within = input.strip().holds(at);
+        let within = input.strip().holds(node.at);
         if !within {
             stay.clear();
             self.hint = high;
             return Ok(());
         }
         let coming = &self.starts[self.entered..];
-        let entered = count_entering(coming, at);
-        if is_alone(high - low, entered) && ends_after(&self.status[low].unit.seg, at) {
+        let entered = count_entering(coming, node);
+        if is_alone(high - low, entered) && ends_after(&self.status[low].unit.seg, node) {
             go_through(input, values, &mut self.status, low, stay, begin)?;
             self.hint = high;
             return Ok(());
         }
-        turned(stay, &self.status[low..high], &coming[..entered], at, begin)?;
+        turned(
+            stay,
+            &self.status[low..high],
+            &coming[..entered],
+            node,
+            begin,
+        )?;
         let under = mask_over(&self.status[..low]);
         label(input, values, stay, under, begin);
         let top = low + stay.len();
         replace(&mut self.status, low, high, stay)?;
         self.search
-            .test_new(input.strip(), at, &self.status, low, top)?;
+            .test_new(input.strip(), node.at, &self.status, low, top)?;
         self.entered += entered;
         self.hint = top;
         Ok(())
