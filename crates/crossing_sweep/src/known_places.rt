@@ -33,8 +33,7 @@ fn places_in_order(alloc: Global, input: &PassInput) -> Result<Vec<RankedPlace>,
     ensures known { IfOk result (λ places. AreKnownPlaces input.now (map ranked_entry places.items)) }
     ensures in_order { IfOk result (λ places. AllPairs (λ a b. ranked_cmp a b ≡ Less) places.items) }
 {
-    // Mostly two of each segment and column: it is cut by both borders, or ends within and is cut by one.
-    let mut places = Vec::with_capacity(alloc, 2 * input.marked().len())?;
+    let mut places = Vec::with_capacity(alloc, room_for_places(input))?;
     let mut before = None;
     for m in input.marked() {
         offer_own(&mut places, &m.seg, &before, input.strip())?;
@@ -46,6 +45,19 @@ fn places_in_order(alloc: Global, input: &PassInput) -> Result<Vec<RankedPlace>,
     order.dedup();
     let list = copied(alloc, &order)?;
     Ok(list)
+}
+
+/// Room for all places of most inputs: of each segment an end, a cut, and one more for each width of a column.
+fn room_for_places(input: &PassInput) -> usize {
+    let strip = input.strip();
+    let columns = strip.last().number().wrapping_sub(strip.first().number());
+    let mut room = 0_usize;
+    for m in input.marked() {
+        let across = m.seg.right().x().wrapping_sub(m.seg.left().x());
+        let cuts = usize::from(columns).min((across.unsigned_abs() >> 16) as usize);
+        room = room.wrapping_add(cuts).wrapping_add(2);
+    }
+    room
 }
 
 /// Offers the ends of a segment and where the strip's borders cut it. The segment before it in a ring has one of its ends.
