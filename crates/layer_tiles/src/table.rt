@@ -61,6 +61,22 @@ impl Table {
         })
     }
 
+    /// No layer.
+    pub fn empty(alloc: Global) -> Result<Table, AllocError>
+        ensures layers { IfOk result (λ table. table.layers ≡ []) }
+        ensures tiles { IfOk result (λ table. tiles_in table ≡ []) }
+        ensures valid { IfOk result (λ table. IsLaid (laid table)) }
+    {
+        let layers = Layers::new(alloc);
+        // The layers are a book by their type: the clauses rest on that.
+        let _ = layers.len();
+        let shared = Arc::new(alloc, layers)?;
+        Ok(Table {
+            layers: shared,
+            rows: Vec::new(alloc),
+        })
+    }
+
     pub fn layers(&self) -> &Layers
         ensures value { result.now ≡ self.now.layers }
         ensures valid { IsLaid (laid self.now) }
@@ -277,8 +293,7 @@ fn rows_with(
         ≡ set rows.now place (set (get_or rows.now place []) column (Some (named_pieces tile.value)))) }
 {
     let mut with = shared_rows(alloc, rows)?;
-    let row = rows[place].with(alloc, column, tile)?;
-    put_row(&mut with, place, row);
+    with[place] = rows[place].with(alloc, column, tile)?;
     Ok(with)
 }
 
@@ -296,13 +311,6 @@ fn put_in_row(
     ensures err { OnErr result (rows.new.items ≡ rows.old.items) }
 {
     rows[place].put(alloc, column, tile)
-}
-
-fn put_row(rows: &mut Vec<TileRow>, place: usize, row: TileRow)
-    requires { place < length rows.old.items }
-    ensures { rows.new.items ≡ set rows.old.items place row }
-{
-    rows[place] = row;
 }
 
 /// So many rows without a tile.

@@ -123,25 +123,9 @@ pub(crate) fn name_cmp(name: &PointName, other: &PointName) -> Ordering
     ensures { result ≡ point_cmp (place_of name.now) (place_of other.now) }
 {
     match (name, other) {
-        (PointName::Vertex(vertex), PointName::Vertex(next)) => whole_order(*vertex, *next),
-        _ => exact_cmp(name, other),
+        (PointName::Vertex(vertex), PointName::Vertex(next)) => vertex.cmp(next),
+        _ => name.known_point().cmp(&other.known_point()),
     }
-}
-
-/// The same of whole points.
-fn whole_order(vertex: Pt, other: Pt) -> Ordering
-    ensures { result ≡ point_cmp (whole vertex) (whole other) }
-{
-    vertex.cmp(&other)
-}
-
-/// The same by exact coordinates.
-fn exact_cmp(name: &PointName, other: &PointName) -> Ordering
-    requires here { HasPlace name.now }
-    requires there { HasPlace other.now }
-    ensures { result ≡ point_cmp (place_of name.now) (place_of other.now) }
-{
-    name.known_point().cmp(&other.known_point())
 }
 
 /// Whether the place of a name lies in a column.
@@ -151,16 +135,10 @@ pub(crate) fn is_name_in(column: Column, name: &PointName) -> bool
 {
     match name {
         PointName::Vertex(vertex) => is_whole_in(column, *vertex),
-        PointName::Border(_, number) => is_numbered(column, *number),
+        // The places on a border lie in the column with its number.
+        PointName::Border(_, number) => column.number() == *number,
         PointName::Cross(_, _) => is_in(column, &name.known_point()),
     }
-}
-
-/// Whether a column has a number, and so the places on the border with it.
-fn is_numbered(column: Column, number: u8) -> bool
-    ensures { result ≡ (column == number) }
-{
-    column.number() == number
 }
 
 /// Whether a whole point lies in a column.
