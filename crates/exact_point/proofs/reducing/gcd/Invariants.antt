@@ -1,4 +1,4 @@
-use Rattle.std.specs.Prelude.{◌≡◌, ℕ}
+use Rattle.std.specs.Prelude.{ℕ}
 use Rattle.std.specs.Int.{IsGcd}
 use Rattle.exact_point.proofs.reducing.gcd.Given as goal
 
