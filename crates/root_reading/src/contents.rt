@@ -163,7 +163,7 @@ pub fn content_of<D: Disk>(
     ensures stored { IfOk result (λ x. AreStored x.layers (tiles_in x)) }
     ensures cause { D.is_honest disk.old → Causes result (D.faults disk.old) (D.faults disk.new) }
 {
-    let mut table = Table::of(alloc, Layers::new(alloc))?;
+    let mut table = Table::empty(alloc)?;
     for entry in listing {
         add_layer(alloc, disk, size, entry, &mut table)?;
     }

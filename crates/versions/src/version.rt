@@ -97,7 +97,7 @@ impl Version {
     {
         match &self.content {
             VersionContent::Nothing(_) => {
-                let table = Table::of(alloc, Layers::new(alloc))?;
+                let table = Table::empty(alloc)?;
                 Ok(Arc::new(alloc, table)?)
             }
             VersionContent::Tiled(table) => {

@@ -14,7 +14,7 @@ loop-entry-init g c = record {
   looks = λ honest. looks_none g.D.Disk c.args.disk.now honest
       (λ f left. g.met.D.Disk.only_now c.args.disk.now f honest left);
   faults = λ honest. refl;
-  rest = λ honest. rw (c.in_ok-table.ensures.tiles, c.in_ok-table.ensures.layers, c.new.ensures)
+  rest = λ honest. rw (c.in_ok-table.ensures.tiles, c.in_ok-table.ensures.layers)
       (no_front (layers_of (g.D.Disk.seen c.args.disk.now) [] (entries_of c.args.listing.now)));
 }
 
