@@ -35,7 +35,7 @@ pub fn handed<J: BookName, D: Disk>(
 }
 
 /// What a server leaves, with its disk.
-pub fn returned<W, D: Drop>(key: Option<Key<D>>, left: Left<W, Shut<D>>) -> Left<W, D>
+pub fn returned<W, D>(key: Option<Key<D>>, left: Left<W, Shut<D>>) -> Left<W, D>
     requires { is_some key ≡ is_some left.closed.disk }
     ensures { result ≡ left }
 {
@@ -54,7 +54,7 @@ pub fn returned<W, D: Drop>(key: Option<Key<D>>, left: Left<W, Shut<D>>) -> Left
 }
 
 /// Why it could not run, with its disk.
-pub fn returned_fault<D: Drop>(key: Option<Key<D>>, fault: ServerFault<Shut<D>>) -> ServerFault<D>
+pub fn returned_fault<D>(key: Option<Key<D>>, fault: ServerFault<Shut<D>>) -> ServerFault<D>
     requires { is_some key ≡ is_some fault.disk }
     ensures { result ≡ fault }
 {

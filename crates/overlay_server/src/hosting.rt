@@ -94,7 +94,7 @@ pub fn listen_in<J, D, R, G, Q>(
 ) -> Result<Served<Shut<D>>, ServerFault<Shut<D>>>
 where
     J: BookName + Send + Sync,
-    D: Disk + Send + Drop,
+    D: Disk + Send,
     R: Read + Send + Drop,
     G: Gate + Sync,
     Q: Threads + Wait + Sync,
@@ -131,7 +131,7 @@ pub fn serve_in<J, D, R, W, G, Q>(
 ) -> Result<Left<W, Shut<D>>, PortsFault<R, W, Shut<D>>>
 where
     J: BookName + Send + Sync,
-    D: Disk + Send + Drop,
+    D: Disk + Send,
     R: Read + Send + Drop,
     W: ReplyWriter + Send + Drop,
     G: Gate + Sync,
@@ -164,7 +164,7 @@ impl<J, S, D> Hosted<J, S, D>
 where
     J: BookName + Send + Sync,
     S: Wait + Drop + Send,
-    D: Disk + Send + Drop,
+    D: Disk + Send,
 {
     /// The server of this book.
     fn run<R, W, G, Q>(
@@ -200,7 +200,7 @@ where
             seen_log,
             answer,
             shared,
-            store,
+            mut store,
             sessions,
         } = self;
         let seats = match seated::<J, R, W>(alloc, sessions, ports) {
@@ -213,14 +213,10 @@ where
             }
         };
         let halt = Halt::new();
-        let work = Work {
-            workers,
-            store,
-            seats,
-        };
-        let worked = run_threads(rt, alloc, gate, &shared, &halt, work);
+        let work = Work { workers, seats };
+        let worked = run_threads(rt, alloc, gate, &shared, &halt, work, &mut store);
         // What was finished after the last commit is committed now that the workers have returned.
-        let store = keep_store(rt, alloc, &shared, worked.store);
+        keep_store(rt, alloc, &shared, &mut store);
         let made = made_by_all(rt, &worked.sessions);
         let closed = store.close(rt, alloc, shared, &worked.sessions);
         // Were its last number not the first one and so many more as the sessions made batches, which cannot come, it

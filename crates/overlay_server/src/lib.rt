@@ -11,6 +11,7 @@ pub mod outcome;
 mod refusing;
 pub mod serving;
 mod storing;
+mod tasks;
 mod threads;
 
 pub use opening::BookAnswer;

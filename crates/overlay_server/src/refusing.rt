@@ -44,7 +44,7 @@ pub fn refused<D>(
 
 /// A thread was refused: the disk comes back, what the book has come to, and what the sessions leave. The sessions come
 /// back themselves where one of them was begun.
-pub fn stopped<R, W, D: Drop>(
+pub fn stopped<R, W, D>(
     alloc: Global,
     answer: BookAnswer,
     closed: Closed<D>,

@@ -44,7 +44,7 @@ pub fn serve<D, R, G, Q>(
     readers: Vec<R>,
 ) -> Result<Served<D>, ServerFault<D>>
 where
-    D: Disk + Send + Drop,
+    D: Disk + Send,
     R: Read + Send + Drop,
     G: Gate + Sync,
     Q: Threads + Wait + Sync,
@@ -86,7 +86,7 @@ pub fn serve_ports<D, R, W, G, Q>(
     ports: Vec<Port<Fuse<R>, W>>,
 ) -> Result<Left<W, D>, PortsFault<Fuse<R>, W, D>>
 where
-    D: Disk + Send + Drop,
+    D: Disk + Send,
     R: Read + Send + Drop,
     W: ReplyWriter + Send + Drop,
     G: Gate + Sync,

@@ -29,8 +29,9 @@ use versions::Version;
 mod flushing;
 
 /// A store of the versions of one book. Who has it can begin the commit of the newest version that the book's reporter
-/// has seen, and make the device calls of that. Its keeper can have no more of it than the disk, shut: so no call of a
-/// keeper that waits has another way to the store. `flusher_loop` alone, which is given a store open, gives it back so.
+/// has seen, and make the device calls of that. Its keeper can have no more of it than the disk, shut: so of a
+/// `Keeper`'s calls none that waits has another way to the store. `flusher_loop` waits too, and sees what this module
+/// sees: it was given the store open, and gives it back so.
 #[derive(Drop)]
 pub struct HeldStore<D: Disk> {
     flusher: Flusher<D>,

@@ -100,12 +100,13 @@ impl<D> Shut<D> {
 }
 
 /// Opens a disk, where there is one.
-pub fn unlocked<D: Drop>(key: Option<Key<D>>, disk: Option<Shut<D>>) -> Option<D>
+pub fn unlocked<D>(key: Option<Key<D>>, disk: Option<Shut<D>>) -> Option<D>
     requires { is_some key ≡ is_some disk }
     ensures { result ≡ disk }
 {
-    match (key, disk) {
-        (Some(_key), Some(shut)) => Some(shut.into_disk()),
-        _ => None,
+    let _key = key;
+    match disk {
+        Some(shut) => Some(shut.into_disk()),
+        None => None,
     }
 }

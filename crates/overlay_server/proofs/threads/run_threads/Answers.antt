@@ -1,24 +1,10 @@
-use mir.Syntax.{of_param}
-use denote.Exit.{unseen}
-use denote.Param.Send.{Quiet-if}
+use denote.Exit.{no}
+use denote.Param.{param}
+use denote.Param.Send.{arg_send, param_send}
+use Rattle.overlay_server.proofs.Sent.{lent_send}
 use Rattle.overlay_server.proofs.threads.run_threads.Goals as goal
 
--- what is asked of the closure, and of each type parameter of which its threads take something with them
-pub scoped-requires : goal.scoped-requires
-scoped-requires g c =
+pub run_beside-store-requires-send-T : goal.run_beside-store-requires-send-T
+run_beside-store-requires-send-T g c κs within =
     let b = c.type_bounds in
-    record {
-      at = λ a. (
-        c.requires,
-        (
-          record { owned = b.send-J.owned; leaving = λ k. Quiet-if (k (of_param 0)) unseen unseen (λ x w. tt) (λ x w. tt) },
-          record { owned = b.send-S.owned; leaving = λ k. Quiet-if (k (of_param 1)) unseen unseen (λ x w. tt) (λ x w. tt) },
-          record { owned = b.send-R.owned; leaving = λ k. Quiet-if (k (of_param 4)) unseen unseen (λ x w. tt) (λ x w. tt) },
-          record { owned = b.send-W.owned; leaving = λ k. Quiet-if (k (of_param 5)) unseen unseen (λ x w. tt) (λ x w. tt) },
-          record { owned = b.send-D.owned; leaving = λ k. Quiet-if (k (of_param 6)) unseen unseen (λ x w. tt) (λ x w. tt) },
-          record { shared = b.sync-J.shared },
-          record { shared = b.sync-G.shared },
-          record { shared = b.sync-Q.shared },
-        ),
-      );
-    }
+    param_send 6 _ (arg_send _ no _ (lent_send (param 0 g.row.J) (param 1 g.row.S) (param 3 g.row.Q) g.J.BookName b.send-J b.send-S b.sync-Q _ (param 6 g.row.D) g.D.Disk b.send-D))

@@ -46,16 +46,18 @@ returns-in-Err-clause-refused g c =
       ports = (ap (λ (ps : Vec (Port _ _) Global). given ps.items) c.in-Err.ensures.refused, c.refused.ensures.sessions);
     }
 
-pub run_threads-worked-requires-after_bounds : goal.run_threads-worked-requires-after_bounds
-run_threads-worked-requires-after_bounds g c κs within =
+pub run_threads-worked-requires-clause-stored : goal.run_threads-worked-requires-clause-stored
+run_threads-worked-requires-clause-stored g c κs within =
+    holds_first g.D.Disk g.J.BookName.stored g.J.BookName.failed c.args.self.version.value c.args.self.store c.requires.hosted.begun c.requires.meant c.requires.failed
+
+pub run_threads-worked-requires-clause-ready : goal.run_threads-worked-requires-clause-ready
+run_threads-worked-requires-clause-ready g c κs within =
     let self = c.args.self in
     let start = self.version.value in
     let ports = c.args.ports.items in
     let seats = c.in-Ok.seats in
     let seated : AreSeated g.J.BookName.book start ports seats.scripts.items = record { sessions = c.in-Ok.ensures.sessions ∙ c.requires.hosted.sessions; ports_are = c.in-Ok.ensures.ports } in
     record {
-      store = c.requires.hosted.of;
-      durable = holds_first g.D.Disk g.J.BookName.stored g.J.BookName.failed start self.store c.requires.hosted.begun c.requires.meant c.requires.failed;
       scripts = all_of_book g.J.BookName.book start ports seats.scripts.items seated;
       reported = may_report_all g.D.Disk c.requires.hosted.now start g.J.BookName.stored g.J.BookName.failed (flusher_in self.store)
           (record { stored_is = λ log number. (c.requires.meant log number).0; failed_is = λ log fault. (c.requires.failed log fault).0 })
@@ -66,11 +68,11 @@ run_threads-worked-requires-after_bounds g c κs within =
       room = subst (HasRoom seats) (sym (as_many g.J.BookName.book start ports seats.scripts.items seated)) c.in-Ok.ensures.room;
     }
 
-pub keep_store-store-requires-clause-stored : goal.keep_store-store-requires-clause-stored
-keep_store-store-requires-clause-stored g c =
+pub keep_store-requires-clause-stored : goal.keep_store-requires-clause-stored
+keep_store-requires-clause-stored g c =
     let old = c.args.self.store in
     let work = c.run_threads-worked in
-    holds_on g.D.Disk g.J.BookName.stored g.J.BookName.failed old work.result.store work.ensures.store.flushed
+    holds_on g.D.Disk g.J.BookName.stored g.J.BookName.failed old work.new.store work.ensures.store.flushed
     (holds_first g.D.Disk g.J.BookName.stored g.J.BookName.failed c.args.self.version.value old c.requires.hosted.begun c.requires.meant c.requires.failed)
 
 pub close-closed-requires-clause-sessions : goal.close-closed-requires-clause-sessions
@@ -87,7 +89,7 @@ returns-then-is_set-clause-refused g c =
     let scripts = c.in-Ok.seats.scripts.items in
     let work = c.run_threads-worked in
     let left = work.ensures.left in
-    let after = c.keep_store-store.result in
+    let after = c.keep_store.new.store in
     let closed = c.close-closed in
     let these : work.result.sessions.items ≡ map ended_session left.ended = left.sessions_are in
     let seated : AreSeated g.J.BookName.book start ports scripts = record { sessions = c.in-Ok.ensures.sessions ∙ c.requires.hosted.sessions; ports_are = c.in-Ok.ensures.ports } in
@@ -98,7 +100,7 @@ returns-then-is_set-clause-refused g c =
     let refused = c.stopped in
     stopped_of g.D.Disk g.J.BookName.book g.R.Read.remaining g.W.ReplyWriter.contents start ports self.store after scripts left.ended refused.result
     (record { log = c.requires.hosted.begun; none_reported = c.requires.hosted.unreported; some = c.requires.ports; seated = seated })
-    (record { sessions = held; kept = kept_twice g.D.Disk g.J.BookName.book self.store work.result.store after work.ensures.store c.keep_store-store.ensures })
+    (record { sessions = held; kept = kept_twice g.D.Disk g.J.BookName.book self.store work.new.store after work.ensures.store c.keep_store.ensures })
     self.answer closed.result
     (record { code = refused.ensures.code; same = refused.ensures.answer; may = subst MayAnswer (sym c.requires.hosted.answer) tt })
     (record {
@@ -129,7 +131,7 @@ returns-clause-left g c =
     let scripts = c.in-Ok.seats.scripts.items in
     let work = c.run_threads-worked in
     let left = work.ensures.left in
-    let after = c.keep_store-store.result in
+    let after = c.keep_store.new.store in
     let closed = c.close-closed in
     let these : work.result.sessions.items ≡ map ended_session left.ended = left.sessions_are in
     let seated : AreSeated g.J.BookName.book start ports scripts = record { sessions = c.in-Ok.ensures.sessions ∙ c.requires.hosted.sessions; ports_are = c.in-Ok.ensures.ports } in
@@ -140,7 +142,7 @@ returns-clause-left g c =
     served_from g.D.Disk g.J.BookName.book g.R.Read.remaining g.W.ReplyWriter.contents start ports self.store after scripts left.ended
     (record { sessions = work.result.finished; closed = closed.result })
     (record { log = c.requires.hosted.begun; none_reported = c.requires.hosted.unreported; some = c.requires.ports; seated = seated })
-    (record { sessions = held; kept = kept_twice g.D.Disk g.J.BookName.book self.store work.result.store after work.ensures.store c.keep_store-store.ensures })
+    (record { sessions = held; kept = kept_twice g.D.Disk g.J.BookName.book self.store work.new.store after work.ensures.store c.keep_store.ensures })
     (record {
       version = closed.ensures.version;
       sessions = subst (All (HasAllOf closed.result.seen_log.log)) (c.deref-2.ensures.value ∙ these) closed.ensures.sessions;

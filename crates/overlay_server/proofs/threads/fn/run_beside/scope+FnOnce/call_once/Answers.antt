@@ -1,4 +1,4 @@
-use Rattle.overlay_server.proofs.threads.fn.run_threads.scope+FnOnce.call_once.Goals as goal
+use Rattle.overlay_server.proofs.threads.fn.run_beside.scope+FnOnce.call_once.Goals as goal
 
 -- what is asked of each type parameter, and what is there to work on
 pub scope-requires : goal.scope-requires
