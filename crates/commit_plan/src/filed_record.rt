@@ -1,6 +1,5 @@
 //! A record that has its place, and the write that it becomes.
-ghost use Rattle.std.specs.Prelude.{◌≡◌, ◌-◌, ◌*◌, ◌^◌, ◌≤◌, ◌<◌, ◌++◌, length, replicate, IfOk};
-ghost use Rattle.extent_map.specs.Blocks.{block_size};
+ghost use Rattle.std.specs.Prelude.{IfOk};
 ghost use Rattle.commit_plan.specs.Filed.{IsWriteOf};
 
 use crate::write::Write;
@@ -26,25 +25,17 @@ impl Model for FiledRecord {
     ghost invariant = { λ r. HasPlace (record { extent = r.extent; bytes = r.bytes.items }) };
 }
 
-/// Bytes filled up to whole blocks by zeros.
-fn padded(mut bytes: Vec<u8>, blocks: u64) -> Result<Vec<u8>, AllocError>
-    requires few { blocks < 2 ^ 40 }
-    requires enough { length bytes.items ≤ block_size * blocks }
-    ensures { IfOk result (λ v. v.items ≡ bytes.items ++ replicate (block_size * blocks - length bytes.items) 0) }
-{
-    bytes.resize(blocks as usize * BLOCK, 0)?;
-    Ok(bytes)
-}
-
 impl FiledRecord {
-    /// Its write, in whole blocks.
+    /// Its write, in whole blocks: its bytes, filled up by zeros.
     pub(crate) fn into_write(self) -> Result<Write, AllocError>
         ensures { IfOk result (IsWriteOf self) }
     {
         let RecordExtent { block, size } = self.extent;
+        let mut bytes = self.bytes;
+        bytes.resize(blocks_of(size) as usize * BLOCK, 0)?;
         Ok(Write {
             at: block as usize * BLOCK,
-            bytes: padded(self.bytes, blocks_of(size))?,
+            bytes,
         })
     }
 }

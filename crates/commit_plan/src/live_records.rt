@@ -43,7 +43,7 @@ pub struct LiveRecords {
 }
 
 /// The records that are listed under a name.
-fn records_named<'a>(listing: &'a [Listed], name: &Name) -> Option<&'a Records>
+pub(crate) fn records_named<'a>(listing: &'a [Listed], name: &Name) -> Option<&'a Records>
     ensures { option_map (λ records. records_of records.now) result ≡ records_named (entries_of listing.now) name.now }
 {
     for listed in listing {
@@ -132,14 +132,6 @@ impl LiveRecords {
         self.held = None;
     }
 
-    /// The records that the root's catalog lists under a name.
-    pub(crate) fn records(&self, name: &Name) -> Option<&Records>
-        ensures { option_map (λ records. records_of records.now) result
-            ≡ records_named (live_content self.now).listing name.now }
-    {
-        records_named(&self.listing, name)
-    }
-
     /// Where a layer's own record stays, if the root holds an equal one under its name, which has these records.
     pub(crate) fn layer_stays(
         &self,
@@ -167,10 +159,15 @@ impl LiveRecords {
         if_near(own_extent(records))
     }
 
-    /// Whether the root holds an equal tile of a layer and column.
-    fn holds_tile(&self, name: &Name, column: Column, tile: &Tile) -> bool
+    /// Whether the root holds an equal tile of a layer and column. Where it may be known that it does, nothing is
+    /// compared.
+    fn holds_tile(&self, name: &Name, column: Column, tile: &Tile, known: bool) -> bool
+        requires { IsTrue known → tile_at (live_content self.now).tiles name.now column ≡ Some (tile_of tile.now) }
         ensures { result ≡ holds_tile (tile_at (live_content self.now).tiles name.now column) (tile_of tile.now) }
     {
+        if known {
+            return true;
+        }
         let Some(table) = &self.held else {
             return false;
         };
@@ -178,17 +175,6 @@ impl LiveRecords {
             return false;
         };
         same_tile(held, tile)
-    }
-
-    /// The same where it may be known that it does: then nothing is compared.
-    fn is_equal(&self, name: &Name, column: Column, tile: &Tile, known: bool) -> bool
-        requires { IsTrue known → tile_at (live_content self.now).tiles name.now column ≡ Some (tile_of tile.now) }
-        ensures { result ≡ holds_tile (tile_at (live_content self.now).tiles name.now column) (tile_of tile.now) }
-    {
-        if known {
-            return true;
-        }
-        self.holds_tile(name, column, tile)
     }
 
     /// Where the record of a layer and column's tile stays, if the root holds an
@@ -207,7 +193,7 @@ impl LiveRecords {
             → tile_at (live_content self.now).tiles name.now column ≡ Some (tile_of tile.now) }
         ensures { result ≡ tile_record_stays (live_content self.now) (finished_as name.now column (tile_of tile.now)) }
     {
-        if !self.is_equal(name, column, tile, known) {
+        if !self.holds_tile(name, column, tile, known) {
             return None;
         }
         let Some(records) = records else {

@@ -21,7 +21,7 @@ ghost use Rattle.commit_plan.specs.RecordPlaces.{AreTilesFiled, IsFiled, IsLayer
 
 use crate::draft::Draft;
 use crate::fault::StoreFault;
-use crate::live_records::LiveRecords;
+use crate::live_records::{LiveRecords, records_named};
 use layer_book::layer::Layer;
 use layer_expr::name::Name;
 use layer_tiles::{Table, TileRow};
@@ -215,7 +215,7 @@ fn file_layer(
 {
     // It is a name by its type: that it can be listed rests on that.
     let bytes = Vec::from_slice(alloc, name.bytes())?;
-    let held = live.records(name);
+    let held = records_named(&live.listing, name);
     let extent = file_own(alloc, draft, live, name, layer, held)?;
     if !layer.is_derived() {
         let records = Records::Base(extent);

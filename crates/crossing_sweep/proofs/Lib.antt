@@ -24,6 +24,7 @@ pub mod ClosedLemmas
 pub mod BorderLemmas
 pub mod LastNodeLemmas
 pub mod PassLemmas
+pub mod PassedBorders
 pub mod BeginLemmas
 pub mod AheadLemmas
 pub mod RankLemmas

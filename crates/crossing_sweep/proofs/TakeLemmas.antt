@@ -59,28 +59,28 @@ next_before k ks h = All-map (λ (y : HPoint × PointName). hpoint_cmp k.at y.0 
 pub set_before : (k : RankedPlace) (ks : List RankedPlace) → All (IsLtBy ranked_cmp k) ks → All (λ y. hpoint_cmp k.at y.0 ≡ Less) (map ranked_entry ks)
 set_before k ks h = All-map (λ (y : HPoint × PointName). hpoint_cmp k.at y.0 ≡ Less) ranked_entry ks h
 
-pub popped : (o : Option (HPoint × PointName)) (es rest known : List (HPoint × PointName)) → IfSome o (λ p. es ≡ p ∷ rest) → IfSome o (λ p. All (λ y. hpoint_cmp p.0 y.0 ≡ Less) rest) → IfSome o (λ p. All (λ y. hpoint_cmp p.0 y.0 ≡ Less) known)
-    → IfSome o (λ p. put_all es known ≡ p ∷ put_all rest known)
+pub popped : (o : Option RankedPlace) (es rest known : List (HPoint × PointName)) → IfSome o (λ p. es ≡ ranked_entry p ∷ rest) → IfSome o (λ p. All (λ y. hpoint_cmp p.at y.0 ≡ Less) rest) → IfSome o (λ p. All (λ y. hpoint_cmp p.at y.0 ≡ Less) known)
+    → IfSome o (λ p. put_all es known ≡ ranked_entry p ∷ put_all rest known)
 popped None es rest known e h k = h
-popped (Some p) es rest known e h k = ap (λ (l : List (HPoint × PointName)). put_all l known) e ∙ found_first p rest known h k
+popped (Some p) es rest known e h k = ap (λ (l : List (HPoint × PointName)). put_all l known) e ∙ found_first (ranked_entry p) rest known h k
 
-pub popped_least : (o : Option (HPoint × PointName)) (rest known : List (HPoint × PointName)) → IfSome o (λ p. All (λ y. hpoint_cmp p.0 y.0 ≡ Less) rest) → IfSome o (λ p. All (λ y. hpoint_cmp p.0 y.0 ≡ Less) known)
-    → IfSome o (λ p. All (λ y. hpoint_cmp p.0 y.0 ≡ Less) (put_all rest known))
+pub popped_least : (o : Option RankedPlace) (rest known : List (HPoint × PointName)) → IfSome o (λ p. All (λ y. hpoint_cmp p.at y.0 ≡ Less) rest) → IfSome o (λ p. All (λ y. hpoint_cmp p.at y.0 ≡ Less) known)
+    → IfSome o (λ p. All (λ y. hpoint_cmp p.at y.0 ≡ Less) (put_all rest known))
 popped_least None rest known h k = h
-popped_least (Some p) rest known h k = all_put (λ (y : HPoint × PointName). hpoint_cmp p.0 y.0 ≡ Less) rest known h k
+popped_least (Some p) rest known h k = all_put (λ (y : HPoint × PointName). hpoint_cmp p.at y.0 ≡ Less) rest known h k
 
 -- it comes before the next of those known, so before all of these
-pub first_before : (o : Option (HPoint × PointName)) (es rest : List (HPoint × PointName)) (k : RankedPlace) (ks : List RankedPlace) → IfSome o (λ p. es ≡ p ∷ rest) → is_first_before es k.at ≡ true → AllPairs (λ a b. ranked_cmp a b ≡ Less) (k ∷ ks)
-    → IfSome o (λ p. All (λ y. hpoint_cmp p.0 y.0 ≡ Less) (map ranked_entry (k ∷ ks)))
+pub first_before : (o : Option RankedPlace) (es rest : List (HPoint × PointName)) (k : RankedPlace) (ks : List RankedPlace) → IfSome o (λ p. es ≡ ranked_entry p ∷ rest) → is_first_before es k.at ≡ true → AllPairs (λ a b. ranked_cmp a b ≡ Less) (k ∷ ks)
+    → IfSome o (λ p. All (λ y. hpoint_cmp p.at y.0 ≡ Less) (map ranked_entry (k ∷ ks)))
 first_before None es rest k ks e t h = e
 first_before (Some p) es rest k ks e t h =
     let P : List (HPoint × PointName) → Type 0 = λ l. is_first_before l k.at ≡ true in
-    let first : hpoint_cmp p.0 k.at ≡ Less = less_told (hpoint_cmp p.0 k.at) (subst P e t) in
-    all_of (λ (y : HPoint × PointName). hpoint_cmp p.0 y.0 ≡ Less) (map ranked_entry (k ∷ ks)) (λ y c. by y first (Contains-cons_cases (ranked_entry k) (map ranked_entry ks) y c))
+    let first : hpoint_cmp p.at k.at ≡ Less = less_told (hpoint_cmp p.at k.at) (subst P e t) in
+    all_of (λ (y : HPoint × PointName). hpoint_cmp p.at y.0 ≡ Less) (map ranked_entry (k ∷ ks)) (λ y c. by y first (Contains-cons_cases (ranked_entry k) (map ranked_entry ks) y c))
   where
-    by : (y : HPoint × PointName) → hpoint_cmp p.0 k.at ≡ Less → (ranked_entry k ≡ y) ⊎ Contains (map ranked_entry ks) y → hpoint_cmp p.0 y.0 ≡ Less
-    by y first (inl f) = let Q : HPoint × PointName → Type 0 = λ z. hpoint_cmp p.0 z.0 ≡ Less in subst Q f first
-    by y first (inr c) = hpoint_cmp_total.trans p.0 k.at y.0 first (All-contains (λ (y : HPoint × PointName). hpoint_cmp k.at y.0 ≡ Less) (map ranked_entry ks) y (next_before k ks h) c)
+    by : (y : HPoint × PointName) → hpoint_cmp p.at k.at ≡ Less → (ranked_entry k ≡ y) ⊎ Contains (map ranked_entry ks) y → hpoint_cmp p.at y.0 ≡ Less
+    by y first (inl f) = let Q : HPoint × PointName → Type 0 = λ z. hpoint_cmp p.at z.0 ≡ Less in subst Q f first
+    by y first (inr c) = hpoint_cmp_total.trans p.at k.at y.0 first (All-contains (λ (y : HPoint × PointName). hpoint_cmp k.at y.0 ≡ Less) (map ranked_entry ks) y (next_before k ks h) c)
 
 pub differ : false ≡ true → ⊥
 differ e = cc
@@ -92,17 +92,17 @@ none_left None (e ∷ es) h n = absurd (differ (h.1 (omega arith)))
 none_left (Some p) es h n = absurd (differ (sym n))
 
 -- what holds of all found holds of those left
-pub popped_keeps : (P : HPoint × PointName → Type 0) (o : Option (HPoint × PointName)) (es rest : List (HPoint × PointName)) → IfSome o (λ p. es ≡ p ∷ rest) → IfNone o (rest ≡ es) → All P es → All P rest
+pub popped_keeps : (P : HPoint × PointName → Type 0) (o : Option RankedPlace) (es rest : List (HPoint × PointName)) → IfSome o (λ p. es ≡ ranked_entry p ∷ rest) → IfNone o (rest ≡ es) → All P es → All P rest
 popped_keeps P None es rest e same h = subst (λ (l : List (HPoint × PointName)). All P l) (sym same) h
-popped_keeps P (Some p) es rest e same h = All-tail P p rest (subst (λ (l : List (HPoint × PointName)). All P l) e h)
+popped_keeps P (Some p) es rest e same h = All-tail P (ranked_entry p) rest (subst (λ (l : List (HPoint × PointName)). All P l) e h)
 
 -- none is known where all are taken out
 pub all_taken : (known : List RankedPlace) (taken : ℕ) → length known ≤ taken → map ranked_entry (drop taken known) ≡ []
 all_taken known taken l = ap (map ranked_entry) (drop_all taken known l)
 
-pub below_none : (o : Option (HPoint × PointName)) (known : List (HPoint × PointName)) → known ≡ [] → IfSome o (λ p. All (λ y. hpoint_cmp p.0 y.0 ≡ Less) known)
+pub below_none : (o : Option RankedPlace) (known : List (HPoint × PointName)) → known ≡ [] → IfSome o (λ p. All (λ y. hpoint_cmp p.at y.0 ≡ Less) known)
 below_none None known e = tt
-below_none (Some p) known e = subst (λ (l : List (HPoint × PointName)). All (λ y. hpoint_cmp p.0 y.0 ≡ Less) l) (sym e) (All-nil (λ (y : HPoint × PointName). hpoint_cmp p.0 y.0 ≡ Less))
+below_none (Some p) known e = subst (λ (l : List (HPoint × PointName)). All (λ y. hpoint_cmp p.at y.0 ≡ Less) l) (sym e) (All-nil (λ (y : HPoint × PointName). hpoint_cmp p.at y.0 ≡ Less))
 
 -- ---- whether there is any
 pub none_if : (known : List RankedPlace) (taken : ℕ) (es v : List (HPoint × PointName)) (b : Bool) → length known ≤ taken → put_all es (map ranked_entry (drop taken known)) ≡ v → IsTrue b ↔ (length es ≡ 0) → IsTrue b ↔ (v ≡ [])

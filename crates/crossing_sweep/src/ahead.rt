@@ -1,5 +1,6 @@
 //! The places that a sweep has found ahead, each with a name.
-ghost use Rattle.std.specs.Prelude.{◌≡◌, ◌⊎◌, true, false, [], ◌∷◌, All, AllPairs, Any, Contains, map, IfSome, IfNone, IsNone, IsTrue, ◌↔◌, OnOk};
+ghost use Rattle.std.specs.Prelude.{◌≡◌, ◌⊎◌, true, false, [], ◌∷◌, All, AllPairs, Any, Contains, map};
+ghost use Rattle.std.specs.Prelude.{IfSome, IfNone, IsNone, IsTrue, ◌↔◌, OnOk};
 ghost use Rattle.std.specs.declared.cmp.Ordering.TheVariants.{Less, Equal};
 ghost use Rattle.overlay_terms.specs.Plane.{point_cmp};
 ghost use Rattle.exact_point.specs.Place.{place, hpoint_cmp};
@@ -10,14 +11,14 @@ ghost use Rattle.crossing_sweep.specs.Ahead.{HasAdded, is_first_before};
 
 use crate::rank::rank;
 use crate::ranked_place::RankedPlace;
-use exact_point::{HPoint, NearPoint, PointName};
+use exact_point::{NearPoint, PointName};
 use std::alloc::{AllocError, Global};
 use std::collections::BTreeSet;
 use std::marker::Model;
 
 /// Places in their order, each once, under one of its names. Known places are in one sorted list, the first `taken`
-/// of which are out; those found since are in a tree, and none of them is a known one still in the list. All have their ranks, which tell
-/// the order of most.
+/// of which are out; those found since are in a tree, and none of them is a known one still in the list. All have their
+/// ranks, which tell the order of most.
 #[derive(Drop)]
 pub(crate) struct Ahead {
     known: Vec<RankedPlace>,
@@ -83,9 +84,9 @@ impl Ahead {
     }
 
     /// Takes out the first place, if there is one.
-    pub(crate) fn take_first(&mut self) -> Option<(HPoint, PointName)>
-        ensures first { IfSome result (λ e. self.old ≡ e ∷ self.new) }
-        ensures least { IfSome result (λ e. All (λ other. point_cmp (place e.0) (place other.0) ≡ Less) self.new) }
+    pub(crate) fn take_first(&mut self) -> Option<RankedPlace>
+        ensures first { IfSome result (λ z. self.old ≡ ranked_entry z ∷ self.new) }
+        ensures least { IfSome result (λ z. All (λ other. point_cmp (place z.at) (place other.0) ≡ Less) self.new) }
         ensures none { IsNone result → self.old ≡ [] }
         ensures left { IsNone result → self.new ≡ [] }
     {
@@ -97,21 +98,23 @@ impl Ahead {
             return first_found(&mut self.found);
         }
         self.taken += 1;
-        Some((next.at.point(), next.name))
+        Some(*next)
     }
 }
 
 /// Takes out the first of some places, if there is one.
-fn first_found(found: &mut BTreeSet<RankedPlace>) -> Option<(HPoint, PointName)>
-    ensures removal { IfSome result (λ e. map ranked_entry found.old.keys ≡ e ∷ map ranked_entry found.new.keys) }
-    ensures least { IfSome result (λ e. All (λ other. hpoint_cmp e.0 other.0 ≡ Less) (map ranked_entry found.new.keys)) }
+fn first_found(found: &mut BTreeSet<RankedPlace>) -> Option<RankedPlace>
+    ensures removal { IfSome result
+        (λ z. map ranked_entry found.old.keys ≡ ranked_entry z ∷ map ranked_entry found.new.keys) }
+    ensures least { IfSome result
+        (λ z. All (λ other. hpoint_cmp z.at other.0 ≡ Less) (map ranked_entry found.new.keys)) }
     ensures unchanged { IfNone result (map ranked_entry found.new.keys ≡ map ranked_entry found.old.keys) }
     ensures none { IsNone result → map ranked_entry found.old.keys ≡ [] }
 {
     let Some(first) = found.pop_first() else {
         return None;
     };
-    Some((first.at.point(), first.name))
+    Some(first)
 }
 
 /// Whether a place, under any name, is one of some places in order.
@@ -126,7 +129,8 @@ fn is_among(known: &[RankedPlace], place: &RankedPlace) -> bool
 /// Whether the first of some places, if there is one, comes before another.
 fn is_first_before(found: &BTreeSet<RankedPlace>, place: &RankedPlace) -> bool
     ensures first { result ≡ is_first_before (map ranked_entry found.now.keys) place.now.at }
-    ensures none { result ≡ false → All (λ e. hpoint_cmp e.0 place.now.at ≡ Less → ⊥) (map ranked_entry found.now.keys) }
+    ensures none { result ≡ false
+        → All (λ e. hpoint_cmp e.0 place.now.at ≡ Less → ⊥) (map ranked_entry found.now.keys) }
 {
     match found.first() {
         Some(first) => *first < *place,

@@ -9,21 +9,33 @@ ghost use Rattle.crossing_sweep.specs.Step.{IsSplitAt};
 ghost use Rattle.crossing_sweep.specs.Member.{segs_of, IsHeldAt};
 
 use crate::member::Member;
-use exact_point::HPoint;
 use exact_point::side::side;
+use exact_point::{HPoint, NearPoint};
 use std::cmp::Ordering;
 
 /// Where the members of a status that hold a place begin and end. It is looked for at a hint first: the nodes of
 /// a border come from the bottom to the top, so the next one mostly lies where the status changed last.
-pub(crate) fn bundle_at(status: &[Member], at: &HPoint, hint: usize) -> (usize, usize)
+fn bundle_at(status: &[Member], at: &HPoint, hint: usize) -> (usize, usize)
     ensures in_order { result.0 ≤ result.1 }
     ensures few { result.1 ≤ length status.now }
     ensures split { SidesFallAlong (place at.now) (segs_of status.now) →
-        IsSplitAt (place at.now) (segs_of (take result.0 status.now)) (segs_of (slice_range status.now result.0 result.1)) (segs_of (drop result.1 status.now)) }
+        IsSplitAt (place at.now) (segs_of (take result.0 status.now))
+        (segs_of (slice_range status.now result.0 result.1)) (segs_of (drop result.1 status.now)) }
 {
     let (low, held) = count_under(status, at, hint);
     let count = count_from(status, at, low, held);
     (low, low + count)
+}
+
+/// The same of a place in 64 bits.
+pub(crate) fn near_bundle_at(status: &[Member], at: NearPoint, hint: usize) -> (usize, usize)
+    ensures in_order { result.0 ≤ result.1 }
+    ensures few { result.1 ≤ length status.now }
+    ensures split { SidesFallAlong (place at) (segs_of status.now) →
+        IsSplitAt (place at) (segs_of (take result.0 status.now))
+        (segs_of (slice_range status.now result.0 result.1)) (segs_of (drop result.1 status.now)) }
+{
+    bundle_at(status, &at.point(), hint)
 }
 
 /// How many members of a status pass under a place, and whether the next one is known to hold it.
@@ -45,8 +57,8 @@ fn count_under(status: &[Member], at: &HPoint, hint: usize) -> (usize, bool)
     )
 }
 
-/// A range of a status that holds the end of those that pass under a place, an empty one if that is the hint; and whether
-/// the member at the hint is known to hold the place.
+/// A range of a status that holds the end of those that pass under a place, an empty one if that is the hint; and
+/// whether the member at the hint is known to hold the place.
 fn narrowed(status: &[Member], at: &HPoint, hint: usize) -> (usize, usize, bool)
     requires { hint ≤ length status.now }
     ensures in_order { result.0 ≤ result.1 }

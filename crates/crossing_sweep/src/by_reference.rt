@@ -1,4 +1,4 @@
-//! References to elements that are large, so that a sort moves these to and fro.
+//! References to elements that are large: a sort moves the references to and fro, and the elements stay where they are.
 ghost use Rattle.std.specs.Prelude.{◌≡◌, map, IfOk};
 
 use std::alloc::{AllocError, Global};

@@ -1,5 +1,6 @@
 //! The places of a strip that are known before a pass over it: ends of segments and border places.
-ghost use Rattle.std.specs.Prelude.{◌≡◌, ◌≤◌, ◌+◌, ◌++◌, [], ◌∷◌, true, List, map, AllPairs, Contains, IfOk, IfSome, IsNone, OnOk};
+ghost use Rattle.std.specs.Prelude.{◌≡◌, ◌<◌, ◌≤◌, ◌+◌, ℕ, ◌++◌, [], ◌∷◌, true, List};
+ghost use Rattle.std.specs.Prelude.{map, AllPairs, Contains, IfOk, IfSome, IsNone, OnOk};
 ghost use Rattle.std.specs.declared.cmp.Ordering.TheVariants.{Less};
 ghost use Rattle.exact_point.specs.declared.point_name.PointName.{PointName};
 ghost use Rattle.exact_point.specs.PointName.{IsCutBy};
@@ -16,7 +17,7 @@ use crate::rank::{rank, rank_over};
 use crate::ranked_place::RankedPlace;
 use crate::strip::Strip;
 use exact_point::{NearPoint, PointName};
-use plane_base::{Column, Pt, Seg};
+use plane_base::{COLUMN_COUNT, Column, Pt, Seg, column_of};
 use std::alloc::{AllocError, Global};
 
 /// The ends of an input's segments, and where the borders of the strip cut them, in the closed
@@ -33,8 +34,7 @@ fn places_in_order(alloc: Global, input: &PassInput) -> Result<Vec<RankedPlace>,
     ensures known { IfOk result (λ places. AreKnownPlaces input.now (map ranked_entry places.items)) }
     ensures in_order { IfOk result (λ places. AllPairs (λ a b. ranked_cmp a b ≡ Less) places.items) }
 {
-    // Mostly two of each segment and column: it is cut by both borders, or ends within and is cut by one.
-    let mut places = Vec::with_capacity(alloc, 2 * input.marked().len())?;
+    let mut places = Vec::with_capacity(alloc, room_for_places(input))?;
     let mut before = None;
     for m in input.marked() {
         offer_own(&mut places, &m.seg, &before, input.strip())?;
@@ -46,6 +46,19 @@ fn places_in_order(alloc: Global, input: &PassInput) -> Result<Vec<RankedPlace>,
     order.dedup();
     let list = copied(alloc, &order)?;
     Ok(list)
+}
+
+/// Room for all places of most inputs: of each segment an end, a cut, and one more for each width of a column.
+fn room_for_places(input: &PassInput) -> usize {
+    let strip = input.strip();
+    let columns = strip.last().number().wrapping_sub(strip.first().number());
+    let mut room = 0_usize;
+    for m in input.marked() {
+        let across = m.seg.right().x().wrapping_sub(m.seg.left().x());
+        let cuts = usize::from(columns).min((across.unsigned_abs() >> 16) as usize);
+        room = room.wrapping_add(cuts).wrapping_add(2);
+    }
+    room
 }
 
 /// Offers the ends of a segment and where the strip's borders cut it. The segment before it in a ring has one of its ends.
@@ -63,19 +76,41 @@ fn offer_own(
     Ok(())
 }
 
-/// Adds the places where the strip's borders cut a segment, those between its columns too.
+/// Adds the places where the strip's borders cut a segment, those between its columns too. Only those between its ends
+/// are looked at.
 fn offer_cuts(places: &mut Vec<RankedPlace>, seg: &Seg, strip: Strip) -> Result<(), AllocError>
     ensures { OnOk result ((names : List PointName) → AreOffered strip names (map ranked_entry places.old.items) → AreOffered strip (names ++ cut_names seg.now strip) (map ranked_entry places.new.items)) }
 {
-    let first = strip.first().number();
     let end = strip.last().number() + 2;
-    for number in first..end {
+    let from = strip.first().number().max(first_cut(seg)).min(end);
+    let to = end.min(cuts_end(seg));
+    for number in from..to {
         offer_cut(places, seg, number, strip)?;
     }
     Ok(())
 }
 
-/// Adds the place where the border with a number cuts a segment, if it does. Most borders of a wide strip do not.
+/// The number of the first border right of a segment's left end: none before it cuts the segment.
+fn first_cut(seg: &Seg) -> u8
+    ensures { (k : ℕ) → k < result → IsCutBy seg.now k → ⊥ }
+{
+    match column_of(i128::from(seg.left().x()), 1) {
+        Some(column) => column.number() + 1,
+        None => 0,
+    }
+}
+
+/// The number of the first border right of a segment's right end: neither it nor one after it cuts the segment.
+fn cuts_end(seg: &Seg) -> u8
+    ensures { (k : ℕ) → result ≤ k → IsCutBy seg.now k → ⊥ }
+{
+    match column_of(i128::from(seg.right().x()), 1) {
+        Some(column) => column.number() + 1,
+        None => COLUMN_COUNT,
+    }
+}
+
+/// Adds the place where the border with a number cuts a segment, if it does.
 fn offer_cut(
     places: &mut Vec<RankedPlace>,
     seg: &Seg,

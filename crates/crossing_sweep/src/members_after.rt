@@ -7,16 +7,19 @@ ghost use Rattle.exact_point.specs.Place.{place, same_hpoint};
 ghost use Rattle.crossing_sweep.specs.Member.{units_of, segs_of, ends_after};
 
 use crate::member::Member;
+use crate::rank::{ranked_cmp, whole_rank};
+use crate::ranked_place::RankedPlace;
 use crate::start::Start;
 use exact_point::HPoint;
 use plane_base::Seg;
 use std::alloc::AllocError;
 
 /// Whether a segment ends after a place.
-pub(crate) fn ends_after(seg: &Seg, at: &HPoint) -> bool
-    ensures { result ≡ ends_after (place at.now) seg.now }
+pub(crate) fn ends_after(seg: &Seg, node: &RankedPlace) -> bool
+    ensures { result ≡ ends_after (place node.now.at) seg.now }
 {
-    *at < HPoint::of(seg.right())
+    let right = HPoint::of(seg.right());
+    ranked_cmp(node.rank, &node.at.point(), whole_rank(seg.right()), &right).is_lt()
 }
 
 /// Makes a list of the members of a bundle that go on after a place, with the units that enter there
@@ -25,16 +28,16 @@ pub(crate) fn turned(
     stay: &mut Vec<Member>,
     bundle: &[Member],
     entering: &[Start],
-    at: &HPoint,
+    node: &RankedPlace,
     begin: usize,
 ) -> Result<(), AllocError>
     ensures moved { OnOk result
-        (IsPermutation (filter (λ u. ends_after (place at.now) u.seg)
+        (IsPermutation (filter (λ u. ends_after (place node.now.at) u.seg)
         (units_of bundle.now ++ map (λ s. s.unit) entering.now)) (units_of stay.new.items)) }
     ensures turned { OnOk result (AllPairs (λ a b. pos 0 ≤ℤ turn_of a b) (segs_of stay.new.items)) }
 {
-    staying(stay, bundle, at)?;
-    enter(stay, entering, at, begin)?;
+    staying(stay, bundle, node)?;
+    enter(stay, entering, node, begin)?;
     // Mostly one goes on, and is in order.
     if stay.len() > 1 {
         stay.sort_unstable();
@@ -43,25 +46,32 @@ pub(crate) fn turned(
 }
 
 /// Makes a list of the members that go on after a place that they hold.
-fn staying(stay: &mut Vec<Member>, bundle: &[Member], at: &HPoint) -> Result<(), AllocError>
-    ensures { OnOk result (stay.new.items ≡ filter (λ m. ends_after (place at.now) m.unit.seg) bundle.now) }
+fn staying(stay: &mut Vec<Member>, bundle: &[Member], node: &RankedPlace) -> Result<(), AllocError>
+    ensures { OnOk result (stay.new.items ≡ filter (λ m. ends_after (place node.now.at) m.unit.seg) bundle.now) }
 {
     stay.clear();
     for member in bundle {
-        if ends_after(&member.unit.seg, at) {
+        if ends_after(&member.unit.seg, node) {
             stay.push(*member)?;
         }
     }
     Ok(())
 }
 
+/// Whether a unit enters at a place.
+fn enters_at(start: &Start, node: &RankedPlace) -> bool
+    ensures { result ≡ same_hpoint start.now.at node.now.at }
+{
+    ranked_cmp(start.rank, &start.at.point(), node.rank, &node.at.point()).is_eq()
+}
+
 /// How many of the units to come enter at a place: the first ones.
-pub(crate) fn count_entering(coming: &[Start], at: &HPoint) -> usize
-    ensures { result ≡ prefix_len (λ s. same_hpoint s.at at.now) coming.now }
+pub(crate) fn count_entering(coming: &[Start], node: &RankedPlace) -> usize
+    ensures { result ≡ prefix_len (λ s. same_hpoint s.at node.now.at) coming.now }
 {
     coming
         .iter()
-        .take_while(|start| start.at.point() == *at)
+        .take_while(|start| enters_at(start, node))
         .count()
 }
 
@@ -69,14 +79,15 @@ pub(crate) fn count_entering(coming: &[Start], at: &HPoint) -> usize
 fn enter(
     stay: &mut Vec<Member>,
     entering: &[Start],
-    at: &HPoint,
+    node: &RankedPlace,
     begin: usize,
 ) -> Result<(), AllocError>
     ensures { OnOk result (units_of stay.new.items
-        ≡ units_of stay.old.items ++ filter (λ u. ends_after (place at.now) u.seg) (map (λ s. s.unit) entering.now)) }
+        ≡ units_of stay.old.items
+        ++ filter (λ u. ends_after (place node.now.at) u.seg) (map (λ s. s.unit) entering.now)) }
 {
     for start in entering {
-        if ends_after(&start.unit.seg, at) {
+        if ends_after(&start.unit.seg, node) {
             stay.push(Member {
                 unit: start.unit,
                 begin,

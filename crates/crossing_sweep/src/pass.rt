@@ -175,7 +175,7 @@ impl<'a> Pass<'a> {
         let values = first_values(alloc, input)?;
         let mut stay = Vec::new(alloc);
         while is_under_way(&progress, cap) {
-            go_on(alloc, input, &values, &mut stay, &mut progress)?;
+            go_on(input, &values, &mut stay, &mut progress)?;
             if is_portion(progress.nodes) && !wish.is_wanted() {
                 return Ok(None);
             }
@@ -217,7 +217,6 @@ fn is_under_way(progress: &Progress, cap: usize) -> bool
 /// may make one. What a pass has stays where it is, since it is large; and a list serves all nodes for the members that
 /// go on.
 fn go_on(
-    alloc: Global,
     input: &PassInput,
     values: &[bool],
     stay: &mut Vec<Member>,
@@ -233,17 +232,17 @@ fn go_on(
         → count_settled progress.new.nodes progress.new.rows.items ≡ length progress.old.rows.items) }
     ensures few { OnOk result (progress.new.nodes ≤ nodes_max input.now) }
 {
-    let Some((at, name)) = progress.search.ahead.take_first() else {
+    let Some(node) = progress.search.ahead.take_first() else {
         return Ok(());
     };
     // An input has few segments: the count of nodes rests on that.
     let _ = input.marked();
     let number = progress.nodes;
     let rows = progress.rows.len();
-    progress.step(alloc, input, values, stay, &at, number)?;
+    progress.step(input, values, stay, &node, number)?;
     progress.nodes += 1;
     let needed = is_needed(rows, progress.rows.len(), stay);
-    keep(&mut progress.names, number, name, needed)?;
+    keep(&mut progress.names, number, node.name, needed)?;
     Ok(())
 }
 

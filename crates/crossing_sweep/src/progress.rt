@@ -1,22 +1,22 @@
 //! What a pass over a strip has, and one step of it: crossings are found from neighbours alone, and
 //! the boundary is carried along.
-ghost use Rattle.std.specs.Prelude.{◌≡◌, ◌≤◌, ◌++◌, ◌⊎◌, true, false, length, take, drop, All, Contains, IfOk, OnOk};
+ghost use Rattle.std.specs.Prelude.{◌≡◌, ◌≤◌, ◌+◌, ◌++◌, ◌⊎◌, true, false, length, take, drop, All, Contains, OnOk};
 ghost use Rattle.exact_point.specs.Place.{place};
 ghost use Rattle.crossing_sweep.specs.StripInput.{is_in_strip};
 ghost use Rattle.crossing_sweep.specs.Stepping.{IsStepped};
 ghost use Rattle.crossing_sweep.specs.Amid.{IsClosedAt};
 ghost use Rattle.crossing_sweep.specs.Values.{AreValues};
 
-use crate::bundle::bundle_at;
+use crate::bundle::near_bundle_at;
 use crate::member::Member;
 use crate::members_after::{count_entering, ends_after, turned};
 use crate::node_name::NodeName;
 use crate::pass_input::PassInput;
+use crate::ranked_place::RankedPlace;
 use crate::row::{Row, close, go_through, label, mask_over};
 use crate::search::Search;
 use crate::start::Start;
-use exact_point::HPoint;
-use std::alloc::{AllocError, Global};
+use std::alloc::AllocError;
 
 /// What a pass over a strip has when it has come to some place.
 #[derive(Drop)]
@@ -40,23 +40,23 @@ impl Progress {
     /// border, where no piece of it begins, nothing else is done. The list has the members that begin.
     pub(crate) fn step(
         &mut self,
-        alloc: Global,
         input: &PassInput,
         values: &[bool],
         stay: &mut Vec<Member>,
-        at: &HPoint,
+        node: &RankedPlace,
         begin: usize,
     ) -> Result<(), AllocError>
         requires few { self.old.entered ≤ length self.old.starts.items }
         requires known { AreValues input.now.steps values.now }
         ensures few { OnOk result (self.new.entered ≤ length self.new.starts.items) }
-        ensures stepped { OnOk result (is_in_strip input.now.strip (place at.now) ≡ true →
-            IsStepped input.now at.now begin self.old.status.items self.new.status.items
+        ensures stepped { OnOk result (is_in_strip input.now.strip (place node.now.at) ≡ true →
+            IsStepped input.now node.now.at begin self.old.status.items self.new.status.items
             (drop self.old.entered self.old.starts.items) (drop self.new.entered self.new.starts.items)
             self.old.search self.new.search self.old.rows.items self.new.rows.items) }
-        ensures closed { OnOk result (is_in_strip input.now.strip (place at.now) ≡ false →
-            IsClosedAt at.now begin self.old.status.items self.new.status.items self.old.rows.items self.new.rows.items) }
-        ensures searched { OnOk result (is_in_strip input.now.strip (place at.now) ≡ false
+        ensures closed { OnOk result (is_in_strip input.now.strip (place node.now.at) ≡ false →
+            IsClosedAt node.now.at begin self.old.status.items self.new.status.items
+            self.old.rows.items self.new.rows.items) }
+        ensures searched { OnOk result (is_in_strip input.now.strip (place node.now.at) ≡ false
             → self.new.search ≡ self.old.search) }
         ensures names { self.new.names ≡ self.old.names }
         ensures nodes { self.new.nodes ≡ self.old.nodes }
@@ -64,28 +64,34 @@ impl Progress {
         ensures members { OnOk result ((m : Member) → Contains self.new.status.items m
             → Contains self.old.status.items m ⊎ Contains stay.new.items m) }
     {
-        let (low, high) = bundle_at(&self.status, at, self.hint);
+        let (low, high) = near_bundle_at(&self.status, node.at, self.hint);
         close(&mut self.rows, &self.status[low..high], begin)?;
-        let within = input.strip().holds(at);
+        let within = input.strip().holds(node.at);
         if !within {
             stay.clear();
             self.hint = high;
             return Ok(());
         }
         let coming = &self.starts[self.entered..];
-        let entered = count_entering(coming, at);
-        if is_alone(high - low, entered) && ends_after(&self.status[low].unit.seg, at) {
+        let entered = count_entering(coming, node);
+        if is_alone(high - low, entered) && ends_after(&self.status[low].unit.seg, node) {
             go_through(input, values, &mut self.status, low, stay, begin)?;
             self.hint = high;
             return Ok(());
         }
-        turned(stay, &self.status[low..high], &coming[..entered], at, begin)?;
+        turned(
+            stay,
+            &self.status[low..high],
+            &coming[..entered],
+            node,
+            begin,
+        )?;
         let under = mask_over(&self.status[..low]);
         label(input, values, stay, under, begin);
         let top = low + stay.len();
-        replace(alloc, &mut self.status, low, high, stay)?;
+        replace(&mut self.status, low, high, stay)?;
         self.search
-            .test_new(input.strip(), at, &self.status, low, top)?;
+            .test_new(input.strip(), node.at, &self.status, low, top)?;
         self.entered += entered;
         self.hint = top;
         Ok(())
@@ -101,10 +107,9 @@ fn is_alone(bundle: usize, entered: usize) -> bool
     bundle == 1 && entered == 0
 }
 
-/// Puts members in the place of those of a range. Mostly as many come as go, or one comes, or one goes:
-/// for these the others are moved in place, and no memory is taken but for the status.
+/// Puts members in the place of those of a range. Those over them are moved in place, and no memory is taken but for
+/// the status.
 fn replace(
-    alloc: Global,
     status: &mut Vec<Member>,
     low: usize,
     high: usize,
@@ -114,30 +119,71 @@ fn replace(
     requires few { high ≤ length status.old.items }
     ensures { OnOk result (status.new.items ≡ take low status.old.items ++ stay.now ++ drop high status.old.items) }
 {
-    match (high - low, stay.len()) {
-        (1, 1) => status[low] = stay[0],
-        (0, 1) => {
-            status.insert(low, stay[0])?;
-        }
-        (1, 0) => {
-            status.remove(low);
-        }
-        (gone, come) if gone == come => status[low..high].copy_from_slice(stay),
-        _ => {
-            let come = copied(alloc, stay)?;
-            status.splice(low..high, come)?;
-        }
+    let (gone, come) = (high - low, stay.len());
+    // One goes on, as where a segment ends and the next one begins.
+    if gone == 1 && come == 1 {
+        status[low] = stay[0];
+        return Ok(());
     }
+    make_place(status, low, high, stay)?;
+    overwrite(status, low, stay);
     Ok(())
 }
 
-/// The same members in memory of their own.
-fn copied(alloc: Global, members: &[Member]) -> Result<Vec<Member>, AllocError>
-    ensures { IfOk result (λ copies. copies.items ≡ members.now) }
+/// Makes a place for members where those of a range are. What stands in it then does not matter.
+fn make_place(
+    status: &mut Vec<Member>,
+    low: usize,
+    high: usize,
+    stay: &[Member],
+) -> Result<(), AllocError>
+    requires in_order { low ≤ high }
+    requires few { high ≤ length status.old.items }
+    ensures long { OnOk result (low + length stay.now ≤ length status.new.items) }
+    ensures below { OnOk result (take low status.new.items ≡ take low status.old.items) }
+    ensures above { OnOk result (drop (low + length stay.now) status.new.items ≡ drop high status.old.items) }
 {
-    let mut copies = Vec::with_capacity(alloc, members.len())?;
-    for member in members {
-        copies.push(*member)?;
+    let (gone, come) = (high - low, stay.len());
+    if gone < come {
+        make_room(status, high, &stay[gone..])?;
+        return Ok(());
     }
-    Ok(copies)
+    take_out(status, low + come, high);
+    Ok(())
+}
+
+/// Writes members over as many of a status.
+fn overwrite(status: &mut Vec<Member>, low: usize, stay: &[Member])
+    requires { low + length stay.now ≤ length status.old.items }
+    ensures { status.new.items
+        ≡ take low status.old.items ++ stay.now ++ drop (low + length stay.now) status.old.items }
+{
+    status[low..low + stay.len()].copy_from_slice(stay);
+}
+
+/// Makes room for some members at an index, below which all stay. What stands in it does not matter.
+fn make_room(status: &mut Vec<Member>, at: usize, more: &[Member]) -> Result<(), AllocError>
+    requires { at ≤ length status.old.items }
+    ensures long { OnOk result (length status.new.items ≡ length status.old.items + length more.now) }
+    ensures below { OnOk result (take at status.new.items ≡ take at status.old.items) }
+    ensures above { OnOk result (drop (at + length more.now) status.new.items ≡ drop at status.old.items) }
+{
+    let len = status.len();
+    status.extend_from_slice(more)?;
+    status.copy_within(at..len, at + more.len());
+    Ok(())
+}
+
+/// Takes out the members of a range.
+fn take_out(status: &mut Vec<Member>, low: usize, high: usize)
+    requires in_order { low ≤ high }
+    requires few { high ≤ length status.old.items }
+    ensures { status.new.items ≡ take low status.old.items ++ drop high status.old.items }
+{
+    if low == high {
+        return;
+    }
+    let len = status.len();
+    status.copy_within(high..len, low);
+    status.truncate(len - (high - low));
 }

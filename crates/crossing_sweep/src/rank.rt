@@ -1,14 +1,14 @@
 //! Whole numbers that give the order of most places.
 ghost use Rattle.std.specs.Prelude.{◌≡◌, ◌^◌, ◌*◌, ◌≤◌, ◌+ℤ◌, ◌*ℤ◌, ◌≤ℤ◌, pos, neg_ℤ, unsigned_abs};
 ghost use Rattle.std.specs.Ordering.{int_eq};
-ghost use Rattle.overlay_terms.specs.Plane.{InRange, coordinate_max, denominator_max};
+ghost use Rattle.overlay_terms.specs.Plane.{InRange, coordinate_max, denominator_max, whole};
 ghost use Rattle.overlay_terms.specs.Within.{IsWithin};
 ghost use Rattle.exact_point.specs.Lines.{near_max};
 ghost use Rattle.exact_point.specs.Place.{place, hpoint_cmp};
 ghost use Rattle.crossing_sweep.specs.Rank.{IsFloor, IsRank};
 
 use exact_point::HPoint;
-use plane_base::COORD_MAX;
+use plane_base::{COORD_MAX, Pt};
 use std::cmp::Ordering;
 
 /// The greatest denominator over which a coordinate is divided in 64 bits.
@@ -33,6 +33,13 @@ pub(crate) fn rank_over(across: i64, p: &HPoint) -> i64
     ensures { ∥ IsRank result (place p.now) ∥₁ }
 {
     numbered(across, floor(p.y, p.w))
+}
+
+/// The rank of a whole point.
+pub(crate) fn whole_rank(p: Pt) -> i64
+    ensures { ∥ IsRank result (whole p) ∥₁ }
+{
+    numbered(p.x(), p.y())
 }
 
 /// Whether a coordinate over its denominator is a whole number.

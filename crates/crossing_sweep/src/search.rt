@@ -10,7 +10,7 @@ ghost use Rattle.crossing_sweep.specs.Testing.{AreTested, AreSeamsTested, seams_
 use crate::ahead::Ahead;
 use crate::member::Member;
 use crate::strip::Strip;
-use exact_point::{HPoint, PointName, near_cross_of};
+use exact_point::{HPoint, NearPoint, PointName, near_cross_of};
 use plane_base::Seg;
 use std::alloc::AllocError;
 
@@ -28,7 +28,8 @@ impl Search {
     fn list(&mut self, lower: Seg, upper: Seg) -> Result<(), AllocError>
         ensures ahead { self.new.ahead ≡ self.old.ahead }
         ensures listed { self.new.listed ≡ self.old.listed }
-        ensures told { OnOk result (self.old.listed ≡ true → self.new.tests.items ≡ self.old.tests.items ++ (lower, upper) ∷ []) }
+        ensures told { OnOk result
+            (self.old.listed ≡ true → self.new.tests.items ≡ self.old.tests.items ++ (lower, upper) ∷ []) }
         ensures untold { OnOk result (self.old.listed ≡ false → self.new.tests.items ≡ self.old.tests.items) }
     {
         if self.listed {
@@ -42,11 +43,11 @@ impl Search {
     pub(crate) fn test_at(
         &mut self,
         strip: Strip,
-        at: &HPoint,
+        at: NearPoint,
         status: &[Member],
         seam: usize,
     ) -> Result<(), AllocError>
-        ensures { OnOk result (AreSeamsTested strip (place at.now) (segs_of status.now) (seam ∷ []) self.old self.new) }
+        ensures { OnOk result (AreSeamsTested strip (place at) (segs_of status.now) (seam ∷ []) self.old self.new) }
     {
         if seam == 0 {
             return Ok(());
@@ -65,13 +66,14 @@ impl Search {
     pub(crate) fn test_new(
         &mut self,
         strip: Strip,
-        at: &HPoint,
+        at: NearPoint,
         status: &[Member],
         low: usize,
         high: usize,
     ) -> Result<(), AllocError>
         requires in_order { low ≤ high }
-        ensures { OnOk result (AreSeamsTested strip (place at.now) (segs_of status.now) (seams_at true low high) self.old self.new) }
+        ensures { OnOk result
+            (AreSeamsTested strip (place at) (segs_of status.now) (seams_at true low high) self.old self.new) }
     {
         self.test_at(strip, at, status, low)?;
         if low < high {
@@ -85,11 +87,11 @@ impl Search {
 pub(crate) fn test_pair(
     ahead: &mut Ahead,
     strip: Strip,
-    at: &HPoint,
+    at: NearPoint,
     lower: &Seg,
     upper: &Seg,
 ) -> Result<(), AllocError>
-    ensures { OnOk result (AreTested strip (place at.now) lower.now upper.now ahead.old ahead.new) }
+    ensures { OnOk result (AreTested strip (place at) lower.now upper.now ahead.old ahead.new) }
 {
     if let Some(crossing) = near_cross_of(lower, upper) {
         if is_ahead(strip, at, &crossing.point()) {
@@ -100,12 +102,12 @@ pub(crate) fn test_pair(
 }
 
 /// Whether a place comes after another, in a closed strip.
-fn is_ahead(strip: Strip, at: &HPoint, other: &HPoint) -> bool
-    ensures { result ≡ (is_lt (point_cmp (place at.now) (place other.now)) && is_in_closed_strip strip (place other.now)) }
+fn is_ahead(strip: Strip, at: NearPoint, other: &HPoint) -> bool
+    ensures { result ≡ (is_lt (point_cmp (place at) (place other.now)) && is_in_closed_strip strip (place other.now)) }
 {
     // A place beyond the borders is found by two products, the order of two places by up to four.
     if !strip.holds_closed(other) {
         return false;
     }
-    *at < *other
+    at.point() < *other
 }

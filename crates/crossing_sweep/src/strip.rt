@@ -6,7 +6,7 @@ ghost use Rattle.exact_point.specs.Place.{place};
 ghost use Rattle.crossing_sweep.specs.StripInput.{is_in_strip, is_in_closed_strip};
 
 use arrange::is_up_to;
-use exact_point::{HPoint, border_side, end_side};
+use exact_point::{HPoint, NearPoint, border_side, end_side};
 use plane_base::Column;
 use std::marker::Model;
 
@@ -71,13 +71,13 @@ impl Strip {
     }
 
     /// Whether a point lies in the strip: at its left border or right of it, and left of its right border.
-    pub(crate) fn holds(self, p: &HPoint) -> bool
-        ensures { result ≡ is_in_strip self (place p.now) }
+    pub(crate) fn holds(self, p: NearPoint) -> bool
+        ensures { result ≡ is_in_strip self (place p) }
     {
-        if border_side(self.first, p).is_lt() {
+        if border_side(self.first, &p.point()).is_lt() {
             return false;
         }
-        end_side(self.last, p).is_lt()
+        end_side(self.last, &p.point()).is_lt()
     }
 
     /// Whether a point lies from the strip's left border to its right border.

@@ -14,7 +14,6 @@ pub mod SameNodes
 pub mod SameMiddle
 pub mod CrossingLemmas
 pub mod BorderLemmas
-pub mod GcdLemmas
 pub mod ReducedLemmas
 pub mod CutLemmas
 pub mod Comparing

@@ -1,7 +1,6 @@
 -- Fractions with a common denominator in lowest terms.
 use Prim.Native.Nat.{◌∣◌}
-use Rattle.std.specs.Prelude.{◌≡◌, ℕ, ◌<◌, pos, ◌<ℤ◌, IsTrue, unsigned_abs}
-use Rattle.std.specs.Int.{bit_at}
+use Rattle.std.specs.Prelude.{◌≡◌, ℕ, pos, ◌<ℤ◌, IsTrue, unsigned_abs}
 use Rattle.overlay_terms.specs.Plane.{Point, same_place}
 
 -- g is the greatest common divisor of x, y and w of p
@@ -10,10 +9,6 @@ pub record IsDivisorOf (p : Point) (g : ℕ) : Type 0 where
   pub of_y : g ∣ unsigned_abs p.y
   pub of_w : g ∣ unsigned_abs p.w
   pub greatest : (d : ℕ) → d ∣ unsigned_abs p.x → d ∣ unsigned_abs p.y → d ∣ unsigned_abs p.w → d ∣ g
-
--- 2 divides n at least k times
-abbrev pub HasTwos : ℕ → ℕ → Type 0
-HasTwos n k = (i : ℕ) → i < k → bit_at n i ≡ 0
 
 -- no number but 1 divides x, y and w of p
 abbrev pub IsLowest : Point → Type 0

@@ -150,7 +150,7 @@ fn between(from: i64, to: i64, t: i64, w: i64) -> i128
 }
 
 /// The same coordinate, where 64 bits hold it.
-pub(crate) fn near_between(from: i64, to: i64, t: i64, w: i64) -> i64
+fn near_between(from: i64, to: i64, t: i64, w: i64) -> i64
     requires from_small { InRange from }
     requires to_small { InRange to }
     requires t_low { pos 0 ≤ℤ t }
@@ -176,19 +176,4 @@ pub(crate) fn near_cut(seg: &Seg, x: i64) -> (i64, i64)
     let (left, right) = (seg.left(), seg.right());
     let w = minus(right.x(), left.x());
     (w, near_between(left.y(), right.y(), minus(x, left.x()), w))
-}
-
-/// The place where the vertical line over a whole x cuts a segment between its ends.
-pub(crate) fn cut_point(seg: &Seg, x: i64) -> HPoint
-    requires in_range { InRange x }
-    requires after_left { seg.now.left.x <ℤ x }
-    requires before_right { x <ℤ seg.now.right.x }
-    ensures { place result ≡ cut_over seg.now x }
-{
-    let (w, y) = near_cut(seg, x);
-    HPoint {
-        x: wide(x, w),
-        y: i128::from(y),
-        w: i128::from(w),
-    }
 }

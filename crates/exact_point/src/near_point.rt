@@ -80,7 +80,7 @@ impl NearPoint {
         NearPoint::of(&HPoint::of(p))
     }
 
-    /// The place of the name `PointName::Border(seg, number)`, of one that has a place; x is that of the border.
+    /// The place where the border of the column with this number, whose x is given, cuts a segment.
     pub fn on_border(seg: &Seg, number: u8, x: i64) -> NearPoint
         requires cut { IsCutBy seg.now number }
         requires over { x ≡ border number }

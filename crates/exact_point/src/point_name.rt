@@ -6,7 +6,8 @@ ghost use Rattle.exact_point.specs.Place.{place};
 ghost use Rattle.exact_point.specs.PlaceOf.{place_of, cut_place};
 ghost use Rattle.exact_point.specs.PointName.{IsPlaceOf, IsOnlyPlaceOf, HasPlace, IsCutBy, IsCutOf};
 
-use crate::crossing::{cross_of, cut_point, known_crossing};
+use crate::arithmetic::minus;
+use crate::crossing::{cross_of, known_crossing, part_way};
 use crate::point::HPoint;
 use plane_base::{Column, Pt, Seg};
 
@@ -47,17 +48,18 @@ impl PointName {
     }
 }
 
-/// The place of the name `PointName::Border(seg, number)`, of one that has a place; x is that of the border.
+/// The place where the border of the column with this number, whose x is given, cuts a segment.
 pub(crate) fn border_point(seg: &Seg, number: u8, x: i64) -> HPoint
     requires cut { IsCutBy seg.now number }
     requires over { x ≡ border number }
     ensures value { place result ≡ place_of (PointName.Border seg.now number) }
     ensures stands { IsPlaceOf (PointName.Border seg.now number) (place result) }
 {
-    cut_point(seg, x)
+    let (left, right) = (seg.left().x(), seg.right().x());
+    part_way(seg, minus(x, left), minus(right, left))
 }
 
-/// Where the border of the column with this number cuts a segment, if there is such a column.
+/// Where the border of the column with this number cuts a segment strictly between its ends, if it does.
 fn border_cut(seg: &Seg, number: u8) -> Option<HPoint>
     ensures known { IsSome result ↔ IsCutBy seg.now number }
     ensures place { IfSome result (λ z. IsCutOf seg.now number (place z)) }
@@ -65,27 +67,15 @@ fn border_cut(seg: &Seg, number: u8) -> Option<HPoint>
         → IsTrue (same_place (place z) p)) }
     ensures value { IfSome result (λ z. place z ≡ cut_place seg.now number) }
 {
-    match Column::new(u64::from(number)) {
-        Some(column) => cut_of(seg, column),
-        None => None,
-    }
-}
-
-/// Where the border of a column cuts a segment, unless it lies at an end or outside.
-fn cut_of(seg: &Seg, column: Column) -> Option<HPoint>
-    ensures known { IsSome result ↔ IsCutBy seg.now column }
-    ensures place { IfSome result (λ z. IsCutOf seg.now column (place z)) }
-    ensures only { IfSome result (λ z. (p : Point) → pos 0 <ℤ p.w → IsCutOf seg.now column p
-        → IsTrue (same_place (place z) p)) }
-    ensures value { IfSome result (λ z. place z ≡ cut_place seg.now column) }
-{
-    let border = column.border();
-    let (left, right) = (seg.left().x(), seg.right().x());
-    if border <= left {
+    let Some(column) = Column::new(u64::from(number)) else {
+        return None;
+    };
+    let x = column.border();
+    if x <= seg.left().x() {
         return None;
     }
-    if right <= border {
+    if seg.right().x() <= x {
         return None;
     }
-    Some(cut_point(seg, border))
+    Some(border_point(seg, number, x))
 }

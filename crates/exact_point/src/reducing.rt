@@ -1,16 +1,19 @@
 //! Points in lowest terms.
 ghost use Prim.Native.Nat.{◌∣◌};
 ghost use Rattle.std.specs.Prelude.{◌≡◌, ℕ, ◌^◌, ◌%◌, ◌<◌, ◌≤◌, ◌*ℤ◌, ◌<ℤ◌, ◌≤ℤ◌, pos, unsigned_abs, IsTrue};
-ghost use Rattle.std.specs.Int.{IsGcd, bit_at};
+ghost use Rattle.std.specs.Int.{IsGcd};
 ghost use Rattle.overlay_terms.specs.Plane.{InRange, same_place};
 ghost use Rattle.exact_point.specs.Place.{place};
 ghost use Rattle.exact_point.specs.CutOver.{cut_over};
-ghost use Rattle.exact_point.specs.Reduced.{IsDivisorOf, HasTwos, IsLowest, LowestTermsAreOne};
+ghost use Rattle.exact_point.specs.Reduced.{IsDivisorOf, IsLowest, LowestTermsAreOne};
 
 use crate::arithmetic::scaled;
 use crate::crossing::near_cut;
 use crate::point::HPoint;
 use plane_base::Seg;
+
+/// The greatest number of 32 bits.
+const NARROW_MAX: u64 = 0xFFFF_FFFF;
 
 /// The same place in lowest terms: no number but 1 divides x, y and w.
 pub fn reduced(p: &HPoint) -> HPoint
@@ -49,12 +52,14 @@ pub fn reduced_cut(seg: &Seg, x: i64) -> HPoint
 
 /// The greatest common divisor of a denominator and a number.
 fn common_divisor(w: i64, y: i64) -> u64
-    requires { pos 1 ≤ℤ w }
+    requires w_low { pos 1 ≤ℤ w }
+    requires narrow { unsigned_abs w < 2 ^ 32 }
     ensures value { IsGcd (unsigned_abs w) (unsigned_abs y) result }
     ensures positive { 0 < result }
 {
     let size = w.unsigned_abs();
-    gcd(size, y.unsigned_abs() % size)
+    let rest = y.unsigned_abs() % size;
+    u64::from(narrow_gcd(size as u32, rest as u32))
 }
 
 /// A place has one form in lowest terms.
@@ -82,54 +87,35 @@ fn rest_of(a: i128, divisor: u64) -> u64
     a.unsigned_abs() as u64 % divisor
 }
 
-/// The greatest common divisor.
+/// The greatest common divisor, by one division after another.
 fn gcd(a: u64, b: u64) -> u64
-    requires { 0 < a }
     ensures { IsGcd a b result }
 {
-    let (in_first, in_second) = (a.trailing_zeros(), b.trailing_zeros());
-    if in_first <= in_second {
-        without_twos(a, b, in_first)
-    } else {
-        without_twos(b, a, in_second)
+    let mut x = a;
+    let mut y = b;
+    while y > NARROW_MAX {
+        let rest = x % y;
+        x = y;
+        y = rest;
     }
+    if y == 0 {
+        return x;
+    }
+    u64::from(narrow_gcd(y as u32, (x % y) as u32))
 }
 
-/// The greatest common divisor of two numbers that have this many factors 2 in common, the first no more.
-fn without_twos(a: u64, b: u64, twos: u32) -> u64
-    requires positive { 0 < a }
-    requires in_word { twos < 64 }
-    requires odd { bit_at a twos ≡ 1 }
-    requires in_first { HasTwos a twos }
-    requires in_second { HasTwos b twos }
-    ensures { IsGcd a b result }
-{
-    odd_gcd(a >> twos, b >> twos) << twos
-}
-
-/// The greatest common divisor of an odd number and another, by differences of odd numbers.
-fn odd_gcd(a: u64, b: u64) -> u64
-    requires { a % 2 ≡ 1 }
+/// The same in 32 bits, where a division is shorter.
+fn narrow_gcd(a: u32, b: u32) -> u32
     ensures { IsGcd a b result }
 {
     let mut x = a;
     let mut y = b;
     while y != 0 {
-        let odd = odd_part(y);
-        y = x.abs_diff(odd);
-        x = x.min(odd);
+        let rest = x % y;
+        x = y;
+        y = rest;
     }
     x
-}
-
-/// What is left of a number without its factors 2. It has the same common divisors with an odd number.
-fn odd_part(a: u64) -> u64
-    requires { 0 < a }
-    ensures odd { result % 2 ≡ 1 }
-    ensures small { result ≤ a }
-    ensures common { (x g : ℕ) → x % 2 ≡ 1 → IsGcd x result g → IsGcd x a g }
-{
-    a >> a.trailing_zeros()
 }
 
 /// A number divided by one of its divisors.

@@ -135,12 +135,12 @@ pub drop_mapped : {A B : Type 0} (f : A → B) (xs : List A) (i : ℕ) (x : A) �
 drop_mapped f xs i x h e =
     drop_there (map f xs) i (f x) (subst (λ n. i < n) (sym (length-map xs f)) h) (ap f e ∙ sym (get_or-map f xs i x (f x) h))
 
-read_is : (xs : List Segment) (i : ℕ) (x : Segment) → i < length xs → x ≡ get_or xs i x → slice_get xs i ≡ Some x
+pub read_is : {A : Type 0} (xs : List A) (i : ℕ) (x : A) → i < length xs → x ≡ get_or xs i x → slice_get xs i ≡ Some x
 read_is [] i x h e = absurd (omega arith)
 read_is (y ∷ xs) zero x h e = ap (λ z. Some z) (sym e)
 read_is (y ∷ xs) (suc i) x h e = read_is xs i x (omega arith) e
 
-read_there : (xs : List Segment) (i : ℕ) → i < length xs → (x : Segment) × (slice_get xs i ≡ Some x) × (x ≡ get_or xs i x)
+pub read_there : {A : Type 0} (xs : List A) (i : ℕ) → i < length xs → (x : A) × (slice_get xs i ≡ Some x) × (x ≡ get_or xs i x)
 read_there [] i h = absurd (omega arith)
 read_there (y ∷ xs) zero h = (y, refl, refl)
 read_there (y ∷ xs) (suc i) h = read_there xs i (omega arith)

@@ -59,25 +59,12 @@ impl Layers {
             (if_wanted wanted (content_at self.now i)) }
     {
         match self.at(i) {
-            Some((_, layer)) if wanted => self.layer_answer(layer, inside, edge, spot),
-            _ => Seen::NOTHING,
-        }
-    }
-
-    fn layer_answer(&self, layer: &Layer, inside: &[bool], edge: &[bool], spot: &Spot) -> Seen
-        requires insides { length inside.now ≤ length self.now }
-        requires edges { length edge.now ≤ length self.now }
-        ensures inside { result.inside
-            ≡ content_answer IsInside (point_of spot.now) (labelled self.now inside.now) (content layer.now) }
-        ensures edge { result.edge
-            ≡ content_answer IsEdge (point_of spot.now) (labelled self.now edge.now) (content layer.now) }
-    {
-        match layer {
-            Layer::Base(rings) => look_at_blocks(rings.blocks(), spot),
-            Layer::Derived(expression) => Seen {
+            Some((_, Layer::Base(rings))) if wanted => look_at_blocks(rings.blocks(), spot),
+            Some((_, Layer::Derived(expression))) if wanted => Seen {
                 inside: self.node_inside(expression.root(), inside),
                 edge: self.node_edge(expression.root(), edge),
             },
+            _ => Seen::NOTHING,
         }
     }
 
@@ -86,7 +73,7 @@ impl Layers {
             (tree node.now) }
     {
         match node {
-            Node::Leaf(used) => self.known_of(used, known),
+            Node::Leaf(used) => known_at(known, self.index_of(used)),
             Node::Combine(operation, left, right) => {
                 let l = self.node_inside(left, known);
                 let r = self.node_inside(right, known);
@@ -106,18 +93,11 @@ impl Layers {
             (leaves (tree node.now)) }
     {
         match node {
-            Node::Leaf(used) => self.known_of(used, known),
+            Node::Leaf(used) => known_at(known, self.index_of(used)),
             Node::Combine(_, left, right) => {
                 self.node_edge(left, known) || self.node_edge(right, known)
             }
         }
-    }
-
-    /// What is known of the layer with a name.
-    pub(crate) fn known_of(&self, name: &Name, known: &[bool]) -> bool
-        ensures { result ≡ unwrap_or (slice_get known.now (index_of self.now name.now)) false }
-    {
-        known_at(known, self.index_of(name))
     }
 }
 

@@ -226,7 +226,8 @@ impl<'a> Sketch<'a> {
     fn stands(&self, name: &Name) -> bool
         ensures { result ≡ stands (sketched self.now) name.now }
     {
-        is_any_named(self.entries.as_slice(), name)
+        let entries = self.entries.as_slice();
+        entries.iter().any(|entry| entry.is_named(name))
     }
 
     /// The index of the layer with the name, or how many layers there are.
@@ -247,14 +248,20 @@ impl<'a> Sketch<'a> {
     fn stands_as_base(&self, name: &Name) -> bool
         ensures { result ≡ stands_as_base (sketched self.now) name.now }
     {
-        is_any_base(self.entries.as_slice(), name)
+        let entries = self.entries.as_slice();
+        entries
+            .iter()
+            .any(|entry| entry.is_named(name) && !entry.is_derived())
     }
 
     /// Whether a derived layer has the name.
     fn stands_as_derived(&self, name: &Name) -> bool
         ensures { result ≡ stands_as_derived (sketched self.now) name.now }
     {
-        is_any_derived(self.entries.as_slice(), name)
+        let entries = self.entries.as_slice();
+        entries
+            .iter()
+            .any(|entry| entry.is_named(name) && entry.is_derived())
     }
 
     /// Whether the name is new and there is no room for another layer.
@@ -268,37 +275,7 @@ impl<'a> Sketch<'a> {
     fn is_used(&self, name: &Name) -> bool
         ensures { result ≡ list_any (λ layer. uses name.now layer.content) (sketched self.now) }
     {
-        is_any_user(self.entries.as_slice(), name)
+        let entries = self.entries.as_slice();
+        entries.iter().any(|entry| entry.uses(name))
     }
-}
-
-fn is_any_named(entries: &[Entry], name: &Name) -> bool
-    ensures { result ≡ list_any (λ entry. bytes_eq (entry_layer entry).name name.now) entries.now }
-{
-    entries.iter().any(|entry| entry.is_named(name))
-}
-
-fn is_any_base(entries: &[Entry], name: &Name) -> bool
-    ensures { result ≡ list_any
-        (λ entry. bytes_eq (entry_layer entry).name name.now
-        && not (is_derived (entry_layer entry).content)) entries.now }
-{
-    entries
-        .iter()
-        .any(|entry| entry.is_named(name) && !entry.is_derived())
-}
-
-fn is_any_derived(entries: &[Entry], name: &Name) -> bool
-    ensures { result ≡ list_any
-        (λ entry. bytes_eq (entry_layer entry).name name.now && is_derived (entry_layer entry).content) entries.now }
-{
-    entries
-        .iter()
-        .any(|entry| entry.is_named(name) && entry.is_derived())
-}
-
-fn is_any_user(entries: &[Entry], name: &Name) -> bool
-    ensures { result ≡ list_any (λ entry. uses name.now (entry_layer entry).content) entries.now }
-{
-    entries.iter().any(|entry| entry.uses(name))
 }

@@ -68,7 +68,7 @@ denominator_max = 2 ^ 43
 abbrev pub side_of : Segment → Point → Ordering
 side_of s p = int_cmp (height_over s p) (pos 0)
 
--- the segment is below the point: left.x <= p.x / w < right.x, and the point lies strictly above its line
+-- the segment is below the point: left.x <= p.x / p.w < right.x, and the point lies strictly above its line
 abbrev pub is_below : Segment → Point → Bool
 is_below s p = int_le (s.left.x *ℤ p.w) p.x && int_lt p.x (s.right.x *ℤ p.w) && int_lt (pos 0) (height_over s p)
 

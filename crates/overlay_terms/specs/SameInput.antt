@@ -81,21 +81,26 @@ same_operation-Decides o p = (
 )
 
 same_source-Decides : (a b : Source) → Decides (same_source a b) (a ≡ b)
-same_source-Decides (base_bit j) (base_bit k) = (λ h. ap base_bit ((Decides-eqb j k).0 h), λ e. (Decides-eqb j k).1 (ap number_of e))
+same_source-Decides (base_bit j) (base_bit k) =
+    (λ h. ap base_bit ((Decides-eqb j k).0 h), λ e. (Decides-eqb j k).1 (ap number_of e))
 same_source-Decides (base_bit j) (definition k) = (λ h. absurd (false≢true h), λ e. sym (ap is_base e))
 same_source-Decides (definition j) (base_bit k) = (λ h. absurd (false≢true h), λ e. ap is_base e)
-same_source-Decides (definition j) (definition k) = (λ h. ap definition ((Decides-eqb j k).0 h), λ e. (Decides-eqb j k).1 (ap number_of e))
+same_source-Decides (definition j) (definition k) =
+    (λ h. ap definition ((Decides-eqb j k).0 h), λ e. (Decides-eqb j k).1 (ap number_of e))
 
 pub same_definition-Decides : (a b : Tree Source) → Decides (same_definition a b) (a ≡ b)
-same_definition-Decides (leaf a) (leaf b) = (λ h. ap leaf ((same_source-Decides a b).0 h), λ e. (same_source-Decides a b).1 (ap leaf_of e))
+same_definition-Decides (leaf a) (leaf b) =
+    (λ h. ap leaf ((same_source-Decides a b).0 h), λ e. (same_source-Decides a b).1 (ap leaf_of e))
 same_definition-Decides (leaf a) (combine p m s) = (λ h. absurd (false≢true h), λ e. sym (ap is_leaf e))
 same_definition-Decides (combine o l r) (leaf b) = (λ h. absurd (false≢true h), λ e. ap is_leaf e)
 same_definition-Decides (combine o l r) (combine p m s) = (
   λ h.
       let parts = and_parts (same_operation o p && same_definition l m) (same_definition r s) h in
       let front = and_parts (same_operation o p) (same_definition l m) parts.0 in
-      λ i. combine ((same_operation-Decides o p).0 front.0 i) ((same_definition-Decides l m).0 front.1 i) ((same_definition-Decides r s).0 parts.1 i),
-  λ e. and_from _ _ (and_from _ _ ((same_operation-Decides o p).1 (ap operation_of e)) ((same_definition-Decides l m).1 (ap left_of e))) ((same_definition-Decides r s).1 (ap right_of e)),
+      λ i. combine ((same_operation-Decides o p).0 front.0 i) ((same_definition-Decides l m).0 front.1 i)
+      ((same_definition-Decides r s).0 parts.1 i),
+  λ e. and_from _ _ (and_from _ _ ((same_operation-Decides o p).1 (ap operation_of e))
+      ((same_definition-Decides l m).1 (ap left_of e))) ((same_definition-Decides r s).1 (ap right_of e)),
 )
 
 -- two lists of steps pass the test exactly where they are equal
@@ -103,8 +108,12 @@ pub same_steps-Decides : (a b : Steps) → Decides (same_steps a b) (a ≡ b)
 same_steps-Decides a b = (
   λ h.
       let parts = and_parts (a.bases == b.bases) (pointwise same_definition a.definitions b.definitions) h in
-      λ i. record { bases = (Decides-eqb a.bases b.bases).0 parts.0 i; definitions = (pointwise_decides same_definition-Decides a.definitions b.definitions).0 parts.1 i },
-  λ e. and_from _ _ ((Decides-eqb a.bases b.bases).1 (ap (λ s. s.bases) e)) ((pointwise_decides same_definition-Decides a.definitions b.definitions).1 (ap (λ s. s.definitions) e)),
+      λ i. record {
+        bases = (Decides-eqb a.bases b.bases).0 parts.0 i;
+        definitions = (pointwise_decides same_definition-Decides a.definitions b.definitions).0 parts.1 i;
+      },
+  λ e. and_from _ _ ((Decides-eqb a.bases b.bases).1 (ap (λ s. s.bases) e))
+      ((pointwise_decides same_definition-Decides a.definitions b.definitions).1 (ap (λ s. s.definitions) e)),
 )
 
 same_whole-Decides : (a b : WholePoint) → Decides (same_whole a b) (a ≡ b)
@@ -119,23 +128,32 @@ pub same_segment-Decides : (s t : Segment) → Decides (same_segment s t) (s ≡
 same_segment-Decides s t = (
   λ h.
       let parts = and_parts (same_whole s.left t.left) (same_whole s.right t.right) h in
-      λ i. record { left = (same_whole-Decides s.left t.left).0 parts.0 i; right = (same_whole-Decides s.right t.right).0 parts.1 i },
-  λ e. and_from _ _ ((same_whole-Decides s.left t.left).1 (ap (λ r. r.left) e)) ((same_whole-Decides s.right t.right).1 (ap (λ r. r.right) e)),
+      λ i. record {
+        left = (same_whole-Decides s.left t.left).0 parts.0 i;
+        right = (same_whole-Decides s.right t.right).0 parts.1 i;
+      },
+  λ e. and_from _ _ ((same_whole-Decides s.left t.left).1 (ap (λ r. r.left) e))
+      ((same_whole-Decides s.right t.right).1 (ap (λ r. r.right) e)),
 )
 
 same_marked-Decides : (m n : Marked) → Decides (same_marked m n) (m ≡ n)
 same_marked-Decides m n = (
   λ h.
       let parts = and_parts (m.layer == n.layer) (same_segment m.segment n.segment) h in
-      λ i. record { layer = (Decides-eqb m.layer n.layer).0 parts.0 i; segment = (same_segment-Decides m.segment n.segment).0 parts.1 i },
-  λ e. and_from _ _ ((Decides-eqb m.layer n.layer).1 (ap (λ r. r.layer) e)) ((same_segment-Decides m.segment n.segment).1 (ap (λ r. r.segment) e)),
+      λ i. record {
+        layer = (Decides-eqb m.layer n.layer).0 parts.0 i;
+        segment = (same_segment-Decides m.segment n.segment).0 parts.1 i;
+      },
+  λ e. and_from _ _ ((Decides-eqb m.layer n.layer).1 (ap (λ r. r.layer) e))
+      ((same_segment-Decides m.segment n.segment).1 (ap (λ r. r.segment) e)),
 )
 
 -- two inputs pass the test exactly where they are equal
 pub same_input-Decides : (a b : Input) → Decides (same_input a b) (a ≡ b)
 same_input-Decides a b = (
   λ h.
-      let parts = and_parts (a.column == b.column && pointwise same_marked a.marked b.marked) (same_steps a.steps b.steps) h in
+      let parts = and_parts (a.column == b.column && pointwise same_marked a.marked b.marked)
+      (same_steps a.steps b.steps) h in
       let front = and_parts (a.column == b.column) (pointwise same_marked a.marked b.marked) parts.0 in
       λ i. record {
         column = (Decides-eqb a.column b.column).0 front.0 i;
@@ -143,6 +161,7 @@ same_input-Decides a b = (
         steps = (same_steps-Decides a.steps b.steps).0 parts.1 i;
       },
   λ e. and_from _ _
-      (and_from _ _ ((Decides-eqb a.column b.column).1 (ap (λ r. r.column) e)) ((pointwise_decides same_marked-Decides a.marked b.marked).1 (ap (λ r. r.marked) e)))
+      (and_from _ _ ((Decides-eqb a.column b.column).1 (ap (λ r. r.column) e))
+      ((pointwise_decides same_marked-Decides a.marked b.marked).1 (ap (λ r. r.marked) e)))
       ((same_steps-Decides a.steps b.steps).1 (ap (λ r. r.steps) e)),
 )

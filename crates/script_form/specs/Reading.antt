@@ -1,4 +1,5 @@
--- What a name of a line is refused by, and what memory that runs out after it. What a line is read as, BatchLines says.
+-- The fault of a line whose name is none, and that of memory that runs out after a name. BatchLines says what a line is
+-- read as.
 use Rattle.std.specs.Prelude.{◌≡◌, ℕ, false, IsTrue, List}
 use Rattle.layer_expr.specs.Name.{is_name}
 use Rattle.layer_expr.specs.declared.fault.ExprFault.TheVariants.{BadName}

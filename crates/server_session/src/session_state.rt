@@ -1,5 +1,6 @@
 //! A session on its way through its script.
-ghost use Rattle.std.specs.Prelude.{◌≡◌, Bool, ◌∷◌, ◌++◌, [], List, Option, MatchOption, None, Some, ℕ, drop, false, length, true, is_err, IfOk, IfErr, IfSome, OnOk, OnErr};
+ghost use Rattle.std.specs.Prelude.{◌≡◌, Bool, ◌∷◌, ◌++◌, [], List, Option, MatchOption, None, Some, ℕ, drop, false};
+ghost use Rattle.std.specs.Prelude.{length, true, is_err, IfOk, IfErr, IfSome, OnOk, OnErr};
 ghost use Rattle.overlay_terms.specs.Histories.{IsHistory};
 ghost use Rattle.book_history.specs.Known.{seen};
 ghost use Rattle.version_book.specs.Store.{has_store};
@@ -9,7 +10,8 @@ ghost use Rattle.script_form.specs.Turns.{Waiting, ended_by};
 ghost use Rattle.server_session.specs.Replying.{MayReport};
 ghost use Rattle.server_session.specs.Stores.{store_of};
 ghost use Rattle.server_session.specs.Session.{Stays};
-ghost use Rattle.server_session.specs.SessionState.{has_ended, HasTaken, turns_ended, turns_at_end, AnswersTurns, AnswersInPart, AreNext, IsOnWay};
+ghost use Rattle.server_session.specs.SessionState.{has_ended, HasTaken, turns_ended, turns_at_end};
+ghost use Rattle.server_session.specs.SessionState.{AnswersTurns, AnswersInPart, AreNext, IsOnWay};
 ghost use Rattle.server_session.specs.Turn.{IsAtLast, IsAtLine};
 ghost use Rattle.server_session.specs.Loop.{AnswersLine, EndsBatch};
 
@@ -68,15 +70,19 @@ impl SessionState {
         requires reported { MayReport J.stored J.failed (has_store shared.now) me.old W.may_report }
         requires from { W.from writer.old (has_store shared.now) me.old }
         requires own { IfSome (W.left writer.old) (AreNext self.old bytes.now) }
-        ensures takes { OnOk result ((taken : List ℕ) → HasTaken self.old taken → HasTaken self.new (taken ++ bytes.now)) }
+        ensures takes { OnOk result ((taken : List ℕ) → HasTaken self.old taken
+            → HasTaken self.new (taken ++ bytes.now)) }
         ensures answers { OnOk result ((taken : List ℕ) → HasTaken self.old taken
-            → AnswersTurns (store_of J.stored J.failed (has_store shared.now)) me.old (turns_ended taken bytes.now) me.new (W.contents writer.old) (W.contents writer.new)) }
+            → AnswersTurns (store_of J.stored J.failed (has_store shared.now))
+            me.old (turns_ended taken bytes.now) me.new (W.contents writer.old) (W.contents writer.new)) }
         ensures stops { OnErr result ((taken : List ℕ) → HasTaken self.old taken
-            → AnswersInPart (store_of J.stored J.failed (has_store shared.now)) me.old (turns_ended taken bytes.now) me.new (W.contents writer.old) (W.contents writer.new)) }
+            → AnswersInPart (store_of J.stored J.failed (has_store shared.now))
+            me.old (turns_ended taken bytes.now) me.new (W.contents writer.old) (W.contents writer.new)) }
         ensures fault { IfErr result (λ fault. fault ≡ CommandFault.Write) }
         ensures ended { has_ended self.new ≡ is_err result }
         ensures from { OnOk result (W.from writer.new (has_store shared.now) me.new) }
-        ensures left { OnOk result (MatchOption (W.left writer.old) (W.left writer.new ≡ None) (λ left. (taken : List ℕ) → HasTaken self.old taken
+        ensures left { OnOk result (MatchOption (W.left writer.old) (W.left writer.new ≡ None)
+            (λ left. (taken : List ℕ) → HasTaken self.old taken
             → W.left writer.new ≡ Some (drop (length (turns_ended taken bytes.now)) left))) }
         ensures limit { OnOk result (W.may_pass_limit writer.old → W.may_pass_limit writer.new) }
         ensures stays { Stays me.old me.new }
@@ -103,15 +109,19 @@ impl SessionState {
         requires reported { MayReport J.stored J.failed (has_store shared.now) me.old W.may_report }
         requires from { W.from writer.old (has_store shared.now) me.old }
         requires own { IfSome (W.left writer.old) (AreNext self.old bytes.now) }
-        ensures takes { OnOk result ((taken : List ℕ) → HasTaken self.old taken → HasTaken self.new (taken ++ bytes.now)) }
+        ensures takes { OnOk result ((taken : List ℕ) → HasTaken self.old taken
+            → HasTaken self.new (taken ++ bytes.now)) }
         ensures answers { OnOk result ((taken : List ℕ) → HasTaken self.old taken
-            → AnswersTurns (store_of J.stored J.failed (has_store shared.now)) me.old (turns_ended taken bytes.now) me.new (W.contents writer.old) (W.contents writer.new)) }
+            → AnswersTurns (store_of J.stored J.failed (has_store shared.now))
+            me.old (turns_ended taken bytes.now) me.new (W.contents writer.old) (W.contents writer.new)) }
         ensures stops { OnErr result ((taken : List ℕ) → HasTaken self.old taken
-            → AnswersInPart (store_of J.stored J.failed (has_store shared.now)) me.old (turns_ended taken bytes.now) me.new (W.contents writer.old) (W.contents writer.new)) }
+            → AnswersInPart (store_of J.stored J.failed (has_store shared.now))
+            me.old (turns_ended taken bytes.now) me.new (W.contents writer.old) (W.contents writer.new)) }
         ensures fault { IfErr result (λ fault. fault ≡ CommandFault.Write) }
         ensures ended { has_ended self.new ≡ is_err result }
         ensures from { OnOk result (W.from writer.new (has_store shared.now) me.new) }
-        ensures left { OnOk result (MatchOption (W.left writer.old) (W.left writer.new ≡ None) (λ left. (taken : List ℕ) → HasTaken self.old taken
+        ensures left { OnOk result (MatchOption (W.left writer.old) (W.left writer.new ≡ None)
+            (λ left. (taken : List ℕ) → HasTaken self.old taken
             → W.left writer.new ≡ Some (drop (length (turns_ended taken bytes.now)) left))) }
         ensures limit { OnOk result (W.may_pass_limit writer.old → W.may_pass_limit writer.new) }
         ensures stays { Stays me.old me.new }
@@ -136,15 +146,19 @@ impl SessionState {
         requires reported { MayReport J.stored J.failed (has_store shared.now) me.old W.may_report }
         requires from { W.from writer.old (has_store shared.now) me.old }
         requires own { IfSome (W.left writer.old) (AreNext self.old (byte ∷ [])) }
-        ensures takes { OnOk result ((taken : List ℕ) → HasTaken self.old taken → HasTaken self.new (taken ++ byte ∷ [])) }
+        ensures takes { OnOk result ((taken : List ℕ) → HasTaken self.old taken
+            → HasTaken self.new (taken ++ byte ∷ [])) }
         ensures answers { OnOk result ((taken : List ℕ) → HasTaken self.old taken
-            → AnswersTurns (store_of J.stored J.failed (has_store shared.now)) me.old (turns_ended taken (byte ∷ [])) me.new (W.contents writer.old) (W.contents writer.new)) }
+            → AnswersTurns (store_of J.stored J.failed (has_store shared.now))
+            me.old (turns_ended taken (byte ∷ [])) me.new (W.contents writer.old) (W.contents writer.new)) }
         ensures stops { OnErr result ((taken : List ℕ) → HasTaken self.old taken
-            → AnswersInPart (store_of J.stored J.failed (has_store shared.now)) me.old (turns_ended taken (byte ∷ [])) me.new (W.contents writer.old) (W.contents writer.new)) }
+            → AnswersInPart (store_of J.stored J.failed (has_store shared.now))
+            me.old (turns_ended taken (byte ∷ [])) me.new (W.contents writer.old) (W.contents writer.new)) }
         ensures fault { IfErr result (λ fault. fault ≡ CommandFault.Write) }
         ensures ended { has_ended self.new ≡ is_err result }
         ensures from { OnOk result (W.from writer.new (has_store shared.now) me.new) }
-        ensures left { OnOk result (MatchOption (W.left writer.old) (W.left writer.new ≡ None) (λ left. (taken : List ℕ) → HasTaken self.old taken
+        ensures left { OnOk result (MatchOption (W.left writer.old) (W.left writer.new ≡ None)
+            (λ left. (taken : List ℕ) → HasTaken self.old taken
             → W.left writer.new ≡ Some (drop (length (turns_ended taken (byte ∷ []))) left))) }
         ensures limit { OnOk result (W.may_pass_limit writer.old → W.may_pass_limit writer.new) }
         ensures stays { Stays me.old me.new }
@@ -162,8 +176,8 @@ impl SessionState {
         reported
     }
 
-    /// Takes the end of the script: answers a last line that lacks its line feed, and refuses a batch whose lines did not
-    /// all come.
+    /// Takes the end of the script: answers a last line that lacks its line feed, and refuses a batch whose lines did
+    /// not all come.
     pub fn finish<J: BookName, S: Wait + Drop, Q: Wait + Threads + Sync, W: ReplyWriter>(
         &mut self,
         rt: &Q,
@@ -178,9 +192,11 @@ impl SessionState {
         requires from { W.from writer.old (has_store shared.now) me.old }
         requires own { IfSome (W.left writer.old) (IsOnWay self.old []) }
         ensures answers { OnOk result ((taken : List ℕ) → HasTaken self.old taken
-            → AnswersTurns (store_of J.stored J.failed (has_store shared.now)) me.old (turns_at_end taken) me.new (W.contents writer.old) (W.contents writer.new)) }
+            → AnswersTurns (store_of J.stored J.failed (has_store shared.now))
+            me.old (turns_at_end taken) me.new (W.contents writer.old) (W.contents writer.new)) }
         ensures stops { OnErr result ((taken : List ℕ) → HasTaken self.old taken
-            → AnswersInPart (store_of J.stored J.failed (has_store shared.now)) me.old (turns_at_end taken) me.new (W.contents writer.old) (W.contents writer.new)) }
+            → AnswersInPart (store_of J.stored J.failed (has_store shared.now))
+            me.old (turns_at_end taken) me.new (W.contents writer.old) (W.contents writer.new)) }
         ensures fault { IfErr result (λ fault. fault ≡ CommandFault.Write) }
         ensures ended { has_ended self.new ≡ true }
         ensures stays { Stays me.old me.new }
@@ -205,9 +221,11 @@ impl SessionState {
         requires from { W.from writer.old (has_store shared.now) me.old }
         requires own { IfSome (W.left writer.old) (IsOnWay self.old []) }
         ensures answers { OnOk result ((taken : List ℕ) → HasTaken self.old taken
-            → AnswersTurns (store_of J.stored J.failed (has_store shared.now)) me.old (turns_at_end taken) me.new (W.contents writer.old) (W.contents writer.new)) }
+            → AnswersTurns (store_of J.stored J.failed (has_store shared.now))
+            me.old (turns_at_end taken) me.new (W.contents writer.old) (W.contents writer.new)) }
         ensures stops { OnErr result ((taken : List ℕ) → HasTaken self.old taken
-            → AnswersInPart (store_of J.stored J.failed (has_store shared.now)) me.old (turns_at_end taken) me.new (W.contents writer.old) (W.contents writer.new)) }
+            → AnswersInPart (store_of J.stored J.failed (has_store shared.now))
+            me.old (turns_at_end taken) me.new (W.contents writer.old) (W.contents writer.new)) }
         ensures fault { IfErr result (λ fault. fault ≡ CommandFault.Write) }
         ensures ended { has_ended self.new ≡ true }
         ensures stays { Stays me.old me.new }
@@ -237,11 +255,12 @@ fn answer_line<J: BookName, S: Wait + Drop, Q: Wait + Threads + Sync, W: ReplyWr
     requires reported { MayReport J.stored J.failed (has_store shared.now) me.old W.may_report }
     requires from { W.from writer.old (has_store shared.now) me.old }
     requires own { IfSome (W.left writer.old) (IsAtLine waiting.old line.now) }
-    ensures answers { AnswersLine (store_of J.stored J.failed (has_store shared.now)) result me.old waiting.old line.now me.new waiting.new
-        (W.contents writer.old) (W.contents writer.new) }
+    ensures answers { AnswersLine (store_of J.stored J.failed (has_store shared.now)) result
+        me.old waiting.old line.now me.new waiting.new (W.contents writer.old) (W.contents writer.new) }
     ensures fault { IfErr result (λ fault. fault ≡ CommandFault.Write) }
     ensures from { OnOk result (W.from writer.new (has_store shared.now) me.new) }
-    ensures left { OnOk result (MatchOption (W.left writer.old) (W.left writer.new ≡ None) (λ left. (batch : Option Waiting) → IsOpen batch waiting.old
+    ensures left { OnOk result (MatchOption (W.left writer.old) (W.left writer.new ≡ None)
+        (λ left. (batch : Option Waiting) → IsOpen batch waiting.old
         → W.left writer.new ≡ Some (drop (length (ended_by batch (request_of line.now))) left))) }
     ensures limit { OnOk result (W.may_pass_limit writer.old → W.may_pass_limit writer.new) }
 {
@@ -259,7 +278,8 @@ fn end_batch<J: BookName, W: ReplyWriter>(
 ) -> Result<(), CommandFault>
     requires from { (there : Bool) × W.from writer.old there me.now }
     requires own { IfSome (W.left writer.old) (IsAtLast waiting.now) }
-    ensures ends { (there : Bool) → EndsBatch (store_of J.stored J.failed there) result waiting.now (W.contents writer.old) (W.contents writer.new) }
+    ensures ends { (there : Bool) → EndsBatch (store_of J.stored J.failed there) result waiting.now
+        (W.contents writer.old) (W.contents writer.new) }
     ensures fault { IfErr result (λ fault. fault ≡ CommandFault.Write) }
 {
     if waiting.is_none() {

@@ -107,7 +107,7 @@ impl StripInput {
         Ok(own)
     }
 
-    /// The same for one more.
+    /// The same input once more, for another owner. Nothing is copied.
     pub fn share(&self) -> Result<StripInput, AllocError>
         ensures { IfOk result (λ copy. copy ≡ self.now) }
     {

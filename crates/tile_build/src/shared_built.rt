@@ -7,7 +7,7 @@ ghost use Rattle.tile_build.specs.Tile.{tile_of};
 
 use crate::built::Built;
 use crate::tile::Tile;
-use arrange::TileInput;
+use crossing_sweep::PassInput;
 use plane_base::Column;
 use std::alloc::{AllocError, Global};
 use std::sync::Arc;
@@ -86,11 +86,11 @@ impl SharedBuilt {
         self.column
     }
 
-    /// What it was built from, in memory of its own.
-    pub fn input(&self, alloc: Global) -> Result<TileInput, AllocError>
-        ensures value { IfOk result (λ input. input ≡ self.now.0) }
+    /// The strip that it was built with, of which its input is its column's part.
+    pub fn pass(&self) -> PassInput<'_>
+        ensures { part result self.now.0.column ≡ self.now.0 }
     {
-        self.strip.column_input(alloc, self.column)
+        self.strip.pass()
     }
 
     pub fn tile(&self) -> &Tile

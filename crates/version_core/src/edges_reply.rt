@@ -78,20 +78,23 @@ fn put_line(line: &mut LineText, texts: &mut EndTexts, piece: &Piece)
     put_left(line, texts, from);
 }
 
-/// Puts down the place of a left end. It is mostly that of the piece before.
+/// Puts down the place of a left end. A crossing is mostly that of the piece before.
 fn put_left(line: &mut LineText, texts: &mut EndTexts, name: &PointName)
     requires named { HasPlace name.now }
     requires room { length line.old ≤ 128 }
     ensures { HasEndBefore line.old line.new (place_of name.now) }
 {
+    let PointName::Cross(_, _) = name else {
+        put_end(line, texts, name);
+        return;
+    };
     if let Some(kept) = texts.find_left(name) {
         line.put_text(&kept.text);
         return;
     }
-    put_end(line, texts, name);
-    if let PointName::Cross(_, _) = name {
-        texts.take_left(mark_of(name));
-    }
+    let mark = mark_of(name);
+    put_crossing(line, texts, name, mark);
+    texts.take_left(mark);
 }
 
 /// Puts down the place of a name. The text of a whole point is not kept: it is made as fast. That of a place
@@ -109,7 +112,15 @@ fn put_end(line: &mut LineText, texts: &mut EndTexts, name: &PointName)
         put_cut(line, seg, *number);
         return;
     }
-    let mark = mark_of(name);
+    put_crossing(line, texts, name, mark_of(name));
+}
+
+/// Puts down the place of a crossing, of which the mark is known.
+fn put_crossing(line: &mut LineText, texts: &mut EndTexts, name: &PointName, mark: u32)
+    requires named { HasPlace name.now }
+    requires room { length line.old ≤ 128 }
+    ensures { HasEndBefore line.old line.new (place_of name.now) }
+{
     if let Some(kept) = texts.find(name, mark) {
         line.put_text(&kept.text);
         return;

@@ -81,9 +81,9 @@ impl Version {
         ensures stale { IfOk result (λ is_kept. is_kept ≡ false → self.new ≡ self.old) }
         ensures exactly { IfOk result (λ is_kept. IsTrue is_kept ↔ IsAwaited self.old name.now built.now.0) }
         ensures err { IfErr result (λ fault. (self.new ≡ self.old) × (fault ≡ VersionFault.Layer LayerFault.OutOfMemory)) }
-        ensures pending { IfErr result (λ _. IsPending self.old name.now built.now.0.column) }
+        ensures awaited { IfErr result (λ _. IsAwaited self.old name.now built.now.0) }
     {
-        if !self.awaits_built(alloc, name, built, is_present)? {
+        if !self.awaits_built(name, built, is_present) {
             return Ok(false);
         }
         let tile = built.share()?;
@@ -102,25 +102,20 @@ impl Version {
     }
 
     /// The same of a built tile, whose input is not compared where it is known to be the present one.
-    fn awaits_built(
-        &self,
-        alloc: Global,
-        name: &Name,
-        built: &SharedBuilt,
-        is_present: bool,
-    ) -> Result<bool, AllocError>
+    fn awaits_built(&self, name: &Name, built: &SharedBuilt, is_present: bool) -> bool
         requires present { IsTrue is_present → built.now.0 ≡ input_of self.now.layers name.now built.now.0.column }
-        ensures exactly { IfOk result (λ is_awaited. IsTrue is_awaited ↔ IsAwaited self.now name.now built.now.0) }
-        ensures pending { IfErr result (λ _. IsPending self.now name.now built.now.0.column) }
+        ensures { IsTrue result ↔ IsAwaited self.now name.now built.now.0 }
     {
-        if !self.is_pending(name, built.column()) {
-            return Ok(false);
+        let column = built.column();
+        if !self.is_pending(name, column) {
+            return false;
         }
         if is_present {
-            return Ok(true);
+            return true;
         }
-        let input = built.input(alloc)?;
-        Ok(self.layers().has_input(name, &input))
+        let strip = built.pass();
+        self.layers()
+            .has_part(name, column, strip.marked(), strip.steps())
     }
 
     /// Whether a tile is pending, by one look at its layer. It takes no memory.

@@ -8,17 +8,22 @@ use Rattle.crossing_sweep.specs.StripInput.{Span}
 use Rattle.crossing_sweep.specs.declared.ranked_place.RankedPlace.{RankedPlace}
 use Rattle.crossing_sweep.specs.Ahead.{AreOffered}
 use Rattle.crossing_sweep.specs.RankedPlace.{ranked_entry}
+use Rattle.crossing_sweep.proofs.PassedBorders.{passed_over}
 use Rattle.crossing_sweep.proofs.known_places.offer_cuts.Goals as goal
 
 pub loop-number-init : goal.loop-number-init
 loop-number-init c =
     let strip : Span = c.args.strip in
+    let a : ℕ = c.args.strip.first in
     let cut : ℕ → PointName = λ k. Border c.args.seg.now k in
     let found : List (HPoint × PointName) = map ranked_entry c.args.places.now.items in
-    let none : c.number-first.result - c.args.strip.first ≡ 0 = omega arith in
+    let passed : ℕ = c.min-from.result - c.args.strip.first in
+    let all : 0 + passed ≡ c.min-from.result - c.args.strip.first = omega arith in
     record {
       offered = λ names h.
-          subst (λ (n : ℕ). AreOffered strip (names ++ map cut (range_with_len c.args.strip.first n)) found) (sym none) (subst (λ (l : List PointName). AreOffered strip l found) (sym (append-nil names)) h);
+          subst (λ (n : ℕ). AreOffered strip (names ++ map cut (range_with_len a n)) found) all
+          (passed_over strip names c.args.seg.now found a 0 (subst (λ (l : List PointName). AreOffered strip l found) (sym (append-nil names)) h) passed
+          (λ k low high by. c.first_cut.ensures k (omega (arith, low, high)) by));
       from = omega arith;
       to = omega arith;
     }
@@ -46,7 +51,13 @@ loop-number-preserved c =
 pub returns : goal.returns
 returns c =
     let strip : Span = c.args.strip in
+    let a : ℕ = c.args.strip.first in
     let cut : ℕ → PointName = λ k. Border c.args.seg.now k in
-    let end : c.loop-number.number ≡ c.args.strip.last + 2 = omega arith in
+    let found : List (HPoint × PointName) = map ranked_entry c.loop-number.places.items in
+    let looked : ℕ = c.loop-number.number - c.args.strip.first in
+    let rest : ℕ = c.args.strip.last + 2 - c.loop-number.number in
+    let all : looked + rest ≡ c.args.strip.last + 2 - c.args.strip.first = omega arith in
     λ names h.
-    subst (λ (j : ℕ). AreOffered strip (names ++ map cut (range_with_len c.args.strip.first (j - c.args.strip.first))) (map ranked_entry c.loop-number.places.items)) end (c.loop-number.invariant.offered names h)
+    subst (λ (n : ℕ). AreOffered strip (names ++ map cut (range_with_len a n)) found) all
+    (passed_over strip names c.args.seg.now found a looked (c.loop-number.invariant.offered names h) rest
+    (λ k low high by. c.cuts_end.ensures k (omega (arith, low, high)) by))

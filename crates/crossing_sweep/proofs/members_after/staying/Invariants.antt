@@ -5,4 +5,4 @@ use Rattle.crossing_sweep.proofs.members_after.staying.Given as goal
 
 -- those of the first members that go on are there
 abbrev pub invariant-loop-member : goal.invariant-loop-member
-invariant-loop-member l = l.stay.items ≡ filter (λ m. ends_after (place l.fn.at) m.unit.seg) (take l.member-index l.bundle)
+invariant-loop-member l = l.stay.items ≡ filter (λ m. ends_after (place l.fn.node.at) m.unit.seg) (take l.member-index l.bundle)

@@ -79,22 +79,22 @@ returns-clause-passing c =
     let names : List PointName = c.requires.passing.names in
     let amid = c.requires.passing.amid in
     let Q : List (HPoint × PointName) → Type 0 = λ l. IsUnderWay input progress.search.listed amid.full amid.all_coming l progress.search.tests.items progress.rows.items names in
-    let way : IsUnderWay input progress.search.listed amid.full amid.all_coming ((c.in-Some.at, c.in-Some.name) ∷ c.take_first.new.self) progress.search.tests.items progress.rows.items names =
+    let way : IsUnderWay input progress.search.listed amid.full amid.all_coming ((c.in-Some.node.at, c.in-Some.node.name) ∷ c.take_first.new.self) progress.search.tests.items progress.rows.items names =
     subst Q c.in-Some.ensures.first amid.way in
     let numbered : progress.nodes ≡ length names = c.requires.passing.counted in
-    let head : Contains progress.search.ahead (c.in-Some.at, c.in-Some.name) =
-    subst (λ (l : List (HPoint × PointName)). Contains l (c.in-Some.at, c.in-Some.name)) (sym c.in-Some.ensures.first) (contains_first (c.in-Some.at, c.in-Some.name) c.take_first.new.self) in
+    let head : Contains progress.search.ahead (c.in-Some.node.at, c.in-Some.node.name) =
+    subst (λ (l : List (HPoint × PointName)). Contains l (c.in-Some.node.at, c.in-Some.node.name)) (sym c.in-Some.ensures.first) (contains_first (c.in-Some.node.at, c.in-Some.node.name) c.take_first.new.self) in
     let same : after.nodes ≡ progress.nodes = c.in_ok-step.ensures.nodes in
     record {
-      names = names ++ c.in-Some.name ∷ [];
+      names = names ++ c.in-Some.node.name ∷ [];
       amid =
-          goes_on input old after.search progress.status.items after.status.items coming rest c.in-Some.at c.in-Some.name progress.nodes progress.rows.items after.rows.items names amid.full amid.all_coming way c.in-Some.ensures.least numbered
+          goes_on input old after.search progress.status.items after.status.items coming rest c.in-Some.node.at c.in-Some.node.name progress.nodes progress.rows.items after.rows.items names amid.full amid.all_coming way c.in-Some.ensures.least numbered
           amid.gone amid.some amid.kept amid.is amid.full_is (subst (λ (l : List (HPoint × PointName)). All (PassesUnder l) amid.gone) c.in-Some.ensures.first amid.gone_under)
-          (subst (λ (l : List (HPoint × PointName)). All (PassesUnder l) amid.some) c.in-Some.ensures.first amid.some_under) (amid.same_status (c.in-Some.at, c.in-Some.name) head) (amid.to_come (c.in-Some.at, c.in-Some.name) head) c.in_ok-step.ensures.stepped c.in_ok-step.ensures.closed c.in_ok-step.ensures.searched;
+          (subst (λ (l : List (HPoint × PointName)). All (PassesUnder l) amid.some) c.in-Some.ensures.first amid.some_under) (amid.same_status (c.in-Some.node.at, c.in-Some.node.name) head) (amid.to_come (c.in-Some.node.at, c.in-Some.node.name) head) c.in_ok-step.ensures.stepped c.in_ok-step.ensures.closed c.in_ok-step.ensures.searched;
       known = c.in_ok-step.ensures.few;
-      counted = omega (arith, same, numbered, length-append names (c.in-Some.name ∷ []));
-      kept = kept_after names c.in-Some.name progress.nodes progress.status.items after.status.items c.step.new.stay.items progress.rows.items after.rows.items progress.names.items c.keep.new.names.items c.is_needed-needed.result c.requires.passing.kept
-          (are_closed c.in-Some.at progress.nodes progress.rows.items after.rows.items c.in_ok-step.ensures.stepped c.in_ok-step.ensures.closed) c.in_ok-step.ensures.members numbered c.in_ok-step.ensures.begun
+      counted = omega (arith, same, numbered, length-append names (c.in-Some.node.name ∷ []));
+      kept = kept_after names c.in-Some.node.name progress.nodes progress.status.items after.status.items c.step.new.stay.items progress.rows.items after.rows.items progress.names.items c.keep.new.names.items c.is_needed-needed.result c.requires.passing.kept
+          (are_closed c.in-Some.node.at progress.nodes progress.rows.items after.rows.items c.in_ok-step.ensures.stepped c.in_ok-step.ensures.closed) c.in_ok-step.ensures.members numbered c.in_ok-step.ensures.begun
           (λ e. (search rules, search rules)) (λ e. search rules) (λ e. search rules);
     }
 
@@ -107,7 +107,7 @@ returns-clause-settled c some =
     let names : List PointName = c.requires.passing.names in
     let after : Progress = c.step.new.self in
     let numbered : progress.nodes ≡ length names = c.requires.passing.counted in
-    let closed = closes c.in-Some.at progress.nodes progress.rows.items after.rows.items c.in_ok-step.ensures.stepped c.in_ok-step.ensures.closed in
+    let closed = closes c.in-Some.node.at progress.nodes progress.rows.items after.rows.items c.in_ok-step.ensures.stepped c.in_ok-step.ensures.closed in
     let way = c.requires.passing.amid.way in
     let settled : count_settled (length names + 1) after.rows.items ≡ length progress.rows.items =
     settled_after c.args.input.now way.q names progress.rows.items after.rows.items closed.0 progress.nodes way.carries.are_rows numbered closed.1 in
@@ -119,4 +119,4 @@ pub returns-clause-listed : goal.returns-clause-listed
 returns-clause-listed c =
     let progress : Progress = c.args.progress.now in
     let after : Progress = c.step.new.self in
-    still_listed c.in-Some.at progress.nodes progress.rows.items after.rows.items c.in_ok-step.ensures.stepped c.in_ok-step.ensures.searched
+    still_listed c.in-Some.node.at progress.nodes progress.rows.items after.rows.items c.in_ok-step.ensures.stepped c.in_ok-step.ensures.searched

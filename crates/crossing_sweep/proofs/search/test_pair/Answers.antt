@@ -15,10 +15,10 @@ tested strip at p found r e same = ap (λ (z : HPoint). is_lt (point_cmp at (pla
 
 pub returns-in_ok-add : goal.returns-in_ok-add
 returns-in_ok-add c =
-    ahead c.args.strip (place c.args.at.now) (place_positive c.args.at.now) c.args.lower.now c.args.upper.now c.args.ahead.now c.in-Some.crossing c.in-Some.ensures.meets c.in-Some.ensures.only
-    (tested c.args.strip (place c.args.at.now) _ c.in-Some.crossing _ c.is_ahead.ensures c.point.ensures ∙ c.if-is_ahead.true) c.in-Some.ensures.value c.add.new.self c.in_ok-add.ensures
+    ahead c.args.strip (place c.args.at) (place_positive c.args.at) c.args.lower.now c.args.upper.now c.args.ahead.now c.in-Some.crossing c.in-Some.ensures.meets c.in-Some.ensures.only
+    (tested c.args.strip (place c.args.at) _ c.in-Some.crossing _ c.is_ahead.ensures c.point.ensures ∙ c.if-is_ahead.true) c.in-Some.ensures.value c.add.new.self c.in_ok-add.ensures
 
 pub returns-else-is_ahead : goal.returns-else-is_ahead
 returns-else-is_ahead c =
-    elsewhere c.args.strip (place c.args.at.now) (place_positive c.args.at.now) c.args.lower.now c.args.upper.now c.args.ahead.now c.in-Some.crossing c.in-Some.ensures.meets c.in-Some.ensures.only
-    (tested c.args.strip (place c.args.at.now) _ c.in-Some.crossing _ c.is_ahead.ensures c.point.ensures ∙ c.if-is_ahead.false)
+    elsewhere c.args.strip (place c.args.at) (place_positive c.args.at) c.args.lower.now c.args.upper.now c.args.ahead.now c.in-Some.crossing c.in-Some.ensures.meets c.in-Some.ensures.only
+    (tested c.args.strip (place c.args.at) _ c.in-Some.crossing _ c.is_ahead.ensures c.point.ensures ∙ c.if-is_ahead.false)

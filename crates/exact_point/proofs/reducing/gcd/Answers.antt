@@ -1,32 +1,14 @@
-use Rattle.std.proofs.Common.{◌<◌, arith}
-use Rattle.std.specs.Int.{w64, trailing_zeros}
-use Rattle.std.proofs.lemmas.Nat.Bits.{bit_at-trailing_zeros}
-use Rattle.exact_point.proofs.GcdLemmas.{lower_twos, some_by_twos}
+use Rattle.std.proofs.Common.{◌%◌, arith, subst, sym}
+use Rattle.std.specs.Int.{IsGcd}
+use Rattle.std.proofs.lemmas.Nat.Gcd.{IsGcd-from_mod, IsGcd-from_zero}
 use Rattle.exact_point.proofs.reducing.gcd.Goals as goal
 
-pub without_twos-requires-clause-odd : goal.without_twos-requires-clause-odd
-without_twos-requires-clause-odd c = (bit_at-trailing_zeros w64 c.args.a c.requires c.ranges.a.fits).1
+pub loop-y-preserved : goal.loop-y-preserved
+loop-y-preserved c = λ g h. c.loop-y.invariant g (IsGcd-from_mod _ _ g h)
 
-pub without_twos-requires-clause-in_first : goal.without_twos-requires-clause-in_first
-without_twos-requires-clause-in_first c = lower_twos c.args.a c.ranges.a.fits
+pub returns-then-y-eq0 : goal.returns-then-y-eq0
+returns-then-y-eq0 c = c.loop-y.invariant _ (IsGcd-from_zero _ _ (omega (arith, c.if-y-eq0.true)))
 
-pub without_twos-requires-clause-in_second : goal.without_twos-requires-clause-in_second
-without_twos-requires-clause-in_second c = λ i less. lower_twos c.args.b c.ranges.b.fits i (omega (arith, less, c.if-in_first-in_second.true))
-
-some : (c : goal.Else-in_first-in_second) → 0 < c.args.b
-some c =
-    let first : trailing_zeros w64 c.args.a < 64 = (bit_at-trailing_zeros w64 c.args.a c.requires c.ranges.a.fits).0 in
-    some_by_twos c.args.b (omega (arith, first, c.if-in_first-in_second.false))
-
-pub without_twos-requires-else-in_first-in_second-clause-positive : goal.without_twos-requires-else-in_first-in_second-clause-positive
-without_twos-requires-else-in_first-in_second-clause-positive c = some c
-
-pub without_twos-requires-else-in_first-in_second-clause-odd : goal.without_twos-requires-else-in_first-in_second-clause-odd
-without_twos-requires-else-in_first-in_second-clause-odd c = (bit_at-trailing_zeros w64 c.args.b (some c) c.ranges.b.fits).1
-
-pub without_twos-requires-else-in_first-in_second-clause-in_first : goal.without_twos-requires-else-in_first-in_second-clause-in_first
-without_twos-requires-else-in_first-in_second-clause-in_first c = lower_twos c.args.b c.ranges.b.fits
-
-pub without_twos-requires-else-in_first-in_second-clause-in_second : goal.without_twos-requires-else-in_first-in_second-clause-in_second
-without_twos-requires-else-in_first-in_second-clause-in_second c =
-    λ i less. lower_twos c.args.a c.ranges.a.fits i (omega (arith, less, c.if-in_first-in_second.false))
+pub returns : goal.returns
+returns c =
+    c.loop-y.invariant _ (IsGcd-from_mod _ _ _ (subst (λ m. IsGcd c.loop-y.y (c.loop-y.x % c.loop-y.y) m) (sym c.from.ensures) c.narrow_gcd.ensures))

@@ -41,8 +41,8 @@ along_at s x y i e = e ∙ ap (λ z. (cut_over s z).y) (whole_is i refl)
 moved : (g : ℕ) {a b p : ℤ} → a ≡ p → b ≡ p → g ∣ unsigned_abs a → g ∣ unsigned_abs b
 moved g {a} {b} {p} ea eb h = subst (λ (z : ℤ). g ∣ unsigned_abs z) (ea ∙ sym eb) h
 
-pub common_divisor-common-requires : goal.common_divisor-common-requires
-common_divisor-common-requires c =
+pub common_divisor-common-requires-clause-w_low : goal.common_divisor-common-requires-clause-w_low
+common_divisor-common-requires-clause-w_low c =
     let cut = c.near_cut-w.ensures in
     let known = known_at c.args.seg.now c.args.x c.requires.in_range cut.known in
     rw (w_is _ _ _ known cut.over) (cut_inside c.args.seg.now c.args.x known).w_low

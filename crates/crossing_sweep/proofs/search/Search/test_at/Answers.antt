@@ -11,7 +11,7 @@ use Rattle.crossing_sweep.proofs.search.Search.test_at.Goals as goal
 
 pub returns : goal.returns
 returns c =
-    let r : Point = place c.args.at.now in
+    let r : Point = place c.args.at in
     let ms : List Member = c.args.status.now in
     let j : ℕ = c.args.seam - 1 in
     let a : Member = c.index-status-seam.result in

@@ -1,50 +1,15 @@
-use Rattle.std.proofs.Common.{◌≡◌, Bool, ◌&&◌, take, IsTrue, option_copied, refl, sym, ap, subst, ◌∙◌}
+use Rattle.std.proofs.Common.{◌≡◌, map, subst, IsTrue}
 use Rattle.std.specs.Prelude.{◌↔◌}
-use Rattle.std.specs.Cmp.Lexicographic.{pointwise}
-use Rattle.overlay_terms.specs.Layers.{layers_in_reach}
-use Rattle.overlay_terms.specs.SameInput.{same_marked, same_steps}
 use Rattle.overlay_terms.specs.Tiles.{input_of}
-use Rattle.overlay_terms.proofs.KeptDerived.{derived_stands}
-use Rattle.layer_expr.specs.StepList.{reached, numbered_steps}
-use Rattle.layer_book.specs.Touching.{marked_in}
-use Rattle.layer_book.proofs.MarkedLayers.{rings_of}
-use Rattle.layer_book.proofs.InputReach.{few_marked, steps_marked}
-use Rattle.layer_book.proofs.HavingLemmas.{present_told}
+use Rattle.arrange.specs.Marked.{marked_of}
+use Rattle.layer_book.proofs.HavingLemmas.{own_part}
 use Rattle.layer_book.proofs.layers.Layers.has_input.Goals as goal
 
-pub reach-wanted-requires : goal.reach-wanted-requires
-reach-wanted-requires c = derived_stands c.args.self.now c.args.name.now c.requires
-
-pub is_of-requires : goal.is_of-requires
-is_of-requires c =
-    few_marked (λ layer. (layer.0.now, option_copied layer.1)) c.args.self.now c.args.name.now c.reach-wanted.result (take c.wanted_layers-count.result.1 c.wanted_layers-count.result.0)
-    (record { book = c.reach-wanted.ensures.valid; standing = derived_stands c.args.self.now c.args.name.now c.requires; exactly = c.reach-wanted.ensures.exactly })
-    c.wanted_layers-count.ensures.layers
-
-pub returns-then-is_of : goal.returns-then-is_of
-returns-then-is_of c =
+pub returns : goal.returns
+returns c =
     let layers = c.args.self.now in
     let name = c.args.name.now in
     let input = c.args.input.now in
-    let lent = reached (take c.wanted_layers-count.result.1 c.wanted_layers-count.result.0) in
-    let present = steps_marked layers name c.reach-wanted.result lent (numbered_steps lent)
-    (record { book = c.reach-wanted.ensures.valid; standing = derived_stands layers name c.requires; exactly = c.reach-wanted.ensures.exactly })
-    c.wanted_layers-count.ensures.layers refl in
-    let steps = c.is_of.ensures ∙ (λ i. same_steps (c.steps-steps.ensures.value i) (present i)) in
-    let marks = c.has_marked.ensures ∙ (λ i. pointwise same_marked (c.marked-marked.ensures.value i) (marked_in (c.column.ensures.value i) (rings_of (c.reach-wanted.ensures.exactly i)))) in
-    subst (λ b. IsTrue b ↔ (input ≡ input_of layers name input.column)) (ap (λ b. b && c.has_marked.result) c.if-is_of.true)
-    (present_told layers name input c.is_of.result c.has_marked.result steps marks)
-
-pub returns-else-is_of : goal.returns-else-is_of
-returns-else-is_of c =
-    let layers = c.args.self.now in
-    let name = c.args.name.now in
-    let input = c.args.input.now in
-    let lent = reached (take c.wanted_layers-count.result.1 c.wanted_layers-count.result.0) in
-    let present = steps_marked layers name c.reach-wanted.result lent (numbered_steps lent)
-    (record { book = c.reach-wanted.ensures.valid; standing = derived_stands layers name c.requires; exactly = c.reach-wanted.ensures.exactly })
-    c.wanted_layers-count.ensures.layers refl in
-    let steps = c.is_of.ensures ∙ (λ i. same_steps (c.steps-steps.ensures.value i) (present i)) in
-    let marks : Bool = pointwise same_marked input.marked (marked_in input.column (rings_of (layers_in_reach layers name))) in
-    subst (λ b. IsTrue b ↔ (input ≡ input_of layers name input.column)) (ap (λ b. b && marks) c.if-is_of.false ∙ sym c.if-is_of.false)
-    (present_told layers name input c.is_of.result marks steps refl)
+    let same = own_part input c.column.result (map marked_of c.marked.result.now) c.steps.result.now c.column.ensures.value c.marked.ensures.value c.steps.ensures.value c.column.ensures.valid in
+    subst (λ k. IsTrue c.has_part.result ↔ (input ≡ input_of layers name k)) c.column.ensures.value
+    (subst (λ i. IsTrue c.has_part.result ↔ (i ≡ input_of layers name c.column.result)) same c.has_part.ensures)

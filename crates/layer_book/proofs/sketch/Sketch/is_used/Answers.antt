@@ -1,5 +1,6 @@
-use Rattle.std.proofs.Common.{◌∙◌, ap}
-use Rattle.std.specs.List.{list_any}
+use Rattle.std.proofs.Common.{◌∙◌, rules, tests}
+use Rattle.std.proofs.lemmas.Iterator.{YieldsList-from_slice}
+use Rattle.std.proofs.lemmas.Iterator.Search.{any_from_yields_List}
 use Rattle.overlay_terms.specs.Commands.{uses}
 use Rattle.layer_book.specs.Sketch.{entry_layer}
 use Rattle.layer_book.proofs.Sketches.{any_entry}
@@ -7,6 +8,8 @@ use Rattle.layer_book.proofs.sketch.Sketch.is_used.Goals as goal
 
 pub returns : goal.returns
 returns c =
+    let items = c.args.self.now.entries.items in
     let name = c.args.name.now in
-    c.is_any_user.ensures ∙ ap (list_any (λ e. uses name (entry_layer e).content)) c.as_slice.ensures.value
-    ∙ any_entry (λ layer. uses name layer.content) c.args.self.now.entries.items
+    let chain = YieldsList-from_slice items (c.iter.ensures.rest ∙ c.as_slice-entries.ensures.value) in
+    any_from_yields_List (λ e. uses name (entry_layer e).content) _ _ _ c.any.ensures.ran chain (λ x b q k. search (rules, tests))
+    ∙ any_entry (λ layer. uses name layer.content) items
