@@ -33,21 +33,19 @@ finish_next log mid after name tiles i one is_kept within is before finished =
 -- what tiles that are finished leave as it is: they add entries, but no batch and no layer, nor do they report a number
 pub record Stays (stored : List Entry → ℕ → Type 0) (log after : List Entry) : Type 0 where
   pub longer : IsPrefix log after
-  pub number : (newest_in after).number ≡ (newest_in log).number
   pub layers : (newest_in after).layers ≡ (newest_in log).layers
   pub own : (by : ℕ) → length (commands_of by after) ≡ length (commands_of by log)
   pub reported : 0 < length log → ReportsStored stored log → ReportsStored stored after
 
 module _ (stored : List Entry → ℕ → Type 0) where
   none_stays : (log : List Entry) → Stays stored log log
-  none_stays log = record { longer = prefix_self log; number = refl; layers = refl; own = λ by. refl; reported = λ long reported. reported }
+  none_stays log = record { longer = prefix_self log; layers = refl; own = λ by. refl; reported = λ long reported. reported }
 
   one_stays : (log after : List Entry) (name : Name) (input : Input) (tile : Tile) (is_kept : Bool) → IsFinishedIn log name input tile is_kept after → Stays stored log after
   one_stays log after name input tile true (awaited, follows, is) =
       let e : Entry = entry (kept name input.column tile) (newest_in after) in
       record {
         longer = (e ∷ [], sym is);
-        number = follows.number;
         layers = follows.layers;
         own = λ by. ap (λ (l : List Entry). length (commands_of by l)) is ∙ ap length (own_more by log e) ∙ omega (arith, length-append (commands_of by log) []);
         reported = λ long reported. reported_more stored log after e is long reported (inl follows.durable);
@@ -57,7 +55,6 @@ module _ (stored : List Entry → ℕ → Type 0) where
   both_stay : (log next after : List Entry) → Stays stored log next → Stays stored next after → Stays stored log after
   both_stay log next after a b = record {
     longer = prefix_trans log next after a.longer b.longer;
-    number = b.number ∙ a.number;
     layers = b.layers ∙ a.layers;
     own = λ by. b.own by ∙ a.own by;
     reported = λ long reported. let far = prefix_length log next a.longer in b.reported (omega arith) (a.reported long reported);

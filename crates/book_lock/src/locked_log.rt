@@ -82,7 +82,7 @@ impl<J: BookName, R: Wait + Drop> LockedLog<J, R> {
     {
         let first = seen_log.again();
         let number = version.number();
-        let reporter = Reporter::new(seen_log.again(), number, version.durable());
+        let reporter = Reporter::new(seen_log.again(), version.durable());
         let version = shared(alloc, version)?;
         let begun = Published { version, seen_log };
         let Some(publisher) = first_publisher(&rt, alloc, begun, sessions + 1) else {
@@ -170,7 +170,8 @@ impl<J: BookName, R: Wait + Drop> LockedLog<J, R> {
         requires heard { HasHeard self.now me.old }
         ensures { me.new ≡ record { book = me.old.book; log = self.now; given = given } }
     {
-        me.move_on(self.last(), given);
+        let last = self.last();
+        me.move_on(&last.seen_log, last.version.durable(), given);
     }
 
     /// Adds an entry that follows the newest version, or nothing.

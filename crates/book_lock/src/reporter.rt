@@ -4,16 +4,14 @@ ghost use mathlib.Core.List.{IsPrefix};
 ghost use Rattle.book_history.specs.Logs.{newest_in, IsLog};
 ghost use Rattle.book_lock.specs.Heard.{HasHeard};
 
-use book_history::published::Published;
 use book_history::seen_log::SeenLog;
 use std::marker::Model;
 
-/// The one token that may report durable numbers, which `LockedLog::open` makes: what it has seen, the number of the
-/// newest version there and the durable one, and which news it gave last.
+/// The one token that may report durable numbers, which `LockedLog::open` makes: what it has seen, the durable number
+/// there, and which news it gave last.
 #[derive(Debug, Drop)]
 pub struct Reporter {
     seen_log: SeenLog,
-    number: u64,
     durable: u64,
     given: u64,
 }
@@ -29,20 +27,17 @@ impl Model for Reporter {
 
     ghost view = { λ r. record { book = r.seen_log.book; log = r.seen_log.log; given = r.given } };
 
-    ghost invariant = { λ r. ((newest_in r.seen_log.log).number ≡ r.number)
-        × ((newest_in r.seen_log.log).durable ≡ r.durable) };
+    ghost invariant = { λ r. (newest_in r.seen_log.log).durable ≡ r.durable };
 }
 
 impl Reporter {
-    /// A reporter that has seen this, where the newest version has this number and so much is durable; it gave nothing.
-    pub(crate) fn new(seen_log: SeenLog, number: u64, durable: u64) -> Reporter
-        requires number { (newest_in seen_log.log).number ≡ number }
-        requires durable { (newest_in seen_log.log).durable ≡ durable }
+    /// A reporter that has seen this, where so much is durable, and gave nothing.
+    pub(crate) fn new(seen_log: SeenLog, durable: u64) -> Reporter
+        requires { (newest_in seen_log.log).durable ≡ durable }
         ensures { result ≡ record { book = seen_log.book; log = seen_log.log; given = 0 } }
     {
         Reporter {
             seen_log,
-            number,
             durable,
             given: 0,
         }
@@ -53,13 +48,6 @@ impl Reporter {
         ensures { (result.now.log ≡ self.now.log) × (result.now.book ≡ self.now.book) }
     {
         &self.seen_log
-    }
-
-    /// The number of the newest version that it has seen.
-    pub fn number(&self) -> u64
-        ensures { result ≡ (newest_in self.now.log).number }
-    {
-        self.number
     }
 
     /// The count of the news that it gave last.
@@ -84,15 +72,15 @@ impl Reporter {
         self.seen_log.at() <= now.at() && self.durable == durable
     }
 
-    /// Sees what is published of a longer log, with the count of news that it gives with it.
-    pub(crate) fn move_on(&mut self, to: &Published, given: u64)
-        requires book { to.now.seen_log.book ≡ self.old.book }
-        requires longer { IsPrefix self.old.log to.now.seen_log.log }
-        ensures { self.new ≡ record { book = self.old.book; log = to.now.seen_log.log; given = given } }
+    /// Sees a longer log, where so much is durable, with the count of news that it gives with it.
+    pub(crate) fn move_on(&mut self, to: &SeenLog, durable: u64, given: u64)
+        requires durable { (newest_in to.now.log).durable ≡ durable }
+        requires book { to.now.book ≡ self.old.book }
+        requires longer { IsPrefix self.old.log to.now.log }
+        ensures { self.new ≡ record { book = self.old.book; log = to.now.log; given = given } }
     {
-        self.seen_log = to.seen_log.again();
-        self.number = to.version.number();
-        self.durable = to.version.durable();
+        self.seen_log = to.again();
+        self.durable = durable;
         self.given = given;
     }
 }

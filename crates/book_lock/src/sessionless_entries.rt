@@ -44,7 +44,7 @@ impl<J: BookName, R: Wait + Drop> LockedLog<J, R> {
             return Err(BookFault::Gone);
         }
         let durable = self.raise(alloc, room, number)?;
-        me.move_on(self.last(), given);
+        me.move_on(&self.last().seen_log, durable, given);
         Ok(durable)
     }
 

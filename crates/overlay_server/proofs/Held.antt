@@ -1,6 +1,6 @@
 -- What a book may report durable was held by the store of the version that it began with, which failed for the faults that it
 -- may report.
-use Rattle.std.proofs.Common.{◌≡◌, inl, inr, ℕ, ◌≤◌, IsTrue, List, [], ◌∷◌, Option, Some, None, is_some, refl, sym, ap, ◌∙◌, subst, arith}
+use Rattle.std.proofs.Common.{◌≡◌, inl, inr, ℕ, ◌≤◌, IsTrue, List, [], ◌∷◌, Option, Some, None, is_some, refl, sym, ap, subst, arith}
 use Rattle.std.proofs.Math.Logic.{∥∥₁_map}
 use mathlib.Core.List.{IsPrefix}
 use Rattle.std.specs.List.{AllByRecursion, AllZip}
@@ -9,7 +9,6 @@ use Rattle.logbook.specs.Pages.{Book}
 use Rattle.disk_model.specs.declared.disk.Disk.{Ghosts}
 use Rattle.overlay_terms.specs.Histories.{Version, Entry, History, BeginsWith, newest}
 use Rattle.flush_core.specs.declared.flusher.Flusher.{Flusher}
-use Rattle.book_history.specs.Fault.{passes}
 use Rattle.book_history.specs.Known.{seen}
 use Rattle.book_history.specs.Logs.{history_of, newest_in}
 use Rattle.book_history.proofs.Chains.{begins_with}
@@ -72,22 +71,15 @@ module _ {D : Type 0} (g : Ghosts D) (now : HasOnlyNow g) (start : Version) (sto
       later_held old may.was log history on same may.longer (meant may.was (newest_in log).durable may.holds is)
 
   failed_before : (old : Flusher D g) (was log : List Entry) (history : History) (fault : CommandFault) → BeginsWith history (history_of (first_log start)) → history_of log ≡ history → IsPrefix was log
-      → (reported : ReportedFault) → fault ≡ store_reported reported → IsFailed g (history_of (first_log start)) old was reported
-      → (IsTrue (passes reported) → (newest_in log).number ≡ (newest_in was).number) → HadFailed g start old history fault
-  failed_before old was log history fault on same longer reported is fails since = record {
-    log = was;
-    before = before was log history longer same on fails.followed.goes_on;
-    reported = reported;
-    same = is;
-    failed = fails;
-    since = λ goes. ap (λ (h : History). (newest h).number) (sym same) ∙ since goes;
-  }
+      → (reported : ReportedFault) → fault ≡ store_reported reported → IsFailed g (history_of (first_log start)) old was reported → HadFailed g start old history fault
+  failed_before old was log history fault on same longer reported is fails =
+      record { log = was; before = before was log history longer same on fails.followed.goes_on; reported = reported; same = is; failed = fails }
 
   had_failed : (store : Option (Flusher D g)) → ((log : List Entry) (fault : ReportedFault) → failed log fault → IsFailedOf g start store log fault) → IsTrue (is_some store)
       → (history : History) (fault : CommandFault) → BeginsWith history (history_of (first_log start)) → IsFaultOf failed history fault → IsFailureOf g start store history fault
   had_failed None meant there history fault on is = absurd (false≢true there)
   had_failed (Some old) meant there history fault on is = λ store.
-      ∥∥₁_map is.failed_so (λ it. failed_before old it.may.was is.log history fault on is.of it.may.longer is.reported is.same (meant it.may.was is.reported it.may.holds store) it.since)
+      ∥∥₁_map is.failed_so (λ may. failed_before old may.was is.log history fault on is.of may.longer is.reported is.same (meant may.was is.reported may.holds store))
 
   -- what the words of a book's name mean
   pub record Means (store : Option (Flusher D g)) : Type 0 where

@@ -1,5 +1,5 @@
 -- What a server leaves: its sessions' replies, and its store.
-use Rattle.std.specs.Prelude.{◌≡◌, ◌⊎◌, ◌∷◌, ◌<◌, ◌≤◌, ℕ, false, IsTrue, is_some, List, [], length, map, All, Option, Some, None}
+use Rattle.std.specs.Prelude.{◌≡◌, ◌⊎◌, ◌∷◌, ◌<◌, ◌≤◌, ℕ, false, is_some, List, [], length, map, All, Option, Some, None}
 use Rattle.std.specs.Arc.{arc_value}
 use Rattle.std.specs.List.{AllByRecursion}
 use Rattle.logbook.specs.Pages.{Book}
@@ -11,7 +11,6 @@ use Rattle.root_store.specs.Running.{is_busy}
 use Rattle.root_store.specs.declared.phase.Phase.TheVariants.{Failed}
 use Rattle.flush_core.specs.declared.flusher.Flusher.{Flusher}
 use Rattle.overlay_engine.specs.declared.engine.Engine.{Engine}
-use Rattle.book_history.specs.Fault.{passes}
 use Rattle.book_history.specs.Known.{Known, seen}
 use Rattle.book_history.specs.Logs.{entry, no_event, history_of, newest_in, IsLog}
 use Rattle.book_lock.specs.Steps.{beginners, HasAllOf}
@@ -73,15 +72,13 @@ IsFailedOf g start None log fault = ⊥
 IsFailedOf g start (Some old) log fault =
     IsStoreOf g (history_of (first_log start)) old → IsFailed g (history_of (first_log start)) old log fault
 
--- a fault was reported for which the store failed: the first version's store, followed to a beginning of the history;
--- no command that takes it away was accepted since, as each one raises the newest version's number
+-- a fault was reported for which the store failed: the first version's store, followed to a beginning of the history
 pub record HadFailed {D : Type 0} (g : Ghosts D) (start : Version) (old : Flusher D g) (history : History) (fault : CommandFault) : Type 0 where
   pub log : List Entry
   pub before : BeginsWith history (history_of log)
   pub reported : ReportedFault
   pub same : fault ≡ store_reported reported
   pub failed : IsFailed g (history_of (first_log start)) old log reported
-  pub since : IsTrue (passes reported) → (newest history).number ≡ (newest_in log).number
 
 -- which fault of its store a server reports to a session at which history: one for which that failed
 abbrev pub IsFailureOf : {D : Type 0} (g : Ghosts D) → Version → Option (Flusher D g) → History → CommandFault → Type 0

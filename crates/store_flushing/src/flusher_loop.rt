@@ -22,10 +22,10 @@ use versions::Version;
 /// fails.
 ///
 /// Where the book refuses to give or to take for want of memory (40, 44), it is asked again. Where the store refuses a
-/// commit (31, 36, 40), the book hears of it, and gives the next version after the next accepted command: at once where
-/// one was accepted since it gave this one, and then the fault is forgotten. A device that fails (30, 35) ends the
-/// loop, and the book hears of it. At closing the commit under way is ended, and what the book still gives is
-/// committed. Called once more then, when the workers have returned, it commits the tiles that they finished meanwhile.
+/// commit (31, 36, 40), the book hears of it, and gives the next version after the next accepted command. A device that
+/// fails (30, 35) ends the loop, and the book hears of it. At closing the commit under way is ended, and what the book
+/// still gives is committed. Called once more then, when the workers have returned, it commits the tiles that they
+/// finished meanwhile.
 pub fn flush<J: BookName, R: Wait + Drop, D: Disk, W: Wait>(
     rt: &W,
     alloc: Global,

@@ -187,6 +187,6 @@ impl<D: Disk> Keeper<D> {
         ensures nothing { self.new ≡ self.old }
         ensures passes { result ≡ passes (reported_fault_of fault) }
     {
-        reports::tell(rt, shared, &self.reporter, fault)
+        reports::tell(rt, shared, &mut self.reporter, fault)
     }
 }

@@ -44,20 +44,20 @@ pub(crate) fn report<J: BookName, R: Wait + Drop, W: Wait>(
     unreachable!()
 }
 
-/// Reports a fault to the book, and says whether the store can go on after it. One that passes is not heard where a
-/// command was accepted since the reporter looked.
+/// Reports a fault to the book, and says whether the store can go on after it.
 pub(crate) fn tell<J: BookName, R: Wait + Drop, W: Wait>(
     rt: &W,
     shared: &Shared<J, R>,
-    me: &Reporter,
+    me: &mut Reporter,
     fault: StoreFault,
 ) -> bool
-    requires book { me.now.book ≡ J.book }
-    requires failed { J.failed me.now.log (reported_fault_of fault) }
+    requires book { me.old.book ≡ J.book }
+    requires failed { J.failed me.old.log (reported_fault_of fault) }
+    ensures nothing { me.new ≡ me.old }
     ensures passes { result ≡ passes (reported_fault_of fault) }
 {
     let fault = reported_fault(fault);
-    shared.report_fault(rt, me, fault);
+    shared.store_failed(rt, me, fault);
     fault.passes()
 }
 

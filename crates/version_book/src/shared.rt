@@ -1,10 +1,10 @@
 //! What threads share: the book under its lock, and the calls on it.
 ghost use Rattle.std.specs.Prelude.{◌≡◌, ◌⊎◌, ◌<◌, ◌≤◌, [], ◌∷◌, ◌++◌, IfOk, IfErr, IfSome, IfNone, All};
-ghost use Rattle.std.specs.Prelude.{List, length, true, false, Err, IsErrAnd, IsTrue};
+ghost use Rattle.std.specs.Prelude.{List, length, true, false, Err, IsErrAnd};
 ghost use Rattle.std.specs.Arc.{arc_value};
 ghost use Rattle.overlay_terms.specs.Histories.{newest, BeginsWith, Entry, IsHistory};
 ghost use Rattle.layer_book.specs.Command.{command};
-ghost use Rattle.book_history.specs.Fault.{IsBatchRefused, IsCommandRefused, no_memory, passes, whole};
+ghost use Rattle.book_history.specs.Fault.{IsBatchRefused, IsCommandRefused, no_memory, whole};
 ghost use Rattle.book_history.specs.Known.{seen, IsOwn, LeavesSession};
 ghost use Rattle.book_history.specs.Logs.{entry, history_of, newest_in, no_event, IsAccepted, IsLog};
 ghost use Rattle.book_history.specs.Rules.{head_of};
@@ -21,7 +21,7 @@ use crate::closing::ClosedBook;
 use crate::job::Job;
 use crate::locked_book::LockedBook;
 use crate::locked_book::closing::{begin_close, has_all_of, into_closed};
-use crate::locked_book::reports::{report, report_fault, store_failed};
+use crate::locked_book::reports::{report, store_failed};
 use crate::locked_book::waits::{Awaited, tell_built, tell_durable, tell_news, tell_no_store};
 use crate::strip_job::StripJob;
 use crate::turns::{TurnKind, Turns};
@@ -402,26 +402,12 @@ impl<J: BookName, R: Wait + Drop> Shared<J, R> {
     pub fn store_failed<W: Wait>(&self, rt: &W, me: &mut Reporter, fault: ReportedFault)
         requires book { me.old.book ≡ J.book }
         requires failed { J.failed me.old.log fault }
-        // One that passes is so of each log at which the book may hear of it: the reporter may not have seen it all.
-        requires late { IsTrue (passes fault) → (log : List Entry) → HasHeard log me.old → J.failed log fault }
         ensures { me.new ≡ me.old }
     {
         // What the reporter has seen is a log with a first entry: the clauses rest on that.
         let _ = me.given();
         let mut turn = self.turns.next(rt, TurnKind::StoreFailed);
         store_failed(&mut turn.book, me, fault);
-    }
-
-    /// Reports a fault of the newest version that the reporter has seen, as `store_failed` does. But where a command
-    /// was accepted since that takes it away, nothing changes: the reporter is given the next version at once.
-    // It has no clause, as nothing of what lies under the lock can be said once that is given up: `report_fault` there
-    // says it.
-    pub fn report_fault<W: Wait>(&self, rt: &W, me: &Reporter, fault: ReportedFault)
-        requires book { me.now.book ≡ J.book }
-        requires failed { J.failed me.now.log fault }
-    {
-        let mut turn = self.turns.next(rt, TurnKind::StoreFailed);
-        report_fault(&mut turn.book, me, fault);
     }
 
     /// From now on commands are refused, no job is handed out, and no call waits for long.

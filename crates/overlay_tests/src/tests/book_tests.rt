@@ -287,32 +287,6 @@ fn a_fault_of_the_store_is_reported_as_it_is(rt: HostRuntime) {
     play(&rt, rt.alloc(), true, TOLD, 3);
 }
 
-const FORGOTTEN: &[&[Row]] = &[&[
-    Row::Calls(PUT_A, Ok(Some(1))),
-    Row::Calls(Call::NextVersion, Ok(Some(1))),
-    Row::Calls(PUT_A, Ok(Some(2))),
-    // of version 1, which a command has replaced
-    Row::Calls(Call::ReportFault(ReportedFault::Full), Ok(None)),
-    Row::Calls(Call::NextVersion, Ok(Some(2))),
-    Row::Calls(Call::ReportFault(ReportedFault::SequenceLimit), Ok(None)),
-    Row::Calls(
-        Call::WaitDurable,
-        Err(BookFault::Store(ReportedFault::SequenceLimit)),
-    ),
-    Row::Calls(PUT_A, Ok(Some(3))),
-    // that one stays for good
-    Row::Calls(Call::ReportFault(ReportedFault::Device), Ok(None)),
-    Row::Calls(
-        Call::WaitDurable,
-        Err(BookFault::Store(ReportedFault::Device)),
-    ),
-]];
-
-#[test]
-fn a_fault_of_a_version_that_a_command_replaced_is_forgotten(rt: HostRuntime) {
-    play(&rt, rt.alloc(), true, FORGOTTEN, 3);
-}
-
 const NEWS: &[&[Row]] = &[
     OVERLAP,
     &[

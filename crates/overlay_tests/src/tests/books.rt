@@ -39,8 +39,6 @@ pub enum Call {
     NextVersion,
     Report(u64),
     StoreFailed(ReportedFault),
-    /// A fault of the newest version that the reporter has seen.
-    ReportFault(ReportedFault),
     /// A tile is taken and built, which is kept.
     Build,
     /// A tile is taken and given back, as if memory had run out.
@@ -368,10 +366,6 @@ pub fn answer<J: BookName, R: Wait + Abort>(
         Call::Report(number) => reported(shared.report(rt, alloc, reporter, *number)),
         Call::StoreFailed(fault) => {
             shared.store_failed(rt, reporter, *fault);
-            Ok(None)
-        }
-        Call::ReportFault(fault) => {
-            shared.report_fault(rt, reporter, *fault);
             Ok(None)
         }
         Call::Build => {

@@ -1,10 +1,8 @@
 //! What the reporter reports to the book, under the lock.
-ghost use Rattle.std.specs.Prelude.{◌≡◌, ◌⊎◌, ◌<◌, ◌↔◌, IsTrue, List, length, IfOk, IfErr, Err};
-ghost use Rattle.overlay_terms.specs.Histories.{Entry};
-ghost use Rattle.book_history.specs.Fault.{no_memory, passes};
+ghost use Rattle.std.specs.Prelude.{◌≡◌, ◌⊎◌, ◌<◌, length, IfOk, IfErr, Err};
+ghost use Rattle.book_history.specs.Fault.{no_memory};
 ghost use Rattle.book_history.specs.Logs.{newest_in, IsLog};
 ghost use Rattle.version_book.specs.BookState.{IsAfterFailure};
-ghost use Rattle.version_book.specs.Failing.{IsOfNow};
 ghost use Rattle.book_lock.specs.Steps.{IsReportedIn};
 ghost use Rattle.book_lock.specs.Heard.{HasHeard};
 
@@ -45,7 +43,7 @@ pub(crate) fn report<J: BookName, R: Wait + Drop>(
 }
 
 /// The store reported a fault, by the reporter, who has seen no more than what is locked. Were it otherwise, which cannot
-/// come, nothing changes. One that passes is reported of the log as it is, which may have more than the reporter saw.
+/// come, nothing changes.
 pub(crate) fn store_failed<J: BookName, R: Wait + Drop>(
     locked: &mut LockedBook<J, R>,
     me: &Reporter,
@@ -53,7 +51,6 @@ pub(crate) fn store_failed<J: BookName, R: Wait + Drop>(
 )
     requires book { me.now.book ≡ J.book }
     requires failed { J.failed me.now.log fault }
-    requires late { IsTrue (passes fault) → (log : List Entry) → HasHeard log me.now → J.failed log fault }
     ensures log { locked.new.log ≡ locked.old.log }
     ensures state { HasHeard locked.old.log me.now → IsAfterFailure locked.old.state fault locked.new.state }
     ensures behind { ¬ (HasHeard locked.old.log me.now) → locked.new.state ≡ locked.old.state }
@@ -61,35 +58,4 @@ pub(crate) fn store_failed<J: BookName, R: Wait + Drop>(
     if locked.log.has_heard(me) {
         locked.state.store_failed(fault);
     }
-}
-
-/// Reports a fault of the newest version that the reporter has seen. Where a command was accepted since that takes it
-/// away, nothing changes.
-pub(crate) fn report_fault<J: BookName, R: Wait + Drop>(
-    locked: &mut LockedBook<J, R>,
-    me: &Reporter,
-    fault: ReportedFault,
-)
-    requires book { me.now.book ≡ J.book }
-    requires failed { J.failed me.now.log fault }
-    ensures log { locked.new.log ≡ locked.old.log }
-    ensures state { IsOfNow locked.old.log me.now fault → IsAfterFailure locked.old.state fault locked.new.state }
-    ensures ended { ¬ (IsOfNow locked.old.log me.now fault) → locked.new.state ≡ locked.old.state }
-{
-    if is_of_now(locked, me, fault) {
-        locked.state.store_failed(fault);
-    }
-}
-
-// Whether a fault of what the reporter has seen stands: no command that takes it away was accepted since.
-fn is_of_now<J: BookName, R: Wait + Drop>(
-    locked: &LockedBook<J, R>,
-    me: &Reporter,
-    fault: ReportedFault,
-) -> bool
-    requires { me.now.book ≡ J.book }
-    ensures { IsTrue result ↔ IsOfNow locked.now.log me.now fault }
-{
-    let number = locked.log.last().version.number();
-    locked.log.has_heard(me) && (!fault.passes() || number == me.number())
 }

@@ -20,11 +20,8 @@ returns-in_err-version g c =
 
 pub new-reporter-requires : goal.new-reporter-requires
 new-reporter-requires g c =
-    let first = c.again.ensures ∙ ap (λ l. record { book = c.args.seen_log.book; log = l }) c.requires.seen_log.1 in
-    record {
-      number = ap (λ (t : BookLog). (newest_in t.log).number) first ∙ sym c.number-number.ensures.value;
-      durable = ap (λ (t : BookLog). (newest_in t.log).durable) first ∙ sym c.durable.ensures.value;
-    }
+    ap (λ (t : BookLog). (newest_in t.log).durable) c.again.ensures ∙ ap (λ l. (newest_in l).durable) c.requires.seen_log.1
+    ∙ sym c.durable.ensures.value
 
 pub invariant_of-begun : goal.invariant_of-begun
 invariant_of-begun g c = record { last = c.in_ok-version.ensures.ok ∙ sym (ap newest_in c.requires.seen_log.1) }

@@ -1,5 +1,6 @@
 use Rattle.std.proofs.Common.{inr, refl, ap, sym, ◌∙◌, subst}
 use Rattle.std.proofs.lemmas.Result.{IfOk-from_err}
+use Rattle.book_history.specs.Logs.{newest_in}
 use mathlib.Core.List.{IsPrefix}
 use Rattle.book_history.specs.BookLogs.{BookLog}
 use Rattle.book_history.proofs.Fronts.{prefix_trans}
@@ -19,6 +20,7 @@ move_on-requires g c =
     let heard = c.if-not-has_heard.ensures.0 refl in
     let more = report_longer _ _ _ c.in_ok-durable.ensures.ok.0 in
     record {
+      durable = ap (λ t. (newest_in t.log).durable) last ∙ c.in_ok-durable.ensures.ok.1;
       book = ap (λ t. t.book) last ∙ sym c.requires.book;
       longer = subst (λ (t : BookLog). IsPrefix c.args.me.now.log t.log) (sym last) (prefix_trans _ _ _ heard.longer more);
     }

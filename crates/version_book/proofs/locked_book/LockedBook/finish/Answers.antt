@@ -1,7 +1,7 @@
 use Rattle.std.proofs.Common.{refl, rules, subst}
 use mathlib.Core.List.{IsPrefix}
 use Rattle.book_lock.specs.Steps.{IsFinishedIn}
-use Rattle.version_book.proofs.Failures.{kept_on, still_failed}
+use Rattle.version_book.proofs.Failures.{kept_longer, still_failed}
 use Rattle.version_book.proofs.locked_book.LockedBook.finish.Goals as goal
 
 pub returns-in-Err : goal.returns-in-Err
@@ -28,6 +28,6 @@ pub invariant_of-self-2 : goal.invariant_of-self-2
 invariant_of-self-2 g c =
     let old = c.args.self.now in
     record {
-      failed = still_failed g.J.BookName.failed old.log c.keep.new.self old.state.fault c.job_finished.new.self.fault (kept_on old.log c.keep.new.self _ _ _ c.in-Ok.kept c.in-Ok.ensures.kept)
+      failed = still_failed g.J.BookName.failed old.log c.keep.new.self old.state.fault c.job_finished.new.self.fault (kept_longer old.log c.keep.new.self _ _ _ c.in-Ok.kept c.in-Ok.ensures.kept)
           c.job_finished.ensures.fault old.failed;
     }

@@ -5,7 +5,7 @@ use Rattle.book_history.specs.BookLogs.{BookLog}
 use Rattle.book_history.proofs.Fronts.{prefix_length}
 use Rattle.book_lock.specs.Steps.{AreFinishedIn}
 use Rattle.book_lock.proofs.Finishing.{all_stay}
-use Rattle.version_book.proofs.Failures.{GoesOn, still_failed}
+use Rattle.version_book.proofs.Failures.{still_failed}
 use Rattle.version_book.proofs.StripLemmas.{all_present}
 use Rattle.version_book.proofs.locked_book.LockedBook.finish_strip.Goals as goal
 
@@ -81,5 +81,4 @@ invariant_of-self-2 g c =
     let old = c.args.self.now in
     let new = c.keep_each.new.self in
     let stays = all_stay g.J.BookName.stored old.log new c.name.result.now (take c.in-Ok.count c.args.built.now) c.in-Ok.ensures.finished in
-    let on : GoesOn old.log new = record { longer = stays.longer; number = stays.number } in
-    record { failed = still_failed g.J.BookName.failed old.log new old.state.fault c.strip_taken_in.new.self.fault on c.strip_taken_in.ensures.fault old.failed }
+    record { failed = still_failed g.J.BookName.failed old.log new old.state.fault c.strip_taken_in.new.self.fault stays.longer c.strip_taken_in.ensures.fault old.failed }
