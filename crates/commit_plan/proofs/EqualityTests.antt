@@ -40,7 +40,7 @@ operation_decides o p = (
   λ e. (Decides-eqb (operation_number o) (operation_number p)).1 (ap operation_number e),
 )
 
--- what a tree is made of, by which two are reported apart
+-- what a tree is made of, by which two are told apart
 abbrev is_leaf : Tree Name → Bool
 is_leaf (leaf a) = true
 is_leaf (combine o l r) = false

@@ -18,7 +18,7 @@ use Rattle.book_lock.specs.Steps.{IsTurnedAway}
 use Rattle.book_lock.specs.declared.refused.Refused.{Refused}
 use Rattle.book_lock.specs.declared.refused.Refused.TheVariants.{Gone}
 use Rattle.version_book.specs.Jobs.{IsHandedOut, IsJob}
-use Rattle.version_book.specs.Waits.{IsAfterReported, Looks}
+use Rattle.version_book.specs.Waits.{IsAfterAnswered, Looks}
 
 -- what is not false is true
 pub not_false : (b : Bool) → (b ≡ false → ⊥) → IsTrue b
@@ -53,9 +53,9 @@ gone_looks (Ok n) x was now log is gone same = absurd is
 gone_looks (Err f) x was now log is gone same = inl (is ∙ gone, same)
 
 pub gone_reported : (r : Result ℕ BookFault) (x : BookFault) (v : Version) (old : BookState) (name : Name)
-    → IsErrAnd r (λ y. y ≡ x) → x ≡ fault.Gone → IsAfterReported v old name r old
+    → IsErrAnd r (λ y. y ≡ x) → x ≡ fault.Gone → IsAfterAnswered v old name r old
 gone_reported (Ok n) x v old name is gone = refl
-gone_reported (Err f) x v old name is gone = subst (λ y. IsAfterReported v old name (Err y) old) (sym (is ∙ gone)) refl
+gone_reported (Err f) x v old name is gone = subst (λ y. IsAfterAnswered v old name (Err y) old) (sym (is ∙ gone)) refl
 
 -- ---- of what a session submits
 abbrev refused_for : {F : Type 0} → Refused F → Result ℕ (Refused F)

@@ -97,11 +97,11 @@ LosesMarks old name new =
 
 -- a wait for the tiles of a layer was answered how it ends: its marks go where memory ran out, and else nothing
 -- changes; there are no marks where it ends by closing
-abbrev pub IsAfterReported : Version → BookState → Name → Result ℕ BookFault → BookState → Type 0
-IsAfterReported version old name (Ok number) new = new ≡ old
-IsAfterReported version old name (Err (fault.Version refused)) new =
+abbrev pub IsAfterAnswered : Version → BookState → Name → Result ℕ BookFault → BookState → Type 0
+IsAfterAnswered version old name (Ok number) new = new ≡ old
+IsAfterAnswered version old name (Err (fault.Version refused)) new =
     IfSome (wait_refusal version name) (λ _. new ≡ old) × IfNone (wait_refusal version name) (LosesMarks old name new)
-IsAfterReported version old name (Err fault.Closing) new = (new ≡ old) × (has_mark name old.held.list.items ≡ false)
-IsAfterReported version old name (Err fault.Gone) new = new ≡ old
-IsAfterReported version old name (Err fault.NoStore) new = new ≡ old
-IsAfterReported version old name (Err (fault.Store refused)) new = new ≡ old
+IsAfterAnswered version old name (Err fault.Closing) new = (new ≡ old) × (has_mark name old.held.list.items ≡ false)
+IsAfterAnswered version old name (Err fault.Gone) new = new ≡ old
+IsAfterAnswered version old name (Err fault.NoStore) new = new ≡ old
+IsAfterAnswered version old name (Err (fault.Store refused)) new = new ≡ old

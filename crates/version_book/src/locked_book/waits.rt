@@ -7,7 +7,7 @@ ghost use Rattle.book_history.specs.Telling.{ReportsStored};
 ghost use Rattle.version_book.specs.Failing.{IsReportedFault};
 ghost use Rattle.book_lock.specs.Steps.{IsLevel};
 ghost use Rattle.book_lock.specs.Heard.{HasHeard};
-ghost use Rattle.version_book.specs.Waits.{IsAfterReported, IsBuilding, IsBuiltAt, IsIdle, IsQuiet, IsSyncRefusedAt};
+ghost use Rattle.version_book.specs.Waits.{IsAfterAnswered, IsBuilding, IsBuiltAt, IsIdle, IsQuiet, IsSyncRefusedAt};
 ghost use Rattle.version_book.specs.Waits.{IsWaitRefused, IsWriting, Looks, Waits};
 
 use crate::locked_book::LockedBook;
@@ -96,7 +96,7 @@ pub(crate) fn tell_built<J: BookName, R: Wait + Drop>(
     ensures seen { Looks result me.old locked.old.log me.new }
     ensures gone { result ≡ Err BookFault.Gone → ¬ (IsLevel locked.old.log me.old) }
     ensures log { locked.new.log ≡ locked.old.log }
-    ensures state { IsAfterReported (newest_in locked.old.log) locked.old.state name.now result locked.new.state }
+    ensures state { IsAfterAnswered (newest_in locked.old.log) locked.old.state name.now result locked.new.state }
 {
     let number = locked.log.show(me)?;
     let version = &locked.log.last().version;
