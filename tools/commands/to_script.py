@@ -223,7 +223,7 @@ class Planner:
         self.told: list[str] = []
 
     def named(self, groups: list[Group]) -> list[Store]:
-        """Each group under its name, and each in one store."""
+        """Each group under the name that its wish (`Reader.take`) is fitted to, and each in one store."""
         given = [(self.names.give(fitted_name(group.wish)), group) for group in groups]
         layouts = []
         for name, group in given:

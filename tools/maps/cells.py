@@ -167,6 +167,7 @@ class Parting:
         yield from self._halved()
 
     def _parts(self, job: int, near: Drawn, is_cut: bool) -> Iterator[Laid | Cell]:
+        """A job laid out where it fits a slot; else its halves wait."""
         layers = layers_of(self.kind, near)
         if near.is_plain:
             if has_answer(self.kind, near):
