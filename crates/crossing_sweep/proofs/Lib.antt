@@ -28,6 +28,7 @@ pub mod PassedBorders
 pub mod BeginLemmas
 pub mod AheadLemmas
 pub mod RankLemmas
+pub mod WholeLemmas
 pub mod PutLemmas
 pub mod TakeLemmas
 pub mod KnownLemmas

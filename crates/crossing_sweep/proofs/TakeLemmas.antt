@@ -7,13 +7,14 @@ use Rattle.std.specs.List.Sorted.{IsBinarySearchResult, IsNonDecreasingBy, IsPar
 use Rattle.std.specs.declared.cmp.Ordering.{Ordering}
 use Rattle.std.specs.declared.cmp.Ordering.TheVariants.{Less, Equal, Greater}
 use Rattle.std.proofs.lemmas.List.{drop_more, drop_all, take_rest, take-append-drop, length-drop, length-map, get_or_default}
-use Rattle.std.proofs.lemmas.List.Elements.{All-nil, All-contains, All-head, All-tail, All-map, All-weaker}
+use Rattle.std.proofs.lemmas.List.Elements.{All-nil, All-contains, All-drop, All-head, All-tail, All-map, All-weaker}
 use Rattle.overlay_terms.specs.Plane.{same_place}
 use Rattle.overlay_terms.proofs.Lists.{any_contains, contains_map, Contains-cons_cases}
 use Rattle.overlay_terms.proofs.Tests.{less_told}
 use Rattle.exact_point.specs.Place.{place, hpoint_cmp, hpoint_cmp_total}
 use Rattle.exact_point.specs.declared.point.HPoint.{HPoint}
 use Rattle.exact_point.specs.declared.point_name.PointName.{PointName}
+use Rattle.crossing_sweep.specs.Rank.{IsOverWhole}
 use Rattle.crossing_sweep.specs.RankedPlace.{ranked_cmp, ranked_entry, ranked_total}
 use Rattle.crossing_sweep.specs.declared.ranked_place.RankedPlace.{RankedPlace}
 use Rattle.arrange.proofs.FoundLemmas.{place_positive}
@@ -45,6 +46,9 @@ after_before p q h = hpoint_cmp_total.antisymm q p ∙ ap ordering_reverse h
 -- ---- what is known and not taken out
 pub rest_ordered : (known : List RankedPlace) (k : ℕ) → AllPairs (λ a b. ranked_cmp a b ≡ Less) known → AllPairs (λ a b. ranked_cmp a b ≡ Less) (drop k known)
 rest_ordered known k h = λ i j d l m. pairs_second (λ a b. ranked_cmp a b ≡ Less) (take k known) (drop k known) (rw (take-append-drop k known) h) i j d l m
+
+pub rest_over_whole : (known : List RankedPlace) (k : ℕ) → All (λ z. IsOverWhole (place z.at)) known → All (λ z. IsOverWhole (place z.at)) (drop k known)
+rest_over_whole known k h = All-drop (λ (z : RankedPlace). IsOverWhole (place z.at)) k known h
 
 -- a slice of it is all of it
 pub rest_whole : (known ds : List RankedPlace) (taken : ℕ) → ds ≡ known → take (length ds - taken) (drop taken ds) ≡ drop taken known
@@ -129,6 +133,7 @@ next_of known taken k l e = drop_more known taken k l ∙ ap (λ (z : RankedPlac
 pub next_taken : (known : List RankedPlace) (taken : ℕ) (es : List (HPoint × PointName)) (k : RankedPlace) → taken < length known → drop taken known ≡ k ∷ drop (taken + 1) known → AreAhead known taken es → AreAhead known (taken + 1) es
 next_taken known taken es k l e are = record {
   ordered = are.ordered;
+  whole = are.whole;
   few = omega (arith, l);
   apart =
       all_of (λ (x : HPoint × PointName). All (λ z. hpoint_cmp z.at x.0 ≡ Equal → ⊥) (drop (taken + 1) known)) es
@@ -261,6 +266,7 @@ module _ (items : List RankedPlace) (taken : ℕ) (es : List (HPoint × PointNam
   pub add_apart : (new : List (HPoint × PointName)) → AreAhead items taken es → All (λ z. hpoint_cmp z.at at ≡ Equal → ⊥) (drop taken items) → ((e : HPoint × PointName) → Contains new e → Contains es e ⊎ ((at, name) ≡ e)) → AreAhead items taken new
   add_apart new are h only = record {
     ordered = are.ordered;
+    whole = are.whole;
     few = are.few;
     apart = all_of (λ (e : HPoint × PointName). All (λ z. hpoint_cmp z.at e.0 ≡ Equal → ⊥) (drop taken items)) new (λ e c. by e (only e c));
   }

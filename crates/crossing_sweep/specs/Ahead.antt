@@ -8,6 +8,7 @@ use Rattle.overlay_terms.specs.Tiles.{is_end, is_on_border}
 use Rattle.exact_point.specs.Place.{place, hpoint_cmp}
 use Rattle.exact_point.specs.PlaceOf.{place_of}
 use Rattle.exact_point.specs.PointName.{HasPlace, IsPlaceOf}
+use Rattle.crossing_sweep.specs.Rank.{IsOverWhole}
 use Rattle.crossing_sweep.specs.RankedPlace.{ranked_cmp}
 use Rattle.crossing_sweep.specs.declared.ranked_place.RankedPlace.{RankedPlace}
 use Rattle.crossing_sweep.specs.StripInput.{StripInput, segments_in, is_in_closed_strip, Span}
@@ -30,9 +31,15 @@ abbrev pub put_all : List (HPoint × PointName) → List (HPoint × PointName) �
 put_all [] known = known
 put_all (e ∷ es) known = put_place e (put_all es known)
 
--- known places in one sorted list, the first of which are taken out; none of those found since is one still in the list
+-- a place over a whole x, as all known ones are
+abbrev pub IsUpright : RankedPlace → Type 0
+IsUpright z = IsOverWhole (place z.at)
+
+-- known places in one sorted list, each over a whole x, the first of which are taken out; none of those found since is
+-- one still in the list
 pub record AreAhead (known : List RankedPlace) (taken : ℕ) (found : List (HPoint × PointName)) : Type 0 where
   pub ordered : AllPairs (λ a b. ranked_cmp a b ≡ Less) known
+  pub whole : All IsUpright known
   pub few : taken ≤ length known
   pub apart : All (λ e. All (λ z. hpoint_cmp z.at e.0 ≡ Equal → ⊥) (drop taken known)) found
 

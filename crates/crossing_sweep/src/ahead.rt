@@ -7,9 +7,9 @@ ghost use Rattle.exact_point.specs.Place.{place, hpoint_cmp};
 ghost use Rattle.exact_point.specs.declared.point.HPoint.{HPoint};
 ghost use Rattle.exact_point.specs.declared.point_name.PointName.{PointName};
 ghost use Rattle.crossing_sweep.specs.RankedPlace.{ranked_cmp, ranked_entry};
-ghost use Rattle.crossing_sweep.specs.Ahead.{HasAdded, is_first_before};
+ghost use Rattle.crossing_sweep.specs.Ahead.{HasAdded, IsUpright, is_first_before};
 
-use crate::rank::rank;
+use crate::rank::{is_between, rank};
 use crate::ranked_place::RankedPlace;
 use exact_point::{NearPoint, PointName};
 use std::alloc::{AllocError, Global};
@@ -41,9 +41,10 @@ impl Model for Ahead {
 }
 
 impl Ahead {
-    /// Known places in their order, each once.
+    /// Known places in their order, each once: ends of segments and places on borders, all over whole x.
     pub(crate) fn of(alloc: Global, known: Vec<RankedPlace>) -> Ahead
-        requires { AllPairs (λ a b. ranked_cmp a b ≡ Less) known.items }
+        requires in_order { AllPairs (λ a b. ranked_cmp a b ≡ Less) known.items }
+        requires whole { All IsUpright known.items }
         ensures { result ≡ map ranked_entry known.items }
     {
         Ahead {
@@ -117,12 +118,17 @@ fn first_found(found: &mut BTreeSet<RankedPlace>) -> Option<RankedPlace>
     Some(first)
 }
 
-/// Whether a place, under any name, is one of some places in order.
+/// Whether a place, under any name, is one of some places in order, all over whole x. One between two of these need not
+/// be looked for: most crossings are.
 fn is_among(known: &[RankedPlace], place: &RankedPlace) -> bool
-    requires { AllPairs (λ a b. ranked_cmp a b ≡ Less) known.now }
+    requires in_order { AllPairs (λ a b. ranked_cmp a b ≡ Less) known.now }
+    requires whole { All IsUpright known.now }
     ensures among { result ≡ true → Any (λ z. ranked_cmp z place.now ≡ Equal) known.now }
     ensures apart { result ≡ false → All (λ z. ranked_cmp z place.now ≡ Equal → ⊥) known.now }
 {
+    if is_between(place.rank) {
+        return false;
+    }
     known.binary_search(place).is_ok()
 }
 

@@ -5,7 +5,7 @@ ghost use Rattle.overlay_terms.specs.Plane.{InRange, coordinate_max, denominator
 ghost use Rattle.overlay_terms.specs.Within.{IsWithin};
 ghost use Rattle.exact_point.specs.Lines.{near_max};
 ghost use Rattle.exact_point.specs.Place.{place, hpoint_cmp};
-ghost use Rattle.crossing_sweep.specs.Rank.{IsFloor, IsRank};
+ghost use Rattle.crossing_sweep.specs.Rank.{IsFloor, IsRank, is_between};
 
 use exact_point::{HPoint, NearPoint};
 use plane_base::{COORD_MAX, Pt};
@@ -58,6 +58,13 @@ fn numbered(across: i64, row: i64) -> i64
     ensures { result ≡ (pos (2 ^ 22) *ℤ across) +ℤ row }
 {
     4 * COORD_MAX * across + row
+}
+
+/// Whether a rank is that of places between two whole x.
+pub(crate) fn is_between(rank: i64) -> bool
+    ensures { result ≡ is_between rank }
+{
+    rank.rem_euclid(4 * COORD_MAX) == 2 * COORD_MAX
 }
 
 /// The greatest whole number that is not above a coordinate over its denominator.

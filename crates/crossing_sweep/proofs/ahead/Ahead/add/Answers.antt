@@ -1,16 +1,22 @@
 use Rattle.std.proofs.Common.{◌≡◌, List, map, subst, sym}
 use Rattle.std.specs.Prelude.{All, AllPairs, Any}
 use Rattle.std.specs.declared.cmp.Ordering.TheVariants.{Less, Equal}
-use Rattle.exact_point.specs.Place.{hpoint_cmp}
+use Rattle.exact_point.specs.Place.{place, hpoint_cmp}
 use Rattle.crossing_sweep.specs.Ahead.{HasAdded}
+use Rattle.crossing_sweep.specs.Rank.{IsOverWhole}
 use Rattle.crossing_sweep.specs.RankedPlace.{ranked_cmp, ranked_entry}
 use Rattle.crossing_sweep.specs.declared.ranked_place.RankedPlace.{RankedPlace}
 use Rattle.crossing_sweep.proofs.AheadLemmas.{set_added}
-use Rattle.crossing_sweep.proofs.TakeLemmas.{rest_ordered, rest_whole, add_known, add_new, add_apart}
+use Rattle.crossing_sweep.proofs.TakeLemmas.{rest_ordered, rest_over_whole, rest_whole, add_known, add_new, add_apart}
 use Rattle.crossing_sweep.proofs.ahead.Ahead.add.Goals as goal
 
-pub is_among-requires : goal.is_among-requires
-is_among-requires c =
+pub is_among-requires-clause-whole : goal.is_among-requires-clause-whole
+is_among-requires-clause-whole c =
+    subst (λ (l : List RankedPlace). All (λ z. IsOverWhole (place z.at)) l) (sym (rest_whole c.self.inside.known.items c.deref.result.now c.self.inside.taken c.deref.ensures.value))
+    (rest_over_whole c.self.inside.known.items c.self.inside.taken c.self.invariant.whole)
+
+pub is_among-requires-clause-in_order : goal.is_among-requires-clause-in_order
+is_among-requires-clause-in_order c =
     subst (λ (l : List RankedPlace). AllPairs (λ a b. ranked_cmp a b ≡ Less) l) (sym (rest_whole c.self.inside.known.items c.deref.result.now c.self.inside.taken c.deref.ensures.value))
     (rest_ordered c.self.inside.known.items c.self.inside.taken c.self.invariant.ordered)
 

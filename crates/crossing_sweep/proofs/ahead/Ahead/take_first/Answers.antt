@@ -31,6 +31,7 @@ invariant_of-self-then-is_first_before c =
     let known : List RankedPlace = drop c.self.inside.taken c.self.inside.known.items in
     record {
       ordered = c.self.invariant.ordered;
+      whole = c.self.invariant.whole;
       few = c.self.invariant.few;
       apart =
           popped_keeps (λ (e : HPoint × PointName). All (λ z. hpoint_cmp z.at e.0 ≡ Equal → ⊥) known) pop.result (map ranked_entry c.self.inside.found.keys) (map ranked_entry pop.new.found.keys)
