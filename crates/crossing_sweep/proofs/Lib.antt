@@ -38,6 +38,7 @@ pub mod UnitBits
 pub mod Labels
 pub mod Passed
 pub mod RowLemmas
+pub mod DealLemmas
 pub mod RowOrder
 pub mod RowCode
 pub mod ValueLemmas

@@ -4,13 +4,13 @@ use Rattle.std.specs.Prelude.{IsTrue, All, Contains, filter, ◌≢◌}
 use Rattle.std.specs.List.{AllPairs, prefix_len, slice_range}
 use Rattle.std.specs.List.Sorted.{IsPermutation}
 use Rattle.std.proofs.lemmas.Int.{ints}
-use Rattle.std.proofs.lemmas.Bool.{and_parts, and_from}
+use Rattle.std.proofs.lemmas.Bool.{and_parts, and_from, or_left, both_ways}
 use Rattle.std.proofs.lemmas.List.{map-append, take-append-drop, length-map, length-take-le}
 use Rattle.std.proofs.lemmas.List.Folds.{drop_split}
 use Rattle.std.proofs.Math.ListN.{length-append}
 use Rattle.std.proofs.lemmas.List.Elements.{All-map, All-contains, Contains-get_or, Contains-append_cases, Contains-append_left, Contains-append_right}
 use Rattle.std.specs.declared.cmp.Ordering.TheVariants.{Less}
-use Rattle.overlay_terms.specs.Plane.{Point, Segment, point_cmp, same_place}
+use Rattle.overlay_terms.specs.Plane.{Point, Segment, whole, point_cmp, same_place}
 use Rattle.overlay_terms.specs.Column.{border}
 use Rattle.overlay_terms.specs.Layers.{Marked}
 use Rattle.overlay_terms.specs.TileLaws.{IsProper}
@@ -39,13 +39,13 @@ use Rattle.crossing_sweep.specs.Stepping.{segs_to_come, StandsBefore, IsStepped}
 use Rattle.crossing_sweep.specs.declared.member.Member.{Member}
 use Rattle.crossing_sweep.specs.declared.start.Start.{Start}
 use Rattle.crossing_sweep.specs.declared.search.Search.{Search}
-use Rattle.overlay_terms.specs.Tiles.{is_node}
+use Rattle.overlay_terms.specs.Tiles.{is_end, is_on_border, is_node}
 use Rattle.tile_laws.proofs.Ranks.{Told, yes, no, told}
 use Rattle.crossing_sweep.proofs.BorderLemmas.{fixed_on_border}
 use Rattle.crossing_sweep.proofs.RightBorder.{not_left, not_last, on_border as on_right}
 use Rattle.overlay_terms.proofs.Pairs.{pairs_first, pairs_map}
 use Rattle.crossing_sweep.proofs.StretchLemmas.{stretches_cross}
-use Rattle.crossing_sweep.proofs.UnitStretchLemmas.{units_are_stretches}
+use Rattle.crossing_sweep.proofs.UnitStretchLemmas.{units_are_stretches, end_at_right}
 use Rattle.crossing_sweep.proofs.PassLemmas.{all_of, first_is_node}
 use Rattle.crossing_sweep.proofs.KnownLemmas.{point_small}
 use Rattle.crossing_sweep.proofs.ComingLemmas.{falls, not_met_before, all_enter, all_later}
@@ -155,23 +155,26 @@ module _ (input : StripInput) (n : ℤ) (units : List Unit) (q : Point) (at : HP
   abbrev w : List Segment
   w = waiting input.strip (e ++ t)
 
-  stretch_of : (v : Segment) → Contains (segs_of (under ++ stay ++ over)) v → IsStretchOf segments v
-  stretch_of v c = last (Contains-append_cases (u ++ s) o v (subst (λ (us : List Segment). Contains us v) (segs_parts under stay over) c))
+  unit_among : (v : Segment) → Contains (segs_of (under ++ stay ++ over)) v → Contains unit_segs v
+  unit_among v c = last (Contains-append_cases (u ++ s) o v (subst (λ (us : List Segment). Contains us v) (segs_parts under stay over) c))
     where
-      of_status : Contains (u ++ b ++ o) v → IsStretchOf segments v
-      of_status d = All-contains (IsStretchOf segments) (u ++ b ++ o ++ w) v come.full.status_at.stretches (Contains-append_left (u ++ b ++ o) w v d)
+      of_status : Contains (u ++ b ++ o) v → Contains unit_segs v
+      of_status d = All-contains (Contains unit_segs) (u ++ b ++ o ++ w) v come.full.among (Contains-append_left (u ++ b ++ o) w v d)
 
-      of_stay : Contains b v ⊎ Contains e v → IsStretchOf segments v
+      of_stay : Contains b v ⊎ Contains e v → Contains unit_segs v
       of_stay (inl d) = of_status (Contains-append_left (u ++ b) o v (Contains-append_right u b v d))
-      of_stay (inr d) = All-contains (IsStretchOf segments) unit_segs v stretches.stretches (All-contains (Contains unit_segs) (e ++ t) v come.among (Contains-append_left e t v d))
+      of_stay (inr d) = All-contains (Contains unit_segs) (e ++ t) v come.among (Contains-append_left e t v d)
 
-      two : Contains u v ⊎ Contains s v → IsStretchOf segments v
+      two : Contains u v ⊎ Contains s v → Contains unit_segs v
       two (inl d) = of_status (Contains-append_left (u ++ b) o v (Contains-append_left u b v d))
       two (inr d) = of_stay (from v d).0
 
-      last : Contains (u ++ s) v ⊎ Contains o v → IsStretchOf segments v
+      last : Contains (u ++ s) v ⊎ Contains o v → Contains unit_segs v
       last (inl d) = two (Contains-append_cases u s v d)
       last (inr d) = of_status (Contains-append_right (u ++ b) o v d)
+
+  stretch_of : (v : Segment) → Contains (segs_of (under ++ stay ++ over)) v → IsStretchOf segments v
+  stretch_of v c = All-contains (IsStretchOf segments) unit_segs v stretches.stretches (unit_among v c)
 
   -- ---- the places found ahead
   first : IsAhead segments input.strip q r
@@ -247,8 +250,11 @@ module _ (input : StripInput) (n : ℤ) (units : List Unit) (q : Point) (at : HP
   -- else the two seams are tested
   at_seams : tests ≡ true → (i : ℕ) (d : Segment) (p : Point) → (i + 1 ≡ length u) ⊎ (i + 1 ≡ length (u ++ s)) → i + 1 < length (u ++ s ++ o)
       → Found (get_or (u ++ s ++ o) i d) (get_or (u ++ s ++ o) (i + 1) d) p
-  at_seams test i d p which inside hp crossing less up_to = found i d p (seam i which) inside hp crossing less (within p hp less up_to)
+  at_seams test i d p which inside hp crossing less up_to = by (told (same_place p (whole lower.right)))
     where
+      lower : Segment
+      lower = get_or (u ++ s ++ o) i d
+
       seams : List ℕ
       seams = length under ∷ length (under ++ stay) ∷ []
 
@@ -256,11 +262,11 @@ module _ (input : StripInput) (n : ℤ) (units : List Unit) (q : Point) (at : HP
       both = subst (λ b. AreSeamsTested input.strip r (segs_of (under ++ stay ++ over)) (seams_at b (length under) (length (under ++ stay))) old new) test tested
 
       found : (i : ℕ) (d : Segment) (p : Point) → Contains seams (i + 1) → i + 1 < length (u ++ s ++ o) → pos 0 <ℤ p.w → IsCrossingOf (get_or (u ++ s ++ o) i d) (get_or (u ++ s ++ o) (i + 1) d) p
-          → point_cmp r p ≡ Less → IsTrue (is_in_closed_strip input.strip p) → IsQueued (points_of new.ahead) p
+          → point_cmp r p ≡ Less → IsTrue (is_in_closed_strip input.strip p) → ¬ IsTrue (same_place p (whole (get_or (u ++ s ++ o) i d).right)) → IsQueued (points_of new.ahead) p
       found =
           subst (λ (us : List Segment).
           (i : ℕ) (d : Segment) (p : Point) → Contains seams (i + 1) → i + 1 < length us → pos 0 <ℤ p.w → IsCrossingOf (get_or us i d) (get_or us (i + 1) d) p
-          → point_cmp r p ≡ Less → IsTrue (is_in_closed_strip input.strip p) → IsQueued (points_of new.ahead) p)
+          → point_cmp r p ≡ Less → IsTrue (is_in_closed_strip input.strip p) → ¬ IsTrue (same_place p (whole (get_or us i d).right)) → IsQueued (points_of new.ahead) p)
           (segs_parts under stay over) both.found
 
       seam : (i : ℕ) → (i + 1 ≡ length u) ⊎ (i + 1 ≡ length (u ++ s)) → Contains seams (i + 1)
@@ -268,6 +274,17 @@ module _ (input : StripInput) (n : ℤ) (units : List Unit) (q : Point) (at : HP
       seam i (inr f) =
           subst (λ x. Contains seams x) (sym (f ∙ ap length (sym (map-append seg_of under stay)) ∙ length-map (under ++ stay) seg_of))
           (contains_rest (length under) (length (under ++ stay) ∷ []) (length (under ++ stay)) (contains_first (length (under ++ stay)) []))
+
+      among : Contains unit_segs lower
+      among = unit_among lower
+          (subst (λ (us : List Segment). Contains us lower) (sym (segs_parts under stay over)) (Contains-get_or (u ++ s ++ o) i d (omega (arith, inside))))
+
+      -- where the lower one ends, the place was known before
+      by : Told (same_place p (whole lower.right)) → IsQueued (points_of new.ahead) p
+      by (yes e) =
+          kept p hp (come.queue.fixed p hp (or_left (is_end segments p) (is_on_border segments p) (end_at_right input lower p (All-contains (IsUnit input.marked) unit_segs lower are_units among) e))
+          (less_through q r p stands.come.full.status_at.small.positive hr hp first.after less) up_to) less
+      by (no e) = found i d p (seam i which) inside hp crossing less (within p hp less up_to) (λ f. both_ways (same_place p (whole lower.right)) e f)
 
   grown : IsGrown input.strip r u s o (r ∷ keys) (points_of new.ahead)
   grown = record { kept = kept; tested = λ i d p which inside. by i d p which inside (told tests) }

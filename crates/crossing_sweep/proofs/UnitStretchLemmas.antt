@@ -1,14 +1,15 @@
 -- The units of an input: stretches of its segments between nodes, one along each segment that goes on just after a place.
-use Rattle.std.proofs.Common.{◌≡◌, pos, ◌<ℤ◌, inl, inr, ◌⊎◌, List, ap, sym, subst}
+use Rattle.std.proofs.Common.{◌≡◌, pos, ◌<ℤ◌, ◌||◌, true, inl, inr, ◌⊎◌, List, ap, sym, subst}
 use Rattle.std.specs.Prelude.{Bool, IsTrue, All, Any, Contains, not, map}
 use Rattle.std.specs.Ordering.{is_lt}
-use Rattle.std.proofs.lemmas.Bool.{and_parts}
+use Rattle.std.proofs.lemmas.Bool.{and_parts, or_left, or_right}
 use Rattle.std.proofs.lemmas.List.Elements.{All-map, All-contains, All-weaker}
-use Rattle.overlay_terms.specs.Plane.{WholePoint, Point, Segment, whole, point_cmp, is_on, InRange}
+use Rattle.overlay_terms.specs.Plane.{WholePoint, Point, Segment, whole, point_cmp, same_place, is_on, InRange}
 use Rattle.overlay_terms.specs.Layers.{Marked}
-use Rattle.overlay_terms.specs.Tiles.{is_node}
+use Rattle.overlay_terms.specs.Tiles.{is_end, is_node}
 use Rattle.overlay_terms.specs.TileLaws.{IsProper}
 use Rattle.overlay_terms.proofs.Lists.{any_from, contains_map, from_map}
+use Rattle.exact_point.proofs.Nodes.{end_among}
 use Rattle.exact_point.proofs.OnLine.{on_line}
 use Rattle.exact_point.proofs.PlaceOrder.{one_positive, less_through, not_before_test, not_before_says}
 use Rattle.arrange.specs.Units.{IsUnit, AreUnits}
@@ -90,6 +91,20 @@ module _ (input : StripInput) (valid : IsStripInput input) where
       right_nodes = All-weaker (IsUnit input.marked) (λ u. IsTrue (is_node (segments_in input) (whole u.right))) (right_end_node input.marked valid.proper) (map (λ (u : Unit). u.seg) units) sound;
       along = along_segment;
     }
+
+-- a place where a unit ends is an end of a segment
+pub end_at_right : (input : StripInput) (u : Segment) (p : Point) → IsUnit input.marked u → IsTrue (same_place p (whole u.right)) → IsTrue (is_end (segments_in input) p)
+end_at_right input u p unit here = by (end_of input.marked u u.right unit.to_end)
+  where
+    by : IsEndOf input.marked u u.right → IsTrue (is_end (segments_in input) p)
+    by end = end_among (segments_in input) t (contains_map (λ (m : Marked). m.segment) input.marked end.of end.among) p (which end.is)
+      where
+        t : Segment
+        t = end.of.segment
+
+        which : (u.right ≡ t.left) ⊎ (u.right ≡ t.right) → (same_place p (whole t.left) || same_place p (whole t.right)) ≡ true
+        which (inl e) = or_left (same_place p (whole t.left)) (same_place p (whole t.right)) (subst (λ v. IsTrue (same_place p (whole v))) e here)
+        which (inr e) = or_right (same_place p (whole t.left)) (same_place p (whole t.right)) (subst (λ v. IsTrue (same_place p (whole v))) e here)
 
 pub units_are_stretches : UnitsAreStretches
 units_are_stretches input units valid are = are_stretches input valid units are

@@ -1,7 +1,7 @@
 -- What a pass carries along from node to node, and the rows that it makes: the pieces of the boundary
 -- that it has come to the end of.
 use Rattle.std.specs.Prelude.{◌≡◌, ℕ, ℤ, pos, ◌+◌, ◌<◌, [], ◌∷◌, ◌≤ℤ◌, ◌<ℤ◌, ◌*ℤ◌, nat_lt}
-use Rattle.std.specs.Prelude.{Bool, not, ◌&&◌, if◌then◌else◌, IsTrue, List, map, filter}
+use Rattle.std.specs.Prelude.{Bool, not, ◌==◌, ◌&&◌, if◌then◌else◌, IsTrue, List, map, filter}
 use Rattle.std.specs.Prelude.{count_by, length, get_or, All, AllPairs, Any, Contains}
 use Rattle.std.specs.Int.RustNames.{bit_xor}
 use Rattle.std.specs.List.Sorted.{IsPermutation, IsSortedByKey}
@@ -114,6 +114,10 @@ row_numbers row = (row.first, row.last)
 pub record AreSorted (rows sorted : List Row) : Type 0 where
   pub moved : IsPermutation rows sorted
   pub in_order : IsSortedByKey row_numbers number_cmp sorted
+
+-- a place among those of rows has one: each ends at a node after the first
+abbrev pub is_taken : Row → Bool
+is_taken row = not (row.last == 0)
 
 -- ---- one step
 -- the row that a member makes where its piece ends, at the node with a number

@@ -1,7 +1,7 @@
 -- What a test of neighbours finds: where two segments cross after a place, in a closed strip.
 use Rattle.std.specs.Prelude.{◌≡◌, ℕ, pos, ◌+◌, ◌≤◌, ◌<◌, ◌++◌, [], ◌∷◌, ◌<ℤ◌, ◌⊎◌, Bool, true, false, IsTrue, List, length, get_or, All, Contains}
 use Rattle.std.specs.declared.cmp.Ordering.TheVariants.{Less}
-use Rattle.overlay_terms.specs.Plane.{Point, Segment, point_cmp}
+use Rattle.overlay_terms.specs.Plane.{Point, Segment, whole, point_cmp, same_place}
 use Rattle.exact_point.specs.Crossing.{IsCrossingOf}
 use Rattle.exact_point.specs.Place.{place}
 use Rattle.exact_point.specs.PlaceOf.{place_of}
@@ -22,10 +22,11 @@ pub record IsFound (strip : Span) (r : Point) (a b : Segment) (e : HPoint × Poi
   pub told : place e.0 ≡ place_of e.1
 
 -- two segments have been tested: what was known is known, where they cross after r in the closed strip is
--- known, and nothing else has come
+-- known, but for a place where the first one ends, and nothing else has come
 pub record AreTested (strip : Span) (r : Point) (a b : Segment) (old new : List (HPoint × PointName)) : Type 0 where
   pub kept : (e : HPoint × PointName) → Contains old e → Contains new e
-  pub found : (p : Point) → pos 0 <ℤ p.w → IsCrossingOf a b p → point_cmp r p ≡ Less → IsTrue (is_in_closed_strip strip p) → IsQueued (points_of new) p
+  pub found : (p : Point) → pos 0 <ℤ p.w → IsCrossingOf a b p → point_cmp r p ≡ Less → IsTrue (is_in_closed_strip strip p)
+      → ¬ IsTrue (same_place p (whole a.right)) → IsQueued (points_of new) p
   pub only : (e : HPoint × PointName) → Contains new e → Contains old e ⊎ IsFound strip r a b e
 
 -- a place that a test of two neighbours of a status has found; where the tests are listed, theirs is
@@ -44,13 +45,14 @@ seams_at true low high = low ∷ high ∷ []
 seams_at false low high = []
 
 -- the neighbours at some seams of a status have been tested: at a seam the members under it end. What was known is
--- known, where neighbours at a seam cross after r in the closed strip is known, and nothing else has come; at most one
--- test a seam is listed, of members, and none where no list is kept
+-- known, where neighbours at a seam cross after r in the closed strip is known, but for a place where the lower one ends,
+-- and nothing else has come; at most one test a seam is listed, of members, and none where no list is kept
 pub record AreSeamsTested (strip : Span) (r : Point) (status : List Segment) (seams : List ℕ) (old new : Search) : Type 0 where
   pub listed : new.listed ≡ old.listed
   pub kept : (e : HPoint × PointName) → Contains old.ahead e → Contains new.ahead e
   pub found : (i : ℕ) (d : Segment) (p : Point) → Contains seams (i + 1) → i + 1 < length status → pos 0 <ℤ p.w → IsCrossingOf (get_or status i d) (get_or status (i + 1) d) p
-      → point_cmp r p ≡ Less → IsTrue (is_in_closed_strip strip p) → IsQueued (points_of new.ahead) p
+      → point_cmp r p ≡ Less → IsTrue (is_in_closed_strip strip p) → ¬ IsTrue (same_place p (whole (get_or status i d).right))
+      → IsQueued (points_of new.ahead) p
   pub only : (e : HPoint × PointName) → Contains new.ahead e → Contains old.ahead e ⊎ IsFoundIn strip r status old.listed new.tests.items e
   pub more : List (Segment × Segment)
   pub tests : new.tests.items ≡ old.tests.items ++ more

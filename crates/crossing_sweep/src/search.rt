@@ -93,6 +93,10 @@ pub(crate) fn test_pair(
 ) -> Result<(), AllocError>
     ensures { OnOk result (AreTested strip (place at) lower.now upper.now ahead.old ahead.new) }
 {
+    // Where both end, they cross nowhere else, and all ends ahead are known.
+    if lower.right() == upper.right() {
+        return Ok(());
+    }
     if let Some(crossing) = near_cross_of(lower, upper) {
         if is_ahead(strip, at, &crossing.point()) {
             ahead.add(crossing, PointName::Cross(*lower, *upper))?;
