@@ -177,6 +177,7 @@ class MapFeatures(FeaturesApi):
             raise Problem(405, f"items of {name} are parts of a layer, and not changed one by one", Allow="GET, HEAD")
 
     def _must_match(self, request: Request, revision: str) -> None:
+        """Refuses (412) a change whose If-Match names another revision than the present one."""
         if request.header("if-match") and not request.names("if-match", revision):
             raise Problem(412, f"it has changed: its revision is {revision}")
 

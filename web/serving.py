@@ -162,7 +162,7 @@ class Handler(simple_server.WSGIRequestHandler):
         return self.wfile.getvalue()
 
     def _body(self) -> bytes:
-        """The body, if the front takes one of its length."""
+        """The body; nothing of one that is too large, which `Request.content` refuses."""
         length = self.headers.get("content-length", "")
         return self.rfile.read(int(length)) if is_length(length) and int(length) <= BODY_MOST else b""
 

@@ -88,7 +88,7 @@ class Request:
         return "*" in given or f'"{revision}"' in given
 
     def content(self) -> bytes:
-        """The bytes of the body, which is said to be JSON."""
+        """The bytes of the body, said to be JSON; one that is too large is refused (413), unless waitress did."""
         if self.environ.get("CONTENT_TYPE", "").partition(";")[0].strip() not in (JSON, GEOJSON):
             raise Problem(415, f"{JSON} is wanted")
         told = self.environ.get("CONTENT_LENGTH") or ""

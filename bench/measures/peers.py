@@ -31,7 +31,9 @@ COMPILE = "g++ -std=c++17 -O2 -DNDEBUG -w".split()
 LIBRARIES: dict[str, list[str]] = {"cgal": ["-lgmp", "-lmpfr"], "clipper": ["-lpolyclipping"], "boost": [], "geos": ["-lgeos"]}
 TITLES = {"cgal": "CGAL", "clipper": "Clipper", "boost": "Boost"}
 SIMPLE = {"star", "sliver", "comb"}
-LAYERS, POINTS, ROUNDS = 20, 100000, 5
+# So many layers are waited for, and so often are the edges of one asked for: the difference is then well above what two
+# runs of one script differ by.
+LAYERS, WRITTEN, POINTS, ROUNDS = 20, 20, 100000, 5
 
 
 def peers(folder: pathlib.Path) -> dict[str, pathlib.Path]:
@@ -95,12 +97,12 @@ def overlays(
             layers = over_all_columns(tiles.even(family(edges)))
             path = folder / "map"
             path.write_text("\n".join(map(tile_texts.text_of, layers)) + "\n")
-            scripts = [script(layers, n, m) for n, m in ((0, 0), (1, 0), (LAYERS, 0), (LAYERS, 5))]
+            scripts = [script(layers, n, m) for n, m in ((0, 0), (1, 0), (LAYERS, 0), (LAYERS, WRITTEN))]
             best, wrote = least(programs, folder, scripts)
             rows = []
             for at in range(len(programs)):
                 wait = (best[at, 2] - best[at, 1]) / (LAYERS - 1)
-                text = (best[at, 3] - best[at, 2]) / 5
+                text = (best[at, 3] - best[at, 2]) / WRITTEN
                 rows.append((wait, text))
             beside = {peer: told(built[peer], path)[1] for peer in TITLES if peer in built and (peer != "boost" or name in SIMPLE)}
             cells = [
@@ -109,7 +111,7 @@ def overlays(
             ]
             theirs = [f"{TITLES[peer]} {1000 * took:.2f} ms ({', '.join(f'{(wait + text) / took:.2f}' for wait, text in rows)} of it)"
                       for peer, took in beside.items()]
-            pieces = sum(int(line.split()[1]) for line in wrote.splitlines() if line.startswith("edges")) // 5
+            pieces = sum(int(line.split()[1]) for line in wrote.splitlines() if line.startswith("edges")) // WRITTEN
             print(f"{name} {edges}, {pieces} pieces: {'; '.join(cells)}; {', '.join(theirs)}", flush=True)
 
 

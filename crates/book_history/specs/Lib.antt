@@ -1,7 +1,7 @@
 pub mod Fault
 pub mod Codes
 pub mod Logs
-pub mod Telling
+pub mod Reporting
 pub mod Events
 pub mod Causes
 pub mod KnownCodes

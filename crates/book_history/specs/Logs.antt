@@ -32,4 +32,4 @@ pub record IsAccepted (session : ℕ) (before : History) (batch : Batch) (after 
   pub between : List Entry
   pub version : Version
   pub goes_on : GoesOnBy before (between ++ entry (accepted session batch) version ∷ []) after
-  pub reported : version.number ≡ number
+  pub numbered : version.number ≡ number

@@ -6,7 +6,7 @@ ghost use Rattle.overlay_terms.specs.Histories.{Follows};
 ghost use Rattle.book_history.specs.Logs.{IsLog, entry, no_event, newest_in};
 ghost use Rattle.book_history.specs.Causes.{event_of};
 ghost use Rattle.book_history.specs.Rules.{head_of};
-ghost use Rattle.book_history.specs.Telling.{MayTell};
+ghost use Rattle.book_history.specs.Reporting.{MayBeReported};
 
 use crate::entry::{Ask, Cause, Entry};
 use logbook::{Gain, Offer, Opening, Plain, Play, Rule, Seen, Start, Word};
@@ -218,7 +218,7 @@ impl SeenLog {
         requires room { length self.old.log < version_max }
         requires follows { Follows (newest_in self.old.log) (event_of cause) version.now }
         requires reported { (version.now.durable ≡ (newest_in self.old.log).durable)
-            ⊎ MayTell J.stored self.old.log version.now.durable }
+            ⊎ MayBeReported J.stored self.old.log version.now.durable }
         ensures { MatchBool result
             (self.new ≡ record {
               book = self.old.book;

@@ -7,11 +7,11 @@ use Rattle.overlay_terms.specs.Layers.{Name, Layer}
 use Rattle.overlay_terms.specs.Tiles.{Input, input_of}
 use Rattle.overlay_terms.specs.Histories.{Tile, Entry, kept, commands_of}
 use Rattle.book_history.specs.Logs.{entry, newest_in, IsLog}
-use Rattle.book_history.specs.Telling.{ReportsStored}
+use Rattle.book_history.specs.Reporting.{ReportsStored}
 use Rattle.book_history.proofs.Fronts.{prefix_self, prefix_trans, prefix_length}
 use Rattle.book_history.proofs.Owned.{own_more}
 use Rattle.book_lock.specs.Steps.{AreFinishedIn, IsFinishedIn}
-use Rattle.book_lock.proofs.Tellings.{reported_more}
+use Rattle.book_lock.proofs.Reportings.{reported_more}
 
 -- a log has a first entry
 pub begun : (log : List Entry) → IsLog log → 0 < length log

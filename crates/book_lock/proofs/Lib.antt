@@ -2,6 +2,6 @@ pub mod Beginning
 pub mod Finishing
 pub mod Growing
 pub mod Hearing
+pub mod Reportings
 pub mod SentLog
-pub mod Tellings
 pub mod Turning

@@ -10,7 +10,7 @@ ghost use Rattle.book_history.specs.Causes.{event_of, HasSeat};
 ghost use Rattle.book_history.specs.Fault.{no_memory};
 ghost use Rattle.book_history.specs.Logs.{entry, no_event, newest_in, IsLog};
 ghost use Rattle.book_history.specs.Rules.{head_of};
-ghost use Rattle.book_history.specs.Telling.{ReportsStored, MayTell};
+ghost use Rattle.book_history.specs.Reporting.{ReportsStored, MayBeReported};
 ghost use Rattle.book_lock.specs.Heard.{HasHeard};
 ghost use Rattle.book_lock.specs.Steps.{HasLooked, IsLevel, beginners};
 
@@ -47,7 +47,7 @@ impl<J: BookName, R: Wait + Drop> Model for LockedLog<J, R> {
     ghost use Rattle.overlay_terms.specs.Histories.{commands_of};
     ghost use Rattle.book_history.specs.Codes.{entry_code};
     ghost use Rattle.book_history.specs.Rules.{head_of};
-    ghost use Rattle.book_history.specs.Telling.{ReportsStored};
+    ghost use Rattle.book_history.specs.Reporting.{ReportsStored};
 
     ghost Value = { List terms.Entry };
 
@@ -165,7 +165,7 @@ impl<J: BookName, R: Wait + Drop> LockedLog<J, R> {
     }
 
     /// The reporter sees all of it, with the count of news that it gives with it.
-    pub fn tell(&self, me: &mut Reporter, given: u64)
+    pub fn show_reporter(&self, me: &mut Reporter, given: u64)
         requires book { me.old.book ≡ J.book }
         requires heard { HasHeard self.now me.old }
         ensures { me.new ≡ record { book = me.old.book; log = self.now; given = given } }
@@ -182,7 +182,8 @@ impl<J: BookName, R: Wait + Drop> LockedLog<J, R> {
     ) -> Result<(), BookFault>
         requires follows { Follows (newest_in self.old) (event_of cause) (arc_value version) }
         requires seat { HasSeat cause }
-        requires reported { ((arc_value version).durable ≡ (newest_in self.old).durable) ⊎ MayTell J.stored self.old (arc_value version).durable }
+        requires reported { ((arc_value version).durable ≡ (newest_in self.old).durable)
+            ⊎ MayBeReported J.stored self.old (arc_value version).durable }
         ensures ok { IfOk result (λ _. self.new ≡ self.old ++ entry (event_of cause.entry) (arc_value version) ∷ []) }
         ensures room { IfOk result (λ _. length self.old < version_max) }
         ensures err { IfErr result (λ fault. (fault ≡ BookFault.Gone) × (self.new ≡ self.old)) }

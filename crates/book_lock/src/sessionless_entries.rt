@@ -2,7 +2,7 @@
 ghost use Rattle.std.specs.Prelude.{◌≡◌, ◌⊎◌, ◌<◌, length, Err, IfOk, IfErr};
 ghost use Rattle.book_history.specs.Fault.{no_memory};
 ghost use Rattle.book_history.specs.Logs.{newest_in, IsLog};
-ghost use Rattle.book_history.specs.Telling.{MayTell};
+ghost use Rattle.book_history.specs.Reporting.{MayBeReported};
 ghost use Rattle.book_lock.specs.Heard.{HasHeard};
 ghost use Rattle.book_lock.specs.Steps.{IsReportedIn};
 
@@ -50,7 +50,7 @@ impl<J: BookName, R: Wait + Drop> LockedLog<J, R> {
 
     // Adds the entry of a number that is durable, where it is news.
     fn raise(&mut self, alloc: Global, room: &mut Room, number: u64) -> Result<u64, BookFault>
-        requires stored { MayTell J.stored self.old number }
+        requires stored { MayBeReported J.stored self.old number }
         ensures ok { IfOk result (λ durable. IsReportedIn self.old number self.new
             × ((newest_in self.new).durable ≡ durable)) }
         ensures err { IfErr result (λ fault. (self.new ≡ self.old) × ((fault ≡ no_memory) ⊎ (fault ≡ BookFault.Gone))) }

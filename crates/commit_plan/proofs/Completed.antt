@@ -8,7 +8,7 @@ use Rattle.root_reading.specs.declared.load_fault.LoadFault.{LoadFault}
 use Rattle.root_reading.specs.declared.load_fault.LoadFault.TheVariants as loads
 use Rattle.root_reading.specs.Looking.{Refuses}
 use Rattle.commit_plan.specs.declared.fault.StoreFault.TheVariants.{OutOfMemory}
-use Rattle.commit_plan.specs.Fault.{fault_reported}
+use Rattle.commit_plan.specs.Fault.{store_fault_of}
 use Rattle.extent_map.specs.declared.extent.Extent as runs
 use Rattle.extent_map.specs.FirstFit.{IsPlanned}
 use Rattle.extent_map.specs.Taken.{taken_of}
@@ -143,7 +143,7 @@ written_with old new layers catalog ws is filed writes =
 -- where no two extents share a block, only memory is wanting
 pub only_memory : (fault : LoadFault) (es : List RecordExtent) (held : Held) → all_apart es ≡ true
     → (fault ≡ loads.OutOfMemory) ⊎ (fault ≡ loads.Damaged Overlap) → Refuses fault (if_apart es held)
-    → fault_reported fault ≡ OutOfMemory
+    → store_fault_of fault ≡ OutOfMemory
 only_memory loads.Device es held apart (inl is) refuses = absurd (cc)
 only_memory loads.Device es held apart (inr is) refuses = absurd (cc)
 only_memory loads.OutOfMemory es held apart errors refuses = refl

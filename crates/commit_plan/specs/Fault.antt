@@ -19,10 +19,10 @@ fault_of_extents extents.Overlap = Damaged damage.Overlap
 fault_of_extents extents.OutOfMemory = OutOfMemory
 
 -- a fault of reading, as one of a store
-abbrev pub fault_reported : LoadFault → StoreFault
-fault_reported loads.Device = Device
-fault_reported (loads.Damaged damage) = Damaged damage
-fault_reported loads.OutOfMemory = OutOfMemory
+abbrev pub store_fault_of : LoadFault → StoreFault
+store_fault_of loads.Device = Device
+store_fault_of (loads.Damaged damage) = Damaged damage
+store_fault_of loads.OutOfMemory = OutOfMemory
 
 -- the number under which a fault is printed
 abbrev pub code_of : StoreFault → ℕ

@@ -19,7 +19,7 @@ ghost use Rattle.commit_plan.specs.Drafted.{HasNoRunFor, sizes_in};
 ghost use Rattle.commit_plan.specs.Next.{ArePlanned, IsLaidOut, NextHolds, Spell};
 
 use crate::draft::Draft;
-use crate::fault::{StoreFault, reported};
+use crate::fault::{StoreFault, store_fault_of};
 use crate::image::Image;
 use crate::live_records::LiveRecords;
 use crate::next::Next;
@@ -80,7 +80,7 @@ pub(crate) fn completed(
     let limit = draft.max_blocks();
     let live = match LiveRecords::new(alloc, catalog, listing, table, limit) {
         Ok(live) => live,
-        Err(fault) => return Err(reported(fault)),
+        Err(fault) => return Err(store_fault_of(fault)),
     };
     let mut writes = draft.into_writes(alloc)?;
     writes.push(Write {

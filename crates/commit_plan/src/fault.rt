@@ -1,7 +1,7 @@
 //! What a store refuses.
 ghost use Rattle.std.specs.Prelude.{◌≡◌};
 ghost use Rattle.fault_texts.specs.FaultText.{shown, IsBrief};
-ghost use Rattle.commit_plan.specs.Fault.{code_of, text_of, fault_of_extents, fault_reported};
+ghost use Rattle.commit_plan.specs.Fault.{code_of, text_of, fault_of_extents, store_fault_of};
 ghost use Rattle.commit_plan.specs.declared.fault.StoreFault.TheVariants.{Device, OutOfMemory};
 
 use disk_model::fault::DiskFault;
@@ -102,8 +102,8 @@ impl<T: Drop> From<AllocFailed<T>> for StoreFault {
 }
 
 /// A fault of reading as one of the store.
-pub fn reported(fault: LoadFault) -> StoreFault
-    ensures { result ≡ fault_reported fault }
+pub fn store_fault_of(fault: LoadFault) -> StoreFault
+    ensures { result ≡ store_fault_of fault }
 {
     match fault {
         LoadFault::Device => StoreFault::Device,

@@ -10,7 +10,7 @@ use crate::member::Member;
 use crate::rank::{ranked_cmp, whole_rank};
 use crate::ranked_place::RankedPlace;
 use crate::start::Start;
-use exact_point::HPoint;
+use exact_point::NearPoint;
 use plane_base::Seg;
 use std::alloc::AllocError;
 
@@ -18,8 +18,8 @@ use std::alloc::AllocError;
 pub(crate) fn ends_after(seg: &Seg, node: &RankedPlace) -> bool
     ensures { result ≡ ends_after (place node.now.at) seg.now }
 {
-    let right = HPoint::of(seg.right());
-    ranked_cmp(node.rank, &node.at.point(), whole_rank(seg.right()), &right).is_lt()
+    let right = NearPoint::whole(seg.right());
+    ranked_cmp(node.rank, &node.at, whole_rank(seg.right()), &right).is_lt()
 }
 
 /// Makes a list of the members of a bundle that go on after a place, with the units that enter there
@@ -62,7 +62,7 @@ fn staying(stay: &mut Vec<Member>, bundle: &[Member], node: &RankedPlace) -> Res
 fn enters_at(start: &Start, node: &RankedPlace) -> bool
     ensures { result ≡ same_hpoint start.now.at node.now.at }
 {
-    ranked_cmp(start.rank, &start.at.point(), node.rank, &node.at.point()).is_eq()
+    ranked_cmp(start.rank, &start.at, node.rank, &node.at).is_eq()
 }
 
 /// How many of the units to come enter at a place: the first ones.

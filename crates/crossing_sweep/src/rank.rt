@@ -7,7 +7,7 @@ ghost use Rattle.exact_point.specs.Lines.{near_max};
 ghost use Rattle.exact_point.specs.Place.{place, hpoint_cmp};
 ghost use Rattle.crossing_sweep.specs.Rank.{IsFloor, IsRank, is_between};
 
-use exact_point::HPoint;
+use exact_point::{HPoint, NearPoint};
 use plane_base::{COORD_MAX, Pt};
 use std::cmp::Ordering;
 
@@ -140,7 +140,7 @@ fn from_lowest(x: i128, w: i128) -> u128
 }
 
 /// The order of two places, by their ranks where these differ.
-pub(crate) fn ranked_cmp(a: i64, p: &HPoint, b: i64, q: &HPoint) -> Ordering
+pub(crate) fn ranked_cmp(a: i64, p: &NearPoint, b: i64, q: &NearPoint) -> Ordering
     requires first { ∥ IsRank a (place p.now) ∥₁ }
     requires second { ∥ IsRank b (place q.now) ∥₁ }
     ensures { result ≡ hpoint_cmp p.now q.now }
@@ -148,5 +148,13 @@ pub(crate) fn ranked_cmp(a: i64, p: &HPoint, b: i64, q: &HPoint) -> Ordering
     if a != b {
         return a.cmp(&b);
     }
-    p.cmp(q)
+    exact_cmp(p, q)
+}
+
+/// The order of two places by their coordinates. Few places want it, so that it is kept out of the loops of sorts.
+#[inline(never)]
+fn exact_cmp(p: &NearPoint, q: &NearPoint) -> Ordering
+    ensures { result ≡ hpoint_cmp p.now q.now }
+{
+    p.point().cmp(&q.point())
 }

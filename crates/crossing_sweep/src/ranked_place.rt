@@ -59,6 +59,6 @@ impl Ord for RankedPlace {
     ghost matches_eq = { λ p q. refl };
 
     fn cmp(&self, other: &RankedPlace) -> Ordering {
-        ranked_cmp(self.rank, &self.at.point(), other.rank, &other.at.point())
+        ranked_cmp(self.rank, &self.at, other.rank, &other.at)
     }
 }

@@ -1,13 +1,16 @@
 //! Units with the places where a pass over a strip meets them first.
-ghost use Rattle.std.specs.Prelude.{◌≡◌};
+ghost use Rattle.std.specs.Prelude.{◌≡◌, pos};
+ghost use Rattle.std.specs.Ordering.{int_cmp};
 ghost use Rattle.std.specs.declared.cmp.Ordering.TheVariants.{Less};
 ghost use Rattle.overlay_terms.specs.Plane.{whole_cmp};
+ghost use Rattle.exact_point.specs.Crossing.{turn_of};
 ghost use Rattle.exact_point.specs.Place.{place};
 ghost use Rattle.crossing_sweep.specs.Rank.{IsRank};
 
 use crate::rank::ranked_cmp;
 use arrange::unit::Unit;
 use exact_point::{NearPoint, direction_cmp};
+use plane_base::Seg;
 use std::cmp::Ordering;
 
 /// A unit and the first place of a closed strip on it, with its rank. The order is by that place, then by
@@ -65,10 +68,18 @@ impl Ord for Start {
     ghost matches_eq = { λ p q. refl };
 
     fn cmp(&self, other: &Start) -> Ordering {
-        let by_place = ranked_cmp(self.rank, &self.at.point(), other.rank, &other.at.point());
+        let by_place = ranked_cmp(self.rank, &self.at, other.rank, &other.at);
         if by_place.is_ne() {
             return by_place;
         }
-        direction_cmp(&other.unit.seg, &self.unit.seg)
+        turned_cmp(&self.unit.seg, &other.unit.seg)
     }
+}
+
+/// The order of two segments by direction, the vertical one first. It is kept out of the loops of sorts.
+#[inline(never)]
+fn turned_cmp(a: &Seg, b: &Seg) -> Ordering
+    ensures { result ≡ int_cmp (pos 0) (turn_of b.now a.now) }
+{
+    direction_cmp(b, a)
 }

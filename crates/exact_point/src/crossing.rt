@@ -1,4 +1,4 @@
-//! Where two segments cross, and the place of a segment at a number of parts of its run.
+//! Where two segments cross, as a fraction (`part_way`), and the place of a segment at a number of parts of its run.
 ghost use Rattle.std.specs.Prelude.{◌≡◌, ◌^◌, ◌+ℤ◌, ◌-ℤ◌, ◌*ℤ◌, ◌<ℤ◌, ◌≤ℤ◌, ◌↔◌, pos, neg_ℤ, IsTrue, IfSome, IsNone};
 ghost use Rattle.std.specs.Ordering.{int_cmp};
 ghost use Rattle.overlay_terms.specs.Plane.{coordinate_max, denominator_max, InRange, Point, same_place, whole_cmp};

@@ -75,8 +75,8 @@ fn opened<R: Files<File = File> + AllocGlobal>(rt: &R, path: &str, make: bool) -
     Ok(file)
 }
 
-/// The plain file at a path, to be read. It is looked at before it is opened as well, since the opening of a pipe would
-/// wait for who writes to it.
+/// The plain file at a path, to be read, its lock shared with other readers and held against writers. It is looked at
+/// before it is opened as well, since the opening of a pipe would wait for who writes to it.
 fn opened_to_read<R: Files<File = File>>(rt: &R, path: &str) -> io::Result<File>
     ensures { IfOk result (λ file. pos 3 ≤ℤ file_raw_fd file) }
 {

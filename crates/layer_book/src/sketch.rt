@@ -210,6 +210,7 @@ impl<'a> Sketch<'a> {
         None
     }
 
+    /// Why DROP is refused: no layer has the name, or a definition still names it.
     fn refusal_of_remove(&self, name: &Name) -> Option<LayerFault>
         ensures { result ≡ option_map fault_of (refusal_of_remove (sketched self.now) name.now) }
     {

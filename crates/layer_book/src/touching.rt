@@ -36,8 +36,8 @@ impl Layers {
         requires made { after.now ≡ applied self.now (command change.now) }
         ensures { IfOk result (λ rows. rows.items ≡ touched_rows self.now (command change.now)) }
     {
-        let replaced = self.replaced_columns(change);
         let over = self.layers_over(change.name());
+        let replaced = self.replaced_columns(change, &over);
         let mut rows = Vec::with_capacity(alloc, self.len())?;
         for i in 0..self.len() {
             if let Some((name, layer)) = self.at(i) {
@@ -50,17 +50,35 @@ impl Layers {
     }
 
     /// In which columns a command touches the tiles of all layers over its name, where it puts rings in the place of
-    /// others: those in which the segments differ. They are compared once.
-    fn replaced_columns(&self, change: &Command) -> Option<[bool; COLUMNS]>
+    /// others: those in which the segments differ. They are compared once, and only where a derived layer is marked.
+    fn replaced_columns(
+        &self,
+        change: &Command,
+        over: &[bool; MAX_LAYERS],
+    ) -> Option<[bool; COLUMNS]>
         ensures { IfSome result (AreOfAllOver self.now (command change.now)) }
     {
         let Command::Put(name, rings) = change else {
             return None;
         };
         match self.get(name) {
-            Some(Layer::Base(old)) => Some(differing_columns(rings.segs(), old.segs())),
+            Some(Layer::Base(old)) if self.has_derived_marked(over) => {
+                Some(differing_columns(rings.segs(), old.segs()))
+            }
             _ => None,
         }
+    }
+
+    /// Whether a derived layer is marked. Only time rests on it.
+    fn has_derived_marked(&self, marks: &[bool; MAX_LAYERS]) -> bool {
+        for i in 0..self.len() {
+            if let Some((_, layer)) = self.at(i) {
+                if is_derived_and_marked(layer, marks, i) {
+                    return true;
+                }
+            }
+        }
+        false
     }
 
     /// In which columns a command touches the tile of a layer, where it is known whether the layer is derived and

@@ -114,7 +114,7 @@ module _ (before after : History) (part : Turn) (made : List Batch) (reply : Lis
       shows = ap decided (newest_more before after (how.between ++ last ∷ []) how.goes_on)
           ∙ decided_more (newest before) (how.between ++ last ∷ []) follows
           ∙ ap (with_batches (decided (newest before))) (one_more ∙ ap (λ (cs : List Batch). cs ++ commands ∷ []) none_between ∙ sym how.only);
-      outside = λ reported. absurd (true≢false (sym reported ∙ ap is_from_outside how.reported ∙ ok_inside how.version.number));
+      outside = λ reported. absurd (true≢false (sym reported ∙ ap is_from_outside how.says ∙ ok_inside how.version.number));
       inside = λ _. (Some commands, asks, made_inside);
     }
 

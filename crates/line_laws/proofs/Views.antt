@@ -39,7 +39,7 @@ Comes session before turn after made reply = IsUnmade turn after made reply ⊎ 
 -- ==== Faults from outside
 
 refuses : (fault : CommandFault) (made : List Batch) (reply : List ℕ) → IsRefused fault made reply → bytes_eq reply (error_line fault) ≡ true
-refuses fault made reply r = ap (λ (l : List ℕ). bytes_eq l (error_line fault)) r.reported ∙ name_itself (error_line fault)
+refuses fault made reply r = ap (λ (l : List ℕ). bytes_eq l (error_line fault)) r.says ∙ name_itself (error_line fault)
 
 memory_outside : (made : List Batch) (reply : List ℕ) → IsRefused OutOfMemory made reply → is_from_outside reply ≡ true
 memory_outside made reply r = or_left (bytes_eq reply (error_line OutOfMemory)) _ (refuses OutOfMemory made reply r)

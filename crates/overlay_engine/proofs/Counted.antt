@@ -81,7 +81,7 @@ module _ {D : Type 0} (g : Ghosts D) where
   device_failed old new (inr (inl (idle, mid, begins, calls))) =
       subst (λ (d : D). g.is_honest d → disks.Failed (g.faults d) (g.faults new.flusher.commit.disk)) begins.disk calls.1
   device_failed old new (inr (inr (idle, not_begun))) =
-      let is : 30 ≡ store_faults.code_of not_begun.why = cc (not_begun.reported) in
+      let is : 30 ≡ store_faults.code_of not_begun.why = cc (not_begun.says) in
       absurd (no_reason old.flusher.commit _ not_begun.why not_begun.reason is)
 
   pub device_refusals : DeviceRefusals g
@@ -136,7 +136,7 @@ module _ {D : Type 0} (g : Ghosts D) where
       → (calls_of old.flusher.commit old.version ≡ left_by new + 1) × (0 < left_by new)
   device_begins old new idle (inl (busy, calls)) = absurd (false≢true (sym idle ∙ busy))
   device_begins old new idle (inr (inl (rests, mid, begins, calls))) = (sym begins.calls ∙ calls.0.0, calls.0.1)
-  device_begins old new idle (inr (inr (rests, not_begun))) = absurd (cc (not_begun.reported))
+  device_begins old new idle (inr (inr (rests, not_begun))) = absurd (cc (not_begun.says))
 
   -- a step of a commit that goes on leaves so many calls fewer as it asked for
   one_more : (step : Step) (old : Engine D g) (reply : Reply) (new : Engine D g) → (step ≡ Device → reply ≡ Going) → 0 < left_by old → Acts g step old reply new
@@ -204,7 +204,7 @@ module _ {D : Type 0} (g : Ghosts D) where
   once_begins old new idle (inl (busy, calls)) = absurd (false≢true (sym idle ∙ busy))
   once_begins old new idle (inr (inl (rests, mid, begins, calls))) =
       subst (λ (d : D). g.is_honest d → g.is_honest new.flusher.commit.disk × (made_by new ≡ g.calls d + 1)) begins.disk calls.3
-  once_begins old new idle (inr (inr (rests, not_begun))) = absurd (cc (not_begun.reported))
+  once_begins old new idle (inr (inr (rests, not_begun))) = absurd (cc (not_begun.says))
 
   none_other : (step : Step) (old new : Engine D g) → calls_asked step ≡ 0 → new.flusher ≡ old.flusher → g.is_honest old.flusher.commit.disk
       → g.is_honest new.flusher.commit.disk × (made_by new ≡ made_by old + calls_asked step)
@@ -282,7 +282,7 @@ module _ {D : Type 0} (g : Ghosts D) where
   next_begins : (old new : Engine D g) → is_busy old.flusher.commit.phase ≡ false → Devices g old Going new → next_of new ≡ old.version.number
   next_begins old new idle (inl (busy, calls)) = absurd (false≢true (sym idle ∙ busy))
   next_begins old new idle (inr (inl (rests, mid, begins, calls))) = ap (λ (r : Root). r.version) calls.1.1 ∙ begins.number
-  next_begins old new idle (inr (inr (rests, not_begun))) = absurd (cc (not_begun.reported))
+  next_begins old new idle (inr (inr (rests, not_begun))) = absurd (cc (not_begun.says))
 
   next_other : (old new : Engine D g) → new.flusher ≡ old.flusher → next_of new ≡ next_of old
   next_other old new same = ap (λ (f : Flusher D g). f.commit.next_root.version) same

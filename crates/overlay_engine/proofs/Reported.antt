@@ -10,7 +10,7 @@ use Rattle.overlay_engine.specs.declared.step.Reply.TheVariants.{Accepted, Refus
 use Rattle.overlay_engine.specs.Acts.{Acts}
 use Rattle.overlay_engine.specs.Devices.{Calls, Devices}
 use Rattle.overlay_engine.specs.Runs.{Made, EachFollows}
-use Rattle.overlay_engine.specs.Telling.{HasNumber, next_after, Numbered, reported_after, last_reported, JobsAreNumbered, DurableIsLastReported, CrashKeepsReported}
+use Rattle.overlay_engine.specs.RunReplies.{HasNumber, next_after, Numbered, reported_after, last_reported, JobsAreNumbered, DurableIsLastReported, CrashKeepsReported}
 
 -- what a reply says of the numbers before and after its step
 abbrev Tells : ℕ → ℕ → Reply → ℕ → ℕ → Type 0
@@ -49,7 +49,7 @@ module _ {D : Type 0} (g : Ghosts D) where
   device_tells old reply new (inr (inl (idle, mid, begins, calls))) =
       from old mid new reply (ap (λ (e : Engine D g). e.next_job) begins.rest) (ap (λ (e : Engine D g). e.version.durable) begins.rest) (called_tells mid reply new calls)
   device_tells old reply new (inr (inr (idle, not_begun))) =
-      subst (λ (r : Reply). TellsOf old r new) (sym not_begun.reported) (tt, job_of old new not_begun.same, durable_of old new not_begun.same)
+      subst (λ (r : Reply). TellsOf old r new) (sym not_begun.says) (tt, job_of old new not_begun.same, durable_of old new not_begun.same)
 
   acts_tell : (step : Step) (old : Engine D g) (reply : Reply) (new : Engine D g) → Acts g step old reply new → TellsOf old reply new
   acts_tell (Submit change) old (Accepted number) new acts = (tt, ap (λ (e : Engine D g). e.next_job) acts.2, acts.0.durable)

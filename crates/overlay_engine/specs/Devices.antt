@@ -34,7 +34,7 @@ module _ {D : Type 0} {g : Ghosts D} where
     pub reason : IsReason old.flusher.commit.phase old.flusher.commit.root (HasNoRoomFor old.flusher.commit old.version) why
     pub failed : old.flusher.commit.phase ≡ Failed → why ≡ fault.Failed
     pub limit : old.flusher.commit.phase ≡ Idle → sequence_max ≤ old.flusher.commit.root.sequence → why ≡ fault.SequenceLimit
-    pub reported : reply ≡ Refused (code_of why)
+    pub says : reply ≡ Refused (code_of why)
     pub same : new ≡ old
 
 module _ {D : Type 0} (g : Ghosts D) where

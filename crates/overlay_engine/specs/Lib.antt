@@ -9,7 +9,7 @@ pub mod Lives
 pub mod NewEngine
 pub mod OldFile
 pub mod Recovery
+pub mod RunReplies
 pub mod Runs
 pub mod Start
 pub mod Steps
-pub mod Telling

@@ -5,7 +5,7 @@ ghost use Rattle.overlay_engine.specs.Lives.{NothingIsLost};
 ghost use Rattle.overlay_engine.specs.OldFile.{OldFileIsCovered};
 ghost use Rattle.overlay_engine.specs.Recovery.{RecoveredAnswers};
 ghost use Rattle.overlay_engine.specs.Start.{Start};
-ghost use Rattle.overlay_engine.specs.Telling.{CrashKeepsReported, DurableIsLastReported, JobsAreNumbered};
+ghost use Rattle.overlay_engine.specs.RunReplies.{CrashKeepsReported, DurableIsLastReported, JobsAreNumbered};
 
 use disk_model::disk::Disk;
 

@@ -1,4 +1,4 @@
-//! Columns of points: the answer at each, from all segments at once.
+//! Columns of points: the answer at each (`#`, `.` or `+`), from all segments at once.
 ghost use Rattle.std.specs.Prelude.{◌≡◌, ℕ, ◌+◌, ◌<◌, ◌≤◌, length, map, IfOk, if◌then◌else◌};
 ghost use Rattle.std.specs.List.{range_with_len};
 ghost use Rattle.overlay_terms.specs.Laws.{is_on_any};

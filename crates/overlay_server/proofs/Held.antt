@@ -15,8 +15,8 @@ use Rattle.book_history.proofs.Chains.{begins_with}
 use Rattle.book_history.specs.declared.fault.ReportedFault.{ReportedFault}
 use Rattle.script_form.specs.declared.fault.CommandFault.{CommandFault}
 use Rattle.script_form.specs.Transcript.{StoreReport, of_number, of_fault, store_by}
-use Rattle.server_session.specs.Stores.{IsFaultOf, IsReportOf, HistoryReportsStored, store_of}
-use Rattle.store_flushing.specs.Failing.{IsFailed}
+use Rattle.server_session.specs.Stores.{HistoryReportsFault, HistoryReports, HistoryReportsStored, store_of}
+use Rattle.store_flushing.specs.Failing.{FailedAt}
 use Rattle.store_flushing.specs.Storing.{IsStoreOf, IsStored}
 use Rattle.store_flushing.proofs.Following.{by_run}
 use Rattle.store_flushing.proofs.Storage.{begun}
@@ -24,7 +24,7 @@ use Rattle.session_threads.specs.Running.{IsRunOf}
 use Rattle.session_threads.specs.declared.running.Script.{Script}
 use Rattle.session_threads.specs.declared.running.Ended.{Ended}
 use Rattle.overlay_server.specs.Moments.{HasOnlyNow}
-use Rattle.overlay_server.specs.Serving.{HadFailed, IsFailedOf, IsFailureOf, IsHeldOf, IsReportedOf, IsStoredOf, WasHeld, first_log}
+use Rattle.overlay_server.specs.Serving.{HadFailed, IsFailedOf, ServerReportsFault, IsHeldOf, ServerReports, IsStoredOf, WasHeld, first_log}
 use Rattle.server_session.specs.Fault.{store_reported}
 use Rattle.server_session.proofs.Weaker.{session_weaker}
 
@@ -71,12 +71,12 @@ module _ {D : Type 0} (g : Ghosts D) (now : HasOnlyNow g) (start : Version) (sto
       later_held old may.was log history on same may.longer (meant may.was (newest_in log).durable may.holds is)
 
   failed_before : (old : Flusher D g) (was log : List Entry) (history : History) (fault : CommandFault) → BeginsWith history (history_of (first_log start)) → history_of log ≡ history → IsPrefix was log
-      → (reported : ReportedFault) → fault ≡ store_reported reported → IsFailed g (history_of (first_log start)) old was reported → HadFailed g start old history fault
+      → (reported : ReportedFault) → fault ≡ store_reported reported → FailedAt g (history_of (first_log start)) old was reported → HadFailed g start old history fault
   failed_before old was log history fault on same longer reported is fails =
       record { log = was; before = before was log history longer same on fails.followed.goes_on; reported = reported; same = is; failed = fails }
 
   had_failed : (store : Option (Flusher D g)) → ((log : List Entry) (fault : ReportedFault) → failed log fault → IsFailedOf g start store log fault) → IsTrue (is_some store)
-      → (history : History) (fault : CommandFault) → BeginsWith history (history_of (first_log start)) → IsFaultOf failed history fault → IsFailureOf g start store history fault
+      → (history : History) (fault : CommandFault) → BeginsWith history (history_of (first_log start)) → HistoryReportsFault failed history fault → ServerReportsFault g start store history fault
   had_failed None meant there history fault on is = absurd (false≢true there)
   had_failed (Some old) meant there history fault on is = λ store.
       ∥∥₁_map is.failed_so (λ may. failed_before old may.was is.log history fault on is.of may.longer is.reported is.same (meant may.was is.reported may.holds store))
@@ -87,7 +87,7 @@ module _ {D : Type 0} (g : Ghosts D) (now : HasOnlyNow g) (start : Version) (sto
     pub failed_is : (log : List Entry) (fault : ReportedFault) → failed log fault → IsFailedOf g start store log fault
 
   pub was_reported : (store : Option (Flusher D g)) → Means store → IsTrue (is_some store) → (history : History) (report : StoreReport) → BeginsWith history (history_of (first_log start))
-      → IsReportOf stored failed history report → IsReportedOf g start store history report
+      → HistoryReports stored failed history report → ServerReports g start store history report
   was_reported store means there history of_number on is = was_held store means.stored_is there history on is
   was_reported store means there history (of_fault fault) on is = had_failed store means.failed_is there history fault on is
 
@@ -95,7 +95,7 @@ module _ {D : Type 0} (g : Ghosts D) (now : HasOnlyNow g) (start : Version) (sto
   pub runs_held : {R W : Type 0} (book : Book) (store : Option (Flusher D g)) (remaining : R → Option (List ℕ)) (contents : W → Option (List ℕ))
       → Means store → (ss : List (Script R W)) (es : List (Ended R W)) → AllByRecursion (λ (s : Script R W). BeginsWith (seen s.session) (history_of (first_log start))) ss
       → AllZip (IsRunOf book (store_of stored failed (is_some store)) remaining contents) ss es
-      → AllZip (IsRunOf book (store_by (IsReportedOf g start store) (is_some store)) remaining contents) ss es
+      → AllZip (IsRunOf book (store_by (ServerReports g start store) (is_some store)) remaining contents) ss es
   runs_held book store remaining contents meant [] [] begin ran = tt
   runs_held book store remaining contents meant [] (e ∷ es) begin ran = absurd ran
   runs_held book store remaining contents meant (s ∷ ss) [] begin ran = absurd ran
@@ -106,7 +106,7 @@ module _ {D : Type 0} (g : Ghosts D) (now : HasOnlyNow g) (start : Version) (sto
           same = one.same;
           begun = one.begun;
           goes_on = one.goes_on;
-          ran = session_weaker (IsReportOf stored failed) (IsReportedOf g start store) (is_some store) (history_of (first_log start)) (was_reported store meant) s.port.most e.end s.session e.session
+          ran = session_weaker (HistoryReports stored failed) (ServerReports g start store) (is_some store) (history_of (first_log start)) (was_reported store meant) s.port.most e.end s.session e.session
               _ _ _ _ begin.0 one.ran;
         },
         runs_held book store remaining contents meant ss es begin.1 ran.1,

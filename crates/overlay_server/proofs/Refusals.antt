@@ -52,7 +52,7 @@ module _ {D : Type 0} (g : Ghosts D) (start : Version) (store : Option (Flusher 
     pub none : fault.sessions.items ≡ [] → commands_in (history_of fault.seen_log.log).entries ≡ []
     pub sessions : AreStopped (store_from g start store) start fault.seen_log.log all fault.sessions.items
 
-  pub refused_from : (answer : BookAnswer) → IsAnswered fault answer → IsHistoryLeft → StoreComesBack g start fault.seen_log.log (notes_in fault.reported) store fault.disk
+  pub refused_from : (answer : BookAnswer) → IsAnswered fault answer → IsHistoryLeft → StoreComesBack g start fault.seen_log.log (notes_in fault.notes) store fault.disk
       → IsRefusedFrom g start store all fault
   refused_from answer answered left back = record {
     code = ⊎_elim (λ is. inl (answered.code ∙ is)) (λ is. inr (answered.code ∙ is)) (code_by (answer_in answer) answered.may);
@@ -76,7 +76,7 @@ module _ {D : Type 0} (g : Ghosts D) (start : Version) (store : Option (Flusher 
     sessions = none_stopped (store_from g start store) start fault.seen_log.log all fault.sessions.items fault.seen_log.book none;
   }
 
-  pub refused_at_once : (answer : BookAnswer) → IsAnswered fault answer → fault.seen_log.log ≡ first_log start → notes_in fault.reported ≡ [] → fault.sessions.items ≡ []
+  pub refused_at_once : (answer : BookAnswer) → IsAnswered fault answer → fault.seen_log.log ≡ first_log start → notes_in fault.notes ≡ [] → fault.sessions.items ≡ []
       → StoreComesBack g start (first_log start) [] store fault.disk → IsRefusedFrom g start store all fault
   refused_at_once answer answered first unreported none back =
       refused_from answer answered (nothing_left first none)

@@ -21,12 +21,12 @@ use Rattle.session_threads.specs.declared.port.Port.{Port}
 use Rattle.session_threads.specs.declared.running.Script.{Script}
 use Rattle.store_flushing.proofs.Histories.{begins_trans}
 use Rattle.overlay_server.specs.Moments.{HasOnlyNow}
-use Rattle.overlay_server.specs.Serving.{IsReportedOf, first_log, flusher_of}
+use Rattle.overlay_server.specs.Serving.{ServerReports, first_log, flusher_of}
 use Rattle.overlay_server.proofs.Held.{Means, was_reported}
 
 module _ {D : Type 0} (g : Ghosts D) (now : HasOnlyNow g) (start : Version) (stored : List Entry → ℕ → Type 0) (failed : List Entry → ReportedFault → Type 0) (store : Option (Flusher D g))
     (means : Means g now start stored failed store) (may : History → StoreReport → Type 0)
-    (held : (history : History) (report : StoreReport) → IsReportedOf g start store history report → may history report) (there : Bool) (same : there ≡ is_some store) where
+    (held : (history : History) (report : StoreReport) → ServerReports g start store history report → may history report) (there : Bool) (same : there ≡ is_some store) where
   -- to those of sessions that have seen how the book began
   pub may_report_all : {R W : Type 0} (ss : List (Script R W)) → AllByRecursion (λ (s : Script R W). BeginsWith (seen s.session) (history_of (first_log start))) ss
       → All (λ (s : Script R W). MayReport stored failed there s.session may) ss

@@ -140,7 +140,7 @@ module _ {R W D : Type 0} (g : Ghosts D) (book : Book) (remaining : R → Option
       }
 
   pub stopped_from : (begun : Bool) (answer : BookAnswer) (closed : Closed D) → IsAnswered fault answer → IsClosed g start after ended closed
-      → (fault.disk ≡ closed.disk) × ((fault.seen_log ≡ closed.seen_log) × (fault.reported ≡ closed.reported)) → begun ≡ any_of (map finished_of ended)
+      → (fault.disk ≡ closed.disk) × ((fault.seen_log ≡ closed.seen_log) × (fault.notes ≡ closed.notes)) → begun ≡ any_of (map finished_of ended)
       → MatchBool begun (fault.sessions.items ≡ map ended_session ended) (fault.sessions.items ≡ []) → IsRefusedFrom g start (flusher_in store) (given_to remaining contents ports) fault
   stopped_from begun answer closed answered so same begun_is come =
       let log : fault.seen_log ≡ closed.seen_log = same.1.0 in
@@ -152,8 +152,8 @@ module _ {R W D : Type 0} (g : Ghosts D) (book : Book) (remaining : R → Option
         begun_is = begun_is;
         come = come;
       }))
-      (subst (λ (d : Option D). StoreComesBack g start fault.seen_log.log (notes_in fault.reported) (flusher_in store) d) (sym same.0)
-      (subst (λ (l : BookLog). StoreComesBack g start l.log (notes_in fault.reported) (flusher_in store) closed.disk) (sym log)
+      (subst (λ (d : Option D). StoreComesBack g start fault.seen_log.log (notes_in fault.notes) (flusher_in store) d) (sym same.0)
+      (subst (λ (l : BookLog). StoreComesBack g start l.log (notes_in fault.notes) (flusher_in store) closed.disk) (sym log)
       (subst (λ (t : ReportLog). StoreComesBack g start closed.seen_log.log (notes_in t) (flusher_in store) closed.disk) (sym same.1.1)
       (back_from g start (flusher_in store) closed (left_by g start store after closed began.log began.none_reported ran.kept.flushed so.store)))))
 
@@ -161,7 +161,7 @@ module _ {R W D : Type 0} (g : Ghosts D) (book : Book) (remaining : R → Option
 pub stopped_of : {R W D : Type 0} (g : Ghosts D) (book : Book) (remaining : R → Option (List ℕ)) (contents : W → Option (List ℕ)) (start : Version) (ports : List (Port R W)) (store after : Store D g)
     (scripts : List (Script R W)) (ended : List (Ended R W)) (refused : PortsFault R W D) → Began book start ports store scripts → Ran g book start remaining contents store after scripts ended
     → (answer : BookAnswer) (closed : Closed D) → IsAnswered refused.fault answer → IsClosed g start after ended closed
-    → (refused.fault.disk ≡ closed.disk) × ((refused.fault.seen_log ≡ closed.seen_log) × (refused.fault.reported ≡ closed.reported))
+    → (refused.fault.disk ≡ closed.disk) × ((refused.fault.seen_log ≡ closed.seen_log) × (refused.fault.notes ≡ closed.notes))
     → (finished : Vec (Finished W) Global) → finished.items ≡ map finished_of ended → refused.back ≡ Stopped finished
     → MatchBool (any_of finished.items) (refused.fault.sessions.items ≡ map ended_session ended) (refused.fault.sessions.items ≡ [])
     → IsRefusedOf remaining contents g start (flusher_in store) (given_to remaining contents ports) refused

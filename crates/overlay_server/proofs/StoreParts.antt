@@ -18,7 +18,7 @@ use Rattle.store_flushing.specs.Among.{IsFileIn}
 use Rattle.store_flushing.specs.Failing.{HoldsOfFailed}
 use Rattle.store_flushing.specs.Storing.{IsStoreOf, HoldsOfStored}
 use Rattle.store_flushing.specs.Stores.{flusher_in, reporter_of, notes_by}
-use Rattle.store_flushing.specs.ReportNote.{StaysReported, TellsOn, notes_in}
+use Rattle.store_flushing.specs.ReportNote.{StaysReported, ReportsOn, notes_in}
 use Rattle.store_flushing.specs.Unstored.{IsReasonGiven}
 use Rattle.store_flushing.specs.declared.closed.Closed.{Closed}
 use Rattle.store_flushing.specs.declared.keeper.Keeper.{Keeper}
@@ -30,7 +30,7 @@ use Rattle.store_flushing.proofs.FailLemmas.{failed_on}
 use Rattle.store_flushing.proofs.Following.{by_run, handed_on}
 use Rattle.store_flushing.proofs.Histories.{file_more}
 use Rattle.store_flushing.proofs.Storage.{begun, store_leaves, then}
-use Rattle.store_flushing.proofs.ReportedLemmas.{none_yet, telling_then, tells_then, reported_at_end}
+use Rattle.store_flushing.proofs.ReportedLemmas.{none_yet, reporting_then, reports_then, reported_at_end}
 use Rattle.overlay_server.specs.Moments.{HasOnlyNow}
 use Rattle.overlay_server.specs.Keeping.{AreFlushed, HoldsOfStore, IsStoreKept}
 use Rattle.overlay_server.specs.Refusing.{StoreComesBack}
@@ -54,7 +54,7 @@ module _ {D : Type 0} (g : Ghosts D) where
     flushes = λ is. let one = first.flushes is in
         then g (history_of a.reporter.log) (history_of b.reporter.log) (history_of c.reporter.log) a.held.flusher b.held.flusher c.held.flusher one (second.flushes one.store);
     rests = second.rests;
-    tells = telling_then g a b c first.tells (λ is. (first.flushes is).store) second.tells;
+    reports = reporting_then g a b c first.reports (λ is. (first.flushes is).store) second.reports;
   }
   flushed_twice (Kept a) (Kept b) (Alone c) first second = absurd second
   flushed_twice (Kept a) (Alone b) c first second = absurd first
@@ -109,10 +109,10 @@ module _ {D : Type 0} (g : Ghosts D) where
     pub durable : All (λ (e : Entry). e.version.durable ≤ (newest_in closed.seen_log.log).durable) closed.seen_log.log
     pub store : MatchOption (flusher_in whole) ((closed.stored ≡ 0) × (closed.disk ≡ None)) (λ (f : Flusher D g). (closed.stored ≡ f.commit.root.version) × (closed.disk ≡ Some f.commit.disk))
     pub fault : MatchOption (flusher_in whole) (closed.fault ≡ None) (λ (f : Flusher D g). IsReasonGiven closed.fault f (arc_value closed.version))
-    pub reported : notes_in closed.reported ≡ notes_by whole
+    pub notes : notes_in closed.notes ≡ notes_by whole
 
   -- nothing was reported as the book began
-  none_yet_by : (start : Version) (k : Keeper D g) (disk : D) → k.reporter.log ≡ first_log start → notes_in k.reported ≡ [] → StaysReported g (history_of k.reporter.log) (notes_in k.reported) disk disk
+  none_yet_by : (start : Version) (k : Keeper D g) (disk : D) → k.reporter.log ≡ first_log start → notes_in k.notes ≡ [] → StaysReported g (history_of k.reporter.log) (notes_in k.notes) disk disk
   none_yet_by start k disk first none =
       subst (λ (ts : List ReportNote). StaysReported g (history_of k.reporter.log) ts disk disk) (sym none)
       (subst (λ (es : List Entry). StaysReported g (history_of es) [] disk disk) (sym first) (none_yet g start disk))
@@ -141,10 +141,10 @@ module _ {D : Type 0} (g : Ghosts D) where
         let was_store = subst (λ (es : List Entry). IsStoreOf g (history_of es) old) (sym first) is in
         let run = flushed.flushes was_store in
         let low : (newest_in l.reporter.log).durable ≤ stored = run.store.reported in
-        let rest = reported_at_end g now end (notes_in l.reported) last.commit.disk on (is_history log closes.log) closes.heard.durable in
-        let whole : TellsOn g was (notes_in f.reported) old.commit.disk end (notes_in closed.reported) last.commit.disk =
-        subst (λ (ts : List ReportNote). TellsOn g was (notes_in f.reported) old.commit.disk end ts last.commit.disk) (sym closes.reported)
-        (tells_then g was now end (notes_in f.reported) (notes_in l.reported) (notes_in l.reported) old.commit.disk last.commit.disk last.commit.disk (flushed.tells was_store) rest) in
+        let rest = reported_at_end g now end (notes_in l.notes) last.commit.disk on (is_history log closes.log) closes.heard.durable in
+        let whole : ReportsOn g was (notes_in f.notes) old.commit.disk end (notes_in closed.notes) last.commit.disk =
+        subst (λ (ts : List ReportNote). ReportsOn g was (notes_in f.notes) old.commit.disk end ts last.commit.disk) (sym closes.notes)
+        (reports_then g was now end (notes_in f.notes) (notes_in l.notes) (notes_in l.notes) old.commit.disk last.commit.disk last.commit.disk (flushed.reports was_store) rest) in
         record {
           no_less = run.no_less;
           moments =
@@ -162,7 +162,7 @@ module _ {D : Type 0} (g : Ghosts D) where
 
   -- after its threads have returned
   pub back_from : (start : Version) (old : Option (Flusher D g)) (closed : Closed D) → IsLeftOfStore g start old closed
-      → StoreComesBack g start closed.seen_log.log (notes_in closed.reported) old closed.disk
+      → StoreComesBack g start closed.seen_log.log (notes_in closed.notes) old closed.disk
   back_from start None closed left = left.1
   back_from start (Some f) closed left = record {
     disk = left.last.commit.disk;

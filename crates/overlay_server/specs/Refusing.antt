@@ -85,7 +85,7 @@ pub record IsRefusedFrom {D : Type 0} (g : Ghosts D) (start : Version) (store : 
   pub only : All (λ c. c.0 < length fault.sessions.items) (commands_in (history_of fault.seen_log.log).entries)
   pub none : fault.sessions.items ≡ [] → commands_in (history_of fault.seen_log.log).entries ≡ []
   pub sessions : AreStopped (store_from g start store) start fault.seen_log.log all fault.sessions.items
-  pub back : StoreComesBack g start fault.seen_log.log (notes_in fault.reported) store fault.disk
+  pub back : StoreComesBack g start fault.seen_log.log (notes_in fault.notes) store fault.disk
 
 -- ---- the ports of a server
 

@@ -20,7 +20,7 @@ use Rattle.script_form.specs.Transcript.{BookStore, StoreReport, of_number, of_f
 use Rattle.server_session.specs.Fault.{store_reported}
 use Rattle.server_session.specs.Session.{IsSessionWithin}
 use Rattle.store_flushing.specs.Among.{IsFileIn, IsFileExactlyIn}
-use Rattle.store_flushing.specs.Failing.{IsFailed}
+use Rattle.store_flushing.specs.Failing.{FailedAt}
 use Rattle.store_flushing.specs.Storing.{IsStoreOf, IsStored}
 use Rattle.store_flushing.specs.ReportNote.{StaysReported, notes_in}
 use Rattle.store_flushing.specs.Unstored.{IsReasonGiven}
@@ -70,7 +70,7 @@ IsHeldOf g start (Some old) history =
 abbrev pub IsFailedOf : {D : Type 0} (g : Ghosts D) → Version → Option (Flusher D g) → List Entry → ReportedFault → Type 0
 IsFailedOf g start None log fault = ⊥
 IsFailedOf g start (Some old) log fault =
-    IsStoreOf g (history_of (first_log start)) old → IsFailed g (history_of (first_log start)) old log fault
+    IsStoreOf g (history_of (first_log start)) old → FailedAt g (history_of (first_log start)) old log fault
 
 -- a fault was reported for which the store failed: the first version's store, followed to a beginning of the history
 pub record HadFailed {D : Type 0} (g : Ghosts D) (start : Version) (old : Flusher D g) (history : History) (fault : CommandFault) : Type 0 where
@@ -78,22 +78,22 @@ pub record HadFailed {D : Type 0} (g : Ghosts D) (start : Version) (old : Flushe
   pub before : BeginsWith history (history_of log)
   pub reported : ReportedFault
   pub same : fault ≡ store_reported reported
-  pub failed : IsFailed g (history_of (first_log start)) old log reported
+  pub failed : FailedAt g (history_of (first_log start)) old log reported
 
 -- which fault of its store a server reports to a session at which history: one for which that failed
-abbrev pub IsFailureOf : {D : Type 0} (g : Ghosts D) → Version → Option (Flusher D g) → History → CommandFault → Type 0
-IsFailureOf g start None history fault = ⊥
-IsFailureOf g start (Some old) history fault =
+abbrev pub ServerReportsFault : {D : Type 0} (g : Ghosts D) → Version → Option (Flusher D g) → History → CommandFault → Type 0
+ServerReportsFault g start None history fault = ⊥
+ServerReportsFault g start (Some old) history fault =
     IsStoreOf g (history_of (first_log start)) old → ∥ HadFailed g start old history fault ∥₁
 
 -- what a server reports to a session of its store
-abbrev pub IsReportedOf : {D : Type 0} (g : Ghosts D) → Version → Option (Flusher D g) → History → StoreReport → Type 0
-IsReportedOf g start store history of_number = IsHeldOf g start store history
-IsReportedOf g start store history (of_fault fault) = IsFailureOf g start store history fault
+abbrev pub ServerReports : {D : Type 0} (g : Ghosts D) → Version → Option (Flusher D g) → History → StoreReport → Type 0
+ServerReports g start store history of_number = IsHeldOf g start store history
+ServerReports g start store history (of_fault fault) = ServerReportsFault g start store history fault
 
 -- what the sessions of a server know of its store
 abbrev pub store_from : {D : Type 0} (g : Ghosts D) → Version → Option (Flusher D g) → BookStore
-store_from g start store = store_by (IsReportedOf g start store) (is_some store)
+store_from g start store = store_by (ServerReports g start store) (is_some store)
 
 -- ---- sessions
 
@@ -145,7 +145,7 @@ module _ {D : Type 0} (g : Ghosts D) where
     pub stored : closed.stored ≡ last.commit.root.version
     pub rests : is_busy last.commit.phase ≡ false
     pub fault : IsReasonGiven closed.fault last (arc_value closed.version)
-    pub left : IsStoreOf g (history_of (first_log start)) old → IsLeftBy closed.seen_log.log (notes_in closed.reported) old last
+    pub left : IsStoreOf g (history_of (first_log start)) old → IsLeftBy closed.seen_log.log (notes_in closed.notes) old last
 
   -- the same where there was one
   abbrev pub IsLeftOfStore : Version → Option (Flusher D g) → Closed D → Type 0

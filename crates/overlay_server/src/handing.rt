@@ -48,7 +48,7 @@ pub fn returned<W, D>(key: Option<Key<D>>, left: Left<W, Shut<D>>) -> Left<W, D>
             stored: closed.stored,
             fault: closed.fault,
             disk: unlocked(key, closed.disk),
-            reported: closed.reported,
+            notes: closed.notes,
         },
     }
 }
@@ -63,7 +63,7 @@ pub fn returned_fault<D>(key: Option<Key<D>>, fault: ServerFault<Shut<D>>) -> Se
         disk: unlocked(key, fault.disk),
         answer: fault.answer,
         seen_log: fault.seen_log,
-        reported: fault.reported,
+        notes: fault.notes,
         sessions: fault.sessions,
     }
 }

@@ -12,7 +12,7 @@ ghost use Rattle.version_book.specs.Store.{has_store};
 ghost use Rattle.overlay_server.specs.Given.{Given, bytes_of, given_by, given_to};
 ghost use Rattle.overlay_server.specs.Hosting.{IsHosted};
 ghost use Rattle.overlay_server.specs.Refusing.{IsRefusedFrom, IsRefusedOf};
-ghost use Rattle.overlay_server.specs.Serving.{IsFailedOf, IsLeftFrom, IsReportedOf, IsStoredOf, first_log};
+ghost use Rattle.overlay_server.specs.Serving.{IsFailedOf, IsLeftFrom, ServerReports, IsStoredOf, first_log};
 
 use crate::hosted::Hosted;
 use crate::listening::listened;
@@ -143,7 +143,7 @@ where
     requires failed { (log : List Entry) (fault : ReportedFault) → J.failed log fault ↔ IsFailedOf D.Disk version store.flusher log fault }
     requires seats { J.seats ≡ length ports.items }
     requires ports { (0 < length ports.items) × (length ports.items ≤ 4) }
-    requires reported { (history : History) (report : StoreReport) → IsReportedOf D.Disk version store.flusher history report → W.may_report history report }
+    requires reported { (history : History) (report : StoreReport) → ServerReports D.Disk version store.flusher history report → W.may_report history report }
     // Each writer goes on from the session of its place in this book alone: no other answers it, also where this never returns.
     requires from { AllZip (λ port me. W.from port.writer (is_some store.flusher) me) ports.items (beginners opened.1 (length ports.items)) }
     requires own { All (λ port. IfSome (W.left port.writer) (IsAtStart (R.remaining port.reader))) ports.items }
@@ -183,7 +183,7 @@ where
         requires ports { 0 < length ports.items }
         requires hosted { IsHosted J.book (length ports.items) self }
         requires reported { (history : History) (report : StoreReport)
-            → IsReportedOf D.Disk self.version.value (flusher_in self.store) history report → W.may_report history report }
+            → ServerReports D.Disk self.version.value (flusher_in self.store) history report → W.may_report history report }
         requires from { AllZip (λ port me. W.from port.writer (has_store self.shared) me) ports.items self.sessions.items }
         requires own { All (λ port. IfSome (W.left port.writer) (IsAtStart (R.remaining port.reader))) ports.items }
         requires limit { All (λ port. IsPastMost port.most (R.remaining port.reader) → W.may_pass_limit port.writer) ports.items }

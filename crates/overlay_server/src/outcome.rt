@@ -40,7 +40,7 @@ pub struct ServerFault<D> {
     /// The book's history, to its end.
     pub seen_log: SeenLog,
     /// What was reported durable, and when.
-    pub reported: ReportLog,
+    pub notes: ReportLog,
     /// The sessions, in the order of the ports or readers, with what they have seen and made. None where none was
     /// begun, and then no command was accepted.
     pub sessions: Vec<Session>,

@@ -29,7 +29,7 @@ pub fn refused<D>(
     ensures answer { result.answer ≡ answer }
     ensures disk { result.disk ≡ disk }
     ensures seen_log { result.seen_log ≡ seen_log }
-    ensures reported { notes_in result.reported ≡ [] }
+    ensures notes { notes_in result.notes ≡ [] }
     ensures sessions { result.sessions.items ≡ [] }
 {
     ServerFault {
@@ -37,7 +37,7 @@ pub fn refused<D>(
         disk,
         answer,
         seen_log,
-        reported: ReportLog::none(),
+        notes: ReportLog::none(),
         sessions: Vec::new(alloc),
     }
 }
@@ -53,7 +53,7 @@ pub fn stopped<R, W, D>(
 ) -> PortsFault<R, W, D>
     ensures code { result.fault.code ≡ refusal_code (answer_in answer) }
     ensures answer { result.fault.answer ≡ answer }
-    ensures closed { (result.fault.disk ≡ closed.disk) × ((result.fault.seen_log ≡ closed.seen_log) × (result.fault.reported ≡ closed.reported)) }
+    ensures closed { (result.fault.disk ≡ closed.disk) × ((result.fault.seen_log ≡ closed.seen_log) × (result.fault.notes ≡ closed.notes)) }
     ensures sessions { MatchBool (list_any (λ one. was_begun one.end) finished.items)
         (result.fault.sessions.items ≡ sessions.items) (result.fault.sessions.items ≡ []) }
     // Each writer comes back, with how its session ended.
@@ -67,7 +67,7 @@ pub fn stopped<R, W, D>(
             disk: closed.disk,
             answer,
             seen_log: closed.seen_log,
-            reported: closed.reported,
+            notes: closed.notes,
             sessions: if begun { sessions } else { Vec::new(alloc) },
         },
         back: PortsBack::Stopped(finished),

@@ -8,7 +8,7 @@ ghost use Rattle.overlay_server.specs.Given.{bytes_of, given_by, given_to};
 ghost use Rattle.overlay_server.specs.Refusing.{IsRefusedFrom, IsRefusedOf};
 ghost use Rattle.overlay_terms.specs.Histories.{History};
 ghost use Rattle.script_form.specs.Transcript.{StoreReport};
-ghost use Rattle.overlay_server.specs.Serving.{IsLeftFrom, IsReportedOf, first_log, flusher_of, start_of};
+ghost use Rattle.overlay_server.specs.Serving.{IsLeftFrom, ServerReports, first_log, flusher_of, start_of};
 
 use crate::handing::{handed, returned, returned_fault};
 use crate::hosting::{listen_in, serve_in};
@@ -95,7 +95,7 @@ where
     // To the writers may be reported what the store holds and for what it failed, and nothing else of it: this says what
     // counts so, also in a call that never returns. Each writer of bytes meets it.
     requires reported { (history : History) (report : StoreReport)
-        → IsReportedOf D.Disk (start_of engine) (flusher_of engine) history report → W.may_report history report }
+        → ServerReports D.Disk (start_of engine) (flusher_of engine) history report → W.may_report history report }
     // Each begins with whichever session that has made nothing, of a book with a store just where there is an engine, and has
     // all of its reader's script left, if it keeps that. Each writer of bytes meets it.
     requires from { All (λ port. (me : Known) → me.made ≡ [] → W.from port.writer (is_some engine) me) ports.items }

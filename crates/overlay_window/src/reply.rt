@@ -17,12 +17,12 @@ pub fn line_of(alloc: Global, made: Result<BaseLayer, WindowFault>) -> Result<Ve
             line.push(b'\n')?;
             Ok(line)
         }
-        Err(fault) => reported(alloc, fault),
+        Err(fault) => fault_line(alloc, fault),
     }
 }
 
 /// The line of a refusal.
-fn reported(alloc: Global, fault: WindowFault) -> Result<Vec<u8>, AllocError>
+fn fault_line(alloc: Global, fault: WindowFault) -> Result<Vec<u8>, AllocError>
     ensures { IfOk result (λ line. line.items ≡ fault_line fault) }
 {
     let mut line = String::new(alloc);

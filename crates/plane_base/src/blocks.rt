@@ -1,5 +1,6 @@
 //! Segments, and the same in blocks.
 ghost use Rattle.std.specs.Prelude.{◌≡◌, ◌≤◌, ◌<◌, ◌+◌, ◌*◌, take, drop, length, IfOk};
+ghost use Rattle.std.specs.List.Sorted.{IsPermutation};
 ghost use Rattle.plane_base.specs.Bounds.{Cover};
 
 use crate::bounds::Bounds;
@@ -9,6 +10,9 @@ use std::marker::Model;
 
 /// How many segments a block has; the last one may have fewer.
 pub(crate) const SEGMENTS_PER_BLOCK: usize = 32;
+
+/// How many segments, at least, go on one way on average where their runs are worth keeping.
+const SEGMENTS_PER_RUN: usize = 64;
 
 /// A list of segments, and the same segments again by the x of their left ends, in blocks of 32 with their ranges
 /// of x and y.
@@ -39,8 +43,7 @@ impl Blocks {
     pub fn new(alloc: Global, segs: Vec<Seg>) -> Result<Blocks, AllocError>
         ensures { IfOk result (λ blocks. blocks ≡ segs.items) }
     {
-        let mut sorted = segs.clone()?;
-        sorted.sort_unstable_by_key(|seg| seg.left().x());
+        let sorted = by_left(segs.clone()?)?;
         let bounds = bounds_of(alloc, &sorted)?;
         Ok(Blocks {
             segs,
@@ -63,6 +66,37 @@ impl Blocks {
     {
         (&self.bounds, &self.sorted)
     }
+}
+
+/// The segments by the x of their left ends. Those of an outline go to the right and back in few runs: these are
+/// merged, in room for as many segments; others are sorted where they are.
+fn by_left(segs: Vec<Seg>) -> Result<Vec<Seg>, AllocError>
+    ensures { IfOk result (λ sorted. IsPermutation segs.items sorted.items) }
+{
+    let mut sorted = segs;
+    if is_in_few_runs(&sorted) {
+        sorted.sort_by_key(|seg| seg.left().x())?;
+    } else {
+        sorted.sort_unstable_by_key(|seg| seg.left().x());
+    }
+    Ok(sorted)
+}
+
+/// Whether the left ends seldom turn from right to left or back. Only time rests on it.
+fn is_in_few_runs(segs: &[Seg]) -> bool {
+    let mut turns_left = segs.len() / SEGMENTS_PER_RUN;
+    let mut was_falling = false;
+    for i in 1..segs.len() {
+        let is_falling = segs[i].left().x() < segs[i - 1].left().x();
+        if is_falling != was_falling {
+            if turns_left == 0 {
+                return false;
+            }
+            turns_left -= 1;
+            was_falling = is_falling;
+        }
+    }
+    true
 }
 
 /// The ranges of each block.

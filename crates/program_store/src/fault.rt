@@ -1,4 +1,4 @@
-//! The faults of the program's own.
+//! The faults of the program's own, and the exit status after each.
 ghost use Rattle.std.specs.Prelude.{◌≡◌, ◌⊎◌};
 ghost use Rattle.fault_texts.specs.FaultText.{shown, IsBrief};
 ghost use Rattle.program_store.specs.Ending.{exit_status};

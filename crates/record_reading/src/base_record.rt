@@ -20,7 +20,7 @@ pub fn read_base(alloc: Global, bytes: &[u8]) -> Result<BaseLayer, RecordFault>
 {
     match base_in(alloc, bytes) {
         Ok(layer) => Ok(layer),
-        Err(fault) => Err(fault.reported(Damage::LayerForm)),
+        Err(fault) => Err(fault.as_record_fault(Damage::LayerForm)),
     }
 }
 

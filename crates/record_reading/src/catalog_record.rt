@@ -28,7 +28,7 @@ pub fn read_catalog(alloc: Global, is_old: bool, bytes: &[u8]) -> Result<Vec<Lis
     }
     match catalog_in(alloc, COLUMN_COUNT, bytes) {
         Ok(listing) => Ok(listing),
-        Err(fault) => Err(fault.reported(Damage::CatalogForm)),
+        Err(fault) => Err(fault.as_record_fault(Damage::CatalogForm)),
     }
 }
 
@@ -40,7 +40,7 @@ fn read_old(alloc: Global, bytes: &[u8]) -> Result<Vec<Listed>, RecordFault>
             Ok(pending) => Ok(pending),
             Err(_) => Err(RecordFault::OutOfMemory),
         },
-        Err(fault) => Err(fault.reported(Damage::CatalogForm)),
+        Err(fault) => Err(fault.as_record_fault(Damage::CatalogForm)),
     }
 }
 

@@ -17,7 +17,7 @@ pub fn read_definition(alloc: Global, bytes: &[u8]) -> Result<Expr, RecordFault>
 {
     match definition_in(alloc, bytes) {
         Ok(expression) => Ok(expression),
-        Err(fault) => Err(fault.reported(Damage::LayerForm)),
+        Err(fault) => Err(fault.as_record_fault(Damage::LayerForm)),
     }
 }
 

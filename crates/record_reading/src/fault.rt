@@ -59,7 +59,7 @@ impl RecordFault {
 
 impl ReadFault {
     /// The fault as the damage that it is.
-    pub fn reported(self, damage: Damage) -> RecordFault
+    pub fn as_record_fault(self, damage: Damage) -> RecordFault
         ensures { result ≡ reported_as damage self }
     {
         match self {

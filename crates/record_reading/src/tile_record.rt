@@ -22,7 +22,7 @@ pub fn read_tile(alloc: Global, column: Column, bytes: &[u8]) -> Result<Tile, Re
 {
     match tile_in(alloc, column, bytes) {
         Ok(tile) => Ok(tile),
-        Err(fault) => Err(fault.reported(Damage::TileForm)),
+        Err(fault) => Err(fault.as_record_fault(Damage::TileForm)),
     }
 }
 

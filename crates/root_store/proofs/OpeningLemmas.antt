@@ -17,7 +17,7 @@ use Rattle.commit_plan.specs.declared.loaded.Loaded.{Loaded}
 use Rattle.commit_plan.specs.Kept.{Kept, other, Live, Rest, Shut, Calm}
 use Rattle.commit_plan.specs.Loaded.{held_in, kept_in}
 use Rattle.root_reading.specs.Looking.{Looks, Refuses, Causes}
-use Rattle.commit_plan.specs.Fault.{fault_reported}
+use Rattle.commit_plan.specs.Fault.{store_fault_of}
 use Rattle.root_store.specs.Opening.{IsRead, Opened, Loads, IsSettled, InPhases, Stops, StandsStill, OpeningWrites, IsCompleted, Completes, Tells, FailedBy}
 use Rattle.root_store.specs.Healing.{HoldsTwin, Heals}
 use Rattle.commit_plan.specs.declared.fault.StoreFault.{StoreFault}
@@ -192,8 +192,8 @@ phases_healed g old mid new x reads root alone below settled few run elsewhere =
 
 -- why opening ended early, as the store reports it
 pub stops_reported : {D : Type 0} (g : Ghosts D) (old new : D) (fault : LoadFault) (reported : StoreFault)
-    → reported ≡ fault_reported fault → Stops g old (fault ≡ Device) new → Stops g old (reported ≡ stores.Device) new
-stops_reported g old new fault reported is (inl (failed, one, run)) = inl (is ∙ ap fault_reported failed, one, run)
+    → reported ≡ store_fault_of fault → Stops g old (fault ≡ Device) new → Stops g old (reported ≡ stores.Device) new
+stops_reported g old new fault reported is (inl (failed, one, run)) = inl (is ∙ ap store_fault_of failed, one, run)
 stops_reported g old new fault reported is (inr phases) = inr phases
 
 -- the body that opening leaves in the other slot, in each of its ends
@@ -233,7 +233,7 @@ causes_from X OutOfMemory old mid new same causes = causes ∙ same
 causes_from X (Damaged damage) old mid new same causes = causes ∙ same
 
 -- want of memory, as the store reports it
-pub memory_of : (fault : LoadFault) → fault_reported fault ≡ stores.OutOfMemory → fault ≡ OutOfMemory
+pub memory_of : (fault : LoadFault) → store_fault_of fault ≡ stores.OutOfMemory → fault ≡ OutOfMemory
 memory_of Device is = absurd (cc is)
 memory_of OutOfMemory is = refl
 memory_of (Damaged damage) is = absurd (cc is)
@@ -250,20 +250,20 @@ unread_loads g old new fault refuses was = record {
 }
 
 -- a fault, as the store reports it
-pub tells_of : (fault : LoadFault) (reported : StoreFault) (read : Result Held Damage) → reported ≡ fault_reported fault
+pub tells_of : (fault : LoadFault) (reported : StoreFault) (read : Result Held Damage) → reported ≡ store_fault_of fault
     → Refuses fault read → Tells reported read
 tells_of fault reported read is refuses = subst (λ (f : StoreFault). Tells f read) (sym is) (by_case fault read refuses)
   where
-    by_case : (fault : LoadFault) (read : Result Held Damage) → Refuses fault read → Tells (fault_reported fault) read
+    by_case : (fault : LoadFault) (read : Result Held Damage) → Refuses fault read → Tells (store_fault_of fault) read
     by_case Device read refuses = tt
     by_case OutOfMemory read refuses = tt
     by_case (Damaged damage) read refuses = refuses
 
-pub failed_of : (fault : LoadFault) (reported : StoreFault) (old new : ℕ) → reported ≡ fault_reported fault
+pub failed_of : (fault : LoadFault) (reported : StoreFault) (old new : ℕ) → reported ≡ store_fault_of fault
     → Causes {X = Loaded} (Err fault) old new → FailedBy reported old new
 failed_of fault reported old new is causes = subst (λ (f : StoreFault). FailedBy f old new) (sym is) (by_case fault causes)
   where
-    by_case : (fault : LoadFault) → Causes {X = Loaded} (Err fault) old new → FailedBy (fault_reported fault) old new
+    by_case : (fault : LoadFault) → Causes {X = Loaded} (Err fault) old new → FailedBy (store_fault_of fault) old new
     by_case Device causes = causes
     by_case OutOfMemory causes = causes
     by_case (Damaged damage) causes = causes

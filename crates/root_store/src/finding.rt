@@ -55,6 +55,7 @@ impl RootSlot {
     }
 }
 
+/// The root with the greater sequence, or the only one there is.
 fn newer(first: Option<Root>, second: Option<Root>) -> Result<Root, Damage>
     ensures gives { result ≡ newer_root first second }
     ensures numbered { IfSome first (λ r. r.version ≤ version_max) → IfSome second (λ r. r.version ≤ version_max)
@@ -74,7 +75,7 @@ fn newer(first: Option<Root>, second: Option<Root>) -> Result<Root, Damage>
     }
 }
 
-/// The root that two slots of a file name.
+/// The root that a file's two slots name, the newer one where both gates are open.
 fn root_in(first: &RootSlot, second: &RootSlot) -> Result<Root, Damage>
     ensures gives { (file : List ℕ) → block_size * 2 ≤ length file → IsSlot file 0 first.now → IsSlot file 1 second.now
         → result ≡ root_of file }

@@ -18,7 +18,7 @@ use crate::finding::find_root;
 use crate::healing::heal;
 use crate::open_fault::OpenFault;
 use crate::phase::Phase;
-use commit_plan::fault::{StoreFault, reported};
+use commit_plan::fault::{StoreFault, store_fault_of};
 use commit_plan::image::Image;
 use commit_plan::loaded::{Loaded, read_root};
 use disk_model::disk::Disk;
@@ -129,7 +129,7 @@ pub fn open<D: Disk>(
             Ok((commit, image))
         }
         Err(fault) => Err(OpenFault {
-            fault: reported(fault),
+            fault: store_fault_of(fault),
             disk,
         }),
     }

@@ -51,7 +51,7 @@ store_by reported there = record { there = there; reported = reported }
 -- an answer alone: nothing is made, and the reply is this text
 pub record AnswersOnly (text : List ℕ) (made : List Batch) (reply : List ℕ) : Type 0 where
   pub nothing_made : made ≡ []
-  pub reported : reply ≡ text
+  pub says : reply ≡ text
 
 -- a refused line: nothing is made, and the reply is the fault
 abbrev pub IsRefused : CommandFault → List Batch → List ℕ → Type 0
@@ -63,7 +63,7 @@ pub record IsAcceptedBy (session : ℕ) (before : History) (commands : Batch) (a
   pub version : versions.Version
   pub goes_on : GoesOnBy before (between ++ record { event = accepted session commands; version = version } ∷ []) after
   pub only : made ≡ commands ∷ []
-  pub reported : reply ≡ numbered_line (codes "ok ") version.number
+  pub says : reply ≡ numbered_line (codes "ok ") version.number
 
 -- a command: refused by the first reason at the newest version, or accepted; or the book closes, or is not as far
 abbrev pub IsSubmitted : ℕ → History → Command → History → List Batch → List ℕ → Type 0
@@ -111,7 +111,7 @@ pub record IsDurableReported (stored : BookStore) (asked : ℕ) (after : History
   pub nothing_made : made ≡ []
   pub reached : asked ≤ (newest after).durable
   pub may : stored.reported after of_number
-  pub reported : reply ≡ numbered_line (codes "durable ") (newest after).durable
+  pub says : reply ≡ numbered_line (codes "durable ") (newest after).durable
 
 -- the version that had been seen is not durable, for what the store says, which may be reported
 pub record IsNotDurable (stored : BookStore) (asked : ℕ) (after : History) (made : List Batch) (reply : List ℕ) : Type 0 where

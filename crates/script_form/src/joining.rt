@@ -1,4 +1,4 @@
-//! Lines that come to a batch, one after another.
+//! Lines that come to a batch, one after another: the first that cannot be read is kept by its place, from 0.
 ghost use Rattle.std.specs.Prelude.{◌≡◌, ◌∷◌, [], ◌⊎◌, ◌+◌, ◌≤◌, ◌==◌, length, map, IfOk, IfErr, IfSome};
 ghost use Rattle.overlay_terms.specs.Batches.{IsSized};
 ghost use Rattle.layer_book.specs.Command.{command};

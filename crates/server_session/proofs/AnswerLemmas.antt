@@ -69,7 +69,7 @@ answers_there stored me request reply answered = answers_so me me (stays_self me
 
 -- a fault
 pub refused_so : (fault : CommandFault) → IsRefused fault [] (error_line fault)
-refused_so fault = record { nothing_made = refl; reported = refl }
+refused_so fault = record { nothing_made = refl; says = refl }
 
 -- a question whose name is none
 pub unnamed : (name : List ℕ) (fault : CommandFault) (T : Type 0) → IsNoName name fault → WithName name (error_line fault) T
@@ -88,7 +88,7 @@ submits_accepted was now command number on same accepted made = record {
         version = accepted.version;
         goes_on = accepted.goes_on;
         only = refl;
-        reported = ap (numbered_line (codes "ok ")) (sym accepted.reported);
+        says = ap (numbered_line (codes "ok ")) (sym accepted.numbered);
       }))));
   only = made;
 }
@@ -104,10 +104,10 @@ made_none gone fault was now (inr there) = there.1
 
 submit_refused : (was now : Known) (command : Command) (fault : BookFault) → IsCommandRefused true (newest (seen now)) command fault
     → IsRefused OutOfMemory [] (error_line (fault_reported fault)) ⊎ IsSubmitted was.session (seen was) command (seen now) [] (error_line (fault_reported fault))
-submit_refused was now command (book.Version wrong) (inl memory) = inl (record { nothing_made = refl; reported = ap (λ w. error_line (Version w)) memory.0 })
+submit_refused was now command (book.Version wrong) (inl memory) = inl (record { nothing_made = refl; says = ap (λ w. error_line (Version w)) memory.0 })
 submit_refused was now command (book.Version wrong) (inr by) =
     let r = refused_as (refusal_at (newest (seen now)).number (newest (seen now)).layers command) wrong by in
-    inr (inr (inr (inl (r.0, r.1, record { nothing_made = refl; reported = ap (λ w. error_line (Version w)) r.2 }))))
+    inr (inr (inr (inl (r.0, r.1, record { nothing_made = refl; says = ap (λ w. error_line (Version w)) r.2 }))))
 submit_refused was now command book.Closing refused = inr (inl (refused_so Closing))
 submit_refused was now command book.Gone refused = inr (inr (inl (refused_so Gone)))
 submit_refused was now command book.NoStore refused = absurd refused
@@ -138,27 +138,27 @@ submits_all_accepted was now commands number on same accepted made = record {
         version = accepted.version;
         goes_on = accepted.goes_on;
         only = refl;
-        reported = ap (numbered_line (codes "ok ")) (sym accepted.reported);
+        says = ap (numbered_line (codes "ok ")) (sym accepted.numbered);
       }))));
   only = made;
 }
 
 refusal_reported : (refusal : BatchRefusal) → IsRefusedBatch refusal [] (batch_fault_text (batch_faults.batch_fault_of refusal))
-refusal_reported (at place reason) = record { nothing_made = refl; reported = ap (refused_line place) (numbered_reason reason) }
-refusal_reported (whole reason) = record { nothing_made = refl; reported = ap error_line (numbered_reason reason) }
+refusal_reported (at place reason) = record { nothing_made = refl; says = ap (refused_line place) (numbered_reason reason) }
+refusal_reported (whole reason) = record { nothing_made = refl; says = ap error_line (numbered_reason reason) }
 
 batch_refused_by : (was now : Known) (commands : Batch) (fault : BatchFault)
     → RefusedAllBy (batch_refusal_at (newest (seen now)).number (newest (seen now)).layers commands) fault
     → IsRefused OutOfMemory [] (batch_fault_text fault) ⊎ IsSubmittedAll was.session (seen was) commands (seen now) [] (batch_fault_text fault)
-batch_refused_by was now commands fault (inl memory) = inl (record { nothing_made = refl; reported = ap batch_fault_text memory.0 })
+batch_refused_by was now commands fault (inl memory) = inl (record { nothing_made = refl; says = ap batch_fault_text memory.0 })
 batch_refused_by was now commands fault (inr by) =
     let r = batch_reported (batch_refusal_at (newest (seen now)).number (newest (seen now)).layers commands) fault by in
     inr (inr (inr (inl (r.0, r.1, subst (λ (f : BatchFault). IsRefusedBatch r.0 [] (batch_fault_text f)) (sym r.2) (refusal_reported r.0)))))
 
 submit_all_refused : (was now : Known) (commands : Batch) (fault : BatchFault) → IsBatchRefused true (newest (seen now)) commands fault
     → IsRefused OutOfMemory [] (batch_fault_text fault) ⊎ IsSubmittedAll was.session (seen was) commands (seen now) [] (batch_fault_text fault)
-submit_all_refused was now commands fault (inl gone) = inr (inr (inl (record { nothing_made = refl; reported = ap batch_fault_text gone })))
-submit_all_refused was now commands fault (inr (inl closing)) = inr (inl (record { nothing_made = refl; reported = ap batch_fault_text closing.1 }))
+submit_all_refused was now commands fault (inl gone) = inr (inr (inl (record { nothing_made = refl; says = ap batch_fault_text gone })))
+submit_all_refused was now commands fault (inr (inl closing)) = inr (inl (record { nothing_made = refl; says = ap batch_fault_text closing.1 }))
 submit_all_refused was now commands fault (inr (inr by)) = batch_refused_by was now commands fault by
 
 pub submits_all_refused : (was now : Known) (commands : Batch) (fault : BatchFault) → BeginsWith (seen now) (seen was) → (now.book ≡ was.book) × (now.session ≡ was.session)
@@ -188,7 +188,7 @@ answers_all was now commands reply s = record {
 unread_answered : (me : Known) (fault : LinesFault) (requests : List Request) → AreRead requests (Err fault) → IsAnswerToAll me requests me (lines_reported fault)
 unread_answered me (Unread place fault) requests first = record {
   made = [];
-  answered = inr (inl (place, fault, first, record { nothing_made = refl; reported = refl }));
+  answered = inr (inl (place, fault, first, record { nothing_made = refl; says = refl }));
   only = makes_nothing me me (stays_self me) refl;
 }
 unread_answered me NoMemory requests none =
@@ -243,7 +243,7 @@ pub put_refused : (stored : BookStore) (me : Known) (name text : List ℕ) (faul
 put_refused stored me name text fault refused =
     answers_there stored me (put_text name text) (error_line fault)
     (elim refused [
-      | inl memory ↦ inl (memory.0, record { nothing_made = refl; reported = memory.1 })
+      | inl memory ↦ inl (memory.0, record { nothing_made = refl; says = memory.1 })
       | inr by ↦ inr (inl (fault, by, refused_so fault))
     ])
 
@@ -251,7 +251,7 @@ pub define_refused : (stored : BookStore) (me : Known) (name text : List ℕ) (f
 define_refused stored me name text fault refused =
     answers_there stored me (define_text name text) (error_line fault)
     (elim refused [
-      | inl memory ↦ inl (memory.0, record { nothing_made = refl; reported = memory.1 })
+      | inl memory ↦ inl (memory.0, record { nothing_made = refl; says = memory.1 })
       | inr by ↦ inr (inl (fault, by, refused_so fault))
     ])
 
@@ -361,7 +361,7 @@ module _ (was now : Known) (stays : Stays was now) (made : now.made ≡ was.made
   grid_refused stored name known x y step nx ny g version wrong is same points named size refused =
       answers_so was now stays made stored (grid name x y step nx ny) (error_line (of_grid wrong))
       (elim refused [
-        | inl memory ↦ inl (named, record { nothing_made = refl; reported = ap (λ f. error_line (of_grid f)) memory.0 })
+        | inl memory ↦ inl (named, record { nothing_made = refl; says = ap (λ f. error_line (of_grid f)) memory.0 })
         | inr by ↦
             inr (
               refl,

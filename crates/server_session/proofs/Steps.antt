@@ -215,7 +215,7 @@ pub cut_off_run : (stored : BookStore) (me : Known) (waiting : Option Waiting) (
 cut_off_run stored me None open_batch waits = absurd waits
 cut_off_run stored me (Some waiting) open_batch waits =
     run-one stored me me (cut_off waiting.came) [] (error_line CommandSyntax)
-    (record { goes_on = (stays_self me).goes_on; answered = record { nothing_made = refl; reported = refl } }) (sym (append-nil me.made))
+    (record { goes_on = (stays_self me).goes_on; answered = record { nothing_made = refl; says = refl } }) (sym (append-nil me.made))
 
 cut_off_one : (waiting : Option Waiting) → (cut_off_in waiting ≡ []) ⊎ ((turn : Turn) × (cut_off_in waiting ≡ turn ∷ []))
 cut_off_one None = inl refl

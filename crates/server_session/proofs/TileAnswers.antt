@@ -27,7 +27,7 @@ use Rattle.script_form.specs.Transcript.{BookStore, StoreReport, of_number, of_f
 use Rattle.server_session.specs.Answering.{Answers}
 use Rattle.server_session.specs.Fault.{fault_reported, store_reported}
 use Rattle.server_session.specs.Session.{Stays}
-use Rattle.server_session.specs.Stores.{IsReportOf}
+use Rattle.server_session.specs.Stores.{HistoryReports}
 use Rattle.server_session.proofs.AnswerLemmas.{answers_so, answers_there, asked_none, asked_some, unnamed, refused_so}
 
 -- what holds of a version, a name and a column holds of the newest version, of the name as it was read and of the column as it was asked for
@@ -59,7 +59,7 @@ module _ (was now : Known) (stays : Stays was now) (made : now.made ≡ was.made
   edges_refused stored name known k n version wrong is same number named refused =
       answers_so was now stays made stored (edges name k) (error_line (Version wrong))
       (elim refused [
-        | inl memory ↦ inl (named, record { nothing_made = refl; reported = ap (λ f. error_line (Version f)) memory.0 })
+        | inl memory ↦ inl (named, record { nothing_made = refl; says = ap (λ f. error_line (Version f)) memory.0 })
         | inr by ↦
             inr (refl, inr (named, inr (asked_some Version _ wrong _ (moved (λ v m c. edges_refusal v m c ≡ Some wrong) version (newest (seen now)) known name n (asked_column k) is same number by))))
       ])
@@ -88,7 +88,7 @@ module _ (was now : Known) (stays : Stays was now) (made : now.made ≡ was.made
   verify_refused stored name known k n version wrong is same number named refused =
       answers_so was now stays made stored (verify name k) (error_line (Version wrong))
       (elim refused [
-        | inl memory ↦ inl (named, record { nothing_made = refl; reported = ap (λ f. error_line (Version f)) memory.0 })
+        | inl memory ↦ inl (named, record { nothing_made = refl; says = ap (λ f. error_line (Version f)) memory.0 })
         | inr by ↦
             inr (refl, inr (named, inr (asked_some Version _ wrong _ (moved (λ v m c. finished_refusal v m c ≡ Some wrong) version (newest (seen now)) known name n (asked_column k) is same number by))))
       ])
@@ -119,7 +119,7 @@ waited_stays was now on same = record { book = same.0; session = same.1; goes_on
 wait_refused_so : (stored : BookStore) (was now : Known) (name : List ℕ) (fault : BookFault) → IsTrue (is_name name) → IsWaitRefused true (newest (seen now)) name fault
     → IsOutOfMemory (wait name) [] (error_line (fault_reported fault)) ⊎ IsAnswered stored was.session (seen was) (wait name) (seen now) [] (error_line (fault_reported fault))
 wait_refused_so stored was now name (book.Version wrong) named (inl by) = inr (refl, inr (named, inr (asked_some Version _ wrong _ by)))
-wait_refused_so stored was now name (book.Version wrong) named (inr memory) = inl (named, record { nothing_made = refl; reported = ap (λ f. error_line (Version f)) memory.0 })
+wait_refused_so stored was now name (book.Version wrong) named (inr memory) = inl (named, record { nothing_made = refl; says = ap (λ f. error_line (Version f)) memory.0 })
 wait_refused_so stored was now name book.Closing named refused =
     inr (refl, inr (named, inr (asked_none Version _ _ _ refused.1 (inr (refused.2, refl)))))
 wait_refused_so stored was now name book.Gone named refused = inr (refl, inr (named, inl refl))
@@ -150,22 +150,22 @@ of_store store.SequenceLimit = inr (inr (inr (inl refl)))
 of_store store.OutOfMemory = inr (inr (inr (inr (inl refl))))
 
 -- a refusal by a store's fault may be reported
-abbrev pub MayTellFault : (History → StoreReport → Type 0) → History → BookFault → Type 0
-MayTellFault reported history (book.Store fault) = reported history (of_fault (store_reported fault))
-MayTellFault reported history fault = Unit {0}
+abbrev pub MayReportFault : (History → StoreReport → Type 0) → History → BookFault → Type 0
+MayReportFault reported history (book.Store fault) = reported history (of_fault (store_reported fault))
+MayReportFault reported history fault = Unit {0}
 
 -- what the book says of it is said of what the session has seen
-pub may_tell : (stored : List Entry → ℕ → Type 0) (failed : List Entry → ReportedFault → Type 0) (now : Known) (fault : BookFault)
-    → IsReportedFault failed now.log fault → MayTellFault (IsReportOf stored failed) (seen now) fault
-may_tell stored failed now (book.Version wrong) is = tt
-may_tell stored failed now book.Closing is = tt
-may_tell stored failed now book.Gone is = tt
-may_tell stored failed now book.NoStore is = tt
-may_tell stored failed now (book.Store fault) is = record { log = now.log; of = refl; reported = fault; same = refl; failed_so = is }
+pub may_report_fault : (stored : List Entry → ℕ → Type 0) (failed : List Entry → ReportedFault → Type 0) (now : Known) (fault : BookFault)
+    → IsReportedFault failed now.log fault → MayReportFault (HistoryReports stored failed) (seen now) fault
+may_report_fault stored failed now (book.Version wrong) is = tt
+may_report_fault stored failed now book.Closing is = tt
+may_report_fault stored failed now book.Gone is = tt
+may_report_fault stored failed now book.NoStore is = tt
+may_report_fault stored failed now (book.Store fault) is = record { log = now.log; of = refl; reported = fault; same = refl; failed_so = is }
 
 -- why a wait for a durable number is refused, and what that says of the store
 sync_refused_so : (reported : History → StoreReport → Type 0) (there : Bool) (was now : Known) (fault : BookFault) → IsSyncRefused (newest (seen was)).number (newest (seen now)) fault
-    → MayTellFault reported (seen now) fault → (fault ≡ book.NoStore → there ≡ false) → (there ≡ false → (fault ≡ book.NoStore) ⊎ (fault ≡ book.Gone))
+    → MayReportFault reported (seen now) fault → (fault ≡ book.NoStore → there ≡ false) → (there ≡ false → (fault ≡ book.NoStore) ⊎ (fault ≡ book.Gone))
     → IsOutOfMemory sync [] (error_line (fault_reported fault)) ⊎ IsAnswered (store_by reported there) was.session (seen was) sync (seen now) [] (error_line (fault_reported fault))
 sync_refused_so reported there was now (book.Version wrong) refused may only without = absurd refused
 sync_refused_so reported true was now book.Closing refused may only without =
@@ -178,7 +178,7 @@ sync_refused_so reported true was now (book.Store fault) refused may only withou
 sync_refused_so reported false was now (book.Store fault) refused may only without = absurd (⊎_elim (λ e. absurd (cc)) (λ e. absurd (cc)) (without refl))
 
 pub sync_refused : (stored : BookStore) (was now : Known) (result : Result ℕ BookFault) (fault : BookFault) → result ≡ Err fault → BeginsWith (seen now) (seen was) → Waited was now
-    → IsSyncRefused (newest (seen was)).number (newest (seen now)) fault → MayTellFault stored.reported (seen now) fault → (result ≡ Err book.NoStore → stored.there ≡ false)
+    → IsSyncRefused (newest (seen was)).number (newest (seen now)) fault → MayReportFault stored.reported (seen now) fault → (result ≡ Err book.NoStore → stored.there ≡ false)
     → (stored.there ≡ false → IsErrAnd result (λ f. (f ≡ book.NoStore) ⊎ (f ≡ book.Gone)))
     → (reported : CommandFault) → reported ≡ fault_reported fault → Answers stored was sync now (error_line reported)
 sync_refused stored was now result fault is on same refused may only without reported same_reported =
@@ -206,6 +206,6 @@ sync_reported stored was now result number is on same without reached may =
         nothing_made = refl;
         reached = subst (λ n. (newest (seen was)).number ≤ n) (sym reached.0) reached.1;
         may = may;
-        reported = ap (numbered_line (codes "durable ")) (sym reached.0);
+        says = ap (numbered_line (codes "durable ")) (sym reached.0);
       },
     )))))

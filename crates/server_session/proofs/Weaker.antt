@@ -22,7 +22,7 @@ module _ (reported more : History → StoreReport → Type 0) (there : Bool) (fi
   answered session before after sync made reply on (inl none) = inl none
   answered session before after sync made reply on (inr (inl gone)) = inr (inl gone)
   answered session before after sync made reply on (inr (inr (inl (one, is)))) =
-      inr (inr (inl (one, record { nothing_made = is.nothing_made; reached = is.reached; may = weak one after of_number on is.may; reported = is.reported })))
+      inr (inr (inl (one, record { nothing_made = is.nothing_made; reached = is.reached; may = weak one after of_number on is.may; says = is.says })))
   answered session before after sync made reply on (inr (inr (inr (one, is)))) = inr (inr (inr (
     one,
     record { behind = is.behind; fault = is.fault; of_store = is.of_store; may = ⊎_elim inl (λ reported. inr (weak one after (of_fault is.fault) on reported)) is.may; refused = is.refused },

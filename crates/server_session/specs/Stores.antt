@@ -3,7 +3,7 @@ use Rattle.std.specs.Prelude.{◌≡◌, ℕ, Bool, false, List}
 use Rattle.overlay_terms.specs.Histories.{Entry, History}
 use Rattle.book_history.specs.Logs.{history_of}
 use Rattle.book_history.specs.declared.fault.ReportedFault.{ReportedFault}
-use Rattle.book_lock.specs.Telling.{ReportsStored, MayTell}
+use Rattle.book_lock.specs.Reporting.{ReportsStored, MayBeReported}
 use Rattle.script_form.specs.declared.fault.CommandFault.{CommandFault}
 use Rattle.script_form.specs.Transcript.{BookStore, StoreReport, of_number, of_fault, store_by}
 use Rattle.server_session.specs.Fault.{store_reported}
@@ -13,21 +13,21 @@ abbrev pub HistoryReportsStored : (List Entry → ℕ → Type 0) → History �
 HistoryReportsStored stored history = (log : List Entry) × (history_of log ≡ history) × ReportsStored stored log
 
 -- a fault is that of a store which failed so, of a beginning of a history's log
-pub record IsFaultOf (failed : List Entry → ReportedFault → Type 0) (history : History) (fault : CommandFault) : Type 0 where
+pub record HistoryReportsFault (failed : List Entry → ReportedFault → Type 0) (history : History) (fault : CommandFault) : Type 0 where
   pub log : List Entry
   pub of : history_of log ≡ history
   pub reported : ReportedFault
   pub same : fault ≡ store_reported reported
-  pub failed_so : ∥ MayTell failed log reported ∥₁
+  pub failed_so : ∥ MayBeReported failed log reported ∥₁
 
 -- what may be reported of a store at a history: its durable number, or a fault of the store
-abbrev pub IsReportOf : (List Entry → ℕ → Type 0) → (List Entry → ReportedFault → Type 0) → History → StoreReport → Type 0
-IsReportOf stored failed history of_number = HistoryReportsStored stored history
-IsReportOf stored failed history (of_fault fault) = IsFaultOf failed history fault
+abbrev pub HistoryReports : (List Entry → ℕ → Type 0) → (List Entry → ReportedFault → Type 0) → History → StoreReport → Type 0
+HistoryReports stored failed history of_number = HistoryReportsStored stored history
+HistoryReports stored failed history (of_fault fault) = HistoryReportsFault failed history fault
 
 -- whether there is a store, by what counts as stored, and for what it failed
 abbrev pub store_of : (List Entry → ℕ → Type 0) → (List Entry → ReportedFault → Type 0) → Bool → BookStore
-store_of stored failed there = store_by (IsReportOf stored failed) there
+store_of stored failed there = store_by (HistoryReports stored failed) there
 
 -- none, for a reply that does not ask it
 abbrev pub no_store : BookStore

@@ -16,7 +16,7 @@ use Rattle.root_store.specs.Beginning.{IsReason}
 use Rattle.root_store.specs.Running.{FailsByDevice, fault_in, is_busy}
 use Rattle.flush_core.specs.Stored.{HasNoRoomFor}
 use Rattle.flush_core.specs.declared.flusher.Flusher.{Flusher}
-use Rattle.store_flushing.specs.Failing.{Fails, HoldsOfFailed, IsFailed}
+use Rattle.store_flushing.specs.Failing.{FailsToWrite, HoldsOfFailed, FailedAt}
 use Rattle.store_flushing.specs.Storing.{IsFollowed, IsStoreOf, KeepsLimit}
 use Rattle.store_flushing.specs.ReportedFaults.{reported_fault_of}
 use Rattle.store_flushing.proofs.Following.{further}
@@ -57,7 +57,7 @@ two_faults Failed = inr refl
 module _ {D : Type 0} (g : Ghosts D) where
   -- a commit that is not begun
   pub refused_fails : (s : Flusher D g) (v : Version) (fault : StoreFault) → is_busy s.commit.phase ≡ false → (s.commit.phase ≡ Failed → fault ≡ faults.Failed)
-      → IsReason s.commit.phase s.commit.root (HasNoRoomFor s.commit v) fault → Fails s s v (reported_fault_of fault)
+      → IsReason s.commit.phase s.commit.root (HasNoRoomFor s.commit v) fault → FailsToWrite s s v (reported_fault_of fault)
   refused_fails s v faults.Device rests only is = absurd is
   refused_fails s v faults.Full rests only is = (idle_of s.commit.phase rests (λ at. absurd (cc (only at))), is)
   refused_fails s v (faults.Damaged damage) rests only is = absurd is
@@ -68,9 +68,9 @@ module _ {D : Type 0} (g : Ghosts D) where
 
   -- a device call that fails
   pub step_fails : (s t : Flusher D g) (v : Version) (fault : StoreFault) → t.commit.phase ≡ Failed
-      → (fault ≡ faults.Failed) ⊎ ((fault ≡ faults.Device) × device.Failed (g.faults s.commit.disk) (g.faults t.commit.disk)) → Fails s t v (reported_fault_of fault)
-  step_fails s t v fault failed (inl before) = subst (λ (f : StoreFault). Fails s t v (reported_fault_of f)) (sym before) failed
-  step_fails s t v fault failed (inr (device, rose)) = subst (λ (f : StoreFault). Fails s t v (reported_fault_of f)) (sym device) rose
+      → (fault ≡ faults.Failed) ⊎ ((fault ≡ faults.Device) × device.Failed (g.faults s.commit.disk) (g.faults t.commit.disk)) → FailsToWrite s t v (reported_fault_of fault)
+  step_fails s t v fault failed (inl before) = subst (λ (f : StoreFault). FailsToWrite s t v (reported_fault_of f)) (sym before) failed
+  step_fails s t v fault failed (inr (device, rose)) = subst (λ (f : StoreFault). FailsToWrite s t v (reported_fault_of f)) (sym device) rose
 
   by_phase : (s t : Flusher D g) (fault : StoreFault) → fault ≡ fault_in s.commit.phase → (fault ≡ faults.Device → device.Failed (g.faults s.commit.disk) (g.faults t.commit.disk))
       → (fault_in s.commit.phase ≡ faults.Device) ⊎ (fault_in s.commit.phase ≡ faults.Failed)
@@ -86,7 +86,7 @@ module _ {D : Type 0} (g : Ghosts D) where
   step_cause s t (Err fault) is cause = by_phase s t fault is (λ e. cause (ap Err e)) (two_faults s.commit.phase)
 
   -- since an earlier time
-  pub fails_since : (s t u : Flusher D g) (v : Version) (fault : ReportedFault) → g.faults s.commit.disk ≤ g.faults t.commit.disk → Fails t u v fault → Fails s u v fault
+  pub fails_since : (s t u : Flusher D g) (v : Version) (fault : ReportedFault) → g.faults s.commit.disk ≤ g.faults t.commit.disk → FailsToWrite t u v fault → FailsToWrite s u v fault
   fails_since s t u v reported.Device before is = rose_after g (g.faults s.commit.disk) (g.faults t.commit.disk) (g.faults u.commit.disk) before is
   fails_since s t u v reported.Full before is = is
   fails_since s t u v reported.Failed before is = is
@@ -97,7 +97,7 @@ module _ {D : Type 0} (g : Ghosts D) where
   abbrev pub CameBy : History → Flusher D g → History → Flusher D g → Type 0
   CameBy was s now t = IsFollowed g was s now t × FailsByDevice g s.commit t.commit × KeepsLimit s t
 
-  pub failed_then : (was now : History) (s t : Flusher D g) (log : List Entry) (fault : ReportedFault) → CameBy was s now t → IsFailed g now t log fault → IsFailed g was s log fault
+  pub failed_then : (was now : History) (s t : Flusher D g) (log : List Entry) (fault : ReportedFault) → CameBy was s now t → FailedAt g now t log fault → FailedAt g was s log fault
   failed_then was now s t log fault (first, by, limit) is = record {
     store = is.store;
     followed = further g was now (history_of log) s t is.store first is.followed;

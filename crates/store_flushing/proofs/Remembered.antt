@@ -56,15 +56,15 @@ module _ {D : Type 0} {g : Ghosts D} (k : Keeper D g) where
   of_book = ∥∥₁_elim k.same_book (Coded-set book_coded _ _) (λ same. sym same)
 
   as_it_was : (same : ∥ k.held.seen_log.book ≡ k.reporter.book ∥₁)
-      → record { reporter = k.reporter; held = k.held; reported = k.reported; same_book = same } ≡ k
-  as_it_was same = λ i. record { reporter = k.reporter; held = k.held; reported = k.reported; same_book = ∥∥₁_prop same k.same_book i }
+      → record { reporter = k.reporter; held = k.held; notes = k.notes; same_book = same } ≡ k
+  as_it_was same = λ i. record { reporter = k.reporter; held = k.held; notes = k.notes; same_book = ∥∥₁_prop same k.same_book i }
 
   -- a keeper whose reporter and store are as they were is as it was
   pub same_keeper : (reporter : Heard) (held : HeldStore D g) → reporter ≡ k.reporter → held ≡ k.held
-      → (same : ∥ held.seen_log.book ≡ reporter.book ∥₁) → record { reporter = reporter; held = held; reported = k.reported; same_book = same } ≡ k
+      → (same : ∥ held.seen_log.book ≡ reporter.book ∥₁) → record { reporter = reporter; held = held; notes = k.notes; same_book = same } ≡ k
   same_keeper reporter held is too =
-      subst (λ (r : Heard). (same : ∥ held.seen_log.book ≡ r.book ∥₁) → record { reporter = r; held = held; reported = k.reported; same_book = same } ≡ k) (sym is)
-      (subst (λ (s : HeldStore D g). (same : ∥ s.seen_log.book ≡ k.reporter.book ∥₁) → record { reporter = k.reporter; held = s; reported = k.reported; same_book = same } ≡ k) (sym too)
+      subst (λ (r : Heard). (same : ∥ held.seen_log.book ≡ r.book ∥₁) → record { reporter = r; held = held; notes = k.notes; same_book = same } ≡ k) (sym is)
+      (subst (λ (s : HeldStore D g). (same : ∥ s.seen_log.book ≡ k.reporter.book ∥₁) → record { reporter = k.reporter; held = s; notes = k.notes; same_book = same } ≡ k) (sym too)
       as_it_was)
 
 -- what holds where nothing was given follows from what does

@@ -15,23 +15,23 @@ use Rattle.store_flushing.specs.Storing.{IsFollowed, IsStoreOf, KeepsLimit}
 
 -- why a store does not write a version: a device call failed since it was `old`; it begins no commit, as there is no room
 -- for the version's new records, or the device failed before, or there is no number for it; or memory ran out
-abbrev pub Fails : {D : Type 0} {g : Ghosts D} → Flusher D g → Flusher D g → Version → ReportedFault → Type 0
-Fails {g = g} old now version Device = device.Failed (g.faults old.commit.disk) (g.faults now.commit.disk)
-Fails old now version Full = (now.commit.phase ≡ phases.Idle) × HasNoRoomFor now.commit version
-Fails old now version Failed = now.commit.phase ≡ phases.Failed
-Fails old now version SequenceLimit = (now.commit.phase ≡ phases.Idle) × (sequence_max ≤ now.commit.root.sequence)
-Fails old now version OutOfMemory = Unit {0}
+abbrev pub FailsToWrite : {D : Type 0} {g : Ghosts D} → Flusher D g → Flusher D g → Version → ReportedFault → Type 0
+FailsToWrite {g = g} old now version Device = device.Failed (g.faults old.commit.disk) (g.faults now.commit.disk)
+FailsToWrite old now version Full = (now.commit.phase ≡ phases.Idle) × HasNoRoomFor now.commit version
+FailsToWrite old now version Failed = now.commit.phase ≡ phases.Failed
+FailsToWrite old now version SequenceLimit = (now.commit.phase ≡ phases.Idle) × (sequence_max ≤ now.commit.root.sequence)
+FailsToWrite old now version OutOfMemory = Unit {0}
 
 -- a store failed for a fault, of a log: a store to which the first one was followed by that log, whose file may have as many
 -- blocks, does not write its newest version for it
-pub record IsFailed {D : Type 0} (g : Ghosts D) (was : History) (old : Flusher D g) (log : List Entry) (fault : ReportedFault) : Type 0 where
+pub record FailedAt {D : Type 0} (g : Ghosts D) (was : History) (old : Flusher D g) (log : List Entry) (fault : ReportedFault) : Type 0 where
   pub store : Flusher D g
   pub followed : IsFollowed g was old (history_of log) store
   pub by_device : FailsByDevice g old.commit store.commit
   pub blocks : KeepsLimit old store
-  pub fails : Fails old store (newest_in log) fault
+  pub fails : FailsToWrite old store (newest_in log) fault
 
 -- a predicate holds of each fault for which a store fails, where a store of a history was followed to that log
 abbrev pub HoldsOfFailed : {D : Type 0} (g : Ghosts D) → (List Entry → ReportedFault → Type 0) → History → Flusher D g → Type 0
 HoldsOfFailed g failed was old =
-    (log : List Entry) (fault : ReportedFault) → (IsStoreOf g was old → IsFailed g was old log fault) → failed log fault
+    (log : List Entry) (fault : ReportedFault) → (IsStoreOf g was old → FailedAt g was old log fault) → failed log fault

@@ -21,5 +21,5 @@ module _ {D : Type 0} {g : Ghosts D} where
 
   -- what was reported durable
   abbrev pub notes_by : Store D g → List ReportNote
-  notes_by (Kept keeper) = notes_in keeper.reported
+  notes_by (Kept keeper) = notes_in keeper.notes
   notes_by (Alone reporter) = []

@@ -9,7 +9,7 @@ ghost use Rattle.book_lock.specs.Heard.{HasHeard};
 ghost use Rattle.book_lock.specs.Steps.{HasAllOf};
 ghost use Rattle.store_flushing.specs.Among.{IsFileExactlyIn, IsFileIn};
 ghost use Rattle.store_flushing.specs.Storing.{IsStoreOf};
-ghost use Rattle.store_flushing.specs.ReportNote.{TellsOn, notes_in};
+ghost use Rattle.store_flushing.specs.ReportNote.{ReportsOn, notes_in};
 ghost use Rattle.store_flushing.specs.Unstored.{IsUnstoredFor};
 
 use crate::keeper::report_log::ReportLog;
@@ -39,7 +39,7 @@ pub struct Closed<D> {
     /// The store's disk.
     pub disk: Option<D>,
     /// What was reported durable, and when.
-    pub reported: ReportLog,
+    pub notes: ReportLog,
 }
 
 /// What is left of a store: as in `Closed`.
@@ -57,7 +57,7 @@ pub fn close<J: BookName, R: Wait + Drop, D: Disk, W: Wait>(
     shared: Shared<J, R>,
     reporter: Reporter,
     flusher: Option<Flusher<D>>,
-    reported: ReportLog,
+    notes: ReportLog,
     sessions: Vec<Session>,
 ) -> Closed<D>
     requires reporter { reporter.book ≡ J.book }
@@ -88,10 +88,10 @@ pub fn close<J: BookName, R: Wait + Drop, D: Disk, W: Wait>(
         → IfSome result.disk (λ disk. Leaves D.Disk disk
         (IsFileExactlyIn (history_of result.seen_log.log) result.stored))) }
     // What was written down as it was reported is all that the log reports durable, and it stays so.
-    ensures written { result.reported ≡ reported }
-    ensures tells { IfSome flusher
-        (λ f. IfSome result.disk (λ disk. TellsOn D.Disk (history_of reporter.log) (notes_in reported) f.commit.disk
-        (history_of result.seen_log.log) (notes_in result.reported) disk)) }
+    ensures written { result.notes ≡ notes }
+    ensures reports { IfSome flusher
+        (λ f. IfSome result.disk (λ disk. ReportsOn D.Disk (history_of reporter.log) (notes_in notes) f.commit.disk
+        (history_of result.seen_log.log) (notes_in result.notes) disk)) }
 {
     let book = end_book(rt, shared, &reporter, &sessions);
     let StoreLeft {
@@ -105,7 +105,7 @@ pub fn close<J: BookName, R: Wait + Drop, D: Disk, W: Wait>(
         stored,
         fault,
         disk,
-        reported,
+        notes,
     }
 }
 

@@ -43,24 +43,24 @@ mod version_mark;
 pub struct Keeper<D: Disk> {
     reporter: Reporter,
     held: HeldStore<D>,
-    reported: ReportLog,
+    notes: ReportLog,
     ghost same_book: { ∥ held.seen_log.book ≡ reporter.book ∥₁ },
 }
 
 impl<D: Disk> Keeper<D> {
-    ghost use Rattle.store_flushing.specs.ReportNote.{KeepsTelling, news_in, notes_at, notes_in};
+    ghost use Rattle.store_flushing.specs.ReportNote.{KeepsReporting, news_in, notes_at, notes_in};
 
     /// A keeper of a reporter, a store, and what was reported durable.
-    fn of(reporter: Reporter, held: HeldStore<D>, reported: ReportLog) -> Keeper<D>
+    fn of(reporter: Reporter, held: HeldStore<D>, notes: ReportLog) -> Keeper<D>
         requires { held.seen_log.book ≡ reporter.book }
         ensures reporter { result.reporter ≡ reporter }
         ensures held { result.held ≡ held }
-        ensures reported { result.reported ≡ reported }
+        ensures notes { result.notes ≡ notes }
     {
         Keeper {
             reporter,
             held,
-            reported,
+            notes,
         }
     }
 
@@ -68,14 +68,14 @@ impl<D: Disk> Keeper<D> {
     fn into_parts(self) -> (Reporter, HeldStore<D>, ReportLog)
         ensures reporter { result.0 ≡ self.reporter }
         ensures held { result.1 ≡ self.held }
-        ensures reported { result.2 ≡ self.reported }
+        ensures notes { result.2 ≡ self.notes }
     {
         let Keeper {
             reporter,
             held,
-            reported,
+            notes,
         } = self;
-        (reporter, held, reported)
+        (reporter, held, notes)
     }
 
     /// Whether a commit is under way.
@@ -93,13 +93,13 @@ impl<D: Disk> Keeper<D> {
     ) -> Result<Option<Arc<Version, Global>>, BookFault>
         requires { self.old.reporter.book ≡ J.book }
         ensures keeps { Keeps D.Disk self.old.reporter self.old.held.flusher self.new.reporter self.new.held.flusher }
-        ensures tells { KeepsTelling D.Disk self.old self.new }
+        ensures reports { KeepsReporting D.Disk self.old self.new }
         ensures history { IsHistory (history_of self.new.reporter.log) }
         ensures newest { IfOk result (λ o. IfSome o (λ version. arc_value version ≡ newest_in self.new.reporter.log)) }
         ensures durable { (newest_in self.new.reporter.log).durable ≡ (newest_in self.old.reporter.log).durable }
         ensures none { IfOk result (λ o. IfNone o (self.new ≡ self.old)) }
         ensures held { self.new.held ≡ self.old.held }
-        ensures reported { self.new.reported ≡ self.old.reported }
+        ensures notes { self.new.notes ≡ self.old.notes }
         ensures same { self.new.reporter.book ≡ self.old.reporter.book }
     {
         let looked = shared.next_version(rt, &mut self.reporter);
@@ -114,10 +114,10 @@ impl<D: Disk> Keeper<D> {
         requires history { IsHistory (history_of self.old.reporter.log) }
         requires newest { version.now ≡ newest (history_of self.old.reporter.log) }
         ensures keeps { Keeps D.Disk self.old.reporter self.old.held.flusher self.new.reporter self.new.held.flusher }
-        ensures tells { KeepsTelling D.Disk self.old self.new }
+        ensures reports { KeepsReporting D.Disk self.old self.new }
         ensures stored { self.new.held.flusher.commit.root.version ≡ self.old.held.flusher.commit.root.version }
         ensures reporter { self.new.reporter ≡ self.old.reporter }
-        ensures reported { self.new.reported ≡ self.old.reported }
+        ensures notes { self.new.notes ≡ self.old.notes }
         ensures err { OnErr result (self.new ≡ self.old) }
         ensures errors { IfErr result
             (λ fault. IsReason self.old.held.flusher.commit.phase self.old.held.flusher.commit.root
@@ -131,7 +131,7 @@ impl<D: Disk> Keeper<D> {
     /// Makes one device call; none where no commit is under way. It reports nothing.
     pub fn step(&mut self) -> Result<Progress, StoreFault>
         ensures keeps { Keeps D.Disk self.old.reporter self.old.held.flusher self.new.reporter self.new.held.flusher }
-        ensures tells { KeepsTelling D.Disk self.old self.new }
+        ensures reports { KeepsReporting D.Disk self.old self.new }
         ensures stored { self.new.held.flusher.commit.root.version
             ≡ stored_after result self.old.held.flusher.commit.root.version }
         ensures counted { IfOk result
@@ -141,7 +141,7 @@ impl<D: Disk> Keeper<D> {
         ensures cause { D.is_honest self.old.held.flusher.commit.disk → IfErr result (λ fault. (fault ≡ StoreFault.Failed)
             ⊎ ((fault ≡ StoreFault.Device) × Failed (D.faults self.old.held.flusher.commit.disk) (D.faults self.new.held.flusher.commit.disk))) }
         ensures reporter { self.new.reporter ≡ self.old.reporter }
-        ensures reported { self.new.reported ≡ self.old.reported }
+        ensures notes { self.new.notes ≡ self.old.notes }
     {
         // What the reporter has seen is a history: the clauses rest on that.
         let _ = self.reporter.given();
@@ -158,25 +158,25 @@ impl<D: Disk> Keeper<D> {
         requires book { self.old.reporter.book ≡ J.book }
         requires stored { J.stored self.old.reporter.log self.old.held.flusher.commit.root.version }
         ensures keeps { Keeps D.Disk self.old.reporter self.old.held.flusher self.new.reporter self.new.held.flusher }
-        ensures tells { KeepsTelling D.Disk self.old self.new }
+        ensures reports { KeepsReporting D.Disk self.old self.new }
         ensures history { IsHistory (history_of self.new.reporter.log) }
         ensures reported { IsStoreOf D.Disk (history_of self.old.reporter.log) self.old.held.flusher
             → AllReported (history_of self.new.reporter.log) self.new.held.flusher }
-        ensures written { notes_in self.new.reported
-            ≡ notes_in self.old.reported ++ notes_at (D.moment self.old.held.flusher.commit.disk)
+        ensures written { notes_in self.new.notes
+            ≡ notes_in self.old.notes ++ notes_at (D.moment self.old.held.flusher.commit.disk)
             (news_in (history_of self.old.reporter.log) (history_of self.new.reporter.log)) }
         ensures held { self.new.held ≡ self.old.held }
         ensures same { self.new.reporter.book ≡ self.old.reporter.book }
     {
         let was = Snapshot::of(&self.reporter);
         reports::report(rt, alloc, shared, &mut self.reporter, self.held.stored());
-        self.reported.write(&was, &self.reporter, &self.held);
+        self.notes.write(&was, &self.reporter, &self.held);
         // What the reporter has seen is a history: the clauses rest on that.
         let _ = self.reporter.given();
     }
 
     /// Reports a fault to the book, and says whether the store can go on after it.
-    pub fn tell<J: BookName, R: Wait + Drop, W: Wait>(
+    pub fn report_fault<J: BookName, R: Wait + Drop, W: Wait>(
         &mut self,
         rt: &W,
         shared: &Shared<J, R>,
@@ -187,6 +187,6 @@ impl<D: Disk> Keeper<D> {
         ensures nothing { self.new ≡ self.old }
         ensures passes { result ≡ passes (reported_fault_of fault) }
     {
-        reports::tell(rt, shared, &mut self.reporter, fault)
+        reports::report_fault(rt, shared, &mut self.reporter, fault)
     }
 }

@@ -45,7 +45,7 @@ pub(crate) fn report<J: BookName, R: Wait + Drop, W: Wait>(
 }
 
 /// Reports a fault to the book, and says whether the store can go on after it.
-pub(crate) fn tell<J: BookName, R: Wait + Drop, W: Wait>(
+pub(crate) fn report_fault<J: BookName, R: Wait + Drop, W: Wait>(
     rt: &W,
     shared: &Shared<J, R>,
     me: &mut Reporter,

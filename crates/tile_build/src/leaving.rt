@@ -42,7 +42,7 @@ pub fn build_strip_while<W: Wish>(
     build_apart_while(alloc, input, wish)
 }
 
-/// The tiles by one pass over each column, as long as they are wanted.
+/// The tiles of a strip that has too many pieces in all, by one pass over each column, as long as they are wanted.
 fn build_apart_while<W: Wish>(
     alloc: Global,
     input: &StripInput,

@@ -8,7 +8,7 @@ use Rattle.overlay_terms.specs.Tiles.{Input}
 use Rattle.overlay_terms.specs.Histories.{Entry, Tile, kept}
 use Rattle.book_history.specs.Logs.{entry, newest_in}
 use Rattle.book_history.specs.Fault.{passes}
-use Rattle.book_history.specs.Telling.{MayTell}
+use Rattle.book_history.specs.Reporting.{MayBeReported}
 use Rattle.book_history.specs.declared.fault.BookFault.{BookFault}
 use Rattle.book_history.specs.declared.fault.BookFault.TheVariants as fault
 use Rattle.version_book.specs.Failing.{HasFailed, IsReportedFault}
@@ -17,7 +17,7 @@ use Rattle.book_history.proofs.Fronts.{prefix_self, prefix_trans}
 use Rattle.book_lock.specs.Heard.{Heard}
 use Rattle.book_lock.specs.Steps.{IsFinishedIn, IsReportedIn}
 use Rattle.book_lock.proofs.Growing.{report_longer}
-use Rattle.version_book.specs.BookState.{left_over, reported}
+use Rattle.version_book.specs.BookState.{left_over, kept_fault}
 
 -- what may be kept, and what is reported or not, leaves what was there
 pub kept_longer : (log after : List Entry) (name : Name) (input : Input) (tile : Tile) (is_kept : Bool) → IsFinishedIn log name input tile is_kept after → IsPrefix log after
@@ -30,7 +30,7 @@ reported_longer me new A E (Ok m) log after n ok err = report_longer log after n
 reported_longer me new A E (Err f) log after n ok err = subst (IsPrefix log) (sym err.0) (prefix_self log)
 
 module _ (failed : List Entry → ReportedFault → Type 0) where
-  later : (log more : List Entry) (fault : Option ReportedFault) → IsPrefix log more → IfSome fault (MayTell failed log) → IfSome fault (MayTell failed more)
+  later : (log more : List Entry) (fault : Option ReportedFault) → IsPrefix log more → IfSome fault (MayBeReported failed log) → IfSome fault (MayBeReported failed more)
   later log more None on is = tt
   later log more (Some fault) on is = record { was = is.was; longer = prefix_trans is.was log more is.longer on; holds = is.holds }
 
@@ -42,11 +42,11 @@ module _ (failed : List Entry → ReportedFault → Type 0) where
   pub same_failed : (log : List Entry) (old new : Option ReportedFault) → new ≡ old → HasFailed failed log old → HasFailed failed log new
   same_failed log old new same there = still_failed log log old new (prefix_self log) same there
 
-  some_left : (log : List Entry) (fault : ReportedFault) (goes : Bool) → MayTell failed log fault → IfSome (if goes then None else Some fault) (MayTell failed log)
+  some_left : (log : List Entry) (fault : ReportedFault) (goes : Bool) → MayBeReported failed log fault → IfSome (if goes then None else Some fault) (MayBeReported failed log)
   some_left log fault true is = tt
   some_left log fault false is = is
 
-  left : (log : List Entry) (fault : Option ReportedFault) → IfSome fault (MayTell failed log) → IfSome (left_over fault) (MayTell failed log)
+  left : (log : List Entry) (fault : Option ReportedFault) → IfSome fault (MayBeReported failed log) → IfSome (left_over fault) (MayBeReported failed log)
   left log None is = tt
   left log (Some fault) is = some_left log fault (passes fault) is
 
@@ -54,16 +54,16 @@ module _ (failed : List Entry → ReportedFault → Type 0) where
   pub left_failed : (log more : List Entry) (old new : Option ReportedFault) → IsPrefix log more → new ≡ left_over old → HasFailed failed log old → HasFailed failed more new
   left_failed log more old new on is there = still_failed log more (left_over old) new on is (∥∥₁_map there (left log old))
 
-  one_of : (log : List Entry) (old fault : ReportedFault) (goes : Bool) → MayTell failed log old → MayTell failed log fault → IfSome (if goes then Some fault else Some old) (MayTell failed log)
+  one_of : (log : List Entry) (old fault : ReportedFault) (goes : Bool) → MayBeReported failed log old → MayBeReported failed log fault → IfSome (if goes then Some fault else Some old) (MayBeReported failed log)
   one_of log old fault true is new = new
   one_of log old fault false is new = is
 
-  holds : (log : List Entry) (old : Option ReportedFault) (fault : ReportedFault) → IfSome old (MayTell failed log) → MayTell failed log fault → IfSome (reported old fault) (MayTell failed log)
+  holds : (log : List Entry) (old : Option ReportedFault) (fault : ReportedFault) → IfSome old (MayBeReported failed log) → MayBeReported failed log fault → IfSome (kept_fault old fault) (MayBeReported failed log)
   holds log None fault is new = new
   holds log (Some old) fault is new = one_of log old fault (passes old) is new
 
   -- as the store reports one
-  pub reported_failed : (log : List Entry) (old new : Option ReportedFault) (fault : ReportedFault) → new ≡ reported old fault → MayTell failed log fault → HasFailed failed log old → HasFailed failed log new
+  pub reported_failed : (log : List Entry) (old new : Option ReportedFault) (fault : ReportedFault) → new ≡ kept_fault old fault → MayBeReported failed log fault → HasFailed failed log old → HasFailed failed log new
   reported_failed log old new fault is may there = subst (HasFailed failed log) (sym is) (∥∥₁_map there (λ o. holds log old fault o may))
 
   -- a book without a store names no fault of one

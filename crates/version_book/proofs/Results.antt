@@ -162,7 +162,7 @@ module _ (was now : Known) (log after : List Entry) (batch : Batch) (n : ℕ) (a
     between = a.longer.0;
     version = newest_in after;
     goes_on = history_more was.log log now.log last a.longer long (end ∙ a.added);
-    reported = a.numbered;
+    numbered = a.numbered;
   }
 
   pub accepted_own : IsOwn now

@@ -12,9 +12,9 @@ left_over (Some fault) = if passes fault then None else Some fault
 left_over None = None
 
 -- which fault holds once the store reports one: one that stays for good keeps its place
-abbrev pub reported : Option ReportedFault → ReportedFault → Option ReportedFault
-reported (Some old) fault = if passes old then Some fault else Some old
-reported None fault = Some fault
+abbrev pub kept_fault : Option ReportedFault → ReportedFault → Option ReportedFault
+kept_fault (Some old) fault = if passes old then Some fault else Some old
+kept_fault None fault = Some fault
 
 -- the count of news after this one
 abbrev pub next_news : ℕ → ℕ
@@ -54,7 +54,7 @@ pub record IsAfterFinish (old : BookState) (tiles : List HeldTile) (is_kept : Bo
 
 -- the store reported a fault: it holds where none stays for good, and the reporter rests
 pub record IsAfterFailure (old : BookState) (fault : ReportedFault) (new : BookState) : Type 0 where
-  pub fault_reported : new.fault ≡ reported old.fault fault
+  pub fault_reported : new.fault ≡ kept_fault old.fault fault
   pub resting : new.resting ≡ true
   pub held : new.held ≡ old.held
   pub closing : new.closing ≡ old.closing

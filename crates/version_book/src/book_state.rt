@@ -2,7 +2,7 @@
 ghost use Rattle.std.specs.Prelude.{◌≡◌};
 ghost use Rattle.version_book.specs.HeldTiles.{given_back, strip_given_back, strip_taken_in, taken_in, unmarked_of};
 ghost use Rattle.version_book.specs.BookState.{HasHeld, IsAfterClosing, IsAfterCommand, IsAfterFailure, IsAfterFinish};
-ghost use Rattle.version_book.specs.BookState.{IsFresh, left_over, reported};
+ghost use Rattle.version_book.specs.BookState.{IsFresh, left_over, kept_fault};
 
 use crate::held_tiles::HeldTiles;
 use book_history::fault::ReportedFault;
@@ -71,7 +71,7 @@ impl BookState {
     pub fn store_failed(&mut self, fault: ReportedFault)
         ensures { IsAfterFailure self.old fault self.new }
     {
-        self.fault = reported(self.fault, fault);
+        self.fault = kept_fault(self.fault, fault);
         self.resting = true;
     }
 
@@ -113,8 +113,8 @@ fn left_over(old: Option<ReportedFault>) -> Option<ReportedFault>
     }
 }
 
-fn reported(old: Option<ReportedFault>, fault: ReportedFault) -> Option<ReportedFault>
-    ensures { result ≡ reported old fault }
+fn kept_fault(old: Option<ReportedFault>, fault: ReportedFault) -> Option<ReportedFault>
+    ensures { result ≡ kept_fault old fault }
 {
     match old {
         Some(first) => if first.passes() { Some(fault) } else { old },

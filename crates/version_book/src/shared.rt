@@ -8,7 +8,7 @@ ghost use Rattle.book_history.specs.Fault.{IsBatchRefused, IsCommandRefused, no_
 ghost use Rattle.book_history.specs.Known.{seen, IsOwn, LeavesSession};
 ghost use Rattle.book_history.specs.Logs.{entry, history_of, newest_in, no_event, IsAccepted, IsLog};
 ghost use Rattle.book_history.specs.Rules.{head_of};
-ghost use Rattle.book_history.specs.Telling.{ReportsStored};
+ghost use Rattle.book_history.specs.Reporting.{ReportsStored};
 ghost use Rattle.version_book.specs.Failing.{IsReportedFault};
 ghost use Rattle.book_lock.specs.Steps.{beginners, HasAllOf, IsAcceptedIn, IsRefusedIn};
 ghost use Rattle.book_lock.specs.Heard.{HasHeard, IsReportedBy};

@@ -1,4 +1,4 @@
-//! The edges of a tile as text.
+//! The edges of a tile as text, each place put in lowest terms.
 ghost use Rattle.std.specs.Prelude.{◌≡◌, ◌++◌, ◌∷◌, ◌≤◌, [], Some, codes, decimal, length, map, IfOk, IfErr};
 ghost use Rattle.overlay_terms.specs.Histories.{tile_at};
 ghost use Rattle.exact_point.specs.NamedPiece.{ends_of};

@@ -261,7 +261,7 @@ fn a_report_a_fault_and_closing_each_end_a_wait(rt: HostRuntime) {
     play(&rt, rt.alloc(), true, ENDED, 3);
 }
 
-const TOLD: &[&[Row]] = &[&[
+const REPORTED: &[&[Row]] = &[&[
     Row::Calls(PUT_A, Ok(Some(1))),
     Row::Calls(Call::StoreFailed(ReportedFault::SequenceLimit), Ok(None)),
     Row::Calls(
@@ -284,7 +284,7 @@ const TOLD: &[&[Row]] = &[&[
 
 #[test]
 fn a_fault_of_the_store_is_reported_as_it_is(rt: HostRuntime) {
-    play(&rt, rt.alloc(), true, TOLD, 3);
+    play(&rt, rt.alloc(), true, REPORTED, 3);
 }
 
 const NEWS: &[&[Row]] = &[

@@ -50,7 +50,7 @@ impl Opening<(), ReportNote> for Nothing {
 /// A list, a reporter before and after a call, and the store whose disk has the moment.
 #[derive(Clone, Copy)]
 struct News<'a, D: Disk> {
-    reported: &'a ReportLog,
+    notes: &'a ReportLog,
     was: &'a Snapshot<Reporter>,
     reporter: &'a Reporter,
     held: &'a HeldStore<D>,
@@ -64,7 +64,7 @@ impl<'a, D: Disk> Opening<News<'a, D>, ReportNote> for WithNews {
     ghost use Rattle.book_history.specs.Logs.{history_of};
     ghost use Rattle.store_flushing.specs.ReportNote.{news_in, notes_at, notes_in};
 
-    ghost log = { λ n news. notes_in news.reported.now
+    ghost log = { λ n news. notes_in news.notes.now
         ++ notes_at (D.moment news.held.now.flusher.commit.disk)
         (news_in (history_of news.was.now.value.log) (history_of news.reporter.now.log)) };
 }
@@ -103,7 +103,7 @@ impl ReportLog {
             (news_in (history_of was.now.value.log) (history_of reporter.now.log)) }
     {
         let news = News {
-            reported: &*self,
+            notes: &*self,
             was,
             reporter,
             held,

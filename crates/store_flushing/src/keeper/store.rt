@@ -34,7 +34,7 @@ impl<D: Disk> Store<D> {
         requires book { reporter.book ≡ J.book }
         ensures reporter { reporter_of result ≡ reporter }
         ensures flusher { flusher_in result ≡ opened.flusher }
-        ensures reported { notes_by result ≡ [] }
+        ensures notes { notes_by result ≡ [] }
     {
         match opened.into_flusher() {
             Some(flusher) => {
@@ -68,14 +68,14 @@ impl<D: Disk> Store<D> {
         // Where the newest version is not stored and the store would not begin its commit, the book is given the reason.
         ensures fault { MatchOption (flusher_in self) (result.fault ≡ None)
             (λ f. IsReasonGiven result.fault f (arc_value result.version)) }
-        ensures reported { notes_in result.reported ≡ notes_by self }
+        ensures notes { notes_in result.notes ≡ notes_by self }
     {
         match self {
             Store::Kept(keeper) => {
                 let Keeper {
                     reporter,
                     held,
-                    reported,
+                    notes,
                 } = keeper;
                 let book = end_book(rt, shared, &reporter, sessions);
                 let StoreLeft {
@@ -89,7 +89,7 @@ impl<D: Disk> Store<D> {
                     stored,
                     fault,
                     disk,
-                    reported,
+                    notes,
                 }
             }
             Store::Alone(reporter) => {
@@ -100,7 +100,7 @@ impl<D: Disk> Store<D> {
                     stored: 0,
                     fault: None,
                     disk: None,
-                    reported: ReportLog::none(),
+                    notes: ReportLog::none(),
                 }
             }
         }
@@ -115,7 +115,7 @@ impl<D: Disk> Store<D> {
                 let Keeper {
                     reporter: _reporter,
                     held,
-                    reported: _reported,
+                    notes: _notes,
                 } = keeper;
                 held.into_disk()
             }

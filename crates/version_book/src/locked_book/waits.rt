@@ -3,7 +3,7 @@ ghost use Rattle.std.specs.Prelude.{◌≡◌, ◌⊎◌, ◌<◌, ◌≤◌, �
 ghost use Rattle.std.specs.Arc.{arc_value};
 ghost use Rattle.book_history.specs.Fault.{no_memory};
 ghost use Rattle.book_history.specs.Logs.{newest_in, IsLog};
-ghost use Rattle.book_history.specs.Telling.{ReportsStored};
+ghost use Rattle.book_history.specs.Reporting.{ReportsStored};
 ghost use Rattle.version_book.specs.Failing.{IsReportedFault};
 ghost use Rattle.book_lock.specs.Steps.{IsLevel};
 ghost use Rattle.book_lock.specs.Heard.{HasHeard};
@@ -180,6 +180,6 @@ pub(crate) fn tell_news<J: BookName, R: Wait + Drop>(
     let Ok(version) = Arc::try_clone(&locked.log.last().version) else {
         return Err(NO_MEMORY);
     };
-    locked.log.tell(me, locked.state.news);
+    locked.log.show_reporter(me, locked.state.news);
     Ok(Some(version))
 }

@@ -45,7 +45,7 @@ returns-in-Err-clause-err c live layers held filed spell =
     let near : AllNear es =
     subst (λ (ls : List Listed). AllNear (c.in_ok-catalog.catalog ∷ extents_listed ls)) spell.listed
     (records_near live d.given d.limit _ layers cat image.layers image.tiles placed.0 held spell.spelled low placed.1.planned placed.1.runs) in
-    inr (c.reported.ensures ∙ only_memory c.in-Err.fault es image apart c.in-Err.ensures.room.errors (c.in-Err.ensures.room.reads near image))
+    inr (c.store_fault_of.ensures ∙ only_memory c.in-Err.fault es image apart c.in-Err.ensures.room.errors (c.in-Err.ensures.room.reads near image))
 
 pub returns-clause-ok : goal.returns-clause-ok
 returns-clause-ok c x layers root there room apart filed spell =

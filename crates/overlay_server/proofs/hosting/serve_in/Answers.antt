@@ -8,7 +8,7 @@ use Rattle.store_flushing.specs.Stores.{flusher_in}
 use Rattle.overlay_server.specs.Given.{given_to}
 use Rattle.overlay_server.specs.Hosting.{IsHosted}
 use Rattle.overlay_server.specs.Refusing.{IsRefusedOf}
-use Rattle.overlay_server.specs.Serving.{IsLeftFrom, IsReportedOf, first_log}
+use Rattle.overlay_server.specs.Serving.{IsLeftFrom, ServerReports, first_log}
 use Rattle.overlay_server.proofs.Reporting.{log_is}
 use Rattle.overlay_server.proofs.StoreParts.{CountsAs, FailsAs}
 use Rattle.overlay_server.proofs.hosting.serve_in.Goals as goal
@@ -34,8 +34,8 @@ pub run-requires-clause-reported : goal.run-requires-clause-reported
 run-requires-clause-reported g c κs within =
     let hosted = c.in-Ok in
     let may = g.W.ReplyWriter.may_report in
-    subst (λ v. (history : History) (report : StoreReport) → IsReportedOf g.D.Disk v (flusher_in hosted.hosted.store) history report → may history report) (sym hosted.ensures.version)
-    (subst (λ f. (history : History) (report : StoreReport) → IsReportedOf g.D.Disk c.args.version f history report → may history report) (sym hosted.ensures.flusher) c.requires.reported)
+    subst (λ v. (history : History) (report : StoreReport) → ServerReports g.D.Disk v (flusher_in hosted.hosted.store) history report → may history report) (sym hosted.ensures.version)
+    (subst (λ f. (history : History) (report : StoreReport) → ServerReports g.D.Disk c.args.version f history report → may history report) (sym hosted.ensures.flusher) c.requires.reported)
 
 pub run-requires-clause-from : goal.run-requires-clause-from
 run-requires-clause-from g c κs within =

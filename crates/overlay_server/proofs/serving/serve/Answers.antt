@@ -20,7 +20,7 @@ pub returned_fault-requires : goal.returned_fault-requires
 returned_fault-requires g c =
     let fault = c.in-Err.fault in
     let handed = c.handed-version in
-    handed.ensures.key ∙ sym (disk_back g.D.Disk handed.result.0 fault.seen_log.log (notes_in fault.reported) handed.result.1.flusher fault.disk c.in-Err.ensures.refused.back)
+    handed.ensures.key ∙ sym (disk_back g.D.Disk handed.result.0 fault.seen_log.log (notes_in fault.notes) handed.result.1.flusher fault.disk c.in-Err.ensures.refused.back)
 
 pub returns-in-Ok-clause-left : goal.returns-in-Ok-clause-left
 returns-in-Ok-clause-left g c =

@@ -7,7 +7,7 @@ use Rattle.overlay_terms.specs.Histories.{History}
 use Rattle.script_form.specs.Transcript.{StoreReport}
 use Rattle.overlay_server.specs.Given.{given_to}
 use Rattle.overlay_server.specs.Refusing.{IsRefusedOf}
-use Rattle.overlay_server.specs.Serving.{IsLeftFrom, IsReportedOf, first_log, flusher_of, start_of}
+use Rattle.overlay_server.specs.Serving.{IsLeftFrom, ServerReports, first_log, flusher_of, start_of}
 use Rattle.overlay_server.proofs.Disks.{disk_back, disk_left}
 use Rattle.overlay_server.proofs.Reporting.{has_engine, with_beginners}
 use Rattle.overlay_server.proofs.serving.serve_ports.Goals as goal
@@ -20,8 +20,8 @@ serve_in-requires-clause-reported g c κs within =
     let engine = c.args.engine in
     let handed = c.handed-version in
     let may = g.W.ReplyWriter.may_report in
-    subst (λ v. (history : History) (report : StoreReport) → IsReportedOf g.D.Disk v handed.result.1.flusher history report → may history report) (sym handed.ensures.version)
-    (subst (λ f. (history : History) (report : StoreReport) → IsReportedOf g.D.Disk (start_of engine) f history report → may history report) (sym handed.ensures.flusher) c.requires.reported)
+    subst (λ v. (history : History) (report : StoreReport) → ServerReports g.D.Disk v handed.result.1.flusher history report → may history report) (sym handed.ensures.version)
+    (subst (λ f. (history : History) (report : StoreReport) → ServerReports g.D.Disk (start_of engine) f history report → may history report) (sym handed.ensures.flusher) c.requires.reported)
 
 pub serve_in-requires-clause-from : goal.serve_in-requires-clause-from
 serve_in-requires-clause-from g c κs within =
@@ -41,7 +41,7 @@ pub returned_fault-requires : goal.returned_fault-requires
 returned_fault-requires g c =
     let fault = c.in-Err.refused.fault in
     let handed = c.handed-version in
-    handed.ensures.key ∙ sym (disk_back g.D.Disk handed.result.0 fault.seen_log.log (notes_in fault.reported) handed.result.1.flusher fault.disk c.in-Err.ensures.refused.fault.back)
+    handed.ensures.key ∙ sym (disk_back g.D.Disk handed.result.0 fault.seen_log.log (notes_in fault.notes) handed.result.1.flusher fault.disk c.in-Err.ensures.refused.fault.back)
 
 pub returns-in-Ok-clause-left : goal.returns-in-Ok-clause-left
 returns-in-Ok-clause-left g c =

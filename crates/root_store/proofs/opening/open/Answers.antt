@@ -8,7 +8,7 @@ use Rattle.root_store.specs.declared.phase.Phase.TheVariants as phases
 use Rattle.root_store.specs.Content.{IsAtRest}
 use Rattle.root_store.proofs.Known.{content_is}
 use Rattle.commit_plan.specs.Loaded.{kept_in}
-use Rattle.commit_plan.specs.Fault.{fault_reported}
+use Rattle.commit_plan.specs.Fault.{store_fault_of}
 use Rattle.root_store.proofs.opening.open.Goals as goal
 
 pub returns-in-Ok-clause-opens : goal.returns-in-Ok-clause-opens
@@ -45,19 +45,19 @@ returns-in-Err-clause-opens g c honest =
     let k = g.D.Disk in
     let l = c.in-Err.ensures.loads honest in
     let fault = c.in-Err.fault in
-    let reported = c.reported.result in
+    let reported = c.store_fault_of.result in
     record {
-      gives = tells_of fault reported (reading (k.seen c.args.disk)) c.reported.ensures l.loads.gives;
+      gives = tells_of fault reported (reading (k.seen c.args.disk)) c.store_fault_of.ensures l.loads.gives;
       ok = tt;
       err = (l.loads.honest, l.loads.err, l.loads.run);
       phases = tt;
-      stops = stops_reported k c.args.disk c.load.new.disk fault reported c.reported.ensures l.stops;
+      stops = stops_reported k c.args.disk c.load.new.disk fault reported c.store_fault_of.ensures l.stops;
       writes = l.writes;
       completed = tt;
       completes = tt;
-      untouched = λ other. l.untouched (λ is. other (c.reported.ensures ∙ ap fault_reported is));
-      memory = λ memory. l.memory (memory_of fault (sym c.reported.ensures ∙ memory));
-      cause = failed_of fault reported (k.faults c.args.disk) (k.faults c.load.new.disk) c.reported.ensures l.cause;
+      untouched = λ other. l.untouched (λ is. other (c.store_fault_of.ensures ∙ ap store_fault_of is));
+      memory = λ memory. l.memory (memory_of fault (sym c.store_fault_of.ensures ∙ memory));
+      cause = failed_of fault reported (k.faults c.args.disk) (k.faults c.load.new.disk) c.store_fault_of.ensures l.cause;
     }
 
 pub returns-in-Ok-clause-number : goal.returns-in-Ok-clause-number

@@ -29,11 +29,11 @@ returns-clause-exactly g c =
     let ended = c.end_book-book.ensures in
     exactly_left g.D.Disk (history_of was) (history_of left.seen_log.log) (begins_with was left.seen_log.log ended.begun ended.reporter.longer) c.args.flusher c.left_of-stored.result.stored c.left_of-stored.result.disk c.left_of-stored.ensures.some
 
-pub returns-clause-tells : goal.returns-clause-tells
-returns-clause-tells g c =
+pub returns-clause-reports : goal.returns-clause-reports
+returns-clause-reports g c =
     let was = c.args.reporter.log in
     let left = c.end_book-book.result in
     let now = left.seen_log.log in
     let ended = c.end_book-book.ensures in
     notes_left g.D.Disk (history_of was) (history_of now) (begins_with was now ended.begun ended.reporter.longer)
-    (is_history now ended.log.1) ended.reporter.durable (notes_in c.args.reported) c.args.flusher c.left_of-stored.result.stored c.left_of-stored.result.disk c.left_of-stored.ensures.some
+    (is_history now ended.log.1) ended.reporter.durable (notes_in c.args.notes) c.args.flusher c.left_of-stored.result.stored c.left_of-stored.result.disk c.left_of-stored.ensures.some

@@ -3,14 +3,14 @@ use Rattle.book_history.specs.Logs.{history_of, newest_in}
 use Rattle.book_lock.specs.Heard.{Heard}
 use Rattle.store_flushing.specs.Storing.{Flushes}
 use Rattle.store_flushing.specs.declared.keeper.Keeper.{Keeper}
-use Rattle.store_flushing.specs.ReportNote.{KeepsTelling}
+use Rattle.store_flushing.specs.ReportNote.{KeepsReporting}
 use Rattle.overlay_terms.specs.Histories.{Version}
-use Rattle.store_flushing.specs.Failing.{Fails}
+use Rattle.store_flushing.specs.Failing.{FailsToWrite}
 use Rattle.store_flushing.specs.ReportedFaults.{reported_fault_of}
 use Rattle.store_flushing.proofs.FailLemmas.{err_is, failed_on, refused_fails}
 use Rattle.store_flushing.proofs.Following.{by_call, handed_on}
 use Rattle.store_flushing.proofs.Storage.{kept_on, then}
-use Rattle.store_flushing.proofs.ReportedLemmas.{telling_then}
+use Rattle.store_flushing.proofs.ReportedLemmas.{reporting_then}
 use Rattle.store_flushing.proofs.flusher_loop.commit.Goals as goal
 
 pub returns-in-Ok-clause-flushes : goal.returns-in-Ok-clause-flushes
@@ -34,15 +34,15 @@ returns-in-Err-clause-flushes g c is =
     let m = history_of mid.reporter.log in
     let e = c.begin.ensures in
     let refused = kept_on d h m old.held.flusher mid.held.flusher (e.keeps is) (ap (λ (r : Heard). (newest_in r.log).durable) e.reporter) e.stored in
-    subst (λ (k : Keeper g.row.D.Denot g.D.Disk). Flushes d h old.held.flusher (history_of k.reporter.log) k.held.flusher) (sym c.tell.ensures.nothing) refused
+    subst (λ (k : Keeper g.row.D.Denot g.D.Disk). Flushes d h old.held.flusher (history_of k.reporter.log) k.held.flusher) (sym c.report_fault.ensures.nothing) refused
 
-pub returns-in-Ok-clause-tells : goal.returns-in-Ok-clause-tells
-returns-in-Ok-clause-tells g c =
-    telling_then g.D.Disk c.args.keeper.now c.begin.new.self c.end_commit.new.keeper c.begin.ensures.tells (λ is. (c.begin.ensures.keeps is).store) c.end_commit.ensures.tells
+pub returns-in-Ok-clause-reports : goal.returns-in-Ok-clause-reports
+returns-in-Ok-clause-reports g c =
+    reporting_then g.D.Disk c.args.keeper.now c.begin.new.self c.end_commit.new.keeper c.begin.ensures.reports (λ is. (c.begin.ensures.keeps is).store) c.end_commit.ensures.reports
 
-pub returns-in-Err-clause-tells : goal.returns-in-Err-clause-tells
-returns-in-Err-clause-tells g c =
-    subst (λ (k : Keeper g.row.D.Denot g.D.Disk). KeepsTelling g.D.Disk c.args.keeper.now k) (sym c.tell.ensures.nothing) c.begin.ensures.tells
+pub returns-in-Err-clause-reports : goal.returns-in-Err-clause-reports
+returns-in-Err-clause-reports g c =
+    subst (λ (k : Keeper g.row.D.Denot g.D.Disk). KeepsReporting g.D.Disk c.args.keeper.now k) (sym c.report_fault.ensures.nothing) c.begin.ensures.reports
 
 pub end_commit-requires-clause-stored : goal.end_commit-requires-clause-stored
 end_commit-requires-clause-stored g c =
@@ -63,8 +63,8 @@ end_commit-requires-clause-failed g c =
     failed_on d g.J.BookName.failed h m old.held.flusher mid.held.flusher
     (λ is. let kept = c.begin.ensures.keeps is in (by_call d h m old.held.flusher mid.held.flusher kept, kept.by_device, kept.blocks)) c.requires.failed
 
-pub tell-requires-clause-failed : goal.tell-requires-clause-failed
-tell-requires-clause-failed g c =
+pub report_fault-requires-clause-failed : goal.report_fault-requires-clause-failed
+report_fault-requires-clause-failed g c =
     let d = g.D.Disk in
     let old = c.args.keeper.now in
     let mid = c.begin.new.self in
@@ -72,7 +72,7 @@ tell-requires-clause-failed g c =
     let m = history_of mid.reporter.log in
     let fault = reported_fault_of c.in-Err.fault in
     let newest = c.requires.newest ∙ sym (ap (λ (r : Heard). newest_in r.log) c.begin.ensures.reporter) in
-    let refused : Fails old.held.flusher old.held.flusher c.args.version.now fault =
+    let refused : FailsToWrite old.held.flusher old.held.flusher c.args.version.now fault =
     refused_fails d old.held.flusher c.args.version.now c.in-Err.fault c.requires.idle (λ at. err_is c.begin.result _ _ c.in-Err.is (c.begin.ensures.failed at)) c.in-Err.ensures.errors in
     c.requires.failed mid.reporter.log fault (λ is.
     let kept = c.begin.ensures.keeps is in
@@ -81,5 +81,5 @@ tell-requires-clause-failed g c =
       followed = by_call d h m old.held.flusher mid.held.flusher kept;
       by_device = kept.by_device;
       blocks = kept.blocks;
-      fails = subst (λ (v : Version). Fails old.held.flusher mid.held.flusher v fault) newest (subst (λ (k : Keeper g.row.D.Denot g.D.Disk). Fails old.held.flusher k.held.flusher c.args.version.now fault) (sym c.in-Err.ensures.err) refused);
+      fails = subst (λ (v : Version). FailsToWrite old.held.flusher mid.held.flusher v fault) newest (subst (λ (k : Keeper g.row.D.Denot g.D.Disk). FailsToWrite old.held.flusher k.held.flusher c.args.version.now fault) (sym c.in-Err.ensures.err) refused);
     })

@@ -5,13 +5,13 @@ use Rattle.book_history.specs.Logs.{history_of, newest_in}
 use Rattle.book_lock.specs.Heard.{Heard}
 use Rattle.flush_core.specs.Stored.{stored_after}
 use Rattle.store_flushing.specs.Storing.{Flushes}
-use Rattle.store_flushing.specs.ReportNote.{KeepsTelling}
+use Rattle.store_flushing.specs.ReportNote.{KeepsReporting}
 use Rattle.store_flushing.specs.declared.keeper.Keeper.{Keeper}
 use Rattle.store_flushing.specs.ReportedFaults.{reported_fault_of}
 use Rattle.store_flushing.proofs.FailLemmas.{failed_then, on_err, step_fails}
 use Rattle.store_flushing.proofs.Following.{by_call, by_run, further}
 use Rattle.store_flushing.proofs.Storage.{begun, kept_on, then, reported_all}
-use Rattle.store_flushing.proofs.ReportedLemmas.{telling_self, telling_then}
+use Rattle.store_flushing.proofs.ReportedLemmas.{reporting_self, reporting_then}
 use Rattle.store_flushing.proofs.flusher_loop.end_commit.Goals as goal
 
 pub calls-init : goal.calls-init
@@ -19,7 +19,7 @@ calls-init g c =
     let s = c.args.keeper.now.held.flusher in (
       refl,
       λ is. begun g.D.Disk (history_of c.args.keeper.now.reporter.log) s (λ f left. g.met.D.Disk.only_now s.commit.disk f is.honest left) is,
-      telling_self g.D.Disk c.args.keeper.now,
+      reporting_self g.D.Disk c.args.keeper.now,
     )
 
 pub calls-preserved : goal.calls-preserved
@@ -38,7 +38,7 @@ calls-preserved g c = (
       let stored = e.stored ∙ ap (λ r. stored_after r mid.held.flusher.commit.root.version) (c.in-Ok-Going.is ∙ ap Ok c.in-Ok-Going.field-0-is) in
       then d (history_of first.reporter.log) m n first.held.flusher mid.held.flusher new.held.flusher was
       (kept_on d m n mid.held.flusher new.held.flusher (e.keeps was.store) same stored),
-  telling_then g.D.Disk c.args.keeper.now c.calls.keeper c.step.new.self c.calls.invariant.2 (λ is. (c.calls.invariant.1 is).store) c.step.ensures.tells,
+  reporting_then g.D.Disk c.args.keeper.now c.calls.keeper c.step.new.self c.calls.invariant.2 (λ is. (c.calls.invariant.1 is).store) c.step.ensures.reports,
 )
 
 pub returns-in-Ok-Idle-clause-flushes : goal.returns-in-Ok-Idle-clause-flushes
@@ -83,26 +83,26 @@ returns-in-Err-clause-flushes g c is =
     let n = history_of new.reporter.log in
     let same = ap (λ (r : Heard). (newest_in r.log).durable) e.reporter in
     let stored = e.stored ∙ ap (λ r. stored_after r mid.held.flusher.commit.root.version) c.in-Err.is in
-    subst (λ (k : Keeper g.row.D.Denot g.D.Disk). Flushes d (history_of first.reporter.log) first.held.flusher (history_of k.reporter.log) k.held.flusher) (sym c.tell.ensures.nothing)
+    subst (λ (k : Keeper g.row.D.Denot g.D.Disk). Flushes d (history_of first.reporter.log) first.held.flusher (history_of k.reporter.log) k.held.flusher) (sym c.report_fault.ensures.nothing)
     (then d (history_of first.reporter.log) m n first.held.flusher mid.held.flusher new.held.flusher was
     (kept_on d m n mid.held.flusher new.held.flusher (e.keeps was.store) same stored))
 
-pub returns-in-Ok-Idle-clause-tells : goal.returns-in-Ok-Idle-clause-tells
-returns-in-Ok-Idle-clause-tells g c =
-    telling_then g.D.Disk c.args.keeper.now c.calls.keeper c.step.new.self c.calls.invariant.2 (λ is. (c.calls.invariant.1 is).store) c.step.ensures.tells
+pub returns-in-Ok-Idle-clause-reports : goal.returns-in-Ok-Idle-clause-reports
+returns-in-Ok-Idle-clause-reports g c =
+    reporting_then g.D.Disk c.args.keeper.now c.calls.keeper c.step.new.self c.calls.invariant.2 (λ is. (c.calls.invariant.1 is).store) c.step.ensures.reports
 
-pub returns-in-Ok-Done-clause-tells : goal.returns-in-Ok-Done-clause-tells
-returns-in-Ok-Done-clause-tells g c =
+pub returns-in-Ok-Done-clause-reports : goal.returns-in-Ok-Done-clause-reports
+returns-in-Ok-Done-clause-reports g c =
     let first = c.args.keeper.now in
     let mid = c.calls.keeper in
     let done = c.step.new.self in
-    telling_then g.D.Disk first mid c.report.new.self c.calls.invariant.2 (λ is. (c.calls.invariant.1 is).store)
-    (telling_then g.D.Disk mid done c.report.new.self c.step.ensures.tells (λ is. (c.step.ensures.keeps is).store) c.report.ensures.tells)
+    reporting_then g.D.Disk first mid c.report.new.self c.calls.invariant.2 (λ is. (c.calls.invariant.1 is).store)
+    (reporting_then g.D.Disk mid done c.report.new.self c.step.ensures.reports (λ is. (c.step.ensures.keeps is).store) c.report.ensures.reports)
 
-pub returns-in-Err-clause-tells : goal.returns-in-Err-clause-tells
-returns-in-Err-clause-tells g c =
-    subst (λ (k : Keeper g.row.D.Denot g.D.Disk). KeepsTelling g.D.Disk c.args.keeper.now k) (sym c.tell.ensures.nothing)
-    (telling_then g.D.Disk c.args.keeper.now c.calls.keeper c.step.new.self c.calls.invariant.2 (λ is. (c.calls.invariant.1 is).store) c.step.ensures.tells)
+pub returns-in-Err-clause-reports : goal.returns-in-Err-clause-reports
+returns-in-Err-clause-reports g c =
+    subst (λ (k : Keeper g.row.D.Denot g.D.Disk). KeepsReporting g.D.Disk c.args.keeper.now k) (sym c.report_fault.ensures.nothing)
+    (reporting_then g.D.Disk c.args.keeper.now c.calls.keeper c.step.new.self c.calls.invariant.2 (λ is. (c.calls.invariant.1 is).store) c.step.ensures.reports)
 
 pub report-requires-clause-stored : goal.report-requires-clause-stored
 report-requires-clause-stored g c =
@@ -119,8 +119,8 @@ report-requires-clause-stored g c =
     further d h m n first.held.flusher mid.held.flusher done.held.flusher (by_run d h m first.held.flusher mid.held.flusher was)
     (by_call d m n mid.held.flusher done.held.flusher (c.step.ensures.keeps was.store)))
 
-pub tell-requires-clause-failed : goal.tell-requires-clause-failed
-tell-requires-clause-failed g c =
+pub report_fault-requires-clause-failed : goal.report_fault-requires-clause-failed
+report_fault-requires-clause-failed g c =
     let d = g.D.Disk in
     let first = c.args.keeper.now in
     let mid = c.calls.keeper in

@@ -3,7 +3,7 @@ use Rattle.book_history.specs.Logs.{history_of}
 use Rattle.store_flushing.proofs.FailLemmas.{failed_on}
 use Rattle.store_flushing.proofs.Following.{by_run, handed_on}
 use Rattle.store_flushing.proofs.Storage.{begun, then}
-use Rattle.store_flushing.proofs.ReportedLemmas.{telling_self, telling_then}
+use Rattle.store_flushing.proofs.ReportedLemmas.{reporting_self, reporting_then}
 use Rattle.store_flushing.proofs.flusher_loop.flush.Goals as goal
 
 pub rounds-init : goal.rounds-init
@@ -11,7 +11,7 @@ rounds-init g c =
     let s = c.args.keeper.now.held.flusher in (
       refl,
       λ is. begun g.D.Disk (history_of c.args.keeper.now.reporter.log) s (λ f left. g.met.D.Disk.only_now s.commit.disk f is.honest left) is,
-      telling_self g.D.Disk c.args.keeper.now,
+      reporting_self g.D.Disk c.args.keeper.now,
     )
 
 pub rounds-preserved : goal.rounds-preserved
@@ -24,7 +24,7 @@ rounds-preserved g c = (
       let new = c.round.new.keeper in
       then g.D.Disk (history_of first.reporter.log) (history_of mid.reporter.log) (history_of new.reporter.log) first.held.flusher mid.held.flusher new.held.flusher was
       (c.round.ensures.flushes was.store),
-  telling_then g.D.Disk c.args.keeper.now c.rounds.keeper c.round.new.keeper c.rounds.invariant.2 (λ is. (c.rounds.invariant.1 is).store) c.round.ensures.tells,
+  reporting_then g.D.Disk c.args.keeper.now c.rounds.keeper c.round.new.keeper c.rounds.invariant.2 (λ is. (c.rounds.invariant.1 is).store) c.round.ensures.reports,
 )
 
 pub returns-then-not-round-clause-flushes : goal.returns-then-not-round-clause-flushes
@@ -36,9 +36,9 @@ returns-then-not-round-clause-flushes g c is =
     then g.D.Disk (history_of first.reporter.log) (history_of mid.reporter.log) (history_of new.reporter.log) first.held.flusher mid.held.flusher new.held.flusher was
     (c.round.ensures.flushes was.store)
 
-pub returns-then-not-round-clause-tells : goal.returns-then-not-round-clause-tells
-returns-then-not-round-clause-tells g c =
-    telling_then g.D.Disk c.args.keeper.now c.rounds.keeper c.round.new.keeper c.rounds.invariant.2 (λ is. (c.rounds.invariant.1 is).store) c.round.ensures.tells
+pub returns-then-not-round-clause-reports : goal.returns-then-not-round-clause-reports
+returns-then-not-round-clause-reports g c =
+    reporting_then g.D.Disk c.args.keeper.now c.rounds.keeper c.round.new.keeper c.rounds.invariant.2 (λ is. (c.rounds.invariant.1 is).store) c.round.ensures.reports
 
 pub round-requires-clause-stored : goal.round-requires-clause-stored
 round-requires-clause-stored g c =

@@ -4,7 +4,7 @@ use Rattle.store_flushing.specs.declared.keeper.held_store.HeldStore.{HeldStore}
 use Rattle.store_flushing.proofs.FailLemmas.{failed_on}
 use Rattle.store_flushing.proofs.Following.{by_call, handed_on}
 use Rattle.store_flushing.proofs.Storage.{kept_on, then}
-use Rattle.store_flushing.proofs.ReportedLemmas.{telling_then}
+use Rattle.store_flushing.proofs.ReportedLemmas.{reporting_then}
 use Rattle.store_flushing.proofs.flusher_loop.round.Goals as goal
 
 pub returns-in-Ok-Some-clause-flushes : goal.returns-in-Ok-Some-clause-flushes
@@ -33,9 +33,9 @@ returns-in-Err-clause-flushes g c is =
     let e = c.look.ensures in
     kept_on g.D.Disk (history_of old.reporter.log) (history_of mid.reporter.log) old.held.flusher mid.held.flusher (e.keeps is) e.durable (ap (λ (s : HeldStore g.row.D.Denot g.D.Disk). s.flusher.commit.root.version) e.held)
 
-pub returns-in-Ok-Some-clause-tells : goal.returns-in-Ok-Some-clause-tells
-returns-in-Ok-Some-clause-tells g c =
-    telling_then g.D.Disk c.args.keeper.now c.look.new.self c.commit.new.keeper c.look.ensures.tells (λ is. (c.look.ensures.keeps is).store) c.commit.ensures.tells
+pub returns-in-Ok-Some-clause-reports : goal.returns-in-Ok-Some-clause-reports
+returns-in-Ok-Some-clause-reports g c =
+    reporting_then g.D.Disk c.args.keeper.now c.look.new.self c.commit.new.keeper c.look.ensures.reports (λ is. (c.look.ensures.keeps is).store) c.commit.ensures.reports
 
 pub commit-requires-clause-stored : goal.commit-requires-clause-stored
 commit-requires-clause-stored g c =

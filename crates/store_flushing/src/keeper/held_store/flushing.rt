@@ -4,7 +4,7 @@ ghost use Rattle.root_store.specs.Running.{is_busy};
 ghost use Rattle.book_history.specs.Logs.{history_of};
 ghost use Rattle.store_flushing.specs.Failing.{HoldsOfFailed};
 ghost use Rattle.store_flushing.specs.Storing.{HoldsOfStored, IsStoreOf, Flushes};
-ghost use Rattle.store_flushing.specs.ReportNote.{TellsOn, notes_in};
+ghost use Rattle.store_flushing.specs.ReportNote.{ReportsOn, notes_in};
 
 use crate::flusher_loop::flush;
 use crate::keeper::Keeper;
@@ -26,7 +26,7 @@ pub fn flusher_loop<J: BookName, R: Wait + Drop, D: Disk, W: Wait>(
     shared: &Shared<J, R>,
     reporter: Reporter,
     flusher: Flusher<D>,
-    reported: ReportLog,
+    notes: ReportLog,
 ) -> (Reporter, Flusher<D>, ReportLog)
     requires book { reporter.book ≡ J.book }
     // What this store holds may be reported durable, whenever it is reported.
@@ -39,12 +39,12 @@ pub fn flusher_loop<J: BookName, R: Wait + Drop, D: Disk, W: Wait>(
     ensures same { result.0.book ≡ reporter.book }
     // What it reports durable is written down at once, and from that moment on a crash leaves no older version.
     ensures reported { IsStoreOf D.Disk (history_of reporter.log) flusher
-        → TellsOn D.Disk (history_of reporter.log) (notes_in reported) flusher.commit.disk
+        → ReportsOn D.Disk (history_of reporter.log) (notes_in notes) flusher.commit.disk
         (history_of result.0.log) (notes_in result.2) result.1.commit.disk }
 {
     let held = HeldStore::of(&reporter, flusher);
-    let mut keeper = Keeper::of(reporter, held, reported);
+    let mut keeper = Keeper::of(reporter, held, notes);
     flush(rt, alloc, shared, &mut keeper);
-    let (reporter, held, reported) = keeper.into_parts();
-    (reporter, held.into_flusher(), reported)
+    let (reporter, held, notes) = keeper.into_parts();
+    (reporter, held.into_flusher(), notes)
 }

@@ -2,11 +2,11 @@ use Rattle.std.proofs.Common.{◌≡◌, ◌⊎◌, ◌++◌, ◌∷◌, [], len
 use Rattle.overlay_terms.specs.Histories.{Follows}
 use Rattle.book_history.specs.Causes.{event_of}
 use Rattle.book_history.specs.Logs.{entry, newest_in}
-use Rattle.book_history.specs.Telling.{MayTell}
+use Rattle.book_history.specs.Reporting.{MayBeReported}
 use Rattle.book_history.specs.BookLogs.{BookLog}
 use Rattle.book_history.proofs.Chains.{newest_more}
 use Rattle.book_history.proofs.Owned.{own_le, counts_more}
-use Rattle.book_lock.proofs.Tellings.{reported_more}
+use Rattle.book_lock.proofs.Reportings.{reported_more}
 use Rattle.book_lock.proofs.locked_log.LockedLog.add.Goals as goal
 
 -- what is said of the log's copy is found by search, as it holds of a copy of that too
@@ -15,12 +15,12 @@ add-requires g c =
     let event = event_of c.args.cause in
     let follows = subst (λ v. Follows (newest_in c.args.self.now) event v) (sym c.deref.ensures) c.requires.follows in
     let stored = g.J.BookName.stored in
-    let reported = subst (λ v. (v.durable ≡ (newest_in c.args.self.now).durable) ⊎ MayTell stored c.args.self.now v.durable) (sym c.deref.ensures) c.requires.reported in
+    let reported = subst (λ v. (v.durable ≡ (newest_in c.args.self.now).durable) ⊎ MayBeReported stored c.args.self.now v.durable) (sym c.deref.ensures) c.requires.reported in
     record {
       head = search rules;
       room = search (rules, arith);
       follows = subst (λ l. Follows l event c.deref.result.now) (search rules) follows;
-      reported = subst (λ l. (c.deref.result.now.durable ≡ (newest_in l).durable) ⊎ MayTell stored l c.deref.result.now.durable) (search rules) reported;
+      reported = subst (λ l. (c.deref.result.now.durable ≡ (newest_in l).durable) ⊎ MayBeReported stored l c.deref.result.now.durable) (search rules) reported;
     }
 
 pub returns-then-at-ge-MOST : goal.returns-then-at-ge-MOST
@@ -72,8 +72,8 @@ invariant_of-self g c =
       reported_more g.J.BookName.stored was.log c.put_out.new.publisher.desk.shown.value.seen_log.log e
           (ap (λ (t : BookLog). t.log) (shown ∙ added) ∙ ap (λ (t : BookLog). t.log ++ e ∷ []) same)
           (omega (arith, c.at.ensures.length, ap (λ (t : BookLog). length t.log) same)) i.4
-          (subst (λ l. (e.version.durable ≡ (newest_in l).durable) ⊎ MayTell g.J.BookName.stored l e.version.durable) (sym c.self.view_is)
-          (subst (λ v. (v.durable ≡ (newest_in c.args.self.now).durable) ⊎ MayTell g.J.BookName.stored c.args.self.now v.durable) (sym c.deref.ensures) c.requires.reported)),
+          (subst (λ l. (e.version.durable ≡ (newest_in l).durable) ⊎ MayBeReported g.J.BookName.stored l e.version.durable) (sym c.self.view_is)
+          (subst (λ v. (v.durable ≡ (newest_in c.args.self.now).durable) ⊎ MayBeReported g.J.BookName.stored c.args.self.now v.durable) (sym c.deref.ensures) c.requires.reported)),
     )
 
 pub returns : goal.returns

@@ -2,7 +2,7 @@ use Rattle.std.proofs.Common.{◌≡◌, ◌<◌, ◌++◌, List, length, take, 
 use Rattle.std.proofs.lemmas.Result.{IfOk-from_err}
 use Rattle.overlay_terms.specs.Histories.{Entry, commands_of}
 use Rattle.book_history.specs.BookLogs.{BookLog}
-use Rattle.book_history.specs.Telling.{ReportsStored}
+use Rattle.book_history.specs.Reporting.{ReportsStored}
 use Rattle.book_history.proofs.Gone.{passed}
 use Rattle.book_lock.specs.Steps.{AreFinishedIn}
 use Rattle.book_lock.proofs.Finishing.{begun, all_stay}

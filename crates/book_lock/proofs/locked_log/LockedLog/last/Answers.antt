@@ -1,6 +1,6 @@
 use Rattle.std.proofs.Common.{◌∙◌, ap, subst}
 use Rattle.book_history.specs.Logs.{newest_in, IsLog}
-use Rattle.book_history.specs.Telling.{ReportsStored}
+use Rattle.book_history.specs.Reporting.{ReportsStored}
 use Rattle.book_lock.proofs.locked_log.LockedLog.last.Goals as goal
 
 pub returns : goal.returns

@@ -4,7 +4,7 @@ use Rattle.overlay_terms.specs.Histories.{commands_of}
 use Rattle.book_history.specs.Logs.{newest_in}
 use Rattle.book_history.specs.BookLogs.{BookLog}
 use Rattle.book_lock.specs.Steps.{beginners}
-use Rattle.book_history.specs.Telling.{ReportsStored}
+use Rattle.book_history.specs.Reporting.{ReportsStored}
 use Rattle.book_lock.proofs.Beginning.{none_yet}
 use Rattle.book_history.proofs.Gone.{passed}
 use Rattle.book_lock.proofs.locked_log.LockedLog.open.Goals as goal

@@ -1,7 +1,7 @@
 use Rattle.std.proofs.Common.{◌⊎◌, ◌<◌, ◌≤◌, ap, sym, ◌∙◌, subst, refl, arith, inl, inr}
 use Rattle.overlay_terms.specs.Histories.{FollowsReport}
 use Rattle.book_history.specs.Logs.{newest_in}
-use Rattle.book_history.specs.Telling.{MayTell}
+use Rattle.book_history.specs.Reporting.{MayBeReported}
 use Rattle.std.proofs.lemmas.Result.{IfOk-from_err}
 use Rattle.book_history.proofs.Gone.{passed}
 use Rattle.book_lock.proofs.Growing.{newest_of, entry_by, reports}
@@ -31,7 +31,7 @@ add-requires g c =
     let number = c.number.ensures.value ∙ ap (λ v. v.number) (c.deref-else-number-durable.ensures ∙ c.last.ensures.version) in
     let old = c.deref-2.ensures ∙ c.last.ensures.version in
     let reported = reports _ last _ c.args.number _ _ old c.in_ok-version.ensures.ok durable number c.if-number-durable.false c.if-number.false in
-    record { follows = reported; seat = tt; reported = inr (subst (MayTell g.J.BookName.stored c.args.self.now) (sym reported.durable) c.requires.stored) }
+    record { follows = reported; seat = tt; reported = inr (subst (MayBeReported g.J.BookName.stored c.args.self.now) (sym reported.durable) c.requires.stored) }
 
 pub returns-in_err-add : goal.returns-in_err-add
 returns-in_err-add g c =

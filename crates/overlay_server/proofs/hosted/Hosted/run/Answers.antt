@@ -40,7 +40,7 @@ returns-in-Err-clause-refused g c =
       fault =
           refused_at_once g.D.Disk self.version.value (flusher_in self.store) (given c.args.ports.items) fault self.answer
           (record { code = c.refused.ensures.code; same = c.refused.ensures.answer; may = subst MayAnswer (sym c.requires.hosted.answer) tt })
-          (ap (λ (l : BookLog). l.log) c.refused.ensures.seen_log ∙ c.requires.hosted.first) c.refused.ensures.reported c.refused.ensures.sessions
+          (ap (λ (l : BookLog). l.log) c.refused.ensures.seen_log ∙ c.requires.hosted.first) c.refused.ensures.notes c.refused.ensures.sessions
           (stopped_at_once g.D.Disk self.version.value (flusher_in self.store) fault.disk c.requires.hosted.now
           (subst (λ o. MatchOption (flusher_in self.store) (o ≡ None) (λ f. o ≡ Some f.commit.disk)) (sym c.refused.ensures.disk) c.into_disk.ensures));
       ports = (ap (λ (ps : Vec (Port _ _) Global). given ps.items) c.in-Err.ensures.refused, c.refused.ensures.sessions);
@@ -117,7 +117,7 @@ returns-then-is_set-clause-refused g c =
         durable = closed.ensures.durable;
         store = closed.ensures.store;
         fault = closed.ensures.fault;
-        reported = closed.ensures.reported;
+        notes = closed.ensures.notes;
       };
     })
     refused.ensures.closed work.result.finished left.finished_are refused.ensures.back
@@ -157,7 +157,7 @@ returns-clause-left g c =
         durable = closed.ensures.durable;
         store = closed.ensures.store;
         fault = closed.ensures.fault;
-        reported = closed.ensures.reported;
+        notes = closed.ensures.notes;
       };
     })
     left.finished_are

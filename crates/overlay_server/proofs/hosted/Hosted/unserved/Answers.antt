@@ -11,6 +11,6 @@ returns g c =
     let fault = c.refused.result in
     λ all. refused_at_once g.D.Disk self.version.value (flusher_in self.store) all fault self.answer
     (record { code = c.refused.ensures.code; same = c.refused.ensures.answer; may = subst MayAnswer (sym c.requires.answer) tt })
-    (ap (λ (l : BookLog). l.log) c.refused.ensures.seen_log ∙ c.requires.first) c.refused.ensures.reported c.refused.ensures.sessions
+    (ap (λ (l : BookLog). l.log) c.refused.ensures.seen_log ∙ c.requires.first) c.refused.ensures.notes c.refused.ensures.sessions
     (stopped_at_once g.D.Disk self.version.value (flusher_in self.store) fault.disk c.requires.now
     (subst (λ o. MatchOption (flusher_in self.store) (o ≡ None) (λ f. o ≡ Some f.commit.disk)) (sym c.refused.ensures.disk) c.into_disk.ensures))

@@ -9,11 +9,11 @@ use Rattle.store_flushing.proofs.keeper.Keeper.begin.Goals as goal
 pub begin-requires-clause-book : goal.begin-requires-clause-book
 begin-requires-clause-book g c = of_book c.args.self.now
 
-pub returns-clause-tells : goal.returns-clause-tells
-returns-clause-tells g c is =
+pub returns-clause-reports : goal.returns-clause-reports
+returns-clause-reports g c is =
     let k = c.args.self.now in
     let h = history_of k.reporter.log in
-    none_reported g.D.Disk h h k.held.flusher c.begin.new.self.flusher (notes_in k.reported) (c.begin.ensures.keeps is) refl
+    none_reported g.D.Disk h h k.held.flusher c.begin.new.self.flusher (notes_in k.notes) (c.begin.ensures.keeps is) refl
 
 pub returns-clause-err : goal.returns-clause-err
 returns-clause-err g c =

@@ -21,11 +21,11 @@ returns-clause-keeps g c is =
     kept d h m s s (longer d h m s (λ k left. g.met.D.Disk.only_now s.commit.disk k is.honest left) e.goes_on e.durable is)
     (returns-clause-history g c) (omega (arith, e.durable, is.reported))
 
-pub returns-clause-tells : goal.returns-clause-tells
-returns-clause-tells g c is =
+pub returns-clause-reports : goal.returns-clause-reports
+returns-clause-reports g c is =
     let s = c.args.self.now.held.flusher in
     let log = c.next_version-looked.new.me.log in
-    none_reported g.D.Disk (history_of c.args.self.now.reporter.log) (history_of log) s s (notes_in c.args.self.now.reported) (returns-clause-keeps g c is)
+    none_reported g.D.Disk (history_of c.args.self.now.reporter.log) (history_of log) s s (notes_in c.args.self.now.notes) (returns-clause-keeps g c is)
     c.next_version-looked.ensures.durable
 
 pub invariant_of-self : goal.invariant_of-self

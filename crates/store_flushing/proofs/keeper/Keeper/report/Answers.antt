@@ -35,13 +35,13 @@ returns-clause-reported g c is =
     let reached = subst (λ (k : ℕ). k ≤ (newest_in c.args.self.now.reporter.log).number → k ≤ (newest_in c.report.new.me.log).durable) c.stored.ensures e.reached in
     all_reported d h n s (λ k left. g.met.D.Disk.only_now s.commit.disk k is.honest left) e.goes_on reported is reached (stored_level d g.met.D.Disk.seen_may_stay h s e.history is)
 
-pub returns-clause-tells : goal.returns-clause-tells
-returns-clause-tells g c is =
+pub returns-clause-reports : goal.returns-clause-reports
+returns-clause-reports g c is =
     let s = c.args.self.now.held.flusher in
     let log = c.report.new.me.log in
-    news_reported g.D.Disk (history_of c.args.self.now.reporter.log) (history_of log) s (notes_in c.args.self.now.reported) (notes_in c.write.new.self)
+    news_reported g.D.Disk (history_of c.args.self.now.reporter.log) (history_of log) s (notes_in c.args.self.now.notes) (notes_in c.write.new.self)
     (λ k left. g.met.D.Disk.only_now s.commit.disk k is.honest left) (returns-clause-keeps g c is)
-    (subst (λ (r : Heard). notes_in c.write.new.self ≡ notes_in c.args.self.now.reported ++ notes_at (g.D.Disk.moment s.commit.disk) (news_in (history_of r.log) (history_of log)))
+    (subst (λ (r : Heard). notes_in c.write.new.self ≡ notes_in c.args.self.now.notes ++ notes_at (g.D.Disk.moment s.commit.disk) (news_in (history_of r.log) (history_of log)))
     c.of-was.ensures c.write.ensures)
 
 pub invariant_of-self : goal.invariant_of-self

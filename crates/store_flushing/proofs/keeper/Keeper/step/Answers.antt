@@ -11,11 +11,11 @@ returns-clause-keeps g c is =
     let log = c.args.self.now.reporter.log in
     c.step.ensures.keeps (history_of log) (is_history log c.given.ensures.valid) is
 
-pub returns-clause-tells : goal.returns-clause-tells
-returns-clause-tells g c is =
+pub returns-clause-reports : goal.returns-clause-reports
+returns-clause-reports g c is =
     let k = c.args.self.now in
     let h = history_of k.reporter.log in
-    none_reported g.D.Disk h h k.held.flusher c.step.new.self.flusher (notes_in k.reported) (returns-clause-keeps g c is) refl
+    none_reported g.D.Disk h h k.held.flusher c.step.new.self.flusher (notes_in k.notes) (returns-clause-keeps g c is) refl
 
 pub invariant_of-self : goal.invariant_of-self
 invariant_of-self g c =

@@ -3,7 +3,7 @@ use mathlib.Core.Bool.{true≢false}
 use Rattle.overlay_terms.specs.Histories.{newest}
 use Rattle.book_history.specs.Known.{seen}
 use Rattle.book_history.specs.Logs.{newest_in}
-use Rattle.book_history.specs.Telling.{ReportsStored}
+use Rattle.book_history.specs.Reporting.{ReportsStored}
 use Rattle.version_book.specs.Failing.{IsReportedFault}
 use Rattle.version_book.specs.Waits.{IsSyncRefused}
 use Rattle.version_book.proofs.Failures.{none_failed}

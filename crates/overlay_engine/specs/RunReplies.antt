@@ -1,4 +1,4 @@
--- What the answers of a run say: the numbers of jobs, and what is durable.
+-- What the replies of a run say: the numbers of jobs, and what is durable.
 use Rattle.std.specs.Prelude.{◌≡◌, ℕ, ◌+◌, List, [], ◌∷◌}
 use Rattle.disk_model.specs.declared.disk.Disk.{Ghosts}
 use Rattle.overlay_engine.specs.declared.engine.Engine.{Engine}

@@ -1,8 +1,8 @@
 use Rattle.std.proofs.Common.{refl}
 use Rattle.store_flushing.proofs.Remembered.{same_keeper}
-use Rattle.store_flushing.proofs.keeper.Keeper.tell.Goals as goal
+use Rattle.store_flushing.proofs.keeper.Keeper.report_fault.Goals as goal
 
 pub returns-clause-nothing : goal.returns-clause-nothing
 returns-clause-nothing g c =
     let k = c.args.self.now in
-    same_keeper k c.tell.new.me k.held c.tell.ensures.nothing refl _
+    same_keeper k c.report_fault.new.me k.held c.report_fault.ensures.nothing refl _
