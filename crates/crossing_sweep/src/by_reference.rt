@@ -7,20 +7,12 @@ use std::alloc::{AllocError, Global};
 pub(crate) fn references<'a, T>(alloc: Global, elements: &'a [T]) -> Result<Vec<&'a T>, AllocError>
     ensures { IfOk result (λ order. map (λ z. z.now) order.items ≡ elements.now) }
 {
-    let mut order = Vec::with_capacity(alloc, elements.len())?;
-    for element in elements {
-        order.push(element)?;
-    }
-    Ok(order)
+    elements.iter().collect(alloc)
 }
 
 /// The elements that some references are to.
 pub(crate) fn copied<T: Copy>(alloc: Global, elements: &[&T]) -> Result<Vec<T>, AllocError>
     ensures { IfOk result (λ list. list.items ≡ map (λ z. z.now) elements.now) }
 {
-    let mut list = Vec::with_capacity(alloc, elements.len())?;
-    for element in elements {
-        list.push(**element)?;
-    }
-    Ok(list)
+    elements.iter().map(|element| **element).collect(alloc)
 }

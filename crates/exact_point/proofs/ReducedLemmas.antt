@@ -1,6 +1,6 @@
 -- Dividing x, y and w of a point by their greatest common divisor.
 use Prim.Native.Nat.{◌∣◌}
-use Rattle.std.proofs.Common.{◌≡◌, ℕ, zero, suc, ℤ, pos, negsuc, neg_ℤ, ◌*ℤ◌, ◌<ℤ◌, ◌≤ℤ◌, ◌*◌, ◌/◌, ◌%◌, ◌<◌, ◌≤◌, unsigned_abs, refl, ap, sym, ◌∙◌, arith, subst}
+use Rattle.std.proofs.Common.{◌≡◌, ℕ, zero, suc, ℤ, pos, negsuc, neg_ℤ, ◌*ℤ◌, ◌<ℤ◌, ◌≤ℤ◌, ◌*◌, ◌/◌, ◌%◌, ◌<◌, ◌≤◌, unsigned_abs, int_div, refl, ap, sym, ◌∙◌, arith, subst}
 use Rattle.std.proofs.lemmas.Int.{ints, by_lt_z, unsigned_abs-mul}
 use Rattle.std.proofs.lemmas.Bool.{and_from}
 use Rattle.std.proofs.lemmas.Bool.Decides.{Decides-int_eq}
@@ -116,6 +116,10 @@ quotient_up (negsuc n) q d e h = absurd (omega (arith, ints))
 pub quotient_down : (a : ℤ) (q d : ℕ) → q * d ≡ unsigned_abs a → a <ℤ pos 0 → neg_ℤ (pos q) *ℤ pos d ≡ a
 quotient_down (pos n) q d e h = absurd (omega (arith, ints))
 quotient_down (negsuc n) q d e h = negated (pos q) (pos d) ∙ ap neg_ℤ (pos-*ℤ-pos q d ∙ ap pos e)
+
+pub exact_quotient : (a : ℤ) (d : ℕ) → 0 < d → d ∣ unsigned_abs a → int_div a (pos d) *ℤ pos d ≡ a
+exact_quotient (pos n) d h k = quotient_up (pos n) (n / d) d (quotient_times d n h k) (omega (arith, ints))
+exact_quotient (negsuc n) d h k = quotient_down (negsuc n) (suc n / d) d (quotient_times d (suc n) h k) (omega (arith, ints))
 
 -- ---- the bounds of a point stay
 cancel_at_most : (a b : ℤ) (g : ℕ) → 0 < g → (a *ℤ pos g) ≤ℤ (b *ℤ pos g) → a ≤ℤ b

@@ -35,6 +35,15 @@ pub(crate) fn scaled(x: i64, w: i128) -> i128
     i128::from(x) * i128::from(w as i64)
 }
 
+/// The same, where 64 bits hold it.
+pub(crate) fn near_scaled(x: i64, w: i64) -> i64
+    requires x_small { InRange x }
+    requires w_small { IsWithin (2 ^ 21) w }
+    ensures { result ≡ x *ℤ w }
+{
+    x * w
+}
+
 /// The difference of two numbers.
 pub(crate) fn offset(a: i128, b: i128) -> i128
     requires a_small { IsWithin (2 ^ 63) a }

@@ -19,15 +19,15 @@ use std::marker::Model;
 /// A point whose numbers 64 bits hold: an end of a segment, a place on a border, or a crossing. It is seen as the point.
 #[derive(Clone, Copy, Debug)]
 pub struct NearPoint {
-    x: i64,
-    y: i64,
-    w: i64,
-    ghost w_low: { pos 1 ≤ℤ w },
-    ghost w_high: { w ≤ℤ pos denominator_max },
-    ghost x_low: { neg_ℤ (pos coordinate_max *ℤ w) ≤ℤ x },
-    ghost x_high: { x ≤ℤ (pos coordinate_max *ℤ w) },
-    ghost y_low: { neg_ℤ (pos coordinate_max *ℤ w) ≤ℤ y },
-    ghost y_high: { y ≤ℤ (pos coordinate_max *ℤ w) },
+    pub(crate) x: i64,
+    pub(crate) y: i64,
+    pub(crate) w: i64,
+    pub(crate) ghost w_low: { pos 1 ≤ℤ w },
+    pub(crate) ghost w_high: { w ≤ℤ pos denominator_max },
+    pub(crate) ghost x_low: { neg_ℤ (pos coordinate_max *ℤ w) ≤ℤ x },
+    pub(crate) ghost x_high: { x ≤ℤ (pos coordinate_max *ℤ w) },
+    pub(crate) ghost y_low: { neg_ℤ (pos coordinate_max *ℤ w) ≤ℤ y },
+    pub(crate) ghost y_high: { y ≤ℤ (pos coordinate_max *ℤ w) },
 }
 
 impl Model for NearPoint {
@@ -90,6 +90,27 @@ impl NearPoint {
         let at = border_point(seg, number, x);
         known_ends(seg);
         NearPoint::of(&at)
+    }
+
+    /// Its x times the denominator.
+    pub fn x(self) -> i64
+        ensures { result ≡ self.x }
+    {
+        self.x
+    }
+
+    /// Its y times the denominator.
+    pub fn y(self) -> i64
+        ensures { result ≡ self.y }
+    {
+        self.y
+    }
+
+    /// The denominator.
+    pub fn w(self) -> i64
+        ensures { result ≡ self.w }
+    {
+        self.w
     }
 
     /// The same point.

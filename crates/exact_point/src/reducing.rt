@@ -7,8 +7,9 @@ ghost use Rattle.exact_point.specs.Place.{place};
 ghost use Rattle.exact_point.specs.CutOver.{cut_over};
 ghost use Rattle.exact_point.specs.Reduced.{IsDivisorOf, IsLowest, LowestTermsAreOne};
 
-use crate::arithmetic::scaled;
+use crate::arithmetic::near_scaled;
 use crate::crossing::near_cut;
+use crate::near_point::NearPoint;
 use crate::point::HPoint;
 use plane_base::Seg;
 
@@ -33,7 +34,7 @@ pub fn reduced(p: &HPoint) -> HPoint
 
 /// Where the vertical line over a whole x cuts a segment, in lowest terms. Only y and the denominator are divided:
 /// their divisors divide the third number, which is x times the denominator.
-pub fn reduced_cut(seg: &Seg, x: i64) -> HPoint
+pub fn reduced_cut(seg: &Seg, x: i64) -> NearPoint
     requires in_range { InRange x }
     requires after_left { seg.now.left.x <ℤ x }
     requires before_right { x <ℤ seg.now.right.x }
@@ -42,16 +43,16 @@ pub fn reduced_cut(seg: &Seg, x: i64) -> HPoint
 {
     let (w, y) = near_cut(seg, x);
     let common = common_divisor(w, y);
-    let low = divided(i128::from(w), common);
-    HPoint {
-        x: scaled(x, low),
-        y: divided(i128::from(y), common),
+    let low = near_divided(w, common);
+    NearPoint {
+        x: near_scaled(x, low),
+        y: near_divided(y, common),
         w: low,
     }
 }
 
 /// The greatest common divisor of a denominator and a number.
-fn common_divisor(w: i64, y: i64) -> u64
+fn common_divisor(w: i64, y: i64) -> u32
     requires w_low { pos 1 ≤ℤ w }
     requires narrow { unsigned_abs w < 2 ^ 32 }
     ensures value { IsGcd (unsigned_abs w) (unsigned_abs y) result }
@@ -59,7 +60,7 @@ fn common_divisor(w: i64, y: i64) -> u64
 {
     let size = w.unsigned_abs();
     let rest = y.unsigned_abs() % size;
-    u64::from(narrow_gcd(size as u32, rest as u32))
+    narrow_gcd(size as u32, rest as u32)
 }
 
 /// A place has one form in lowest terms.
@@ -104,16 +105,18 @@ fn gcd(a: u64, b: u64) -> u64
     u64::from(narrow_gcd(y as u32, (x % y) as u32))
 }
 
-/// The same in 32 bits, where a division is shorter.
+/// The same in 32 bits, where a division is shorter: each number is divided by the other in turn.
 fn narrow_gcd(a: u32, b: u32) -> u32
     ensures { IsGcd a b result }
 {
     let mut x = a;
     let mut y = b;
     while y != 0 {
-        let rest = x % y;
-        x = y;
-        y = rest;
+        x %= y;
+        if x == 0 {
+            return y;
+        }
+        y %= x;
     }
     x
 }
@@ -127,4 +130,13 @@ fn divided(a: i128, divisor: u64) -> i128
 {
     let size = (a.unsigned_abs() as u64 / divisor) as i128;
     if a < 0 { -size } else { size }
+}
+
+/// The same in 64 bits.
+fn near_divided(a: i64, divisor: u32) -> i64
+    requires positive { 0 < divisor }
+    requires divides { divisor ∣ unsigned_abs a }
+    ensures { result *ℤ pos divisor ≡ a }
+{
+    a / i64::from(divisor)
 }

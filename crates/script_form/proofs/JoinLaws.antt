@@ -1,8 +1,8 @@
 -- The pieces of a script and its bytes.
-use Rattle.std.proofs.Common.{◌≡◌, ℕ, ◌==◌, Bool, true, false, not, ◌&&◌, List, [], ◌∷◌, refl, sym, ap, ◌∙◌, inl, inr}
+use Rattle.std.proofs.Common.{◌≡◌, ℕ, ◌==◌, true, false, not, ◌&&◌, List, [], ◌∷◌, refl, sym, ap, ◌∙◌, inl, inr}
 use Rattle.std.specs.List.{list_all}
 use Rattle.std.proofs.lemmas.Bool.{and_from, and_parts, cases_Bool, cond-true, cond-false, eqb-true}
-use Rattle.script_form.specs.Lines.{onto_first, pieces_of, joined}
+use Rattle.script_form.specs.Lines.{onto_first, pieces_of, joined, has_no_feed}
 use Rattle.script_form.specs.Lines as laws
 use Rattle.script_form.proofs.Pieces.{HasFirst, pieces_of-has_first}
 
@@ -33,20 +33,17 @@ pieces_join (b ∷ bytes) =
           ∙ joined-byte_at b (pieces_of bytes) some ∙ ap (λ bs. b ∷ bs) more
     ]
 
-abbrev has_none : List ℕ → Bool
-has_none piece = list_all (λ b. not (b == 10)) piece
-
-none-onto_first : (b : ℕ) (ps : List (List ℕ)) → (b == 10) ≡ false → list_all has_none ps ≡ true → list_all has_none (onto_first b ps) ≡ true
+none-onto_first : (b : ℕ) (ps : List (List ℕ)) → (b == 10) ≡ false → list_all has_no_feed ps ≡ true → list_all has_no_feed (onto_first b ps) ≡ true
 none-onto_first b [] other all = and_from (not (b == 10) && true) true (and_from (not (b == 10)) true (ap not other) refl) refl
 none-onto_first b (piece ∷ ps) other all =
-    let both = and_parts (has_none piece) (list_all has_none ps) all in
-    and_from (not (b == 10) && has_none piece) (list_all has_none ps) (and_from (not (b == 10)) (has_none piece) (ap not other) both.0) both.1
+    let both = and_parts (has_no_feed piece) (list_all has_no_feed ps) all in
+    and_from (not (b == 10) && has_no_feed piece) (list_all has_no_feed ps) (and_from (not (b == 10)) (has_no_feed piece) (ap not other) both.0) both.1
 
 pub pieces_have_none : laws.NoPieceHasALineFeed
 pieces_have_none [] = refl
 pieces_have_none (b ∷ bytes) =
     let more = pieces_have_none bytes in
     elim (cases_Bool (b == 10)) [
-      | inl feed ↦ ap (list_all has_none) (cond-true (b == 10) ([] ∷ pieces_of bytes) (onto_first b (pieces_of bytes)) feed) ∙ more
-      | inr other ↦ ap (list_all has_none) (cond-false (b == 10) ([] ∷ pieces_of bytes) (onto_first b (pieces_of bytes)) other) ∙ none-onto_first b (pieces_of bytes) other more
+      | inl feed ↦ ap (list_all has_no_feed) (cond-true (b == 10) ([] ∷ pieces_of bytes) (onto_first b (pieces_of bytes)) feed) ∙ more
+      | inr other ↦ ap (list_all has_no_feed) (cond-false (b == 10) ([] ∷ pieces_of bytes) (onto_first b (pieces_of bytes)) other) ∙ none-onto_first b (pieces_of bytes) other more
     ]

@@ -49,6 +49,12 @@ take-push zero xs b = refl
 take-push (suc n) [] b = refl
 take-push (suc n) (x ∷ xs) b = ap (λ ys. x ∷ ys) (take-push n xs b)
 
+-- bytes after a line that was cut off, and after the line
+pub take-join : (n : ℕ) (xs ys : List ℕ) → take n (take n xs ++ ys) ≡ take n (xs ++ ys)
+take-join zero xs ys = refl
+take-join (suc n) [] ys = refl
+take-join (suc n) (x ∷ xs) ys = ap (λ zs. x ∷ zs) (take-join n xs ys)
+
 pub take-nil : (n : ℕ) → take {A = ℕ} n [] ≡ []
 take-nil zero = refl
 take-nil (suc n) = refl

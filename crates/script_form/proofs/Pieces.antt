@@ -1,8 +1,9 @@
 -- The lines of a script that grows.
-use Rattle.std.proofs.Common.{◌≡◌, ◌≢◌, ℕ, ◌==◌, ◌⊎◌, inl, inr, eqb, true, false, cond, List, [], ◌∷◌, ◌++◌, map, refl, sym, ap, ◌∙◌, append_assoc, append-nil}
+use Rattle.std.proofs.Common.{◌≡◌, ◌≢◌, ℕ, ◌==◌, ◌⊎◌, inl, inr, eqb, true, false, not, cond, List, [], ◌∷◌, ◌++◌, map, refl, sym, ap, ◌∙◌, append_assoc, append-nil}
 use Rattle.std.proofs.lemmas.List.{map_push}
+use Rattle.std.proofs.lemmas.Bool.{and_parts, not-true}
 use Rattle.std.proofs.lemmas.Bool.Decides.{eqb_tells}
-use Rattle.script_form.specs.Lines.{onto_first, pieces_of, front_of, last_of, without_cr, ended_lines, unended}
+use Rattle.script_form.specs.Lines.{onto_first, pieces_of, front_of, last_of, without_cr, ended_lines, unended, has_no_feed}
 
 -- all but the last of a list, and the last, where it is written with its last
 front_of-push : (ps : List (List ℕ)) (p : List ℕ) → front_of (ps ++ p ∷ []) ≡ ps
@@ -114,6 +115,29 @@ ended_lines-byte bytes b other = ap (map without_cr) (ap front_of (pieces_of-byt
 
 pub unended-byte : (bytes : List ℕ) (b : ℕ) → (b == 10) ≡ false → unended (bytes ++ b ∷ []) ≡ unended bytes ++ b ∷ []
 unended-byte bytes b other = ap last_of (pieces_of-byte bytes b other) ∙ longer-last (pieces_of bytes) b
+
+-- neither do bytes that have no line feed
+pub ended_lines-part : (bytes part : List ℕ) → has_no_feed part ≡ true → ended_lines (bytes ++ part) ≡ ended_lines bytes
+ended_lines-part bytes [] none = ap ended_lines (append-nil bytes)
+ended_lines-part bytes (b ∷ part) none =
+    let both = and_parts (not (b == 10)) (has_no_feed part) none in
+    ap ended_lines (sym (append_assoc bytes (b ∷ []) part)) ∙ ended_lines-part (bytes ++ b ∷ []) part both.1 ∙ ended_lines-byte bytes b (not-true (b == 10) both.0)
+
+pub unended-part : (bytes part : List ℕ) → has_no_feed part ≡ true → unended (bytes ++ part) ≡ unended bytes ++ part
+unended-part bytes [] none = ap unended (append-nil bytes) ∙ sym (append-nil (unended bytes))
+unended-part bytes (b ∷ part) none =
+    let both = and_parts (not (b == 10)) (has_no_feed part) none in
+    ap unended (sym (append_assoc bytes (b ∷ []) part)) ∙ unended-part (bytes ++ b ∷ []) part both.1
+    ∙ ap (λ l. l ++ part) (unended-byte bytes b (not-true (b == 10) both.0)) ∙ append_assoc (unended bytes) (b ∷ []) part
+
+-- a part of a line, and the line feed that ends it
+pub ended_lines-line : (bytes part : List ℕ) → has_no_feed part ≡ true → ended_lines (bytes ++ (part ++ 10 ∷ [])) ≡ ended_lines bytes ++ without_cr (unended (bytes ++ part)) ∷ []
+ended_lines-line bytes part none =
+    ap ended_lines (sym (append_assoc bytes part (10 ∷ []))) ∙ ended_lines-feed (bytes ++ part)
+    ∙ ap (λ (lines : List (List ℕ)). lines ++ without_cr (unended (bytes ++ part)) ∷ []) (ended_lines-part bytes part none)
+
+pub unended-line : (bytes part : List ℕ) → unended (bytes ++ (part ++ 10 ∷ [])) ≡ []
+unended-line bytes part = ap unended (sym (append_assoc bytes part (10 ∷ []))) ∙ unended-feed (bytes ++ part)
 
 -- a list goes on from another
 pub record GoesOn (short long : List (List ℕ)) : Type 0 where

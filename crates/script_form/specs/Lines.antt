@@ -36,9 +36,13 @@ joined (piece ∷ next ∷ pieces) = piece ++ 10 ∷ joined (next ∷ pieces)
 abbrev pub PiecesJoinToTheBytes : Type 0
 PiecesJoinToTheBytes = (bytes : List ℕ) → joined (pieces_of bytes) ≡ bytes
 
+-- whether bytes have no line feed
+abbrev pub has_no_feed : List ℕ → Bool
+has_no_feed bytes = list_all (λ b. not (b == 10)) bytes
+
 -- no piece has a line feed
 abbrev pub NoPieceHasALineFeed : Type 0
-NoPieceHasALineFeed = (bytes : List ℕ) → IsTrue (list_all (list_all (λ b. not (b == 10))) (pieces_of bytes))
+NoPieceHasALineFeed = (bytes : List ℕ) → IsTrue (list_all has_no_feed (pieces_of bytes))
 
 -- all but the last of a list
 abbrev pub front_of : List (List ℕ) → List (List ℕ)

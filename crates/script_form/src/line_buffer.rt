@@ -1,5 +1,5 @@
 //! The line that is being read.
-ghost use Rattle.std.specs.Prelude.{◌≡◌, ◌==◌, [], ◌∷◌, ◌++◌, length, take, IfOk};
+ghost use Rattle.std.specs.Prelude.{◌≡◌, [], ◌∷◌, ◌++◌, take, IfOk};
 ghost use Rattle.script_form.specs.Lines.{line_room, without_cr};
 
 use crate::request::LINE_MAX;
@@ -47,6 +47,15 @@ impl LineBuffer {
         if self.bytes.len() < LINE_ROOM {
             let _ = self.bytes.push(byte);
         }
+    }
+
+    /// Puts bytes at the end of the line, as far as they can make a difference.
+    pub fn push_all(&mut self, bytes: &[u8])
+        ensures { self.new ≡ take line_room (self.old ++ bytes.now) }
+    {
+        let room = LINE_ROOM - self.bytes.len();
+        let fitting = &bytes[..room.min(bytes.len())];
+        let _ = self.bytes.extend_from_slice(fitting);
     }
 
     /// Begins the next line.

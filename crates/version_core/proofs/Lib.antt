@@ -1,3 +1,4 @@
+pub mod DigitLemmas
 pub mod EdgeLemmas
 pub mod LineLemmas
 pub mod VerdictLemmas

@@ -137,7 +137,7 @@ fn put_cut(line: &mut LineText, seg: &Seg, number: u8)
     let Some(column) = Column::new(u64::from(number)) else {
         unreachable!()
     };
-    line.put_point(&reduced_cut(seg, column.border()));
+    line.put_near(reduced_cut(seg, column.border()));
 }
 
 /// Puts down the place of a name whose text is not kept, and keeps it.

@@ -2,6 +2,7 @@
 #![tactic(auto)]
 
 pub mod answers;
+mod digits;
 mod edges_reply;
 mod end_texts;
 mod line_text;

@@ -5,14 +5,14 @@ ghost use Rattle.overlay_terms.specs.Plane.{whole};
 ghost use Rattle.exact_point.specs.Place.{place};
 ghost use Rattle.version_core.specs.Edges.{point_text};
 
-use crate::place_text::{PlaceText, TEXT_MAX, put_number, put_place};
-use exact_point::HPoint;
+use crate::place_text::{PlaceText, TEXT_MAX, put_near, put_number, put_place};
+use exact_point::{HPoint, NearPoint};
 use plane_base::Pt;
 use std::marker::Model;
 
 /// How many bytes there are for a line: two texts of places, a space and a line feed, and more, as a text is put down
 /// with all of its bytes.
-const LINE_MAX: usize = 192;
+const LINE_MAX: usize = 200;
 
 /// A text that ends with the last byte, as it is put down from its end to its start.
 #[derive(Debug, Drop)]
@@ -26,7 +26,7 @@ impl Model for LineText {
 
     ghost view = { λ t. drop t.start t.bytes };
 
-    ghost invariant = { λ t. t.start ≤ 192 };
+    ghost invariant = { λ t. t.start ≤ 200 };
 }
 
 impl LineText {
@@ -47,7 +47,7 @@ impl LineText {
 
     /// Puts a byte before the text.
     pub(crate) fn put_byte(&mut self, byte: u8)
-        requires { length self.old < 192 }
+        requires { length self.old < 200 }
         ensures { self.new ≡ byte ∷ self.old }
     {
         self.start -= 1;
@@ -81,12 +81,12 @@ impl LineText {
     }
 
     /// Puts a place before the text.
-    pub(crate) fn put_point(&mut self, point: &HPoint)
+    pub(crate) fn put_near(&mut self, point: NearPoint)
         requires { length self.old ≤ 128 }
-        ensures text { self.new ≡ point_text (place point.now) ++ self.old }
+        ensures text { self.new ≡ point_text (place point) ++ self.old }
         ensures short { length self.new ≤ length self.old + 64 }
     {
-        self.start = put_place(&mut self.bytes, self.start, point);
+        self.start = put_near(&mut self.bytes, self.start, point);
     }
 
     /// Puts a whole point before the text. It is in lowest terms already.
@@ -102,13 +102,12 @@ impl LineText {
 
     /// Puts a coordinate before the text, and a space between them.
     fn put_coordinate(&mut self, n: i64)
-        requires small { unsigned_abs n ≤ 2 ^ 63 }
         requires room { length self.old ≤ 160 }
         ensures text { self.new ≡ signed_decimal n ++ (32 ∷ self.old) }
         ensures short { length self.new ≤ length self.old + 21 }
     {
         self.put_byte(b' ');
-        self.start = put_number(&mut self.bytes, self.start, i128::from(n));
+        self.start = put_number(&mut self.bytes, self.start, n);
     }
 
     pub(crate) fn as_bytes(&self) -> &[u8]

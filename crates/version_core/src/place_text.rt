@@ -4,8 +4,8 @@ ghost use Rattle.std.specs.Fmt.{signed_decimal};
 ghost use Rattle.exact_point.specs.Place.{place};
 ghost use Rattle.version_core.specs.Edges.{point_text};
 
-use exact_point::HPoint;
-use itoa::write_digits;
+use crate::digits::put_digits;
+use exact_point::{HPoint, NearPoint};
 use std::marker::Model;
 
 /// How many bytes there are for a text: its three numbers have a sign and 19 digits at most, with a space between them.
@@ -52,32 +52,63 @@ impl PlaceText {
 
 /// Puts a place down as `x y w` before a place among the bytes, and returns where it starts.
 pub(crate) fn put_place(bytes: &mut [u8], end: usize, point: &HPoint) -> usize
-    requires room { 64 ≤ end }
+    requires room { 68 ≤ end }
     requires within { end ≤ length bytes.old }
     ensures before { result ≤ end }
     ensures short { end ≤ result + 64 }
     ensures written { drop result bytes.new ≡ point_text (place point.now) ++ drop end bytes.old }
 {
-    let w = put_number(bytes, end, point.w);
+    let w = put_wide(bytes, end, point.w);
     bytes[w - 1] = b' ';
-    let y = put_number(bytes, w - 1, point.y);
+    let y = put_wide(bytes, w - 1, point.y);
     bytes[y - 1] = b' ';
-    put_number(bytes, y - 1, point.x)
+    put_wide(bytes, y - 1, point.x)
+}
+
+/// The same of a place of which 64 bits hold the numbers.
+pub(crate) fn put_near(bytes: &mut [u8], end: usize, point: NearPoint) -> usize
+    requires room { 68 ≤ end }
+    requires within { end ≤ length bytes.old }
+    ensures before { result ≤ end }
+    ensures short { end ≤ result + 64 }
+    ensures written { drop result bytes.new ≡ point_text (place point) ++ drop end bytes.old }
+{
+    let w = put_number(bytes, end, point.w());
+    bytes[w - 1] = b' ';
+    let y = put_number(bytes, w - 1, point.y());
+    bytes[y - 1] = b' ';
+    put_number(bytes, y - 1, point.x())
 }
 
 /// Puts a number down before a place among the bytes, and returns where it starts.
-pub(crate) fn put_number(bytes: &mut [u8], end: usize, n: i128) -> usize
-    requires small { unsigned_abs n ≤ 2 ^ 63 }
-    requires room { 20 ≤ end }
+pub(crate) fn put_number(bytes: &mut [u8], end: usize, n: i64) -> usize
+    requires room { 26 ≤ end }
     requires within { end ≤ length bytes.old }
     ensures before { result ≤ end }
     ensures short { end ≤ result + 20 }
     ensures written { drop result bytes.new ≡ signed_decimal n ++ drop end bytes.old }
 {
-    let start = write_digits(n.unsigned_abs() as u64, bytes, end);
+    let start = put_digits(n.unsigned_abs(), bytes, end);
     if n >= 0 {
         return start;
     }
     bytes[start - 1] = b'-';
     start - 1
+}
+
+/// The same of one of 128 bits that is as small, or 2^63.
+fn put_wide(bytes: &mut [u8], end: usize, n: i128) -> usize
+    requires small { unsigned_abs n ≤ 2 ^ 63 }
+    requires room { 26 ≤ end }
+    requires within { end ≤ length bytes.old }
+    ensures before { result ≤ end }
+    ensures short { end ≤ result + 20 }
+    ensures written { drop result bytes.new ≡ signed_decimal n ++ drop end bytes.old }
+{
+    let first = put_digits(n.unsigned_abs() as u64, bytes, end);
+    if n >= 0 {
+        return first;
+    }
+    bytes[first - 1] = b'-';
+    first - 1
 }

@@ -8,3 +8,5 @@ pub mod OneMeaning
 pub mod Deciding
 pub mod WrittenNumbers
 pub mod RoundTrip
+pub mod PlainNumbers
+pub mod PlainPoints

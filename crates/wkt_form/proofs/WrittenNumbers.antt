@@ -49,7 +49,7 @@ count_none p (b ∷ bs) all =
 
 -- ==== A digit
 
-digit_in_run : (d : ℕ) → is_ascii_digit d ≡ true → is_run_byte d ≡ true
+pub digit_in_run : (d : ℕ) → is_ascii_digit d ≡ true → is_run_byte d ≡ true
 digit_in_run d h = grind (arith, nat_tests)
 
 digit_no_point : (d : ℕ) → is_ascii_digit d ≡ true → not (is_point d) ≡ true
@@ -71,7 +71,7 @@ pub record AreDigits (ds : List ℕ) : Type 0 where
 no_points : (ds : List ℕ) → are_digits ds ≡ true → list_all (λ b. not (is_point b)) ds ≡ true
 no_points ds all = all_weaker is_ascii_digit (λ b. not (is_point b)) digit_no_point ds all
 
-unsigned_digits : (ds : List ℕ) → AreDigits ds → unsigned ds ≡ ds
+pub unsigned_digits : (ds : List ℕ) → AreDigits ds → unsigned ds ≡ ds
 unsigned_digits [] h = absurd (omega (arith, h.some))
 unsigned_digits (d ∷ ds) h = cond-false (is_sign d) ds (d ∷ ds) (digit_no_sign d (and_parts (is_ascii_digit d) (are_digits ds) h.all).0)
 
@@ -105,7 +105,7 @@ pub record IsWritten (z : ℤ) (bs : List ℕ) : Type 0 where
   pub value : number_value bs ≡ z
 
 -- a sign, or none, before the digits of a number
-by_digits : (bs ds : List ℕ) (n : ℕ) (z : ℤ) → AreDigits ds → digits_value ds ≡ n → unsigned bs ≡ ds → list_all is_run_byte bs ≡ true → 0 < length bs → cond (is_negative bs) (neg_ℤ (pos n)) (pos n) ≡ z → IsWritten z bs
+pub by_digits : (bs ds : List ℕ) (n : ℕ) (z : ℤ) → AreDigits ds → digits_value ds ≡ n → unsigned bs ≡ ds → list_all is_run_byte bs ≡ true → 0 < length bs → cond (is_negative bs) (neg_ℤ (pos n)) (pos n) ≡ z → IsWritten z bs
 by_digits bs ds n z h v u r s e =
     record {
       run = r;
@@ -118,7 +118,7 @@ by_digits bs ds n z h v u r s e =
 decimal_digits : (n : ℕ) → n < 2 ^ 64 → AreDigits (decimal n)
 decimal_digits n small = record { all = digits_decimal own n small; some = decimal_nonempty n small }
 
-digits_run : (ds : List ℕ) → are_digits ds ≡ true → list_all is_run_byte ds ≡ true
+pub digits_run : (ds : List ℕ) → are_digits ds ≡ true → list_all is_run_byte ds ≡ true
 digits_run ds all = all_weaker is_ascii_digit is_run_byte digit_in_run ds all
 
 written_natural : (n : ℕ) → n < 2 ^ 64 → IsWritten (pos n) (decimal n)

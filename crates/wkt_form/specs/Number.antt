@@ -42,8 +42,10 @@ is_whole bs = list_all (λ b. b == 48) (behind_point (unsigned bs))
 abbrev pub is_negative : List ℕ → Bool
 is_negative bs = begins (λ b. b == 45) bs
 
+-- a size with the sign of a number
+abbrev pub with_sign : List ℕ → ℕ → ℤ
+with_sign bs size = if is_negative bs then neg_ℤ (pos size) else pos size
+
 -- the whole number that a number is, without what follows its point
 abbrev pub number_value : List ℕ → ℤ
-number_value bs =
-    let size = digits_value (before_point (unsigned bs)) in
-    if is_negative bs then neg_ℤ (pos size) else pos size
+number_value bs = with_sign bs (digits_value (before_point (unsigned bs)))

@@ -39,6 +39,10 @@ with_number r z = by_state r.state where
   by_state states.First = record r { first = z }
   by_state state = record r { points = r.points ++ record { x = r.first; y = z } ∷ [] }
 
+-- a whole point and a comma, where a point must come
+abbrev pub with_point : Reading → ℤ → ℤ → Reading
+with_point r x y = record r { first = x; points = r.points ++ record { x = x; y = y } ∷ [] }
+
 -- a closing bracket after a point ends its ring
 abbrev pub with_close : Reading → Reading
 with_close r = by_state r.state where

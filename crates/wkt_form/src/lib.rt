@@ -5,6 +5,7 @@ mod coordinate;
 pub mod fault;
 pub mod laws;
 mod number;
+mod plain_point;
 mod point;
 mod reader;
 pub mod reading;

@@ -1,11 +1,12 @@
 //! Numbers as texts write them.
-ghost use Rattle.std.specs.Prelude.{◌≡◌, ◌||◌, min, count_by};
-ghost use Rattle.std.specs.List.{list_all, list_any, position_or_len};
+ghost use Rattle.std.specs.Prelude.{◌≡◌, ◌||◌, ℕ, min, count_by, take, IfSome};
+ghost use Rattle.std.specs.List.{list_all, list_any, position_or_len, prefix_len};
 ghost use Rattle.std.specs.Char.{is_ascii_digit};
-ghost use Rattle.overlay_terms.specs.Bytes.{digits_value};
+ghost use Rattle.overlay_terms.specs.Bytes.{begins, digits_value};
 ghost use Rattle.wkt_form.specs.Number.{is_number, is_whole, is_point, unsigned};
-ghost use Rattle.wkt_form.specs.Number.{before_point, behind_point, is_negative};
-ghost use Rattle.wkt_form.specs.Symbol.{number_of};
+ghost use Rattle.wkt_form.specs.Number.{before_point, behind_point, is_negative, with_sign};
+ghost use Rattle.wkt_form.specs.Token.{is_run_byte};
+ghost use Rattle.wkt_form.specs.Symbol.{number_of, whole_worth, BeginsWithNumber};
 
 use crate::coordinate::Coordinate;
 
@@ -21,6 +22,19 @@ pub enum Number {
     OutOfRange,
 }
 
+impl Number {
+    /// Its value, if it is whole and within the range.
+    #[inline(always)]
+    pub fn whole(self) -> Option<Coordinate>
+        ensures { IfSome result (λ value. self ≡ Number.Whole value) }
+    {
+        match self {
+            Number::Whole(value) => Some(value),
+            _ => None,
+        }
+    }
+}
+
 /// What the run of digits, signs and points is worth, if it is a number.
 pub fn number_of(run: &[u8]) -> Option<Number>
     ensures { result ≡ number_of run.now }
@@ -32,9 +46,65 @@ pub fn number_of(run: &[u8]) -> Option<Number>
         return Some(Number::Fraction);
     }
     let size = size_up_to_limit(whole_digits(unsigned(run)));
+    Some(whole_worth(run, size))
+}
+
+/// The number that bytes begin with, and how many of them it takes, where it has a sign or none and then digits alone:
+/// each of its bytes is looked at once.
+#[inline(always)]
+pub fn plain_number(bytes: &[u8]) -> Option<(Number, usize)>
+    ensures { IfSome result (λ found. BeginsWithNumber bytes.now found.0 found.1) }
+{
+    let digits = unsigned(bytes);
+    let (size, count) = leading_digits(digits);
+    if count == 0 || begins_run(&digits[count..]) {
+        return None;
+    }
+    Some((whole_worth(bytes, size), bytes.len() - digits.len() + count))
+}
+
+/// What a whole number is worth that begins as these bytes do, by what its digits are worth up to the limit.
+fn whole_worth(bytes: &[u8], size: u32) -> Number
+    ensures { (n : ℕ) → size ≡ min 2097152 n → result ≡ whole_worth (with_sign bytes.now n) }
+{
     let value = i64::from(size);
-    let signed = if is_negative(run) { -value } else { value };
-    Some(Coordinate::new(signed).map_or(Number::OutOfRange, Number::Whole))
+    let signed = if is_negative(bytes) { -value } else { value };
+    Coordinate::new(signed).map_or(Number::OutOfRange, Number::Whole)
+}
+
+/// What the digits that bytes begin with are worth, or the limit where that is more, and how many they are.
+#[inline(always)]
+fn leading_digits(bytes: &[u8]) -> (u32, usize)
+    ensures size { result.0 ≡ min 2097152 (digits_value (take result.1 bytes.now)) }
+    ensures count { result.1 ≡ prefix_len is_ascii_digit bytes.now }
+{
+    let mut size = 0;
+    let mut count = 0;
+    for byte in bytes {
+        if !byte.is_ascii_digit() {
+            return (size, count);
+        }
+        size = LIMIT.min(10 * size + u32::from(byte.saturating_sub(b'0')));
+        count += 1;
+    }
+    (size, count)
+}
+
+/// Whether a byte that belongs to a run is the first of these.
+fn begins_run(bytes: &[u8]) -> bool
+    ensures { result ≡ begins is_run_byte bytes.now }
+{
+    match bytes {
+        [first, ..] => is_run_byte(*first),
+        [] => false,
+    }
+}
+
+/// Whether a byte is a digit, a sign or a point.
+pub fn is_run_byte(byte: u8) -> bool
+    ensures { result ≡ is_run_byte byte }
+{
+    byte.is_ascii_digit() || matches!(byte, b'+' | b'-' | b'.')
 }
 
 /// What follows the sign, if there is one.

@@ -38,8 +38,8 @@ impl Model for Reader {
 }
 
 impl Reader {
-    ghost use Rattle.std.specs.Prelude.{◌≡◌, ◌⊎◌, ◌++◌, ◌∷◌, [], ℤ, Ok, Err, OnOk, IfOk, IfErr, IfSome, IfNone, pos, ◌≢◌};
-    ghost use Rattle.wkt_form.specs.Reading.{Reading, with_token, with_symbol, with_number, with_close, nothing_read};
+    ghost use Rattle.std.specs.Prelude.{◌≡◌, ◌⊎◌, ◌++◌, ◌∷◌, [], ℤ, true, ◌↔◌, Ok, Err, OnOk, IfOk, IfErr, IfSome, IfNone, pos, ◌≢◌};
+    ghost use Rattle.wkt_form.specs.Reading.{Reading, with_token, with_symbol, with_number, with_point, with_close, nothing_read};
     ghost use Rattle.wkt_form.specs.declared.state.State.TheVariants as states;
 
     pub fn new(alloc: Global) -> Reader
@@ -63,6 +63,22 @@ impl Reader {
         let state = next_state(self.state, self.several, token.symbol).ok_or(stuck)?;
         self.add(alloc, token)?;
         self.state = state;
+        Ok(())
+    }
+
+    /// Whether a point must come.
+    pub fn is_before_point(&self) -> bool
+        ensures { (result ≡ true) ↔ (self.now.state ≡ states.First) }
+    {
+        matches!(self.state, State::First)
+    }
+
+    /// Adds a point with a comma behind it, where a point must come.
+    pub fn add_point(&mut self, x: Coordinate, y: Coordinate) -> Result<(), AllocError>
+        ensures { OnOk result (self.new ≡ with_point self.old x y) }
+    {
+        self.points.push(point(x, y))?;
+        self.first = x;
         Ok(())
     }
 

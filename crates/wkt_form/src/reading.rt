@@ -1,15 +1,16 @@
 //! Reading a text.
-ghost use Rattle.std.specs.Prelude.{◌≡◌, ◌⊎◌, ◌≢◌, List, length, Ok, Err, IfOk, IfErr};
+ghost use Rattle.std.specs.Prelude.{◌≡◌, ◌⊎◌, ◌≢◌, ◌≤◌, List, length, drop, Ok, Err, IfOk, IfErr};
 ghost use Rattle.overlay_terms.specs.Plane.{WholePoint};
 ghost use Rattle.wkt_form.specs.Grammar.{IsWktOf, IsFirstFault, ReadsAs, IsRefusedBy};
 ghost use Rattle.wkt_form.specs.Reading.{Reading, with_tokens, nothing_read};
 ghost use Rattle.wkt_form.specs.Seen.{seen_from};
 
 use crate::fault::WktFault;
+use crate::plain_point::point_from;
 use crate::reader::Reader;
 use crate::token::token_from;
 use plane_base::{BaseLayer, Ring};
-use std::alloc::Global;
+use std::alloc::{AllocError, Global};
 
 /// The base layer that a text spells. Every other text is refused by its first fault from the
 /// left, and where it is a text, by the first fault of its rings. It goes over the tokens once, each
@@ -44,7 +45,25 @@ fn read_tokens(alloc: Global, bytes: &[u8]) -> Result<Reader, WktFault>
     let mut at = 0;
     while let Some((token, behind)) = token_from(bytes, at) {
         reader.take(alloc, token)?;
-        at = behind;
+        at = read_points(&mut reader, bytes, behind)?;
     }
     Ok(reader)
+}
+
+/// Takes the plain points from an offset on, where a point must come, and gives the offset behind them.
+#[tactic(auto, using(crate::proofs::PlainPoints::point_taken, crate::proofs::PlainPoints::point_on))]
+fn read_points(reader: &mut Reader, bytes: &[u8], start: usize) -> Result<usize, AllocError>
+    requires { start ≤ length bytes.now }
+    ensures same { IfOk result (λ behind. with_tokens reader.old (seen_from start (drop start bytes.now))
+        ≡ with_tokens reader.new (seen_from behind (drop behind bytes.now))) }
+    ensures on { IfOk result (λ behind. (start ≤ behind) × (behind ≤ length bytes.now)) }
+{
+    let mut at = start;
+    if reader.is_before_point() {
+        while let Some(found) = point_from(bytes, at) {
+            reader.add_point(found.x, found.y)?;
+            at = found.behind;
+        }
+    }
+    Ok(at)
 }

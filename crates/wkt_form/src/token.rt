@@ -8,7 +8,7 @@ ghost use Rattle.wkt_form.specs.Token.{is_run_byte};
 ghost use Rattle.wkt_form.specs.Symbol.{word_symbol, run_symbol, mark_symbol};
 ghost use Rattle.wkt_form.specs.Seen.{seen_from};
 
-use crate::number::{Number, number_of};
+use crate::number::{Number, is_run_byte, number_of, plain_number};
 use overlay_terms::blank::is_blank;
 
 /// A token as the grammar sees it.
@@ -30,12 +30,6 @@ pub enum Symbol {
 pub struct Token {
     pub at: usize,
     pub symbol: Symbol,
-}
-
-fn is_run_byte(byte: u8) -> bool
-    ensures { result ≡ is_run_byte byte }
-{
-    byte.is_ascii_digit() || matches!(byte, b'+' | b'-' | b'.')
 }
 
 /// How many blanks the bytes begin with.
@@ -102,8 +96,8 @@ fn mark_symbol(byte: u8) -> Symbol
     }
 }
 
-/// The symbol that bytes begin with, and how many of them it takes.
-fn first_symbol(bytes: &[u8]) -> (Symbol, usize)
+/// The symbol that bytes begin with, by the first of them, and how many of them it takes.
+fn symbol_by_first_byte(bytes: &[u8]) -> (Symbol, usize)
     requires some { 0 < length bytes.now }
     requires no_blank { is_blank (slice_index bytes.now 0) ≡ false }
     ensures size { (0 < result.1) × (result.1 ≤ length bytes.now) }
@@ -119,6 +113,20 @@ fn first_symbol(bytes: &[u8]) -> (Symbol, usize)
         (run_symbol(&bytes[..size]), size)
     } else {
         (mark_symbol(first), 1)
+    }
+}
+
+/// The symbol that bytes begin with, and how many of them it takes.
+fn first_symbol(bytes: &[u8]) -> (Symbol, usize)
+    requires some { 0 < length bytes.now }
+    requires no_blank { is_blank (slice_index bytes.now 0) ≡ false }
+    ensures size { (0 < result.1) × (result.1 ≤ length bytes.now) }
+    ensures first { (at : ℕ) → seen_from at bytes.now
+        ≡ record { at = at; symbol = result.0 } ∷ seen_from (at + result.1) (drop result.1 bytes.now) }
+{
+    match plain_number(bytes) {
+        Some((number, size)) => (Symbol::Number(number), size),
+        None => symbol_by_first_byte(bytes),
     }
 }
 

@@ -1,15 +1,15 @@
-use Rattle.std.proofs.Common.{rules, ◌≡◌, ◌%◌, unsigned_abs, subst, sym, to_z-of_z}
+use Rattle.std.proofs.Common.{rules, ◌≡◌, ◌%◌, unsigned_abs, subst, to_z-of_z}
 use Rattle.std.specs.Int.{IsGcd}
 use Rattle.std.proofs.lemmas.Nat.Gcd.{IsGcd-from_mod, IsGcd-swap}
 use Rattle.exact_point.proofs.ReducedLemmas.{divisor_positive_by, size_positive}
 use Rattle.exact_point.proofs.reducing.common_divisor.Goals as goal
 
-value : (c : goal.After-from) → IsGcd (unsigned_abs c.args.w) (unsigned_abs c.args.y) c.from.result
+value : (c : goal.After-narrow_gcd) → IsGcd (unsigned_abs c.args.w) (unsigned_abs c.args.y) c.narrow_gcd.result
 value c =
+    let g = c.narrow_gcd.result in
     let w : c.unsigned_abs-size.result ≡ unsigned_abs c.args.w = search (rules, to_z-of_z, c.unsigned_abs-size.ensures.value) in
     let y : c.unsigned_abs.result ≡ unsigned_abs c.args.y = search (rules, to_z-of_z, c.unsigned_abs.ensures.value) in
-    let h : IsGcd c.unsigned_abs-size.result (c.unsigned_abs.result % c.unsigned_abs-size.result) c.from.result = subst (λ m. IsGcd c.unsigned_abs-size.result (c.unsigned_abs.result % c.unsigned_abs-size.result) m) (sym c.from.ensures) c.narrow_gcd.ensures in
-    IsGcd-swap _ _ _ (IsGcd-from_mod _ _ _ (subst (λ m. IsGcd (unsigned_abs c.args.w) (m % unsigned_abs c.args.w) c.from.result) y (subst (λ n. IsGcd n (c.unsigned_abs.result % n) c.from.result) w h)))
+    IsGcd-swap _ _ _ (IsGcd-from_mod _ _ _ (subst (λ m. IsGcd (unsigned_abs c.args.w) (m % unsigned_abs c.args.w) g) y (subst (λ n. IsGcd n (c.unsigned_abs.result % n) g) w c.narrow_gcd.ensures)))
 
 pub returns-clause-value : goal.returns-clause-value
 returns-clause-value c = value c

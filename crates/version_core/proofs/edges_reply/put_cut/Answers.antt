@@ -15,7 +15,7 @@ returns c =
     let s = c.args.seg.now in
     let name : PointName = Border s c.args.number in
     let low = c.reduced_cut.result in
-    let put = c.put_point in
+    let put = c.put_near in
     let at : to_z w64 (of_z w64 c.border.result) ≡ border c.args.number = search rules in
     end_before name name low c.args.line.now put.new.self (point_text (place low)) refl (subst (λ (x : ℤ). IsTrue (same_place (place low) (part_way s (x -ℤ s.left.x) (s.right.x -ℤ s.left.x)))) at c.reduced_cut.ensures.same)
     c.reduced_cut.ensures.lowest refl put.ensures.text put.ensures.short

@@ -1,0 +1,70 @@
+//! Points as texts mostly write them: two plain numbers, each behind a space or none, and a comma.
+ghost use Rattle.std.specs.Prelude.{◌≡◌, ◌≤◌, length, drop, IfSome};
+ghost use Rattle.wkt_form.specs.Seen.{seen_from, IsNext, IsNextPoint};
+
+use crate::coordinate::Coordinate;
+use crate::number::{Number, plain_number};
+use crate::token::Symbol;
+
+/// A point, and the offset behind the comma after it.
+#[derive(Clone, Copy, Debug)]
+pub struct PlainPoint {
+    pub x: Coordinate,
+    pub y: Coordinate,
+    pub behind: usize,
+}
+
+/// The offset behind the space at an offset, if there is one.
+#[inline(always)]
+fn past_space(bytes: &[u8], at: usize) -> usize
+    requires { at ≤ length bytes.now }
+    ensures same { seen_from at (drop at bytes.now) ≡ seen_from result (drop result bytes.now) }
+    ensures on { (at ≤ result) × (result ≤ length bytes.now) }
+{
+    if at < bytes.len() && bytes[at] == b' ' {
+        at + 1
+    } else {
+        at
+    }
+}
+
+/// The plain number that comes next from an offset on, and the offset behind it.
+#[inline(always)]
+fn number_from(bytes: &[u8], at: usize) -> Option<(Number, usize)>
+    requires { at ≤ length bytes.now }
+    ensures { IfSome result (λ found. IsNext (Symbol.Number found.0) bytes.now at found.1) }
+{
+    let start = past_space(bytes, at);
+    match plain_number(&bytes[start..]) {
+        Some((number, size)) => Some((number, start + size)),
+        None => None,
+    }
+}
+
+/// The offset behind the comma at an offset.
+#[inline(always)]
+fn behind_comma(bytes: &[u8], at: usize) -> Option<usize>
+    requires { at ≤ length bytes.now }
+    ensures { IfSome result (λ behind. IsNext Symbol.Comma bytes.now at behind) }
+{
+    if at < bytes.len() && bytes[at] == b',' {
+        Some(at + 1)
+    } else {
+        None
+    }
+}
+
+/// The point that comes next from an offset on.
+#[inline(always)]
+#[tactic(auto, using(crate::proofs::PlainPoints::next_point))]
+pub fn point_from(bytes: &[u8], at: usize) -> Option<PlainPoint>
+    requires { at ≤ length bytes.now }
+    ensures { IfSome result (λ found. IsNextPoint found.x found.y bytes.now at found.behind) }
+{
+    let (first, behind_x) = number_from(bytes, at)?;
+    let (second, behind_y) = number_from(bytes, behind_x)?;
+    let behind = behind_comma(bytes, behind_y)?;
+    let x = first.whole()?;
+    let y = second.whole()?;
+    Some(PlainPoint { x, y, behind })
+}
