@@ -1,5 +1,6 @@
 -- A place with a lower rank comes first.
-use Rattle.std.proofs.Common.{◌≡◌, ℕ, ℤ, pos, neg_ℤ, inl, inr, ◌⊎◌, ◌+◌, ◌*◌, ◌/◌, ◌<◌, ◌≤◌, ◌+ℤ◌, ◌-ℤ◌, ◌*ℤ◌, ◌≤ℤ◌, ◌<ℤ◌, unsigned_abs, to_z, of_z, ap, sym, subst, ◌∙◌, arith}
+use Rattle.std.proofs.Common.{◌≡◌, ℕ, ℤ, pos, neg_ℤ, inl, inr, ◌⊎◌, ◌+◌, ◌*◌, ◌/◌, ◌<◌, ◌≤◌, ◌+ℤ◌, ◌-ℤ◌, ◌*ℤ◌, ◌≤ℤ◌, ◌<ℤ◌, int_le, unsigned_abs, to_z, of_z, ap, sym, subst, ◌∙◌, arith}
+use Rattle.std.specs.Prelude.{int_lt}
 use Rattle.std.specs.Int.{w64}
 use Rattle.std.specs.Cmp.{int_ranks}
 use Rattle.std.specs.Ordering.{int_cmp, MatchOrdering, ordering_reverse}
@@ -10,7 +11,8 @@ use Rattle.std.proofs.Math.IntN.{pos-*ℤ-pos}
 use Rattle.std.proofs.Math.Nat.{div-mul-le_self, lt-div-mul-add, div-le_of_le-mul}
 use Rattle.overlay_terms.specs.Plane.{InRange, Point, point_cmp}
 use Rattle.overlay_terms.proofs.Difference.{split, differences, same, mul_pos}
-use Rattle.overlay_terms.proofs.InputNumbers.{less_times, most_times, in_order_by_x, last_turned}
+use Rattle.overlay_terms.proofs.InputNumbers.{less_times, most_times, in_order_by_x, last_turned, le_true, true_le, lt_true, true_lt}
+use Rattle.overlay_terms.proofs.Tests.{same_tests}
 use Rattle.overlay_terms.proofs.Whole.{last_out}
 use Rattle.tile_laws.proofs.UprightSides.{below_less}
 use Rattle.exact_point.proofs.PlaceOrder.{turned}
@@ -84,6 +86,36 @@ by_ranks a b p q hp hq i j differ = by (int_cmp a b) (int_ranks a b)
     by Less l = sym (rank_tells a b p q hp hq i j l)
     by Equal e = absurd (differ e)
     by Greater l = sym (turned q p hq hp ∙ ap ordering_reverse (rank_tells b a q p hq hp j i l))
+
+-- ---- the places from a whole x on
+module _ (rank k : ℤ) (p : Point) (hp : pos 0 <ℤ p.w) (is : IsRank rank p) where
+  number : IsRowNumber is.row
+  number = row_number is.across is.row p is.place
+
+  from_rank : ((pos 4194304 *ℤ k) -ℤ pos 1048576) ≤ℤ rank → (k *ℤ p.w) ≤ℤ p.x
+  from_rank h =
+      let more : k ≤ℤ is.across = omega (arith, ints, h, is.is, number.high) in
+      omega (arith, ints, is.floor.low, most_times k is.across p.w hp more)
+
+  to_rank : (k *ℤ p.w) ≤ℤ p.x → ((pos 4194304 *ℤ k) -ℤ pos 1048576) ≤ℤ rank
+  to_rank h = by_lt_z is.across k (λ l. absurd (omega (arith, ints, h, is.floor.high, one_more is.across p.w, most_times (is.across +ℤ pos 1) k p.w hp (omega (arith, ints, l)))))
+      (λ m. omega (arith, ints, m, is.is, number.low))
+    where
+      one_more : (a w : ℤ) → (a +ℤ pos 1) *ℤ w ≡ (a *ℤ w) +ℤ w
+      one_more a w = rw (split a, split w) (simp differences (same _ _ _ _ (omega arith)))
+
+  -- they have the ranks from the first one over that x on
+  pub from_border : int_le ((pos 4194304 *ℤ k) -ℤ pos 1048576) rank ≡ int_le (k *ℤ p.w) p.x
+  from_border =
+      same_tests (int_le ((pos 4194304 *ℤ k) -ℤ pos 1048576) rank) (int_le (k *ℤ p.w) p.x) (λ h. true_le (k *ℤ p.w) p.x (from_rank (le_true ((pos 4194304 *ℤ k) -ℤ pos 1048576) rank h)))
+      (λ h. true_le ((pos 4194304 *ℤ k) -ℤ pos 1048576) rank (to_rank (le_true (k *ℤ p.w) p.x h)))
+
+  -- and those before it have the ranks before it
+  pub before_border : int_lt rank ((pos 4194304 *ℤ k) -ℤ pos 1048576) ≡ int_lt p.x (k *ℤ p.w)
+  before_border =
+      same_tests (int_lt rank ((pos 4194304 *ℤ k) -ℤ pos 1048576)) (int_lt p.x (k *ℤ p.w))
+      (λ h. by_lt_z p.x (k *ℤ p.w) (λ l. true_lt p.x (k *ℤ p.w) l) (λ m. absurd (omega (arith, ints, to_rank m, lt_true rank ((pos 4194304 *ℤ k) -ℤ pos 1048576) h))))
+      (λ h. by_lt_z rank ((pos 4194304 *ℤ k) -ℤ pos 1048576) (λ l. true_lt rank ((pos 4194304 *ℤ k) -ℤ pos 1048576) l) (λ m. absurd (omega (arith, ints, from_rank m, lt_true p.x (k *ℤ p.w) h))))
 
 -- ---- a whole part by a division
 -- what is divided is counted from the lowest coordinate on

@@ -66,7 +66,7 @@ impl Progress {
     {
         let (low, high) = near_bundle_at(&self.status, node.at, self.hint);
         close(&mut self.rows, &self.status[low..high], begin)?;
-        let within = input.strip().holds(node.at);
+        let within = input.strip().holds(node);
         if !within {
             stay.clear();
             self.hint = high;

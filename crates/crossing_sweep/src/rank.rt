@@ -1,5 +1,5 @@
 //! Whole numbers that give the order of most places.
-ghost use Rattle.std.specs.Prelude.{◌≡◌, ◌^◌, ◌*◌, ◌≤◌, ◌+ℤ◌, ◌*ℤ◌, ◌≤ℤ◌, pos, neg_ℤ, unsigned_abs};
+ghost use Rattle.std.specs.Prelude.{◌≡◌, ◌&&◌, int_le, int_lt, ◌^◌, ◌*◌, ◌≤◌, ◌+ℤ◌, ◌-ℤ◌, ◌*ℤ◌, ◌≤ℤ◌, pos, neg_ℤ, unsigned_abs};
 ghost use Rattle.std.specs.Ordering.{int_eq};
 ghost use Rattle.overlay_terms.specs.Plane.{InRange, coordinate_max, denominator_max, whole};
 ghost use Rattle.overlay_terms.specs.Within.{IsWithin};
@@ -58,6 +58,22 @@ fn numbered(across: i64, row: i64) -> i64
     ensures { result ≡ (pos (2 ^ 22) *ℤ across) +ℤ row }
 {
     4 * COORD_MAX * across + row
+}
+
+/// The least rank over a whole x.
+pub(crate) fn first_rank(across: i64) -> i64
+    requires { IsWithin (2 ^ 21) across }
+    ensures { result ≡ (pos (2 ^ 22) *ℤ across) -ℤ pos (2 ^ 20) }
+{
+    4 * COORD_MAX * across - COORD_MAX
+}
+
+/// Whether a rank lies from one on, and before another.
+pub(crate) fn is_ranked_within(rank: i64, from: i64, to: i64) -> bool
+    ensures { result ≡ (int_le from rank && int_lt rank to) }
+{
+    // Eager, so that one equation says all: neither side costs more than a comparison.
+    (from <= rank) & (rank < to)
 }
 
 /// Whether a rank is that of places between two whole x.

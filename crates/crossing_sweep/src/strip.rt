@@ -5,8 +5,10 @@ ghost use Rattle.overlay_terms.specs.Plane.{InRange};
 ghost use Rattle.exact_point.specs.Place.{place};
 ghost use Rattle.crossing_sweep.specs.StripInput.{is_in_strip, is_in_closed_strip};
 
+use crate::rank::{first_rank, is_ranked_within};
+use crate::ranked_place::RankedPlace;
 use arrange::is_up_to;
-use exact_point::{HPoint, NearPoint, border_side, end_side};
+use exact_point::{HPoint, border_side};
 use plane_base::Column;
 use std::marker::Model;
 
@@ -71,13 +73,10 @@ impl Strip {
     }
 
     /// Whether a point lies in the strip: at its left border or right of it, and left of its right border.
-    pub(crate) fn holds(self, p: NearPoint) -> bool
-        ensures { result ≡ is_in_strip self (place p) }
+    pub(crate) fn holds(self, node: &RankedPlace) -> bool
+        ensures { result ≡ is_in_strip self (place node.now.at) }
     {
-        if border_side(self.first, &p.point()).is_lt() {
-            return false;
-        }
-        end_side(self.last, &p.point()).is_lt()
+        is_ranked_within(node.rank, first_rank(self.border()), first_rank(self.end()))
     }
 
     /// Whether a point lies from the strip's left border to its right border.
