@@ -43,12 +43,6 @@ request_of-cut_ended line =
           request_of-long (without_cr (take line_room line)) (omega arith) ∙ sym (request_of-long (without_cr line) (omega arith))
     ]
 
--- a byte after a line that was cut off, and after the line
-pub take-push : (n : ℕ) (xs : List ℕ) (b : ℕ) → take n (take n xs ++ b ∷ []) ≡ take n (xs ++ b ∷ [])
-take-push zero xs b = refl
-take-push (suc n) [] b = refl
-take-push (suc n) (x ∷ xs) b = ap (λ ys. x ∷ ys) (take-push n xs b)
-
 -- bytes after a line that was cut off, and after the line
 pub take-join : (n : ℕ) (xs ys : List ℕ) → take n (take n xs ++ ys) ≡ take n (xs ++ ys)
 take-join zero xs ys = refl

@@ -106,7 +106,7 @@ ended_lines-feed bytes =
     ap (map without_cr) (ap front_of (pieces_of-feed bytes) ∙ front_of-push (pieces_of bytes) [] ∙ pieces_of-with_last bytes)
     ∙ map_push without_cr (front_of (pieces_of bytes)) (last_of (pieces_of bytes))
 
-pub unended-feed : (bytes : List ℕ) → unended (bytes ++ 10 ∷ []) ≡ []
+unended-feed : (bytes : List ℕ) → unended (bytes ++ 10 ∷ []) ≡ []
 unended-feed bytes = ap last_of (pieces_of-feed bytes) ∙ last_of-push (pieces_of bytes) []
 
 -- any other byte ends no line

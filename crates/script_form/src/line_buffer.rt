@@ -1,5 +1,5 @@
 //! The line that is being read.
-ghost use Rattle.std.specs.Prelude.{◌≡◌, [], ◌∷◌, ◌++◌, take, IfOk};
+ghost use Rattle.std.specs.Prelude.{◌≡◌, [], ◌++◌, take, IfOk};
 ghost use Rattle.script_form.specs.Lines.{line_room, without_cr};
 
 use crate::request::LINE_MAX;
@@ -38,15 +38,6 @@ impl LineBuffer {
         Ok(LineBuffer {
             bytes: Vec::with_capacity(alloc, LINE_ROOM)?,
         })
-    }
-
-    /// Puts a byte at the end of the line, where it can make a difference.
-    pub fn push(&mut self, byte: u8)
-        ensures { self.new ≡ take line_room (self.old ++ byte ∷ []) }
-    {
-        if self.bytes.len() < LINE_ROOM {
-            let _ = self.bytes.push(byte);
-        }
     }
 
     /// Puts bytes at the end of the line, as far as they can make a difference.

@@ -1,5 +1,5 @@
 -- What is left of a script without a reply, as its session goes through it.
-use Rattle.std.proofs.Common.{◌≡◌, ◌≢◌, ℕ, ◌+◌, ◌-◌, ◌<◌, ◌≤◌, min, Bool, true, false, Option, Some, None, IfSome, MatchOption, option_map, is_some, Result, Ok, Err, OnOk, List, [], ◌∷◌, ◌++◌, length, take, drop, refl, sym, ap, ◌∙◌, subst, append_assoc, append-nil, take-append-drop, drop-drop, length-append, ne_eqb, arith}
+use Rattle.std.proofs.Common.{◌≡◌, ℕ, ◌+◌, ◌-◌, ◌<◌, ◌≤◌, min, Bool, true, false, Option, Some, None, IfSome, MatchOption, option_map, is_some, Result, Ok, Err, OnOk, List, [], ◌∷◌, ◌++◌, length, take, drop, refl, sym, ap, ◌∙◌, subst, append_assoc, append-nil, take-append-drop, drop-drop, length-append, arith}
 use Rattle.std.proofs.Math.Seq.{drop-append_seam}
 use Rattle.std.proofs.lemmas.Bool.{false≢true}
 use Rattle.std.proofs.lemmas.List.{drop_all, length-take}
@@ -10,7 +10,7 @@ use Rattle.script_form.specs.declared.fault.CommandFault.TheVariants.{CommandSyn
 use Rattle.script_form.specs.declared.line_reply.LineReply.{LineReply}
 use Rattle.script_form.specs.declared.open_batch.OpenBatch.{OpenBatch}
 use Rattle.script_form.specs.OpenBatch.{IsOpen}
-use Rattle.script_form.specs.Lines.{without_cr, ended_lines, unended, last_line, whole_lines}
+use Rattle.script_form.specs.Lines.{line_room, has_no_feed, without_cr, ended_lines, unended, last_line, whole_lines}
 use Rattle.script_form.specs.Replies.{error_line, reply_text}
 use Rattle.script_form.specs.Requests.{request_of}
 use Rattle.book_history.specs.declared.fault.ReportedFault.{ReportedFault}
@@ -25,7 +25,7 @@ use Rattle.server_session.specs.Stores.{HistoryReports, store_of}
 use Rattle.server_session.specs.Turn.{EndsTurn, IsAtLast, IsAtLine, TakesTurn}
 use Rattle.server_session.specs.declared.session_state.SessionState.{SessionState}
 use Rattle.server_session.proofs.Endings.{take_of_take}
-use Rattle.server_session.proofs.Steps.{cut_off_run, last_lines_on, no_rest, some_rest, turns_at_end-are, turns_at_end-empty, turns_at_end-last, turns_ended-behind, turns_ended-byte, turns_ended-feed, turns_ended-join, turns_ended-nil}
+use Rattle.server_session.proofs.Steps.{cut_off_run, kept_part, last_lines_on, no_rest, some_rest, turns_at_end-are, turns_at_end-empty, turns_at_end-last, turns_ended-behind, turns_ended-join, turns_ended-line, turns_ended-nil, turns_ended-part}
 use Rattle.server_session.proofs.Turns.{begins_self, begins_trans, stays_self}
 use Rattle.server_session.proofs.Weaker.{run}
 
@@ -147,26 +147,28 @@ pub none_ended : (was now : Known) (before : Option OpenBatch) (line : List ℕ)
 none_ended was now before line ends None = refl
 none_ended was now before line ends (Some l) = λ batch waits. without_none (ended_by batch (request_of line)) l (ends.1 batch waits)
 
--- ==== A byte
+-- ==== A part of a line
 
--- one that ends no line
-pub other_away : (old : SessionState) (b : ℕ) → b ≢ 10 → (left : Option (List Turn)) → TakesAway old (b ∷ []) left left
-other_away old b other None = refl
-other_away old b other (Some l) = λ taken has. without_none (turns_ended taken (b ∷ [])) l (turns_ended-byte taken b (ne_eqb b 10 other))
+-- that ends no line
+pub part_away : (old : SessionState) (part : List ℕ) → has_no_feed part ≡ true → (left : Option (List Turn)) → TakesAway old part left left
+part_away old part none None = refl
+part_away old part none (Some l) = λ taken has. without_none (turns_ended taken part) l (turns_ended-part taken part none)
 
--- a line feed: the turn that the line ends
-module _ (old : SessionState) (before : Option OpenBatch) (line : List ℕ) (b : ℕ) (feed : b ≡ 10) (same : before ≡ old.waiting) (is : line ≡ without_cr old.line) where
+-- with a line feed behind it: the turn that the line ends
+module _ (old : SessionState) (part line : List ℕ) (none : has_no_feed part ≡ true) (pushed : line ≡ take line_room (old.line ++ part)) (before : Option OpenBatch) (ended : List ℕ)
+    (same : before ≡ old.waiting) (is : ended ≡ without_cr line) where
   fed_open : (taken : List ℕ) → HasTaken old taken → IsOpen (waiting_behind (ended_lines taken)) before
   fed_open taken has = subst (IsOpen (waiting_behind (ended_lines taken))) (sym same) has.waits
 
-  fed_turns : (taken : List ℕ) → HasTaken old taken → turns_ended taken (b ∷ []) ≡ ended_by (waiting_behind (ended_lines taken)) (request_of line)
+  fed_turns : (taken : List ℕ) → HasTaken old taken → turns_ended taken (part ++ 10 ∷ []) ≡ ended_by (waiting_behind (ended_lines taken)) (request_of ended)
   fed_turns taken has =
-      ap (λ c. turns_ended taken (c ∷ [])) feed ∙ turns_ended-feed taken
-      ∙ ap (ended_by (waiting_behind (ended_lines taken))) (sym (ap request_of is ∙ ap (λ l. request_of (without_cr l)) has.line ∙ request_of-cut_ended (unended taken)))
+      turns_ended-line taken part none
+      ∙ ap (ended_by (waiting_behind (ended_lines taken)))
+      (sym (ap request_of is ∙ ap (λ l. request_of (without_cr l)) (kept_part old part line taken none pushed has) ∙ request_of-cut_ended (unended (taken ++ part))))
 
-  pub at_feed : (l : List Turn) → AreNext old (b ∷ []) l → IsAtLine before line l
-  at_feed l (more, on) =
-      let behind = left_behind on.taken (b ∷ []) more l on.parts in
+  pub at_line : (l : List Turn) → AreNext old (part ++ 10 ∷ []) l → IsAtLine before ended l
+  at_line l (more, on) =
+      let behind = left_behind on.taken (part ++ 10 ∷ []) more l on.parts in
       record {
         waiting = waiting_behind (ended_lines on.taken);
         is_open = fed_open on.taken on.has;
@@ -174,10 +176,10 @@ module _ (old : SessionState) (before : Option OpenBatch) (line : List ℕ) (b :
         parts = behind.1 ∙ ap (λ (ts : List Turn). ts ++ behind.0) (fed_turns on.taken on.has);
       }
 
-  pub fed_away : (left left_then : Option (List Turn)) → TakesEnded before line left left_then → TakesAway old (b ∷ []) left left_then
-  fed_away None left_then ended = ended
-  fed_away (Some l) left_then ended = λ taken has.
-      ended (waiting_behind (ended_lines taken)) (fed_open taken has) ∙ ap (λ (ts : List Turn). Some (drop (length ts) l)) (sym (fed_turns taken has))
+  pub line_away : (left left_then : Option (List Turn)) → TakesEnded before ended left left_then → TakesAway old (part ++ 10 ∷ []) left left_then
+  line_away None left_then away = away
+  line_away (Some l) left_then away = λ taken has.
+      away (waiting_behind (ended_lines taken)) (fed_open taken has) ∙ ap (λ (ts : List Turn). Some (drop (length ts) l)) (sym (fed_turns taken has))
 
 -- ==== Bytes, one after another
 
@@ -185,14 +187,14 @@ pub away_none : (state : SessionState) (left : Option (List Turn)) → TakesAway
 away_none state None = refl
 away_none state (Some l) = λ taken has. without_none (turns_ended taken []) l (turns_ended-nil taken)
 
--- where some of the bytes are taken, the first of the others is the next
-pub byte_next : (first state : SessionState) (past bytes rest whole : List ℕ) (b : ℕ) → past ++ bytes ≡ whole → bytes ≡ b ∷ rest → ((taken : List ℕ) → HasTaken first taken → HasTaken state (taken ++ past))
-    → (left left_then : Option (List Turn)) → TakesAway first past left left_then → IfSome left (AreNext first whole) → IfSome left_then (AreNext state (b ∷ []))
-byte_next first state past bytes rest whole b joined is takes left left_then away next =
-    let parts : (more : List ℕ) → whole ++ more ≡ past ++ (b ∷ (rest ++ more)) =
-    λ more. ap (λ bs. bs ++ more) (sym joined ∙ ap (λ bs. past ++ bs) is) ∙ append_assoc past (b ∷ rest) more in
-    left_on first state past takes (AreNext first whole) (AreNext state (b ∷ []))
-    (λ l on. (b ∷ (rest ++ on.0), subst (λ bs. IsOnWay first bs l) (parts on.0) on.1, λ left_after way. (rest ++ on.0, way))) left left_then away next
+-- where some of the bytes are taken, those behind them are the next
+pub part_next : (first state : SessionState) (past next rest whole : List ℕ) → past ++ (next ++ rest) ≡ whole → ((taken : List ℕ) → HasTaken first taken → HasTaken state (taken ++ past))
+    → (left left_then : Option (List Turn)) → TakesAway first past left left_then → IfSome left (AreNext first whole) → IfSome left_then (AreNext state next)
+part_next first state past next rest whole joined takes left left_then away on =
+    let parts : (more : List ℕ) → whole ++ more ≡ past ++ (next ++ (rest ++ more)) =
+    λ more. ap (λ bs. bs ++ more) (sym joined) ∙ append_assoc past (next ++ rest) more ∙ ap (λ bs. past ++ bs) (append_assoc next rest more) in
+    left_on first state past takes (AreNext first whole) (AreNext state next)
+    (λ l here. (next ++ (rest ++ here.0), subst (λ bs. IsOnWay first bs l) (parts here.0) here.1, λ left_after way. (rest ++ here.0, way))) left left_then away on
 
 -- ==== The end of the script
 

@@ -1,5 +1,6 @@
 pub mod Turns
 pub mod Runs
+pub mod Feeds
 pub mod Steps
 pub mod Endings
 pub mod BatchFaults

@@ -1,5 +1,5 @@
 -- What bytes make of a session on its way, and what the end of its script does.
-use Rattle.std.proofs.Common.{◌≡◌, ◌≢◌, ℕ, zero, suc, ◌+◌, ◌==◌, ◌<◌, ◌≤◌, ◌⊎◌, inl, inr, Bool, true, false, Option, Some, None, is_some, Result, Ok, Err, IsErr, OnOk, OnErr, MatchResult, List, [], ◌∷◌, ◌++◌, map, length, take, drop, lit<, refl, sym, ap, ◌∙◌, subst, append_assoc, append-nil, ne_eqb, arith}
+use Rattle.std.proofs.Common.{◌≡◌, ℕ, zero, suc, ◌<◌, ◌≤◌, ◌⊎◌, inl, inr, Bool, true, false, Option, Some, None, is_some, Result, Ok, Err, IsErr, OnOk, OnErr, MatchResult, List, [], ◌∷◌, ◌++◌, map, length, take, drop, lit<, refl, sym, ap, ◌∙◌, subst, append_assoc, append-nil, arith}
 use Rattle.std.proofs.Math.Seq.{drop-append_seam}
 use Rattle.std.proofs.lemmas.Bool.{false≢true, true≢false}
 use Rattle.std.proofs.lemmas.List.{length-take}
@@ -8,13 +8,13 @@ use Rattle.book_history.specs.Known.{Known}
 use Rattle.script_form.specs.declared.fault.CommandFault.TheVariants.{CommandSyntax}
 use Rattle.script_form.specs.declared.open_batch.OpenBatch.{OpenBatch}
 use Rattle.script_form.specs.OpenBatch.{IsOpen}
-use Rattle.script_form.specs.Lines.{line_room, without_cr, ended_lines, unended, last_line, whole_lines}
+use Rattle.script_form.specs.Lines.{line_room, has_no_feed, without_cr, ended_lines, unended, last_line, whole_lines}
 use Rattle.script_form.specs.Replies.{error_line}
 use Rattle.script_form.specs.Requests.{request_of}
 use Rattle.script_form.specs.Writing.{IsCutShort, Writes}
 use Rattle.script_form.specs.Turns.{Turn, Waiting, cut_off, cut_off_in, ended_by, turns_from, turns_of, all_turns_of, waiting_after, waiting_behind}
-use Rattle.script_form.proofs.LongLines.{request_of-cut, request_of-cut_ended, take-push, take-nil}
-use Rattle.script_form.proofs.Pieces.{ended_lines-feed, ended_lines-byte, ended_lines-more, unended-feed, unended-byte}
+use Rattle.script_form.proofs.LongLines.{request_of-cut, request_of-cut_ended, take-join, take-nil}
+use Rattle.script_form.proofs.Pieces.{ended_lines-line, ended_lines-more, ended_lines-part, unended-line, unended-part}
 use Rattle.script_form.proofs.TurnLemmas.{turns_of-more, turns_of-push, waiting_behind-push}
 use Rattle.server_session.specs.Loop.{AnswersLine, EndsBatch}
 use Rattle.server_session.specs.Session.{IsSharedRun, Stays}
@@ -44,13 +44,14 @@ turns_ended-behind taken bytes =
 pub turns_ended-nil : (taken : List ℕ) → turns_ended taken [] ≡ []
 turns_ended-nil taken = turns_ended-are taken [] [] (ap (λ bytes. turns_of (ended_lines bytes)) (append-nil taken) ∙ sym (append-nil (turns_of (ended_lines taken))))
 
-pub turns_ended-byte : (taken : List ℕ) (b : ℕ) → (b == 10) ≡ false → turns_ended taken (b ∷ []) ≡ []
-turns_ended-byte taken b other = turns_ended-are taken (b ∷ []) [] (ap turns_of (ended_lines-byte taken b other) ∙ sym (append-nil (turns_of (ended_lines taken))))
+pub turns_ended-part : (taken part : List ℕ) → has_no_feed part ≡ true → turns_ended taken part ≡ []
+turns_ended-part taken part none = turns_ended-are taken part [] (ap turns_of (ended_lines-part taken part none) ∙ sym (append-nil (turns_of (ended_lines taken))))
 
-pub turns_ended-feed : (taken : List ℕ) → turns_ended taken (10 ∷ []) ≡ ended_by (waiting_behind (ended_lines taken)) (request_of (without_cr (unended taken)))
-turns_ended-feed taken =
-    turns_ended-are taken (10 ∷ []) (ended_by (waiting_behind (ended_lines taken)) (request_of (without_cr (unended taken))))
-    (ap turns_of (ended_lines-feed taken) ∙ turns_of-push (ended_lines taken) (without_cr (unended taken)))
+pub turns_ended-line : (taken part : List ℕ) → has_no_feed part ≡ true
+    → turns_ended taken (part ++ 10 ∷ []) ≡ ended_by (waiting_behind (ended_lines taken)) (request_of (without_cr (unended (taken ++ part))))
+turns_ended-line taken part none =
+    turns_ended-are taken (part ++ 10 ∷ []) (ended_by (waiting_behind (ended_lines taken)) (request_of (without_cr (unended (taken ++ part)))))
+    (ap turns_of (ended_lines-line taken part none) ∙ turns_of-push (ended_lines taken) (without_cr (unended (taken ++ part))))
 
 pub turns_ended-join : (taken xs ys : List ℕ) → turns_ended taken xs ++ turns_ended (taken ++ xs) ys ≡ turns_ended taken (xs ++ ys)
 turns_ended-join taken xs ys =
@@ -97,74 +98,72 @@ turns_at_end-last taken some =
     ∙ append_assoc (turns_of lines) (ended_by (waiting_behind lines) (request_of last)) (cut_off_in (waiting_after (waiting_behind lines) (request_of last)))
     )
 
--- ==== A byte
+-- ==== A part of a line
 
--- one that ends no line
-pub takes_other : (old new : SessionState) (b : ℕ) → b ≢ 10 → new.line ≡ take line_room (old.line ++ b ∷ []) → new.waiting ≡ old.waiting
-    → (taken : List ℕ) → HasTaken old taken → HasTaken new (taken ++ b ∷ [])
-takes_other old new b other is same taken has =
-    let no_feed = ne_eqb b 10 other in
-    record {
-      line = is ∙ ap (λ l. take line_room (l ++ b ∷ [])) has.line ∙ take-push line_room (unended taken) b ∙ ap (take line_room) (sym (unended-byte taken b no_feed));
-      waits = subst (λ (lines : List (List ℕ)). IsOpen (waiting_behind lines) new.waiting) (sym (ended_lines-byte taken b no_feed))
-          (subst (λ (o : Option OpenBatch). IsOpen (waiting_behind (ended_lines taken)) o) (sym same) has.waits);
+-- the line that is kept, with a part behind it
+pub kept_part : (old : SessionState) (part line taken : List ℕ) → has_no_feed part ≡ true → line ≡ take line_room (old.line ++ part) → HasTaken old taken → line ≡ take line_room (unended (taken ++ part))
+kept_part old part line taken none is has =
+    is ∙ ap (λ l. take line_room (l ++ part)) has.line ∙ take-join line_room (unended taken) part ∙ ap (take line_room) (sym (unended-part taken part none))
+
+-- that ends no line
+pub takes_part : (old new : SessionState) (part : List ℕ) → has_no_feed part ≡ true → new.line ≡ take line_room (old.line ++ part) → new.waiting ≡ old.waiting
+    → (taken : List ℕ) → HasTaken old taken → HasTaken new (taken ++ part)
+takes_part old new part none is same taken has = record {
+  line = kept_part old part new.line taken none is has;
+  waits = subst (λ (lines : List (List ℕ)). IsOpen (waiting_behind lines) new.waiting) (sym (ended_lines-part taken part none))
+      (subst (λ (o : Option OpenBatch). IsOpen (waiting_behind (ended_lines taken)) o) (sym same) has.waits);
+}
+
+pub answers_part : (stored : BookStore) (me : Known) (part : List ℕ) (output : Option (List ℕ)) → has_no_feed part ≡ true → (taken : List ℕ) → AnswersTurns stored me (turns_ended taken part) me output output
+answers_part stored me part output none taken =
+    answers_as stored me me [] (turns_ended taken part) output output (sym (turns_ended-part taken part none)) (answers_none stored me output)
+
+-- with a line feed behind it: the line that is kept ends the turn that the whole line ends
+module _ (stored : BookStore) (old : SessionState) (part line : List ℕ) (none : has_no_feed part ≡ true) (pushed : line ≡ take line_room (old.line ++ part)) (was now : Known) (before after : Option OpenBatch)
+    (ended : List ℕ) (same : before ≡ old.waiting) (is : ended ≡ without_cr line) where
+  module _ (reply : List ℕ) (takes : TakesTurn stored was before ended now after reply) (taken : List ℕ) (has : HasTaken old taken) where
+    fed_line : IsLineTaken stored was (waiting_behind (ended_lines taken)) (without_cr (unended (taken ++ part))) now after reply
+    fed_line =
+        let kept = kept_part old part line taken none pushed has in
+        let whole =
+        takes_turn-same stored ended (without_cr (unended (taken ++ part))) (ap request_of is ∙ ap (λ l. request_of (without_cr l)) kept ∙ request_of-cut_ended (unended (taken ++ part))) was now before after reply
+        takes in
+        whole.taken (waiting_behind (ended_lines taken)) (subst (IsOpen (waiting_behind (ended_lines taken))) (sym same) has.waits)
+
+    fed_waits : IsOpen (waiting_behind (ended_lines (taken ++ (part ++ 10 ∷ [])))) after
+    fed_waits =
+        subst (λ w. IsOpen w after) (sym (ap waiting_behind (ended_lines-line taken part none) ∙ waiting_behind-push (ended_lines taken) (without_cr (unended (taken ++ part))))) fed_line.waits
+
+    fed_answers : (output all : Option (List ℕ)) → Appends output all reply → AnswersTurns stored was (turns_ended taken (part ++ 10 ∷ [])) now output all
+    fed_answers output all appended =
+        answers_as stored was now _ (turns_ended taken (part ++ 10 ∷ [])) output all (sym (turns_ended-line taken part none)) (record { replies = reply; reported = fed_line.answered; appended = appended })
+
+    fed_stops : (output all : Option (List ℕ)) (front : List ℕ) → IsCutShort reply front → Appends output all front → AnswersInPart stored was (turns_ended taken (part ++ 10 ∷ [])) now output all
+    fed_stops output all front short appended =
+        stops_as stored was now _ (turns_ended taken (part ++ 10 ∷ [])) output all (sym (turns_ended-line taken part none)) (record {
+          written = front;
+          cut = cut_one stored was now _ reply front (ended_one (waiting_behind (ended_lines taken)) (request_of (without_cr (unended (taken ++ part))))) fed_line.answered short;
+          appended = appended;
+        })
+
+  module _ {A E : Type 0} (output all : Option (List ℕ)) where
+    pub takes_line : (result : Result A E) (new : SessionState) → new.line ≡ [] → new.waiting ≡ after → AnswersLine stored result was before ended now after output all
+        → OnOk result ((taken : List ℕ) → HasTaken old taken → HasTaken new (taken ++ (part ++ 10 ∷ [])))
+    takes_line (Ok a) new cleared open_after (reply, takes, appended) = λ taken has. record {
+      line = cleared ∙ sym (ap (take line_room) (unended-line taken part) ∙ take-nil line_room);
+      waits = subst (IsOpen (waiting_behind (ended_lines (taken ++ (part ++ 10 ∷ []))))) (sym open_after) (fed_waits reply takes taken has);
     }
+    takes_line (Err e) new cleared open_after answers = tt
 
-pub answers_other : (stored : BookStore) (me : Known) (b : ℕ) (output : Option (List ℕ)) → b ≢ 10 → (taken : List ℕ) → AnswersTurns stored me (turns_ended taken (b ∷ [])) me output output
-answers_other stored me b output other taken =
-    answers_as stored me me [] (turns_ended taken (b ∷ [])) output output (sym (turns_ended-byte taken b (ne_eqb b 10 other))) (answers_none stored me output)
+    pub answers_line : (result : Result A E) → AnswersLine stored result was before ended now after output all
+        → OnOk result ((taken : List ℕ) → HasTaken old taken → AnswersTurns stored was (turns_ended taken (part ++ 10 ∷ [])) now output all)
+    answers_line (Ok a) (reply, takes, appended) = λ taken has. fed_answers reply takes taken has output all appended
+    answers_line (Err e) answers = tt
 
--- a line feed: the line that is kept ends the turn that the whole line ends
-module _ (stored : BookStore) (old : SessionState) (was now : Known) (before after : Option OpenBatch) (ended reply : List ℕ) (same : before ≡ old.waiting) (is : ended ≡ without_cr old.line)
-    (takes : TakesTurn stored was before ended now after reply) (taken : List ℕ) (has : HasTaken old taken) where
-  fed_line : IsLineTaken stored was (waiting_behind (ended_lines taken)) (without_cr (unended taken)) now after reply
-  fed_line =
-      let whole =
-      takes_turn-same stored ended (without_cr (unended taken)) (ap request_of is ∙ ap (λ l. request_of (without_cr l)) has.line ∙ request_of-cut_ended (unended taken)) was now before after reply
-      takes in
-      whole.taken (waiting_behind (ended_lines taken)) (subst (IsOpen (waiting_behind (ended_lines taken))) (sym same) has.waits)
-
-  fed_waits : IsOpen (waiting_behind (ended_lines (taken ++ 10 ∷ []))) after
-  fed_waits =
-      subst (λ w. IsOpen w after) (sym (ap waiting_behind (ended_lines-feed taken) ∙ waiting_behind-push (ended_lines taken) (without_cr (unended taken)))) fed_line.waits
-
-  fed_answers : (output all : Option (List ℕ)) → Appends output all reply → AnswersTurns stored was (turns_ended taken (10 ∷ [])) now output all
-  fed_answers output all appended =
-      answers_as stored was now _ (turns_ended taken (10 ∷ [])) output all (sym (turns_ended-feed taken)) (record { replies = reply; reported = fed_line.answered; appended = appended })
-
-  fed_stops : (output all : Option (List ℕ)) (front : List ℕ) → IsCutShort reply front → Appends output all front → AnswersInPart stored was (turns_ended taken (10 ∷ [])) now output all
-  fed_stops output all front short appended =
-      stops_as stored was now _ (turns_ended taken (10 ∷ [])) output all (sym (turns_ended-feed taken)) (record {
-        written = front;
-        cut = cut_one stored was now _ reply front (ended_one (waiting_behind (ended_lines taken)) (request_of (without_cr (unended taken)))) fed_line.answered short;
-        appended = appended;
-      })
-
-pub takes_feed : {A E : Type 0} (result : Result A E) (stored : BookStore) (old new : SessionState) (was now : Known) (before : Option OpenBatch) (ended : List ℕ) (b : ℕ) (output all : Option (List ℕ))
-    → b ≡ 10 → new.line ≡ [] → before ≡ old.waiting → ended ≡ without_cr old.line → AnswersLine stored result was before ended now new.waiting output all
-    → OnOk result ((taken : List ℕ) → HasTaken old taken → HasTaken new (taken ++ b ∷ []))
-takes_feed (Ok a) stored old new was now before ended b output all feed none same is (reply, takes, appended) = λ taken has.
-    subst (λ c. HasTaken new (taken ++ c ∷ [])) (sym feed) (record {
-      line = none ∙ sym (ap (take line_room) (unended-feed taken) ∙ take-nil line_room);
-      waits = fed_waits stored old was now before new.waiting ended reply same is takes taken has;
-    })
-takes_feed (Err e) stored old new was now before ended b output all feed none same is answers = tt
-
-pub answers_feed : {A E : Type 0} (result : Result A E) (stored : BookStore) (old : SessionState) (was now : Known) (before after : Option OpenBatch) (ended : List ℕ) (b : ℕ) (output all : Option (List ℕ))
-    → b ≡ 10 → before ≡ old.waiting → ended ≡ without_cr old.line → AnswersLine stored result was before ended now after output all
-    → OnOk result ((taken : List ℕ) → HasTaken old taken → AnswersTurns stored was (turns_ended taken (b ∷ [])) now output all)
-answers_feed (Ok a) stored old was now before after ended b output all feed same is (reply, takes, appended) = λ taken has.
-    subst (λ c. AnswersTurns stored was (turns_ended taken (c ∷ [])) now output all) (sym feed)
-    (fed_answers stored old was now before after ended reply same is takes taken has output all appended)
-answers_feed (Err e) stored old was now before after ended b output all feed same is answers = tt
-
-pub stops_feed : {A E : Type 0} (result : Result A E) (stored : BookStore) (old : SessionState) (was now : Known) (before after : Option OpenBatch) (ended : List ℕ) (b : ℕ) (output all : Option (List ℕ))
-    → b ≡ 10 → before ≡ old.waiting → ended ≡ without_cr old.line → AnswersLine stored result was before ended now after output all
-    → OnErr result ((taken : List ℕ) → HasTaken old taken → AnswersInPart stored was (turns_ended taken (b ∷ [])) now output all)
-stops_feed (Ok a) stored old was now before after ended b output all feed same is answers = tt
-stops_feed (Err e) stored old was now before after ended b output all feed same is (reply, takes, (front, short, appended)) = λ taken has.
-    subst (λ c. AnswersInPart stored was (turns_ended taken (c ∷ [])) now output all) (sym feed)
-    (fed_stops stored old was now before after ended reply same is takes taken has output all front short appended)
+    pub stops_line : (result : Result A E) → AnswersLine stored result was before ended now after output all
+        → OnErr result ((taken : List ℕ) → HasTaken old taken → AnswersInPart stored was (turns_ended taken (part ++ 10 ∷ [])) now output all)
+    stops_line (Ok a) answers = tt
+    stops_line (Err e) (reply, takes, (front, short, appended)) = λ taken has. fed_stops reply takes taken has output all front short appended
 
 -- ==== Bytes, one after another
 

@@ -1,9 +1,10 @@
 //! A session on its way through its script.
 ghost use Rattle.std.specs.Prelude.{◌≡◌, Bool, ◌∷◌, ◌++◌, [], List, Option, MatchOption, None, Some, ℕ, drop, false};
-ghost use Rattle.std.specs.Prelude.{length, true, is_err, IfOk, IfErr, IfSome, OnOk, OnErr};
+ghost use Rattle.std.specs.Prelude.{length, true, is_err, IsTrue, IfOk, IfErr, IfSome, OnOk, OnErr};
 ghost use Rattle.overlay_terms.specs.Histories.{IsHistory};
 ghost use Rattle.book_history.specs.Known.{seen};
 ghost use Rattle.version_book.specs.Store.{has_store};
+ghost use Rattle.script_form.specs.Lines.{has_no_feed};
 ghost use Rattle.script_form.specs.OpenBatch.{IsOpen};
 ghost use Rattle.script_form.specs.Requests.{request_of};
 ghost use Rattle.script_form.specs.Turns.{Waiting, ended_by};
@@ -17,6 +18,7 @@ ghost use Rattle.server_session.specs.Loop.{AnswersLine, EndsBatch};
 
 use crate::answering::answer;
 use crate::reply_writer::ReplyWriter;
+use memchr::memchr;
 use script_form::{CommandFault, LineBuffer, LineReply, OpenBatch};
 use std::alloc::{AllocError, Global};
 use std::sync::Wait;
@@ -126,47 +128,49 @@ impl SessionState {
         ensures limit { OnOk result (W.may_pass_limit writer.old → W.may_pass_limit writer.new) }
         ensures stays { Stays me.old me.new }
     {
-        for byte in bytes {
-            self.take_byte(rt, alloc, shared, me, *byte, writer)?;
+        let mut rest = bytes;
+        while let Some(at) = memchr(b'\n', rest) {
+            self.end_line(rt, alloc, shared, me, &rest[..at], writer)?;
+            rest = &rest[at + 1..];
         }
+        self.line.push_all(rest);
         Ok(())
     }
 
-    fn take_byte<J: BookName, S: Wait + Drop, Q: Wait + Threads + Sync, W: ReplyWriter>(
+    /// Takes what comes of a line and the line feed that ends it.
+    fn end_line<J: BookName, S: Wait + Drop, Q: Wait + Threads + Sync, W: ReplyWriter>(
         &mut self,
         rt: &Q,
         alloc: Global,
         shared: &Shared<J, S>,
         me: &mut Session,
-        byte: u8,
+        bytes: &[u8],
         writer: &mut W,
     ) -> Result<(), CommandFault>
         requires book { me.old.book ≡ J.book }
         requires going { has_ended self.old ≡ false }
         requires reported { MayReport J.stored J.failed (has_store shared.now) me.old W.may_report }
         requires from { W.from writer.old (has_store shared.now) me.old }
-        requires own { IfSome (W.left writer.old) (AreNext self.old (byte ∷ [])) }
+        requires no_feed { IsTrue (has_no_feed bytes.now) }
+        requires own { IfSome (W.left writer.old) (AreNext self.old (bytes.now ++ 10 ∷ [])) }
         ensures takes { OnOk result ((taken : List ℕ) → HasTaken self.old taken
-            → HasTaken self.new (taken ++ byte ∷ [])) }
+            → HasTaken self.new (taken ++ (bytes.now ++ 10 ∷ []))) }
         ensures answers { OnOk result ((taken : List ℕ) → HasTaken self.old taken
             → AnswersTurns (store_of J.stored J.failed (has_store shared.now))
-            me.old (turns_ended taken (byte ∷ [])) me.new (W.contents writer.old) (W.contents writer.new)) }
+            me.old (turns_ended taken (bytes.now ++ 10 ∷ [])) me.new (W.contents writer.old) (W.contents writer.new)) }
         ensures stops { OnErr result ((taken : List ℕ) → HasTaken self.old taken
             → AnswersInPart (store_of J.stored J.failed (has_store shared.now))
-            me.old (turns_ended taken (byte ∷ [])) me.new (W.contents writer.old) (W.contents writer.new)) }
+            me.old (turns_ended taken (bytes.now ++ 10 ∷ [])) me.new (W.contents writer.old) (W.contents writer.new)) }
         ensures fault { IfErr result (λ fault. fault ≡ CommandFault.Write) }
         ensures ended { has_ended self.new ≡ is_err result }
         ensures from { OnOk result (W.from writer.new (has_store shared.now) me.new) }
         ensures left { OnOk result (MatchOption (W.left writer.old) (W.left writer.new ≡ None)
             (λ left. (taken : List ℕ) → HasTaken self.old taken
-            → W.left writer.new ≡ Some (drop (length (turns_ended taken (byte ∷ []))) left))) }
+            → W.left writer.new ≡ Some (drop (length (turns_ended taken (bytes.now ++ 10 ∷ []))) left))) }
         ensures limit { OnOk result (W.may_pass_limit writer.old → W.may_pass_limit writer.new) }
         ensures stays { Stays me.old me.new }
     {
-        if byte != b'\n' {
-            self.line.push(byte);
-            return Ok(());
-        }
+        self.line.push_all(bytes);
         let mut waiting = self.waiting.take();
         let line = self.line.without_cr();
         let reported = answer_line(rt, alloc, shared, me, &mut waiting, line, writer);

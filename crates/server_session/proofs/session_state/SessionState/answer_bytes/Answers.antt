@@ -1,12 +1,15 @@
-use Rattle.std.proofs.Common.{◌+◌, ◌++◌, take, drop, sym, ap, subst, ◌∙◌, take-append-drop, arith}
-use Rattle.std.proofs.lemmas.List.{drop_more, take_all, take_more}
-use Rattle.server_session.proofs.Steps.{takes_none, answers_nothing, takes_more, answers_more, stops_there, at_err}
-use Rattle.server_session.proofs.Left.{TakesAway, away_both, away_none, byte_next, may_report-on}
+use Rattle.std.proofs.Common.{[], ◌∷◌, ◌+◌, ◌-◌, ◌<◌, ◌++◌, length, length-take, take, drop, refl, ap, ◌∙◌, append_assoc, arith}
+use Rattle.std.proofs.lemmas.List.{take_rest}
+use Rattle.server_session.proofs.Feeds.{around, none_at_all, none_before}
+use Rattle.server_session.proofs.Steps.{takes_none, takes_part, answers_nothing, answers_part, takes_more, answers_more, stops_there, at_err}
+use Rattle.server_session.proofs.Left.{away_both, away_none, may_report-on, part_away, part_next}
 use Rattle.server_session.proofs.Turns.{stays_self, stays_trans}
 use Rattle.server_session.proofs.session_state.SessionState.answer_bytes.Goals as goal
 
-pub loop-byte-init : goal.loop-byte-init
-loop-byte-init g c = record {
+pub loop-at-init : goal.loop-at-init
+loop-at-init g c = record {
+  past = [];
+  parts = refl;
   takes = takes_none _;
   answers = λ taken has. answers_nothing _ _ _ taken;
   going = c.requires.going;
@@ -16,45 +19,77 @@ loop-byte-init g c = record {
   left = away_none c.args.self.now (g.W.ReplyWriter.left c.args.writer.now);
 }
 
-pub take_byte-requires-clause-reported : goal.take_byte-requires-clause-reported
-take_byte-requires-clause-reported g c κs within = may_report-on _ _ _ _ c.args.me.now c.loop-byte.me c.loop-byte.invariant.stays c.requires.reported
+pub end_line-requires-clause-reported : goal.end_line-requires-clause-reported
+end_line-requires-clause-reported g c κs within = may_report-on _ _ _ _ c.args.me.now c.loop-at.me c.loop-at.invariant.stays c.requires.reported
 
-pub take_byte-requires-clause-own : goal.take_byte-requires-clause-own
-take_byte-requires-clause-own g c κs within =
-    let i = c.loop-byte.byte-index in
-    let bytes = c.args.bytes.now in
-    byte_next c.args.self.now c.loop-byte.self (take i bytes) (drop i bytes) (drop (i + 1) bytes) bytes _ (take-append-drop i bytes) (drop_more bytes i _ c.loop-byte-test.true) c.loop-byte.invariant.takes
-    (g.W.ReplyWriter.left c.args.writer.now) (g.W.ReplyWriter.left c.loop-byte.writer) c.loop-byte.invariant.left c.requires.own
+pub end_line-requires-clause-no_feed : goal.end_line-requires-clause-no_feed
+end_line-requires-clause-no_feed g c κs within = none_before c.loop-at.rest.now c.in-Some.at c.in-Some.ensures.0.before
 
-pub loop-byte-preserved : goal.loop-byte-preserved
-loop-byte-preserved g c =
-    let i = c.loop-byte.byte-index in
-    let bytes = c.args.bytes.now in
-    let here = c.loop-byte.invariant in
-    let next = c.in_ok-take_byte.ensures in
-    let joined = sym (take_more bytes i _ c.loop-byte-test.true) in
+pub end_line-requires-clause-own : goal.end_line-requires-clause-own
+end_line-requires-clause-own g c κs within =
+    let rest = c.loop-at.rest.now in
+    let at = c.in-Some.at in
+    let here = c.loop-at.invariant in
+    part_next c.args.self.now c.loop-at.self here.past (take at rest ++ 10 ∷ []) (drop (at + 1) rest) c.args.bytes.now
+    (ap (λ l. here.past ++ l) (around rest at c.in-Some.ensures.0.high c.in-Some.ensures.1) ∙ here.parts) here.takes
+    (g.W.ReplyWriter.left c.args.writer.now) (g.W.ReplyWriter.left c.loop-at.writer) here.left c.requires.own
+
+pub loop-at-smaller : goal.loop-at-smaller
+loop-at-smaller g c =
+    let rest = c.loop-at.rest.now in
+    let next = c.in-Some.at + 1 in
+    let less : length (take (length rest - next) (drop next rest)) < length rest = omega (arith, c.in-Some.ensures.0.high, length-take (length rest - next) (drop next rest)) in
+    less
+
+pub loop-at-preserved : goal.loop-at-preserved
+loop-at-preserved g c =
+    let rest = c.loop-at.rest.now in
+    let at = c.in-Some.at in
+    let line = take at rest ++ 10 ∷ [] in
+    let here = c.loop-at.invariant in
+    let next = c.in_ok-end_line.ensures in
     record {
-      takes = takes_more _ c.args.self.now c.loop-byte.self _ _ c.take_byte.new.me (take i bytes) _ _ _ _ (g.W.ReplyWriter.contents c.take_byte.new.writer) joined here.stays here.takes here.answers c.take_byte.new.self next.takes;
-      answers = answers_more _ c.args.self.now c.loop-byte.self _ _ c.take_byte.new.me (take i bytes) _ _ _ _ (g.W.ReplyWriter.contents c.take_byte.new.writer) joined here.stays here.takes here.answers next.answers;
+      past = here.past ++ line;
+      parts = ap (λ l. (here.past ++ line) ++ l) (take_rest rest (at + 1)) ∙ append_assoc here.past line (drop (at + 1) rest)
+          ∙ ap (λ l. here.past ++ l) (around rest at c.in-Some.ensures.0.high c.in-Some.ensures.1) ∙ here.parts;
+      takes = takes_more _ c.args.self.now c.loop-at.self _ _ c.end_line.new.me here.past line (here.past ++ line) _ _ (g.W.ReplyWriter.contents c.end_line.new.writer) refl here.stays here.takes here.answers c.end_line.new.self next.takes;
+      answers = answers_more _ c.args.self.now c.loop-at.self _ _ c.end_line.new.me here.past line (here.past ++ line) _ _ (g.W.ReplyWriter.contents c.end_line.new.writer) refl here.stays here.takes here.answers next.answers;
       going = next.ended;
       stays = stays_trans _ _ _ here.stays next.stays;
       from = next.from;
       limit = λ may. next.limit (here.limit may);
-      left = away_both c.args.self.now c.loop-byte.self (take i bytes) here.takes _ _ (g.W.ReplyWriter.left c.args.writer.now) (g.W.ReplyWriter.left c.loop-byte.writer) (g.W.ReplyWriter.left c.take_byte.new.writer)
-          joined here.left next.left;
+      left = away_both c.args.self.now c.loop-at.self here.past here.takes line (here.past ++ line) (g.W.ReplyWriter.left c.args.writer.now) (g.W.ReplyWriter.left c.loop-at.writer) (g.W.ReplyWriter.left c.end_line.new.writer)
+          refl here.left next.left;
     }
 
-pub returns-in_err-take_byte-clause-stops : goal.returns-in_err-take_byte-clause-stops
-returns-in_err-take_byte-clause-stops g c =
-    let i = c.loop-byte.byte-index in
-    let bytes = c.args.bytes.now in
-    let here = c.loop-byte.invariant in
+pub returns-in_err-end_line-clause-stops : goal.returns-in_err-end_line-clause-stops
+returns-in_err-end_line-clause-stops g c =
+    let rest = c.loop-at.rest.now in
+    let at = c.in-Some.at in
+    let line = take at rest ++ 10 ∷ [] in
+    let here = c.loop-at.invariant in
     at_err _ _ _ c.from_residual.ensures.0
-    (stops_there _ c.args.self.now c.loop-byte.self _ _ _ (take i bytes) _ (drop (i + 1) bytes) _ _ _ _
-    (ap (λ l. l ++ drop (i + 1) bytes) (sym (take_more bytes i _ c.loop-byte-test.true)) ∙ take-append-drop (i + 1) bytes)
-    here.stays here.takes here.answers c.in_err-take_byte.ensures.stops)
+    (stops_there _ c.args.self.now c.loop-at.self _ _ _ here.past line (drop (at + 1) rest) c.args.bytes.now _ _ _
+    (append_assoc here.past line (drop (at + 1) rest) ∙ ap (λ l. here.past ++ l) (around rest at c.in-Some.ensures.0.high c.in-Some.ensures.1) ∙ here.parts)
+    here.stays here.takes here.answers c.in_err-end_line.ensures.stops)
+
+pub returns-clause-takes : goal.returns-clause-takes
+returns-clause-takes g c =
+    let rest = c.loop-at.rest.now in
+    let here = c.loop-at.invariant in
+    takes_more _ c.args.self.now c.loop-at.self _ _ c.loop-at.me here.past rest c.args.bytes.now _ _ (g.W.ReplyWriter.contents c.loop-at.writer) here.parts here.stays here.takes here.answers _
+    (takes_part c.loop-at.self _ rest (none_at_all rest c.in_default.ensures) c.push_all.ensures refl)
+
+pub returns-clause-answers : goal.returns-clause-answers
+returns-clause-answers g c =
+    let rest = c.loop-at.rest.now in
+    let here = c.loop-at.invariant in
+    answers_more _ c.args.self.now c.loop-at.self _ _ c.loop-at.me here.past rest c.args.bytes.now _ _ (g.W.ReplyWriter.contents c.loop-at.writer) here.parts here.stays here.takes here.answers
+    (λ taken has. answers_part _ _ rest _ (none_at_all rest c.in_default.ensures) taken)
 
 pub returns-clause-left : goal.returns-clause-left
 returns-clause-left g c =
-    let i = c.loop-byte.byte-index in
-    subst (λ bs. TakesAway c.args.self.now bs (g.W.ReplyWriter.left c.args.writer.now) (g.W.ReplyWriter.left c.loop-byte.writer)) (take_all i c.args.bytes.now (omega arith)) c.loop-byte.invariant.left
+    let rest = c.loop-at.rest.now in
+    let here = c.loop-at.invariant in
+    away_both c.args.self.now c.loop-at.self here.past here.takes rest c.args.bytes.now (g.W.ReplyWriter.left c.args.writer.now) (g.W.ReplyWriter.left c.loop-at.writer) (g.W.ReplyWriter.left c.loop-at.writer)
+    here.parts here.left (part_away c.loop-at.self rest (none_at_all rest c.in_default.ensures) (g.W.ReplyWriter.left c.loop-at.writer))
