@@ -106,7 +106,7 @@ class FeaturesApi:
         return self._page(request, name, joined.revision, joined.features, asked)
 
     def _page(self, request: Request, name: str, revision: str, items: Sequence[Item], asked: Asked) -> Answer:
-        """The items that are asked for, as many as at once."""
+        """The items that are asked for, as many as a page has, with links to the next page and the one before."""
         limit, offset = request.count("limit", ITEMS_USUAL, 1, ITEMS_MOST), request.count("offset", 0, 0, OFFSET_MOST)
         headers = self._headers(revision, asked.system)
         if headers["ETag"] in request.header("if-none-match").split(", "):

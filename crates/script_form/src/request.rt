@@ -36,7 +36,7 @@ pub enum Request<'a> {
     Batch(i64),
 }
 
-/// What the line asks for.
+/// What the line asks for, or that it is too long (error 42).
 pub fn request_of(line: &[u8]) -> Request<'_>
     ensures { request result ≡ request_of line.now }
 {

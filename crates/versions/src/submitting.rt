@@ -28,7 +28,7 @@ impl Version {
         Ok(self.after(alloc, change)?)
     }
 
-    /// The version after a command that is accepted.
+    /// The version after a command that is accepted: its number is one higher.
     fn after(&self, alloc: Global, change: &Command) -> Result<Version, AllocError>
         requires { refusal_at self.now.number self.now.layers (command change.now) ≡ None }
         ensures { IfOk result (λ next. FollowsCommand self.now (command change.now) next) }
@@ -41,7 +41,7 @@ impl Version {
         Ok(Version::of(number + 1, durable, next))
     }
 
-    /// Why a command is refused.
+    /// Why a command is refused: by the layers, else by the limit of 2^62 (error 16).
     fn refusal(&self, change: &Command) -> Option<LayerFault>
         ensures { result ≡ option_map fault_of (refusal_at self.now.number self.now.layers (command change.now)) }
     {

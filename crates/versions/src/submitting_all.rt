@@ -37,7 +37,7 @@ impl Version {
         Ok(Version::of(number + 1, durable, next))
     }
 
-    /// Why a batch is refused.
+    /// Why a batch is refused: by the layers, else by the limit of 2^62 (error 16).
     fn refusal_of_all(&self, batch: &Batch) -> Option<BatchFault>
         ensures { result ≡ option_map batch_fault_of (batch_refusal_at self.now.number self.now.layers batch.now) }
     {

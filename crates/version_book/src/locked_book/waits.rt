@@ -55,7 +55,7 @@ fn is_idle<J: BookName, R: Wait + Drop>(locked: &LockedBook<J, R>) -> bool
     !locked.state.closing && locked.free().is_none()
 }
 
-// Whether a layer's tiles can be waited for, and none of the ends of the wait is there.
+// Whether a layer's tiles can be waited for (not after a DROP), and none of the ends of the wait is there.
 fn is_building<J: BookName, R: Wait + Drop>(locked: &LockedBook<J, R>, name: &Name) -> bool
     ensures { IsTrue result ↔ IsBuilding (newest_in locked.now.log) locked.now.state name.now }
 {
