@@ -15,7 +15,7 @@ use Rattle.book_history.proofs.Chains.{begins_with}
 use Rattle.book_history.specs.declared.fault.ReportedFault.{ReportedFault}
 use Rattle.script_form.specs.declared.fault.CommandFault.{CommandFault}
 use Rattle.script_form.specs.Transcript.{StoreReport, of_number, of_fault, store_by}
-use Rattle.server_session.specs.Stores.{HistoryReportsFault, HistoryReports, HistoryReportsStored, store_of}
+use Rattle.server_session.specs.Stores.{FaultMayBeReportedAt, MayBeReportedAt, HistoryReportsStored, store_of}
 use Rattle.store_flushing.specs.Failing.{FailedAt}
 use Rattle.store_flushing.specs.Storing.{IsStoreOf, IsStored}
 use Rattle.store_flushing.proofs.Following.{by_run}
@@ -76,7 +76,7 @@ module _ {D : Type 0} (g : Ghosts D) (now : HasOnlyNow g) (start : Version) (sto
       record { log = was; before = before was log history longer same on fails.followed.goes_on; reported = reported; same = is; failed = fails }
 
   had_failed : (store : Option (Flusher D g)) → ((log : List Entry) (fault : ReportedFault) → failed log fault → IsFailedOf g start store log fault) → IsTrue (is_some store)
-      → (history : History) (fault : CommandFault) → BeginsWith history (history_of (first_log start)) → HistoryReportsFault failed history fault → ServerReportsFault g start store history fault
+      → (history : History) (fault : CommandFault) → BeginsWith history (history_of (first_log start)) → FaultMayBeReportedAt failed history fault → ServerReportsFault g start store history fault
   had_failed None meant there history fault on is = absurd (false≢true there)
   had_failed (Some old) meant there history fault on is = λ store.
       ∥∥₁_map is.failed_so (λ may. failed_before old may.was is.log history fault on is.of may.longer is.reported is.same (meant may.was is.reported may.holds store))
@@ -87,7 +87,7 @@ module _ {D : Type 0} (g : Ghosts D) (now : HasOnlyNow g) (start : Version) (sto
     pub failed_is : (log : List Entry) (fault : ReportedFault) → failed log fault → IsFailedOf g start store log fault
 
   pub was_reported : (store : Option (Flusher D g)) → Means store → IsTrue (is_some store) → (history : History) (report : StoreReport) → BeginsWith history (history_of (first_log start))
-      → HistoryReports stored failed history report → ServerReports g start store history report
+      → MayBeReportedAt stored failed history report → ServerReports g start store history report
   was_reported store means there history of_number on is = was_held store means.stored_is there history on is
   was_reported store means there history (of_fault fault) on is = had_failed store means.failed_is there history fault on is
 
@@ -106,7 +106,7 @@ module _ {D : Type 0} (g : Ghosts D) (now : HasOnlyNow g) (start : Version) (sto
           same = one.same;
           begun = one.begun;
           goes_on = one.goes_on;
-          ran = session_weaker (HistoryReports stored failed) (ServerReports g start store) (is_some store) (history_of (first_log start)) (was_reported store meant) s.port.most e.end s.session e.session
+          ran = session_weaker (MayBeReportedAt stored failed) (ServerReports g start store) (is_some store) (history_of (first_log start)) (was_reported store meant) s.port.most e.end s.session e.session
               _ _ _ _ begin.0 one.ran;
         },
         runs_held book store remaining contents meant ss es begin.1 ran.1,

@@ -18,7 +18,7 @@ use Rattle.store_flushing.specs.Among.{IsFileIn}
 use Rattle.store_flushing.specs.Failing.{HoldsOfFailed}
 use Rattle.store_flushing.specs.Storing.{IsStoreOf, HoldsOfStored}
 use Rattle.store_flushing.specs.Stores.{flusher_in, reporter_of, notes_by}
-use Rattle.store_flushing.specs.ReportNote.{StaysReported, ReportsOn, notes_in}
+use Rattle.store_flushing.specs.ReportNote.{StaysReported, NotesGoOn, notes_in}
 use Rattle.store_flushing.specs.Unstored.{IsReasonGiven}
 use Rattle.store_flushing.specs.declared.closed.Closed.{Closed}
 use Rattle.store_flushing.specs.declared.keeper.Keeper.{Keeper}
@@ -142,8 +142,8 @@ module _ {D : Type 0} (g : Ghosts D) where
         let run = flushed.flushes was_store in
         let low : (newest_in l.reporter.log).durable ≤ stored = run.store.reported in
         let rest = reported_at_end g now end (notes_in l.notes) last.commit.disk on (is_history log closes.log) closes.heard.durable in
-        let whole : ReportsOn g was (notes_in f.notes) old.commit.disk end (notes_in closed.notes) last.commit.disk =
-        subst (λ (ts : List ReportNote). ReportsOn g was (notes_in f.notes) old.commit.disk end ts last.commit.disk) (sym closes.notes)
+        let whole : NotesGoOn g was (notes_in f.notes) old.commit.disk end (notes_in closed.notes) last.commit.disk =
+        subst (λ (ts : List ReportNote). NotesGoOn g was (notes_in f.notes) old.commit.disk end ts last.commit.disk) (sym closes.notes)
         (reports_then g was now end (notes_in f.notes) (notes_in l.notes) (notes_in l.notes) old.commit.disk last.commit.disk last.commit.disk (flushed.reports was_store) rest) in
         record {
           no_less = run.no_less;

@@ -21,7 +21,7 @@ use Rattle.script_form.proofs.Pieces.{ended_lines-more}
 use Rattle.server_session.specs.Replying.{IsAtStart, IsNextReply, MayReport}
 use Rattle.server_session.specs.Session.{IsSharedRun, Stays}
 use Rattle.server_session.specs.SessionState.{AreNext, HasTaken, IsOnWay, turns_ended, turns_at_end}
-use Rattle.server_session.specs.Stores.{HistoryReports, store_of}
+use Rattle.server_session.specs.Stores.{MayBeReportedAt, store_of}
 use Rattle.server_session.specs.Turn.{EndsTurn, IsAtLast, IsAtLine, TakesTurn}
 use Rattle.server_session.specs.declared.session_state.SessionState.{SessionState}
 use Rattle.server_session.proofs.Endings.{take_of_take}
@@ -132,7 +132,7 @@ next_reply from stored failed there may was now before after line reply goes_on 
       turn = turn;
       later = is.later;
       next = is.parts ∙ ap (λ (ts : List Turn). ts ++ is.later) one;
-      answered = run (HistoryReports stored failed) may there (seen was) reports was (turn ∷ []) now (reply_text reply) (begins_self (seen was))
+      answered = run (MayBeReportedAt stored failed) may there (seen was) reports was (turn ∷ []) now (reply_text reply) (begins_self (seen was))
           (subst (λ (ts : List Turn). IsSharedRun (store_of stored failed there) was ts now (reply_text reply)) one (takes.taken is.waiting is.is_open).answered);
     }
 

@@ -27,7 +27,7 @@ use Rattle.script_form.specs.Transcript.{BookStore, StoreReport, of_number, of_f
 use Rattle.server_session.specs.Answering.{Answers}
 use Rattle.server_session.specs.Fault.{fault_reported, store_reported}
 use Rattle.server_session.specs.Session.{Stays}
-use Rattle.server_session.specs.Stores.{HistoryReports}
+use Rattle.server_session.specs.Stores.{MayBeReportedAt}
 use Rattle.server_session.proofs.AnswerLemmas.{answers_so, answers_there, asked_none, asked_some, unnamed, refused_so}
 
 -- what holds of a version, a name and a column holds of the newest version, of the name as it was read and of the column as it was asked for
@@ -156,7 +156,7 @@ MayReportFault reported history fault = Unit {0}
 
 -- what the book says of it is said of what the session has seen
 pub may_report_fault : (stored : List Entry → ℕ → Type 0) (failed : List Entry → ReportedFault → Type 0) (now : Known) (fault : BookFault)
-    → IsReportedFault failed now.log fault → MayReportFault (HistoryReports stored failed) (seen now) fault
+    → IsReportedFault failed now.log fault → MayReportFault (MayBeReportedAt stored failed) (seen now) fault
 may_report_fault stored failed now (book.Version wrong) is = tt
 may_report_fault stored failed now book.Closing is = tt
 may_report_fault stored failed now book.Gone is = tt

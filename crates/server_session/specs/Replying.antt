@@ -13,7 +13,7 @@ use Rattle.script_form.specs.Transcript.{BookStore, StoreReport, store_by}
 use Rattle.script_form.specs.Turns.{Turn, all_turns_of}
 use Rattle.server_session.specs.Answering.{Answers, SubmitsAll}
 use Rattle.server_session.specs.Session.{IsSharedRun, Stays}
-use Rattle.server_session.specs.Stores.{HistoryReports}
+use Rattle.server_session.specs.Stores.{MayBeReportedAt}
 
 -- the bytes of a script are known, and none of its turns has a reply yet
 pub record IsAtStart (script : Option (List ℕ)) (left : List Turn) : Type 0 where
@@ -61,4 +61,4 @@ IsSomeReply from may now text = (has_store : Bool) × (was : Known) × from has_
 -- from what a session has seen
 abbrev pub MayReport : (List Entry → ℕ → Type 0) → (List Entry → ReportedFault → Type 0) → Bool → Known → (History → StoreReport → Type 0) → Type 0
 MayReport stored failed there was may =
-    IsTrue there → (history : History) (report : StoreReport) → BeginsWith history (seen was) → HistoryReports stored failed history report → may history report
+    IsTrue there → (history : History) (report : StoreReport) → BeginsWith history (seen was) → MayBeReportedAt stored failed history report → may history report

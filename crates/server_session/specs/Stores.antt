@@ -13,7 +13,7 @@ abbrev pub HistoryReportsStored : (List Entry → ℕ → Type 0) → History �
 HistoryReportsStored stored history = (log : List Entry) × (history_of log ≡ history) × ReportsStored stored log
 
 -- a fault is that of a store which failed so, of a beginning of a history's log
-pub record HistoryReportsFault (failed : List Entry → ReportedFault → Type 0) (history : History) (fault : CommandFault) : Type 0 where
+pub record FaultMayBeReportedAt (failed : List Entry → ReportedFault → Type 0) (history : History) (fault : CommandFault) : Type 0 where
   pub log : List Entry
   pub of : history_of log ≡ history
   pub reported : ReportedFault
@@ -21,13 +21,13 @@ pub record HistoryReportsFault (failed : List Entry → ReportedFault → Type 0
   pub failed_so : ∥ MayBeReported failed log reported ∥₁
 
 -- what may be reported of a store at a history: its durable number, or a fault of the store
-abbrev pub HistoryReports : (List Entry → ℕ → Type 0) → (List Entry → ReportedFault → Type 0) → History → StoreReport → Type 0
-HistoryReports stored failed history of_number = HistoryReportsStored stored history
-HistoryReports stored failed history (of_fault fault) = HistoryReportsFault failed history fault
+abbrev pub MayBeReportedAt : (List Entry → ℕ → Type 0) → (List Entry → ReportedFault → Type 0) → History → StoreReport → Type 0
+MayBeReportedAt stored failed history of_number = HistoryReportsStored stored history
+MayBeReportedAt stored failed history (of_fault fault) = FaultMayBeReportedAt failed history fault
 
 -- whether there is a store, by what counts as stored, and for what it failed
 abbrev pub store_of : (List Entry → ℕ → Type 0) → (List Entry → ReportedFault → Type 0) → Bool → BookStore
-store_of stored failed there = store_by (HistoryReports stored failed) there
+store_of stored failed there = store_by (MayBeReportedAt stored failed) there
 
 -- none, for a reply that does not ask it
 abbrev pub no_store : BookStore

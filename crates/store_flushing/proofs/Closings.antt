@@ -11,7 +11,7 @@ use Rattle.book_history.specs.Logs.{newest_in}
 use Rattle.book_lock.specs.Heard.{Heard, HasHeard}
 use Rattle.store_flushing.specs.Among.{IsFileIn, IsFileExactlyIn}
 use Rattle.store_flushing.specs.Storing.{IsStoreAt, IsStoreOf}
-use Rattle.store_flushing.specs.ReportNote.{ReportsOn}
+use Rattle.store_flushing.specs.ReportNote.{NotesGoOn}
 use Rattle.store_flushing.specs.declared.keeper.report_log.ReportNote.{ReportNote}
 use Rattle.store_flushing.proofs.Histories.{among_more, file_more}
 use Rattle.store_flushing.proofs.ReportedLemmas.{reported_at_end}
@@ -57,7 +57,7 @@ module _ {D : Type 0} (g : Ghosts D) (was now : History) (on : BeginsWith now wa
 
   -- what was written down is all that the log reports
   pub notes_left : IsHistory now → (newest now).durable ≡ (newest was).durable → (reported : List ReportNote) → (o : Option (Flusher D g)) (stored : ℕ) (disk : Option D) → IsLeftOf o stored disk
-      → IfSome o (λ f. IfSome disk (λ d. ReportsOn g was reported f.commit.disk now reported d))
+      → IfSome o (λ f. IfSome disk (λ d. NotesGoOn g was reported f.commit.disk now reported d))
   notes_left history same reported None stored disk is = tt
   notes_left history same reported (Some f) stored disk is =
-      subst (λ (q : Option D). IfSome q (λ d. ReportsOn g was reported f.commit.disk now reported d)) (sym is.1) (reported_at_end g was now reported f.commit.disk on history same)
+      subst (λ (q : Option D). IfSome q (λ d. NotesGoOn g was reported f.commit.disk now reported d)) (sym is.1) (reported_at_end g was now reported f.commit.disk on history same)

@@ -14,7 +14,7 @@ use Rattle.store_flushing.specs.Among.{IsFileIn}
 use Rattle.store_flushing.specs.Laws.{DurableIsReported}
 use Rattle.store_flushing.specs.Storing.{IsStoreOf, KeepsReported}
 use Rattle.store_flushing.specs.Since.{number_reported, reported_in}
-use Rattle.store_flushing.specs.ReportNote.{news_in, note_then, notes_at, notes_in, StaysReported, ReportsOn, KeepsReporting}
+use Rattle.store_flushing.specs.ReportNote.{news_in, note_then, notes_at, notes_in, StaysReported, NotesGoOn, KeepsNotes}
 use Rattle.store_flushing.specs.declared.keeper.Keeper.{Keeper}
 use Rattle.store_flushing.specs.declared.keeper.report_log.ReportNote.{ReportNote}
 use Rattle.store_flushing.proofs.Histories.{begins_self, file_more, follow_rest, last_append}
@@ -124,10 +124,10 @@ module _ {D : Type 0} (g : Ghosts D) where
   Stays history first last t =
       (g.moment first ≤ t.moment) × (t.moment ≤ g.moment last) × ((c : List ℕ) → g.left_since last t.moment c → IsFileIn history t.number c)
 
-  pub reports_self : (h : History) (reported : List ReportNote) (disk : D) → ReportsOn g h reported disk h reported disk
+  pub reports_self : (h : History) (reported : List ReportNote) (disk : D) → NotesGoOn g h reported disk h reported disk
   reports_self h reported disk = record { goes_on = prefix_self reported; later = omega arith; stays = λ first from is. is }
 
-  pub reports_then : (a b c : History) (x y z : List ReportNote) (s t u : D) → ReportsOn g a x s b y t → ReportsOn g b y t c z u → ReportsOn g a x s c z u
+  pub reports_then : (a b c : History) (x y z : List ReportNote) (s t u : D) → NotesGoOn g a x s b y t → NotesGoOn g b y t c z u → NotesGoOn g a x s c z u
   reports_then a b c x y z s t u one two = record {
     goes_on = prefix_trans x y z one.goes_on two.goes_on;
     later = omega (arith, one.later, two.later);
@@ -145,7 +145,7 @@ module _ {D : Type 0} (g : Ghosts D) where
   )
 
   pub none_reported : (was now : History) (s t : Flusher D g) (reported : List ReportNote) → KeepsReported g was s now t → (newest now).durable ≡ (newest was).durable
-      → ReportsOn g was reported s.commit.disk now reported t.commit.disk
+      → NotesGoOn g was reported s.commit.disk now reported t.commit.disk
   none_reported was now s t reported call same = record {
     goes_on = prefix_self reported;
     later = call.moments.later;
@@ -161,8 +161,8 @@ module _ {D : Type 0} (g : Ghosts D) where
 
   -- news is reported, with the disk's moment
   pub news_reported : (was now : History) (s : Flusher D g) (reported more : List ReportNote) → OnlyNow g s → KeepsReported g was s now s
-      → more ≡ reported ++ notes_at (g.moment s.commit.disk) (news_in was now) → ReportsOn g was reported s.commit.disk now more s.commit.disk
-  news_reported was now s reported more at call is_more = subst (λ (l : List ReportNote). ReportsOn g was reported s.commit.disk now l s.commit.disk) (sym is_more) (record {
+      → more ≡ reported ++ notes_at (g.moment s.commit.disk) (news_in was now) → NotesGoOn g was reported s.commit.disk now more s.commit.disk
+  news_reported was now s reported more at call is_more = subst (λ (l : List ReportNote). NotesGoOn g was reported s.commit.disk now l s.commit.disk) (sym is_more) (record {
     goes_on = (notes_at (g.moment s.commit.disk) (news_in was now), refl);
     later = omega arith;
     stays = λ first from is.
@@ -187,7 +187,7 @@ module _ {D : Type 0} (g : Ghosts D) where
   none_yet start disk = record { each = refl; stays = λ k d at. absurd (omega (arith, at)) }
 
   -- a book that ends reports no more
-  pub reported_at_end : (was now : History) (reported : List ReportNote) (disk : D) → BeginsWith now was → IsHistory now → (newest now).durable ≡ (newest was).durable → ReportsOn g was reported disk now reported disk
+  pub reported_at_end : (was now : History) (reported : List ReportNote) (disk : D) → BeginsWith now was → IsHistory now → (newest now).durable ≡ (newest was).durable → NotesGoOn g was reported disk now reported disk
   reported_at_end was now reported disk on history same = record {
     goes_on = prefix_self reported;
     later = omega arith;
@@ -200,11 +200,11 @@ module _ {D : Type 0} (g : Ghosts D) where
 
   -- ---- calls of a keeper, one after another
 
-  pub reporting_self : (k : Keeper D g) → KeepsReporting g k k
+  pub reporting_self : (k : Keeper D g) → KeepsNotes g k k
   reporting_self k is = reports_self (history_of k.reporter.log) (notes_in k.notes) k.held.flusher.commit.disk
 
-  pub reporting_then : (a b c : Keeper D g) → KeepsReporting g a b → (IsStoreOf g (history_of a.reporter.log) a.held.flusher → IsStoreOf g (history_of b.reporter.log) b.held.flusher)
-      → KeepsReporting g b c → KeepsReporting g a c
+  pub reporting_then : (a b c : Keeper D g) → KeepsNotes g a b → (IsStoreOf g (history_of a.reporter.log) a.held.flusher → IsStoreOf g (history_of b.reporter.log) b.held.flusher)
+      → KeepsNotes g b c → KeepsNotes g a c
   reporting_then a b c one store two is =
       reports_then (history_of a.reporter.log) (history_of b.reporter.log) (history_of c.reporter.log) (notes_in a.notes) (notes_in b.notes) (notes_in c.notes)
       a.held.flusher.commit.disk b.held.flusher.commit.disk c.held.flusher.commit.disk (one is) (two (store is))

@@ -34,13 +34,13 @@ pub record StaysReported {D : Type 0} (g : Ghosts D) (history : History) (report
       × ((c : List ℕ) → g.left_since last t.moment c → IsFileIn history t.number c)) reported
 
 -- from a history, its notes and its disk to later ones: no note is struck out; if all held since `first`, all do now
-pub record ReportsOn {D : Type 0} (g : Ghosts D) (was : History) (reported : List ReportNote) (old : D) (now : History) (more : List ReportNote) (new : D) : Type 0 where
+pub record NotesGoOn {D : Type 0} (g : Ghosts D) (was : History) (reported : List ReportNote) (old : D) (now : History) (more : List ReportNote) (new : D) : Type 0 where
   pub goes_on : IsPrefix reported more
   pub later : g.moment old ≤ g.moment new
   pub stays : (first : D) → g.moment first ≤ g.moment old → StaysReported g was reported first old → StaysReported g now more first new
 
 -- the same from a keeper to what its calls make of it, where its store is one of the history that its reporter has seen
-abbrev pub KeepsReporting : {D : Type 0} (g : Ghosts D) → Keeper D g → Keeper D g → Type 0
-KeepsReporting g old new = IsStoreOf g (history_of old.reporter.log) old.held.flusher
-    → ReportsOn g (history_of old.reporter.log) (notes_in old.notes) old.held.flusher.commit.disk
+abbrev pub KeepsNotes : {D : Type 0} (g : Ghosts D) → Keeper D g → Keeper D g → Type 0
+KeepsNotes g old new = IsStoreOf g (history_of old.reporter.log) old.held.flusher
+    → NotesGoOn g (history_of old.reporter.log) (notes_in old.notes) old.held.flusher.commit.disk
     (history_of new.reporter.log) (notes_in new.notes) new.held.flusher.commit.disk

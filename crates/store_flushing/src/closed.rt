@@ -9,7 +9,7 @@ ghost use Rattle.book_lock.specs.Heard.{HasHeard};
 ghost use Rattle.book_lock.specs.Steps.{HasAllOf};
 ghost use Rattle.store_flushing.specs.Among.{IsFileExactlyIn, IsFileIn};
 ghost use Rattle.store_flushing.specs.Storing.{IsStoreOf};
-ghost use Rattle.store_flushing.specs.ReportNote.{ReportsOn, notes_in};
+ghost use Rattle.store_flushing.specs.ReportNote.{NotesGoOn, notes_in};
 ghost use Rattle.store_flushing.specs.Unstored.{IsUnstoredFor};
 
 use crate::keeper::report_log::ReportLog;
@@ -89,8 +89,8 @@ pub fn close<J: BookName, R: Wait + Drop, D: Disk, W: Wait>(
         (IsFileExactlyIn (history_of result.seen_log.log) result.stored))) }
     // What was written down as it was reported is all that the log reports durable, and it stays so.
     ensures written { result.notes ≡ notes }
-    ensures reports { IfSome flusher
-        (λ f. IfSome result.disk (λ disk. ReportsOn D.Disk (history_of reporter.log) (notes_in notes) f.commit.disk
+    ensures notes_stay { IfSome flusher
+        (λ f. IfSome result.disk (λ disk. NotesGoOn D.Disk (history_of reporter.log) (notes_in notes) f.commit.disk
         (history_of result.seen_log.log) (notes_in result.notes) disk)) }
 {
     let book = end_book(rt, shared, &reporter, &sessions);

@@ -6,7 +6,7 @@ ghost use Rattle.root_store.specs.declared.phase.Phase.TheVariants as phases;
 ghost use Rattle.book_history.specs.Logs.{history_of};
 ghost use Rattle.store_flushing.specs.Failing.{HoldsOfFailed};
 ghost use Rattle.store_flushing.specs.Storing.{HoldsOfStored, IsStoreOf, Flushes};
-ghost use Rattle.store_flushing.specs.ReportNote.{KeepsReporting};
+ghost use Rattle.store_flushing.specs.ReportNote.{KeepsNotes};
 
 use crate::keeper::Keeper;
 use disk_model::disk::Disk;
@@ -40,7 +40,7 @@ pub fn flush<J: BookName, R: Wait + Drop, D: Disk, W: Wait>(
     ensures flushes { IsStoreOf D.Disk (history_of keeper.old.reporter.log) keeper.old.held.flusher
         → Flushes D.Disk (history_of keeper.old.reporter.log) keeper.old.held.flusher
         (history_of keeper.new.reporter.log) keeper.new.held.flusher }
-    ensures reports { KeepsReporting D.Disk keeper.old keeper.new }
+    ensures notes_stay { KeepsNotes D.Disk keeper.old keeper.new }
     // No commit is left half done, unless the device failed.
     ensures rests { is_busy keeper.new.held.flusher.commit.phase ≡ false }
     ensures same { keeper.new.reporter.book ≡ keeper.old.reporter.book }
@@ -67,7 +67,7 @@ fn round<J: BookName, R: Wait + Drop, D: Disk, W: Wait>(
     ensures flushes { IsStoreOf D.Disk (history_of keeper.old.reporter.log) keeper.old.held.flusher
         → Flushes D.Disk (history_of keeper.old.reporter.log) keeper.old.held.flusher
         (history_of keeper.new.reporter.log) keeper.new.held.flusher }
-    ensures reports { KeepsReporting D.Disk keeper.old keeper.new }
+    ensures notes_stay { KeepsNotes D.Disk keeper.old keeper.new }
     ensures rests { is_busy keeper.new.held.flusher.commit.phase ≡ false }
     ensures ends { result ≡ false → (keeper.new.held.flusher.commit.phase ≡ phases.Failed) ⊎ (keeper.new ≡ keeper.old) }
     ensures same { keeper.new.reporter.book ≡ keeper.old.reporter.book }
@@ -102,7 +102,7 @@ fn commit<J: BookName, R: Wait + Drop, D: Disk, W: Wait>(
     ensures flushes { IsStoreOf D.Disk (history_of keeper.old.reporter.log) keeper.old.held.flusher
         → Flushes D.Disk (history_of keeper.old.reporter.log) keeper.old.held.flusher
         (history_of keeper.new.reporter.log) keeper.new.held.flusher }
-    ensures reports { KeepsReporting D.Disk keeper.old keeper.new }
+    ensures notes_stay { KeepsNotes D.Disk keeper.old keeper.new }
     ensures rests { is_busy keeper.new.held.flusher.commit.phase ≡ false }
     ensures ends { result ≡ false → keeper.new.held.flusher.commit.phase ≡ phases.Failed }
     ensures same { keeper.new.reporter.book ≡ keeper.old.reporter.book }
@@ -127,7 +127,7 @@ fn end_commit<J: BookName, R: Wait + Drop, D: Disk, W: Wait>(
     ensures flushes { IsStoreOf D.Disk (history_of keeper.old.reporter.log) keeper.old.held.flusher
         → Flushes D.Disk (history_of keeper.old.reporter.log) keeper.old.held.flusher
         (history_of keeper.new.reporter.log) keeper.new.held.flusher }
-    ensures reports { KeepsReporting D.Disk keeper.old keeper.new }
+    ensures notes_stay { KeepsNotes D.Disk keeper.old keeper.new }
     ensures rests { is_busy keeper.new.held.flusher.commit.phase ≡ false }
     ensures ends { result ≡ false → keeper.new.held.flusher.commit.phase ≡ phases.Failed }
     ensures same { keeper.new.reporter.book ≡ keeper.old.reporter.book }

@@ -48,7 +48,7 @@ pub struct Keeper<D: Disk> {
 }
 
 impl<D: Disk> Keeper<D> {
-    ghost use Rattle.store_flushing.specs.ReportNote.{KeepsReporting, news_in, notes_at, notes_in};
+    ghost use Rattle.store_flushing.specs.ReportNote.{KeepsNotes, news_in, notes_at, notes_in};
 
     /// A keeper of a reporter, a store, and what was reported durable.
     fn of(reporter: Reporter, held: HeldStore<D>, notes: ReportLog) -> Keeper<D>
@@ -93,7 +93,7 @@ impl<D: Disk> Keeper<D> {
     ) -> Result<Option<Arc<Version, Global>>, BookFault>
         requires { self.old.reporter.book ≡ J.book }
         ensures keeps { Keeps D.Disk self.old.reporter self.old.held.flusher self.new.reporter self.new.held.flusher }
-        ensures reports { KeepsReporting D.Disk self.old self.new }
+        ensures notes_stay { KeepsNotes D.Disk self.old self.new }
         ensures history { IsHistory (history_of self.new.reporter.log) }
         ensures newest { IfOk result (λ o. IfSome o (λ version. arc_value version ≡ newest_in self.new.reporter.log)) }
         ensures durable { (newest_in self.new.reporter.log).durable ≡ (newest_in self.old.reporter.log).durable }
@@ -114,7 +114,7 @@ impl<D: Disk> Keeper<D> {
         requires history { IsHistory (history_of self.old.reporter.log) }
         requires newest { version.now ≡ newest (history_of self.old.reporter.log) }
         ensures keeps { Keeps D.Disk self.old.reporter self.old.held.flusher self.new.reporter self.new.held.flusher }
-        ensures reports { KeepsReporting D.Disk self.old self.new }
+        ensures notes_stay { KeepsNotes D.Disk self.old self.new }
         ensures stored { self.new.held.flusher.commit.root.version ≡ self.old.held.flusher.commit.root.version }
         ensures reporter { self.new.reporter ≡ self.old.reporter }
         ensures notes { self.new.notes ≡ self.old.notes }
@@ -131,7 +131,7 @@ impl<D: Disk> Keeper<D> {
     /// Makes one device call; none where no commit is under way. It reports nothing.
     pub fn step(&mut self) -> Result<Progress, StoreFault>
         ensures keeps { Keeps D.Disk self.old.reporter self.old.held.flusher self.new.reporter self.new.held.flusher }
-        ensures reports { KeepsReporting D.Disk self.old self.new }
+        ensures notes_stay { KeepsNotes D.Disk self.old self.new }
         ensures stored { self.new.held.flusher.commit.root.version
             ≡ stored_after result self.old.held.flusher.commit.root.version }
         ensures counted { IfOk result
@@ -158,7 +158,7 @@ impl<D: Disk> Keeper<D> {
         requires book { self.old.reporter.book ≡ J.book }
         requires stored { J.stored self.old.reporter.log self.old.held.flusher.commit.root.version }
         ensures keeps { Keeps D.Disk self.old.reporter self.old.held.flusher self.new.reporter self.new.held.flusher }
-        ensures reports { KeepsReporting D.Disk self.old self.new }
+        ensures notes_stay { KeepsNotes D.Disk self.old self.new }
         ensures history { IsHistory (history_of self.new.reporter.log) }
         ensures reported { IsStoreOf D.Disk (history_of self.old.reporter.log) self.old.held.flusher
             → AllReported (history_of self.new.reporter.log) self.new.held.flusher }

@@ -1,4 +1,3 @@
-pub mod DigitLemmas
 pub mod EdgeLemmas
 pub mod LineLemmas
 pub mod VerdictLemmas

@@ -4,20 +4,9 @@ use Rattle.std.proofs.lemmas.Fmt.{decimal_digit}
 use Rattle.std.proofs.lemmas.List.{drop-append-le, drop-drop, drop-take, take-append-le}
 use Rattle.std.proofs.Math.Seq.{drop-append-add, length-take-le}
 use borrow.Rule.Slice.PartMut.{put_mid}
-use lib.Lanes.{put_chunk}
-use Rattle.std.proofs.lemmas.Simd.{put_chunk_is}
 use Rattle.std.specs.Fmt.{signed_decimal}
 use Rattle.overlay_terms.specs.Plane.{Point, WholePoint, whole}
 use Rattle.version_core.specs.Edges.{point_text}
-
--- m bytes ys, of which all from the k-th on count, are stored before a place among xs
-pub stored_before : (xs ys : List ℕ) (at m k : ℕ) → m ≤ at → at ≤ length xs → length ys ≡ m → k ≤ m → drop (at - m + k) (put_chunk (at - m) xs ys) ≡ drop k ys ++ drop at xs
-stored_before xs ys at m k h n e small =
-    let a = at - m in
-    let rest = drop (length ys) (drop a xs) in
-    let to : a + length ys ≡ at = omega (arith, e) in
-    ap (drop (a + k)) (put_chunk_is a xs ys (omega (arith, e))) ∙ ap (λ i. drop (i + k) (take a xs ++ (ys ++ rest))) (sym (length-take-le a xs (omega arith))) ∙ drop-append-add (take a xs) (ys ++ rest) k
-    ∙ drop-append-le k ys rest (omega (arith, e)) ∙ ap (λ t. drop k ys ++ t) (drop-drop (length ys) a xs ∙ ap (λ i. drop i xs) to)
 
 -- 64 bytes ys, whose text starts with the k-th one, are put before the text that starts at a place among xs
 pub text_before : (xs ys : List ℕ) (at k : ℕ) → 64 ≤ at → at ≤ length xs → length ys ≡ 64 → k ≤ 64 → drop (at - 64 + k) (put_mid (at - 64) (at - (at - 64)) xs ys) ≡ drop k ys ++ drop at xs

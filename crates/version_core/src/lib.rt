@@ -2,7 +2,6 @@
 #![tactic(auto)]
 
 pub mod answers;
-mod digits;
 mod edges_reply;
 mod end_texts;
 mod line_text;

@@ -12,7 +12,7 @@ use std::marker::Model;
 
 /// How many bytes there are for a line: two texts of places, a space and a line feed, and more, as a text is put down
 /// with all of its bytes.
-const LINE_MAX: usize = 200;
+const LINE_MAX: usize = 192;
 
 /// A text that ends with the last byte, as it is put down from its end to its start.
 #[derive(Debug, Drop)]
@@ -26,7 +26,7 @@ impl Model for LineText {
 
     ghost view = { λ t. drop t.start t.bytes };
 
-    ghost invariant = { λ t. t.start ≤ 200 };
+    ghost invariant = { λ t. t.start ≤ 192 };
 }
 
 impl LineText {
@@ -47,7 +47,7 @@ impl LineText {
 
     /// Puts a byte before the text.
     pub(crate) fn put_byte(&mut self, byte: u8)
-        requires { length self.old < 200 }
+        requires { length self.old < 192 }
         ensures { self.new ≡ byte ∷ self.old }
     {
         self.start -= 1;

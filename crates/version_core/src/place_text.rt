@@ -4,8 +4,8 @@ ghost use Rattle.std.specs.Fmt.{signed_decimal};
 ghost use Rattle.exact_point.specs.Place.{place};
 ghost use Rattle.version_core.specs.Edges.{point_text};
 
-use crate::digits::put_digits;
 use exact_point::{HPoint, NearPoint};
+use itoa::write_digits;
 use std::marker::Model;
 
 /// How many bytes there are for a text: its three numbers have a sign and 19 digits at most, with a space between them.
@@ -52,7 +52,7 @@ impl PlaceText {
 
 /// Puts a place down as `x y w` before a place among the bytes, and returns where it starts.
 pub(crate) fn put_place(bytes: &mut [u8], end: usize, point: &HPoint) -> usize
-    requires room { 68 ≤ end }
+    requires room { 64 ≤ end }
     requires within { end ≤ length bytes.old }
     ensures before { result ≤ end }
     ensures short { end ≤ result + 64 }
@@ -67,7 +67,7 @@ pub(crate) fn put_place(bytes: &mut [u8], end: usize, point: &HPoint) -> usize
 
 /// The same of a place of which 64 bits hold the numbers.
 pub(crate) fn put_near(bytes: &mut [u8], end: usize, point: NearPoint) -> usize
-    requires room { 68 ≤ end }
+    requires room { 64 ≤ end }
     requires within { end ≤ length bytes.old }
     ensures before { result ≤ end }
     ensures short { end ≤ result + 64 }
@@ -82,13 +82,13 @@ pub(crate) fn put_near(bytes: &mut [u8], end: usize, point: NearPoint) -> usize
 
 /// Puts a number down before a place among the bytes, and returns where it starts.
 pub(crate) fn put_number(bytes: &mut [u8], end: usize, n: i64) -> usize
-    requires room { 26 ≤ end }
+    requires room { 20 ≤ end }
     requires within { end ≤ length bytes.old }
     ensures before { result ≤ end }
     ensures short { end ≤ result + 20 }
     ensures written { drop result bytes.new ≡ signed_decimal n ++ drop end bytes.old }
 {
-    let start = put_digits(n.unsigned_abs(), bytes, end);
+    let start = write_digits(n.unsigned_abs(), bytes, end);
     if n >= 0 {
         return start;
     }
@@ -99,16 +99,16 @@ pub(crate) fn put_number(bytes: &mut [u8], end: usize, n: i64) -> usize
 /// The same of one of 128 bits that is as small, or 2^63.
 fn put_wide(bytes: &mut [u8], end: usize, n: i128) -> usize
     requires small { unsigned_abs n ≤ 2 ^ 63 }
-    requires room { 26 ≤ end }
+    requires room { 20 ≤ end }
     requires within { end ≤ length bytes.old }
     ensures before { result ≤ end }
     ensures short { end ≤ result + 20 }
     ensures written { drop result bytes.new ≡ signed_decimal n ++ drop end bytes.old }
 {
-    let first = put_digits(n.unsigned_abs() as u64, bytes, end);
+    let start = write_digits(n.unsigned_abs() as u64, bytes, end);
     if n >= 0 {
-        return first;
+        return start;
     }
-    bytes[first - 1] = b'-';
-    first - 1
+    bytes[start - 1] = b'-';
+    start - 1
 }

@@ -2,7 +2,7 @@ use Rattle.std.proofs.Common.{[], subst, sym}
 use Rattle.std.proofs.KnownBytes.{Appends-nil}
 use Rattle.book_history.specs.Known.{seen}
 use Rattle.version_book.specs.Store.{has_store}
-use Rattle.server_session.specs.Stores.{HistoryReports}
+use Rattle.server_session.specs.Stores.{MayBeReportedAt}
 use Rattle.server_session.proofs.Left.{next_reply, none_ended, ok_then, reply_ended, some_then}
 use Rattle.server_session.proofs.Weaker.{reply_since}
 use Rattle.server_session.proofs.session_state.answer_line.Goals as goal
@@ -23,7 +23,7 @@ reply-requires g c =
         c.args.me.now,
         c.requires.from,
         was.takes.stays,
-        reply_since (HistoryReports stored failed) may there (seen c.args.me.now) c.requires.reported c.args.me.now c.answer.new.me _ was.takes.stays.goes_on was.right,
+        reply_since (MayBeReportedAt stored failed) may there (seen c.args.me.now) c.requires.reported c.args.me.now c.answer.new.me _ was.takes.stays.goes_on was.right,
       );
     }
 

@@ -29,8 +29,8 @@ returns-clause-exactly g c =
     let ended = c.end_book-book.ensures in
     exactly_left g.D.Disk (history_of was) (history_of left.seen_log.log) (begins_with was left.seen_log.log ended.begun ended.reporter.longer) c.args.flusher c.left_of-stored.result.stored c.left_of-stored.result.disk c.left_of-stored.ensures.some
 
-pub returns-clause-reports : goal.returns-clause-reports
-returns-clause-reports g c =
+pub returns-clause-notes_stay : goal.returns-clause-notes_stay
+returns-clause-notes_stay g c =
     let was = c.args.reporter.log in
     let left = c.end_book-book.result in
     let now = left.seen_log.log in

@@ -3,7 +3,7 @@ use Rattle.book_history.specs.Logs.{history_of, newest_in}
 use Rattle.book_lock.specs.Heard.{Heard}
 use Rattle.store_flushing.specs.Storing.{Flushes}
 use Rattle.store_flushing.specs.declared.keeper.Keeper.{Keeper}
-use Rattle.store_flushing.specs.ReportNote.{KeepsReporting}
+use Rattle.store_flushing.specs.ReportNote.{KeepsNotes}
 use Rattle.overlay_terms.specs.Histories.{Version}
 use Rattle.store_flushing.specs.Failing.{FailsToWrite}
 use Rattle.store_flushing.specs.ReportedFaults.{reported_fault_of}
@@ -36,13 +36,13 @@ returns-in-Err-clause-flushes g c is =
     let refused = kept_on d h m old.held.flusher mid.held.flusher (e.keeps is) (ap (λ (r : Heard). (newest_in r.log).durable) e.reporter) e.stored in
     subst (λ (k : Keeper g.row.D.Denot g.D.Disk). Flushes d h old.held.flusher (history_of k.reporter.log) k.held.flusher) (sym c.report_fault.ensures.nothing) refused
 
-pub returns-in-Ok-clause-reports : goal.returns-in-Ok-clause-reports
-returns-in-Ok-clause-reports g c =
-    reporting_then g.D.Disk c.args.keeper.now c.begin.new.self c.end_commit.new.keeper c.begin.ensures.reports (λ is. (c.begin.ensures.keeps is).store) c.end_commit.ensures.reports
+pub returns-in-Ok-clause-notes_stay : goal.returns-in-Ok-clause-notes_stay
+returns-in-Ok-clause-notes_stay g c =
+    reporting_then g.D.Disk c.args.keeper.now c.begin.new.self c.end_commit.new.keeper c.begin.ensures.notes_stay (λ is. (c.begin.ensures.keeps is).store) c.end_commit.ensures.notes_stay
 
-pub returns-in-Err-clause-reports : goal.returns-in-Err-clause-reports
-returns-in-Err-clause-reports g c =
-    subst (λ (k : Keeper g.row.D.Denot g.D.Disk). KeepsReporting g.D.Disk c.args.keeper.now k) (sym c.report_fault.ensures.nothing) c.begin.ensures.reports
+pub returns-in-Err-clause-notes_stay : goal.returns-in-Err-clause-notes_stay
+returns-in-Err-clause-notes_stay g c =
+    subst (λ (k : Keeper g.row.D.Denot g.D.Disk). KeepsNotes g.D.Disk c.args.keeper.now k) (sym c.report_fault.ensures.nothing) c.begin.ensures.notes_stay
 
 pub end_commit-requires-clause-stored : goal.end_commit-requires-clause-stored
 end_commit-requires-clause-stored g c =

@@ -5,7 +5,7 @@ use Rattle.book_history.specs.Logs.{history_of, newest_in}
 use Rattle.book_lock.specs.Heard.{Heard}
 use Rattle.flush_core.specs.Stored.{stored_after}
 use Rattle.store_flushing.specs.Storing.{Flushes}
-use Rattle.store_flushing.specs.ReportNote.{KeepsReporting}
+use Rattle.store_flushing.specs.ReportNote.{KeepsNotes}
 use Rattle.store_flushing.specs.declared.keeper.Keeper.{Keeper}
 use Rattle.store_flushing.specs.ReportedFaults.{reported_fault_of}
 use Rattle.store_flushing.proofs.FailLemmas.{failed_then, on_err, step_fails}
@@ -38,7 +38,7 @@ calls-preserved g c = (
       let stored = e.stored ∙ ap (λ r. stored_after r mid.held.flusher.commit.root.version) (c.in-Ok-Going.is ∙ ap Ok c.in-Ok-Going.field-0-is) in
       then d (history_of first.reporter.log) m n first.held.flusher mid.held.flusher new.held.flusher was
       (kept_on d m n mid.held.flusher new.held.flusher (e.keeps was.store) same stored),
-  reporting_then g.D.Disk c.args.keeper.now c.calls.keeper c.step.new.self c.calls.invariant.2 (λ is. (c.calls.invariant.1 is).store) c.step.ensures.reports,
+  reporting_then g.D.Disk c.args.keeper.now c.calls.keeper c.step.new.self c.calls.invariant.2 (λ is. (c.calls.invariant.1 is).store) c.step.ensures.notes_stay,
 )
 
 pub returns-in-Ok-Idle-clause-flushes : goal.returns-in-Ok-Idle-clause-flushes
@@ -87,22 +87,22 @@ returns-in-Err-clause-flushes g c is =
     (then d (history_of first.reporter.log) m n first.held.flusher mid.held.flusher new.held.flusher was
     (kept_on d m n mid.held.flusher new.held.flusher (e.keeps was.store) same stored))
 
-pub returns-in-Ok-Idle-clause-reports : goal.returns-in-Ok-Idle-clause-reports
-returns-in-Ok-Idle-clause-reports g c =
-    reporting_then g.D.Disk c.args.keeper.now c.calls.keeper c.step.new.self c.calls.invariant.2 (λ is. (c.calls.invariant.1 is).store) c.step.ensures.reports
+pub returns-in-Ok-Idle-clause-notes_stay : goal.returns-in-Ok-Idle-clause-notes_stay
+returns-in-Ok-Idle-clause-notes_stay g c =
+    reporting_then g.D.Disk c.args.keeper.now c.calls.keeper c.step.new.self c.calls.invariant.2 (λ is. (c.calls.invariant.1 is).store) c.step.ensures.notes_stay
 
-pub returns-in-Ok-Done-clause-reports : goal.returns-in-Ok-Done-clause-reports
-returns-in-Ok-Done-clause-reports g c =
+pub returns-in-Ok-Done-clause-notes_stay : goal.returns-in-Ok-Done-clause-notes_stay
+returns-in-Ok-Done-clause-notes_stay g c =
     let first = c.args.keeper.now in
     let mid = c.calls.keeper in
     let done = c.step.new.self in
     reporting_then g.D.Disk first mid c.report.new.self c.calls.invariant.2 (λ is. (c.calls.invariant.1 is).store)
-    (reporting_then g.D.Disk mid done c.report.new.self c.step.ensures.reports (λ is. (c.step.ensures.keeps is).store) c.report.ensures.reports)
+    (reporting_then g.D.Disk mid done c.report.new.self c.step.ensures.notes_stay (λ is. (c.step.ensures.keeps is).store) c.report.ensures.notes_stay)
 
-pub returns-in-Err-clause-reports : goal.returns-in-Err-clause-reports
-returns-in-Err-clause-reports g c =
-    subst (λ (k : Keeper g.row.D.Denot g.D.Disk). KeepsReporting g.D.Disk c.args.keeper.now k) (sym c.report_fault.ensures.nothing)
-    (reporting_then g.D.Disk c.args.keeper.now c.calls.keeper c.step.new.self c.calls.invariant.2 (λ is. (c.calls.invariant.1 is).store) c.step.ensures.reports)
+pub returns-in-Err-clause-notes_stay : goal.returns-in-Err-clause-notes_stay
+returns-in-Err-clause-notes_stay g c =
+    subst (λ (k : Keeper g.row.D.Denot g.D.Disk). KeepsNotes g.D.Disk c.args.keeper.now k) (sym c.report_fault.ensures.nothing)
+    (reporting_then g.D.Disk c.args.keeper.now c.calls.keeper c.step.new.self c.calls.invariant.2 (λ is. (c.calls.invariant.1 is).store) c.step.ensures.notes_stay)
 
 pub report-requires-clause-stored : goal.report-requires-clause-stored
 report-requires-clause-stored g c =

@@ -24,7 +24,7 @@ rounds-preserved g c = (
       let new = c.round.new.keeper in
       then g.D.Disk (history_of first.reporter.log) (history_of mid.reporter.log) (history_of new.reporter.log) first.held.flusher mid.held.flusher new.held.flusher was
       (c.round.ensures.flushes was.store),
-  reporting_then g.D.Disk c.args.keeper.now c.rounds.keeper c.round.new.keeper c.rounds.invariant.2 (λ is. (c.rounds.invariant.1 is).store) c.round.ensures.reports,
+  reporting_then g.D.Disk c.args.keeper.now c.rounds.keeper c.round.new.keeper c.rounds.invariant.2 (λ is. (c.rounds.invariant.1 is).store) c.round.ensures.notes_stay,
 )
 
 pub returns-then-not-round-clause-flushes : goal.returns-then-not-round-clause-flushes
@@ -36,9 +36,9 @@ returns-then-not-round-clause-flushes g c is =
     then g.D.Disk (history_of first.reporter.log) (history_of mid.reporter.log) (history_of new.reporter.log) first.held.flusher mid.held.flusher new.held.flusher was
     (c.round.ensures.flushes was.store)
 
-pub returns-then-not-round-clause-reports : goal.returns-then-not-round-clause-reports
-returns-then-not-round-clause-reports g c =
-    reporting_then g.D.Disk c.args.keeper.now c.rounds.keeper c.round.new.keeper c.rounds.invariant.2 (λ is. (c.rounds.invariant.1 is).store) c.round.ensures.reports
+pub returns-then-not-round-clause-notes_stay : goal.returns-then-not-round-clause-notes_stay
+returns-then-not-round-clause-notes_stay g c =
+    reporting_then g.D.Disk c.args.keeper.now c.rounds.keeper c.round.new.keeper c.rounds.invariant.2 (λ is. (c.rounds.invariant.1 is).store) c.round.ensures.notes_stay
 
 pub round-requires-clause-stored : goal.round-requires-clause-stored
 round-requires-clause-stored g c =

@@ -1,7 +1,7 @@
 use Rattle.std.proofs.Common.{◌≡◌}
 use Rattle.book_history.specs.Logs.{history_of}
 use Rattle.store_flushing.specs.Storing.{IsStoreOf, Flushes}
-use Rattle.store_flushing.specs.ReportNote.{KeepsReporting}
+use Rattle.store_flushing.specs.ReportNote.{KeepsNotes}
 use Rattle.store_flushing.proofs.flusher_loop.flush.Given as goal
 
 -- a run so far
@@ -10,4 +10,4 @@ invariant-rounds g l =
     (l.keeper.reporter.book ≡ l.initial.keeper.reporter.book)
     × (IsStoreOf g.D.Disk (history_of l.initial.keeper.reporter.log) l.initial.keeper.held.flusher
     → Flushes g.D.Disk (history_of l.initial.keeper.reporter.log) l.initial.keeper.held.flusher (history_of l.keeper.reporter.log) l.keeper.held.flusher)
-    × KeepsReporting g.D.Disk l.initial.keeper l.keeper
+    × KeepsNotes g.D.Disk l.initial.keeper l.keeper

@@ -33,9 +33,9 @@ returns-in-Err-clause-flushes g c is =
     let e = c.look.ensures in
     kept_on g.D.Disk (history_of old.reporter.log) (history_of mid.reporter.log) old.held.flusher mid.held.flusher (e.keeps is) e.durable (ap (λ (s : HeldStore g.row.D.Denot g.D.Disk). s.flusher.commit.root.version) e.held)
 
-pub returns-in-Ok-Some-clause-reports : goal.returns-in-Ok-Some-clause-reports
-returns-in-Ok-Some-clause-reports g c =
-    reporting_then g.D.Disk c.args.keeper.now c.look.new.self c.commit.new.keeper c.look.ensures.reports (λ is. (c.look.ensures.keeps is).store) c.commit.ensures.reports
+pub returns-in-Ok-Some-clause-notes_stay : goal.returns-in-Ok-Some-clause-notes_stay
+returns-in-Ok-Some-clause-notes_stay g c =
+    reporting_then g.D.Disk c.args.keeper.now c.look.new.self c.commit.new.keeper c.look.ensures.notes_stay (λ is. (c.look.ensures.keeps is).store) c.commit.ensures.notes_stay
 
 pub commit-requires-clause-stored : goal.commit-requires-clause-stored
 commit-requires-clause-stored g c =

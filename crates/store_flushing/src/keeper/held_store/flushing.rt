@@ -4,7 +4,7 @@ ghost use Rattle.root_store.specs.Running.{is_busy};
 ghost use Rattle.book_history.specs.Logs.{history_of};
 ghost use Rattle.store_flushing.specs.Failing.{HoldsOfFailed};
 ghost use Rattle.store_flushing.specs.Storing.{HoldsOfStored, IsStoreOf, Flushes};
-ghost use Rattle.store_flushing.specs.ReportNote.{ReportsOn, notes_in};
+ghost use Rattle.store_flushing.specs.ReportNote.{NotesGoOn, notes_in};
 
 use crate::flusher_loop::flush;
 use crate::keeper::Keeper;
@@ -39,7 +39,7 @@ pub fn flusher_loop<J: BookName, R: Wait + Drop, D: Disk, W: Wait>(
     ensures same { result.0.book ≡ reporter.book }
     // What it reports durable is written down at once, and from that moment on a crash leaves no older version.
     ensures reported { IsStoreOf D.Disk (history_of reporter.log) flusher
-        → ReportsOn D.Disk (history_of reporter.log) (notes_in notes) flusher.commit.disk
+        → NotesGoOn D.Disk (history_of reporter.log) (notes_in notes) flusher.commit.disk
         (history_of result.0.log) (notes_in result.2) result.1.commit.disk }
 {
     let held = HeldStore::of(&reporter, flusher);

@@ -15,10 +15,10 @@ small (negsuc n) h = omega (arith, h.sfits)
 digits : (n : ℤ) (size : ℕ) → unsigned_abs n ≤ 2 ^ 63 → size ≡ unsigned_abs n → length (decimal size) ≤ 19
 digits n size h e = length-decimal-le 19 size (omega arith) (omega arith) (omega arith)
 
-pub put_digits-start-requires-clause-room : goal.put_digits-start-requires-clause-room
-put_digits-start-requires-clause-room c =
+pub write_digits-start-requires : goal.write_digits-start-requires
+write_digits-start-requires c =
     let size : c.unsigned_abs.result ≡ unsigned_abs c.args.n = search (rules, to_z-of_z, c.unsigned_abs.ensures.value) in
-    omega (arith, digits c.args.n c.unsigned_abs.result (small c.args.n c.ranges.n) size)
+    (omega (arith, digits c.args.n c.unsigned_abs.result (small c.args.n c.ranges.n) size), search rules)
 
 pub returns-then-n-ge0-clause-short : goal.returns-then-n-ge0-clause-short
 returns-then-n-ge0-clause-short c =
@@ -42,10 +42,10 @@ returns-clause-short c =
 
 pub returns-clause-written : goal.returns-clause-written
 returns-clause-written c =
-    let w = c.put_digits-start in
+    let w = c.write_digits-start in
     let size : c.unsigned_abs.result ≡ unsigned_abs c.args.n = search (rules, to_z-of_z, c.unsigned_abs.ensures.value) in
     let long = digits c.args.n c.unsigned_abs.result (small c.args.n c.ranges.n) size in
     let e : w.result - 1 + 1 ≡ w.result = omega arith in
     let back = to_z-of_z c.ranges.n in
-    rw (drop-set w.new.bytes (w.result - 1) 45 (omega arith), e, w.ensures.written, c.unsigned_abs.ensures.value, back)
+    rw (drop-set w.new.buf (w.result - 1) 45 (omega arith), e, w.ensures.written, c.unsigned_abs.ensures.value, back)
     (ap (λ t. t ++ drop c.args.end c.args.bytes.now) (minus_first c.args.n (rw back at c.if-n-ge0.false)))

@@ -9,8 +9,8 @@ use Rattle.store_flushing.proofs.keeper.Keeper.begin.Goals as goal
 pub begin-requires-clause-book : goal.begin-requires-clause-book
 begin-requires-clause-book g c = of_book c.args.self.now
 
-pub returns-clause-reports : goal.returns-clause-reports
-returns-clause-reports g c is =
+pub returns-clause-notes_stay : goal.returns-clause-notes_stay
+returns-clause-notes_stay g c is =
     let k = c.args.self.now in
     let h = history_of k.reporter.log in
     none_reported g.D.Disk h h k.held.flusher c.begin.new.self.flusher (notes_in k.notes) (c.begin.ensures.keeps is) refl

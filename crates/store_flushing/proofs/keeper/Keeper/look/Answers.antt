@@ -21,8 +21,8 @@ returns-clause-keeps g c is =
     kept d h m s s (longer d h m s (λ k left. g.met.D.Disk.only_now s.commit.disk k is.honest left) e.goes_on e.durable is)
     (returns-clause-history g c) (omega (arith, e.durable, is.reported))
 
-pub returns-clause-reports : goal.returns-clause-reports
-returns-clause-reports g c is =
+pub returns-clause-notes_stay : goal.returns-clause-notes_stay
+returns-clause-notes_stay g c is =
     let s = c.args.self.now.held.flusher in
     let log = c.next_version-looked.new.me.log in
     none_reported g.D.Disk (history_of c.args.self.now.reporter.log) (history_of log) s s (notes_in c.args.self.now.notes) (returns-clause-keeps g c is)

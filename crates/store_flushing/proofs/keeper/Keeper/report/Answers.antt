@@ -35,8 +35,8 @@ returns-clause-reported g c is =
     let reached = subst (λ (k : ℕ). k ≤ (newest_in c.args.self.now.reporter.log).number → k ≤ (newest_in c.report.new.me.log).durable) c.stored.ensures e.reached in
     all_reported d h n s (λ k left. g.met.D.Disk.only_now s.commit.disk k is.honest left) e.goes_on reported is reached (stored_level d g.met.D.Disk.seen_may_stay h s e.history is)
 
-pub returns-clause-reports : goal.returns-clause-reports
-returns-clause-reports g c is =
+pub returns-clause-notes_stay : goal.returns-clause-notes_stay
+returns-clause-notes_stay g c is =
     let s = c.args.self.now.held.flusher in
     let log = c.report.new.me.log in
     news_reported g.D.Disk (history_of c.args.self.now.reporter.log) (history_of log) s (notes_in c.args.self.now.notes) (notes_in c.write.new.self)

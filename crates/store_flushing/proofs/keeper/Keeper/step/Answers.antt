@@ -11,8 +11,8 @@ returns-clause-keeps g c is =
     let log = c.args.self.now.reporter.log in
     c.step.ensures.keeps (history_of log) (is_history log c.given.ensures.valid) is
 
-pub returns-clause-reports : goal.returns-clause-reports
-returns-clause-reports g c is =
+pub returns-clause-notes_stay : goal.returns-clause-notes_stay
+returns-clause-notes_stay g c is =
     let k = c.args.self.now in
     let h = history_of k.reporter.log in
     none_reported g.D.Disk h h k.held.flusher c.step.new.self.flusher (notes_in k.notes) (returns-clause-keeps g c is) refl
