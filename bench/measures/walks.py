@@ -2,6 +2,7 @@
 
     python3 -m bench.measures.walks                  builds overlayd's module by unproved.py, and counts each walk
     python3 -m bench.measures.walks --tree OLDER     the same of another tree, as a worktree of an older commit
+    python3 -m bench.measures.walks --list           names the functions of each walk too, in the order of the walk
     python3 -m bench.measures.walks --test           counts in a small module whose walk is in the script
 
 A walk goes from a function to each that it calls, in the order of the calls, and counts each function of crates.txt
@@ -19,6 +20,7 @@ import re
 import sys
 import tempfile
 from collections.abc import Iterable
+from typing import NamedTuple
 
 from bench import unproved
 from bench.counting import Words, checked
@@ -80,6 +82,20 @@ def read(lines: Iterable[str]) -> dict[str, Function]:
     return found
 
 
+class Walk(NamedTuple):
+    """The functions of a walk in order, how many crates they are of, the longest chain of calls, and the re-entries."""
+
+    functions: list[str]
+    crates: int
+    depth: int
+    again: int
+
+    def told(self, listed: bool) -> str:
+        """Its numbers as text, and its functions in lines of their own if they are to be listed."""
+        numbers = f"{len(self.functions)} functions, {self.crates} crates, depth {self.depth}, {self.again} re-entries"
+        return "\n  ".join([numbers, *(self.functions if listed else [])])
+
+
 class House:
     """The functions of some crates in a module, and those of them that only hand out a part."""
 
@@ -112,10 +128,11 @@ class House:
         names = set(map(own_name, self.functions))
         return [root for root in roots if root not in names]
 
-    def walk(self, root: str) -> tuple[int, int, int, int]:
-        """Functions, crates, the longest chain and re-entries of the walk from a function."""
+    def walk(self, root: str) -> Walk:
+        """The walk from a function."""
         counted: dict[str, set[str]] = collections.defaultdict(set)
         been: set[str] = set()
+        order: list[str] = []
         last, deepest, again = "", 0, 0
 
         def go(name: str, caller: str, depth: int) -> None:
@@ -127,6 +144,7 @@ class House:
             if own not in counted[home]:
                 again += home not in (last, caller) and len(counted[home]) > 0
                 counted[home].add(own)
+                order.append(own)
                 last, deepest = home, max(deepest, depth)
             for one in self.called(name, set()):
                 go(one, home, depth + (own_name(one) != own))
@@ -134,7 +152,7 @@ class House:
         for name in self.functions:
             if own_name(name) == root:
                 go(name, "", 1)
-        return sum(map(len, counted.values())), len(counted), deepest, again
+        return Walk(order, len(counted), deepest, again)
 
 
 SMALL = """
@@ -170,9 +188,13 @@ define internal void @"low::two::count"(ptr %a0) #0 {
 def test() -> int:
     """Walks in a small module: a getter is left out, a closure is its function's, and one crate is entered again."""
     house = House(read(SMALL.splitlines()), ["low", "middle", "high"])
+    own = ["high::one::ask", "low::two::sum", "middle::three::weigh", "low::two::count"]
+    listed = "1 functions, 1 crates, depth 1, 0 re-entries\n  low::two::sum"
     names = ("a::b::fn::c::any+FnMut::call_mut", "a::b::fn::c::any", "a::b::c::<#1>")
     return checked([
-        ("a walk", house.walk("high::one::ask"), (4, 3, 2, 1)), ("a function alone", house.walk("low::two::sum"), (1, 1, 1, 0)),
+        ("a walk", house.walk("high::one::ask"), (own, 3, 2, 1)),
+        ("a function alone", house.walk("low::two::sum").told(True), listed),
+        ("not listed", house.walk("low::two::sum").told(False), listed.splitlines()[0]),
         ("lacking", house.lacking(["low::two::sum", "low::two::some"]), ["low::two::some"]),
         ("names", [own_name(name) for name in names], ["a::b::c"] * 3),
     ])
@@ -182,6 +204,7 @@ def main() -> int:
     """Counts each walk."""
     parser = Words(__doc__, test)
     parser.add_argument("--tree", type=pathlib.Path, default=unproved.TOP, help="another tree of this repository")
+    parser.add_argument("--list", action="store_true", help="name the functions of each walk too")
     words = parser.words()
     sys.setrecursionlimit(100_000)
     unproved.TOP = words.tree.resolve()
@@ -192,7 +215,7 @@ def main() -> int:
     if lacking:
         sys.exit(f"walks: the tree has no {', '.join(lacking)}: let WALKS name what it has instead")
     for walk, root in WALKS.items():
-        print(f"{walk}: {'{} functions, {} crates, depth {}, {} re-entries'.format(*house.walk(root))}")
+        print(f"{walk}: {house.walk(root).told(words.list)}")
     return 0
 
 
