@@ -10,7 +10,8 @@ compile (Debian's libcgal-dev libgmp-dev libmpfr-dev, libpolyclipping-dev, libbo
   Boost's sym_difference in floating point; WAIT alone, EDGES alone.
 - A line of LOCATE over one layer, beside GEOS (floating point, no text).
 
-Processor seconds, the least of several runs; ours is the difference of two scripts.
+Processor seconds, the least of several runs; ours is the difference of two scripts. Replies are thrown away, as the
+peers' edges are: what a pipe takes depends on its reader.
 """
 
 from __future__ import annotations
@@ -23,6 +24,7 @@ import tempfile
 from bench import tile_texts
 from bench.counting import Words
 from bench.measures import serving, tiles
+from bench.processor_time import processor
 from bench.tile_texts import Layer
 from tools.limits import COLUMNS, COORDINATE_MAX
 
@@ -33,7 +35,7 @@ TITLES = {"cgal": "CGAL", "clipper": "Clipper", "boost": "Boost"}
 SIMPLE = {"star", "sliver", "comb"}
 # So many layers are waited for, and so often are the edges of one asked for: the difference is then well above what two
 # runs of one script differ by.
-LAYERS, WRITTEN, POINTS, ROUNDS = 20, 20, 100000, 5
+LAYERS, WRITTEN, POINTS, ROUNDS = 20, 20, 100000, 8
 
 
 def peers(folder: pathlib.Path) -> dict[str, pathlib.Path]:
@@ -73,19 +75,32 @@ def script(layers: list[Layer], waited: int, written: int) -> list[str]:
     return lines
 
 
-def least(
-    programs: list[pathlib.Path], folder: pathlib.Path, scripts: list[list[str]],
-) -> tuple[dict[tuple[int, int], float], str]:
-    """For each program the least processor seconds of each script, in turns, and what the last script wrote."""
+def processor_seconds(program: pathlib.Path, path: pathlib.Path) -> float:
+    """The processor seconds of a script by one worker."""
+    words = [program, "--workers", "1", path]
+    before = processor()
+    subprocess.run(words, stdin=subprocess.DEVNULL, stdout=subprocess.DEVNULL, check=True)
+    return processor() - before
+
+
+def least(programs: list[pathlib.Path], folder: pathlib.Path, scripts: list[list[str]]) -> dict[tuple[int, int], float]:
+    """For each program the least processor seconds of each script, in turns."""
+    paths = [folder / f"script{number}" for number in range(len(scripts))]
+    for path, lines in zip(paths, scripts):
+        path.write_text("\n".join(lines) + "\n")
     best: dict[tuple[int, int], float] = {}
-    wrote = ""
     for _ in range(ROUNDS):
         for at, program in enumerate(programs):
-            runs = serving.Runs(program, folder)
-            for which, lines in enumerate(scripts):
-                _, used, wrote = runs.once([lines], 1, False)
+            for which, path in enumerate(paths):
+                used = processor_seconds(program, path)
                 best[at, which] = min(used, best.get((at, which), used))
-    return best, wrote
+    return best
+
+
+def pieces_of(program: pathlib.Path, path: pathlib.Path) -> int:
+    """How many pieces the edges have that a script asks for."""
+    done = subprocess.run([program, path], stdin=subprocess.DEVNULL, stdout=subprocess.PIPE, check=True, text=True)
+    return sum(int(line.split()[1]) for line in done.stdout.splitlines() if line.startswith("edges"))
 
 
 def overlays(
@@ -97,12 +112,12 @@ def overlays(
             layers = over_all_columns(tiles.even(family(edges)))
             path = folder / "map"
             path.write_text("\n".join(map(tile_texts.text_of, layers)) + "\n")
-            scripts = [script(layers, n, m) for n, m in ((0, 0), (1, 0), (LAYERS, 0), (LAYERS, WRITTEN))]
-            best, wrote = least(programs, folder, scripts)
+            scripts = [script(layers, n, m) for n, m in ((1, 0), (LAYERS, 0), (LAYERS, WRITTEN))]
+            best = least(programs, folder, scripts)
             rows = []
             for at in range(len(programs)):
-                wait = (best[at, 2] - best[at, 1]) / (LAYERS - 1)
-                text = (best[at, 3] - best[at, 2]) / WRITTEN
+                wait = (best[at, 1] - best[at, 0]) / (LAYERS - 1)
+                text = (best[at, 2] - best[at, 1]) / WRITTEN
                 rows.append((wait, text))
             beside = {peer: told(built[peer], path)[1] for peer in TITLES if peer in built and (peer != "boost" or name in SIMPLE)}
             cells = [
@@ -111,8 +126,8 @@ def overlays(
             ]
             theirs = [f"{TITLES[peer]} {1000 * took:.2f} ms ({', '.join(f'{(wait + text) / took:.2f}' for wait, text in rows)} of it)"
                       for peer, took in beside.items()]
-            pieces = sum(int(line.split()[1]) for line in wrote.splitlines() if line.startswith("edges")) // WRITTEN
-            print(f"{name} {edges}, {pieces} pieces: {'; '.join(cells)}; {', '.join(theirs)}", flush=True)
+            pieces = pieces_of(programs[0], folder / "script2")
+            print(f"{name} {edges}, {pieces // WRITTEN} pieces: {'; '.join(cells)}; {', '.join(theirs)}", flush=True)
 
 
 def locates(programs: list[pathlib.Path], built: dict[str, pathlib.Path], folder: pathlib.Path) -> None:
@@ -123,7 +138,7 @@ def locates(programs: list[pathlib.Path], built: dict[str, pathlib.Path], folder
         path.write_text(ring + "\n")
         points = [(serving.spread(7919 * n), serving.spread(104729 * n)) for n in range(POINTS)]
         lines = [f"PUT A {ring}"] + [f"LOCATE A {x} {y}" for x, y in points]
-        best, _ = least(programs, folder, [lines[:1], lines])
+        best = least(programs, folder, [lines[:1], lines])
         cells = "; ".join(f"{1e6 * (best[at, 1] - best[at, 0]) / POINTS:.2f} us" for at in range(len(programs)))
         geos = f"GEOS {1e6 * told(built['geos'], path, 1000000, POINTS)[1]:.2f} us" if "geos" in built else "no GEOS"
         print(f"a line of LOCATE over {steps} segments: {cells}; {geos}", flush=True)
