@@ -16,6 +16,7 @@ pub mod CrossingLemmas
 pub mod BorderLemmas
 pub mod ReducedLemmas
 pub mod CutLemmas
+pub mod FactorTwo
 pub mod Comparing
 pub mod LowestTerms
 pub mod MiddleLemmas

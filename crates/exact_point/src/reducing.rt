@@ -13,9 +13,6 @@ use crate::near_point::NearPoint;
 use crate::point::HPoint;
 use plane_base::Seg;
 
-/// The greatest number of 32 bits.
-const NARROW_MAX: u64 = 0xFFFF_FFFF;
-
 /// The same place in lowest terms: no number but 1 divides x, y and w.
 pub fn reduced(p: &HPoint) -> HPoint
     ensures same { IsTrue (same_place (place result) (place p.now)) }
@@ -60,7 +57,7 @@ fn common_divisor(w: i64, y: i64) -> u32
 {
     let size = w.unsigned_abs();
     let rest = y.unsigned_abs() % size;
-    narrow_gcd(size as u32, rest as u32)
+    gcd(size, rest) as u32
 }
 
 /// A place has one form in lowest terms.
@@ -88,35 +85,28 @@ fn rest_of(a: i128, divisor: u64) -> u64
     a.unsigned_abs() as u64 % divisor
 }
 
-/// The greatest common divisor, by one division after another.
+/// The greatest common divisor. The factors 2 that both have are put back at the end.
 fn gcd(a: u64, b: u64) -> u64
+    requires positive { 0 < a }
     ensures { IsGcd a b result }
 {
-    let mut x = a;
-    let mut y = b;
-    while y > NARROW_MAX {
-        let rest = x % y;
-        x = y;
-        y = rest;
-    }
-    if y == 0 {
-        return x;
-    }
-    u64::from(narrow_gcd(y as u32, (x % y) as u32))
+    let twos = a.trailing_zeros();
+    odd_gcd(a >> twos, b) << twos.min(b.trailing_zeros())
 }
 
-/// The same in 32 bits, where a division is shorter: each number is divided by the other in turn.
-fn narrow_gcd(a: u32, b: u32) -> u32
+/// That of an odd number and another, by Stein's algorithm: shifts and differences where Euclid's divides. Beside an odd
+/// number the factors 2 of the other do not count. (Stein, 1967; Knuth, The Art of Computer Programming, volume 2,
+/// 4.5.2, algorithm B.)
+fn odd_gcd(a: u64, b: u64) -> u64
+    requires odd { a % 2 ≡ 1 }
     ensures { IsGcd a b result }
 {
     let mut x = a;
     let mut y = b;
     while y != 0 {
-        x %= y;
-        if x == 0 {
-            return y;
-        }
-        y %= x;
+        let odd = y >> y.trailing_zeros();
+        y = x.abs_diff(odd);
+        x = x.min(odd);
     }
     x
 }

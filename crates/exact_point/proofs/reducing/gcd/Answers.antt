@@ -1,14 +1,8 @@
-use Rattle.std.proofs.Common.{◌%◌, arith, subst, sym}
-use Rattle.std.specs.Int.{IsGcd}
-use Rattle.std.proofs.lemmas.Nat.Gcd.{IsGcd-from_mod, IsGcd-from_zero}
+use Rattle.exact_point.proofs.FactorTwo.{IsGcd-put_back_whole, odd_rest}
 use Rattle.exact_point.proofs.reducing.gcd.Goals as goal
 
-pub loop-y-preserved : goal.loop-y-preserved
-loop-y-preserved c = λ g h. c.loop-y.invariant g (IsGcd-from_mod _ _ g h)
-
-pub returns-then-y-eq0 : goal.returns-then-y-eq0
-returns-then-y-eq0 c = c.loop-y.invariant _ (IsGcd-from_zero _ _ (omega (arith, c.if-y-eq0.true)))
+pub odd_gcd-requires : goal.odd_gcd-requires
+odd_gcd-requires c = record { odd = odd_rest c.args.a c.requires.positive c.ranges.a.fits }
 
 pub returns : goal.returns
-returns c =
-    c.loop-y.invariant _ (IsGcd-from_mod _ _ _ (subst (λ m. IsGcd c.loop-y.y (c.loop-y.x % c.loop-y.y) m) (sym c.from.ensures) c.narrow_gcd.ensures))
+returns c = IsGcd-put_back_whole c.args.a c.args.b c.odd_gcd.result c.min.result c.requires.positive c.ranges.a.fits c.ranges.b.fits c.min.ensures c.odd_gcd.ensures
