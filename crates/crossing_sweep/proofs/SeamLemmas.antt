@@ -1,22 +1,20 @@
 -- Tests at the seams of a status, one after another.
-use Rattle.std.proofs.Common.{◌≡◌, ℕ, pos, ◌+◌, ◌<◌, ◌≤◌, ◌<ℤ◌, inl, inr, ◌⊎◌, true, false, List, [], ◌∷◌, ◌++◌, length, get_or, refl, ap, sym, subst, ◌∙◌, arith, append_assoc}
+use Rattle.std.proofs.Common.{◌≡◌, ℕ, ◌+◌, ◌<◌, ◌≤◌, inl, inr, ◌⊎◌, true, false, List, [], ◌∷◌, ◌++◌, length, get_or, refl, ap, sym, subst, ◌∙◌, arith, append_assoc}
 use Rattle.std.specs.Prelude.{IsTrue, Contains}
 use Rattle.std.proofs.lemmas.Bool.{both_ways}
 use Rattle.std.proofs.lemmas.List.{append-nil}
 use Rattle.std.proofs.lemmas.List.Elements.{All-nil, All-cons, All-append, Contains-push, Contains-append_left}
 use Rattle.std.proofs.Math.ListN.{length-append}
-use Rattle.std.specs.declared.cmp.Ordering.TheVariants.{Less}
-use Rattle.overlay_terms.specs.Plane.{Point, Segment, whole, point_cmp, same_place}
+use Rattle.overlay_terms.specs.Plane.{Point, Segment, same_place}
 use Rattle.overlay_terms.proofs.Lists.{any_from, any_contains, contains_map, Contains-cons_cases, contains_first, none_in_empty, from_map}
-use Rattle.exact_point.specs.Crossing.{IsCrossingOf}
 use Rattle.exact_point.specs.Place.{place}
 use Rattle.exact_point.specs.declared.point.HPoint.{HPoint}
 use Rattle.exact_point.specs.declared.point_name.PointName.{PointName}
 use Rattle.tile_laws.proofs.Ranks.{Told, yes, no, told}
-use Rattle.crossing_sweep.specs.StripInput.{is_in_closed_strip, Span}
+use Rattle.crossing_sweep.specs.StripInput.{Span}
 use Rattle.crossing_sweep.specs.Queue.{IsQueued}
 use Rattle.crossing_sweep.specs.Ahead.{points_of}
-use Rattle.crossing_sweep.specs.Testing.{IsFound, AreTested, IsFoundIn, AreSeamsTested}
+use Rattle.crossing_sweep.specs.Testing.{IsFound, CrossAhead, AreTested, IsFoundIn, AreSeamsTested}
 use Rattle.crossing_sweep.specs.declared.search.Search.{Search}
 
 only_one : (x y : ℕ) → Contains (x ∷ []) y → x ≡ y
@@ -41,7 +39,7 @@ module _ (strip : Span) (r : Point) (segs : List Segment) where
   no_seams search = record {
     listed = refl;
     kept = λ e c. c;
-    found = λ i d p c inside hp crossing less within apart. absurd (none_in_empty (i + 1) c);
+    found = λ i d p c inside is. absurd (none_in_empty (i + 1) c);
     only = λ e c. inl c;
     more = [];
     tests = sym (append-nil search.tests.items);
@@ -55,7 +53,7 @@ module _ (strip : Span) (r : Point) (segs : List Segment) where
   no_seam seam search none = record {
     listed = refl;
     kept = λ e c. c;
-    found = λ i d p c inside hp crossing less within apart. absurd (no_way i (only_one seam (i + 1) c) inside none);
+    found = λ i d p c inside is. absurd (no_way i (only_one seam (i + 1) c) inside none);
     only = λ e c. inl c;
     more = [];
     tests = sym (append-nil search.tests.items);
@@ -76,14 +74,12 @@ module _ (strip : Span) (r : Point) (segs : List Segment) where
     kept : (e : HPoint × PointName) → Contains old.ahead e → Contains new.ahead e
     kept e c = tested.kept e (subst (λ (es : List (HPoint × PointName)). Contains es e) (sym same_ahead) c)
 
-    found : (i : ℕ) (d : Segment) (p : Point) → Contains ((j + 1) ∷ []) (i + 1) → i + 1 < length segs → pos 0 <ℤ p.w → IsCrossingOf (get_or segs i d) (get_or segs (i + 1) d) p → point_cmp r p ≡ Less
-        → IsTrue (is_in_closed_strip strip p) → ¬ IsTrue (same_place p (whole (get_or segs i d).right)) → IsQueued (points_of new.ahead) p
-    found i d p c l hp crossing less within apart =
+    found : (i : ℕ) (d : Segment) (p : Point) → Contains ((j + 1) ∷ []) (i + 1) → i + 1 < length segs → CrossAhead strip r (get_or segs i d) (get_or segs (i + 1) d) p → IsQueued (points_of new.ahead) p
+    found i d p c l is =
         let same : i ≡ j = omega (arith, only_one (j + 1) (i + 1) c) in
-        tested.found p hp
-        (subst (λ x. IsCrossingOf x b p) (here_a d)
-        (subst (λ x. IsCrossingOf (get_or segs j d) x p) (here_b d) (subst (λ k. IsCrossingOf (get_or segs k d) (get_or segs (k + 1) d) p) same crossing)))
-        less within (subst (λ k. ¬ IsTrue (same_place p (whole k.right))) (ap (λ k. get_or segs k d) same ∙ here_a d) apart)
+        tested.found p
+        (subst (λ x. CrossAhead strip r x b p) (here_a d)
+        (subst (λ x. CrossAhead strip r (get_or segs j d) x p) (here_b d) (subst (λ k. CrossAhead strip r (get_or segs k d) (get_or segs (k + 1) d) p) same is)))
 
     among_a : Contains segs a
     among_a = (j, omega (arith, inside), here_a a)
@@ -130,13 +126,12 @@ module _ (strip : Span) (r : Point) (segs : List Segment) where
 
   -- two seams in turn
   module _ (low high : ℕ) (old mid new : Search) (first : AreSeamsTested strip r segs (low ∷ []) old mid) (second : AreSeamsTested strip r segs (high ∷ []) mid new) where
-    found_both : (i : ℕ) (d : Segment) (p : Point) → Contains (low ∷ high ∷ []) (i + 1) → i + 1 < length segs → pos 0 <ℤ p.w → IsCrossingOf (get_or segs i d) (get_or segs (i + 1) d) p → point_cmp r p ≡ Less
-        → IsTrue (is_in_closed_strip strip p) → ¬ IsTrue (same_place p (whole (get_or segs i d).right)) → IsQueued (points_of new.ahead) p
-    found_both i d p c l hp crossing less within apart = by (Contains-cons_cases low (high ∷ []) (i + 1) c)
+    found_both : (i : ℕ) (d : Segment) (p : Point) → Contains (low ∷ high ∷ []) (i + 1) → i + 1 < length segs → CrossAhead strip r (get_or segs i d) (get_or segs (i + 1) d) p → IsQueued (points_of new.ahead) p
+    found_both i d p c l is = by (Contains-cons_cases low (high ∷ []) (i + 1) c)
       where
         by : (low ≡ i + 1) ⊎ Contains (high ∷ []) (i + 1) → IsQueued (points_of new.ahead) p
-        by (inl e) = still_queued mid.ahead new.ahead second.kept p (first.found i d p (subst (λ x. Contains (low ∷ []) x) e (contains_first low [])) l hp crossing less within apart)
-        by (inr h) = second.found i d p h l hp crossing less within apart
+        by (inl e) = still_queued mid.ahead new.ahead second.kept p (first.found i d p (subst (λ x. Contains (low ∷ []) x) e (contains_first low [])) l is)
+        by (inr h) = second.found i d p h l is
 
     only_both : (e : HPoint × PointName) → Contains new.ahead e → Contains old.ahead e ⊎ IsFoundIn strip r segs old.listed new.tests.items e
     only_both e c = by (second.only e c)

@@ -34,7 +34,7 @@ use Rattle.crossing_sweep.specs.Ahead.{points_of}
 use Rattle.crossing_sweep.specs.Member.{seg_of, units_of, segs_of, ends_after}
 use Rattle.crossing_sweep.specs.Rows.{AreBegun, mask_over, rows_of}
 use Rattle.crossing_sweep.specs.declared.row.Row.{Row}
-use Rattle.crossing_sweep.specs.Testing.{IsFoundIn, AreSeamsTested, seams_at}
+use Rattle.crossing_sweep.specs.Testing.{IsFoundIn, CrossAhead, AreSeamsTested, seams_at}
 use Rattle.crossing_sweep.specs.Stepping.{segs_to_come, StandsBefore, IsStepped}
 use Rattle.crossing_sweep.specs.declared.member.Member.{Member}
 use Rattle.crossing_sweep.specs.declared.start.Start.{Start}
@@ -261,12 +261,11 @@ module _ (input : StripInput) (n : ℤ) (units : List Unit) (q : Point) (at : HP
       both : AreSeamsTested input.strip r (segs_of (under ++ stay ++ over)) seams old new
       both = subst (λ b. AreSeamsTested input.strip r (segs_of (under ++ stay ++ over)) (seams_at b (length under) (length (under ++ stay))) old new) test tested
 
-      found : (i : ℕ) (d : Segment) (p : Point) → Contains seams (i + 1) → i + 1 < length (u ++ s ++ o) → pos 0 <ℤ p.w → IsCrossingOf (get_or (u ++ s ++ o) i d) (get_or (u ++ s ++ o) (i + 1) d) p
-          → point_cmp r p ≡ Less → IsTrue (is_in_closed_strip input.strip p) → ¬ IsTrue (same_place p (whole (get_or (u ++ s ++ o) i d).right)) → IsQueued (points_of new.ahead) p
+      found : (i : ℕ) (d : Segment) (p : Point) → Contains seams (i + 1) → i + 1 < length (u ++ s ++ o) → CrossAhead input.strip r (get_or (u ++ s ++ o) i d) (get_or (u ++ s ++ o) (i + 1) d) p
+          → IsQueued (points_of new.ahead) p
       found =
           subst (λ (us : List Segment).
-          (i : ℕ) (d : Segment) (p : Point) → Contains seams (i + 1) → i + 1 < length us → pos 0 <ℤ p.w → IsCrossingOf (get_or us i d) (get_or us (i + 1) d) p
-          → point_cmp r p ≡ Less → IsTrue (is_in_closed_strip input.strip p) → ¬ IsTrue (same_place p (whole (get_or us i d).right)) → IsQueued (points_of new.ahead) p)
+          (i : ℕ) (d : Segment) (p : Point) → Contains seams (i + 1) → i + 1 < length us → CrossAhead input.strip r (get_or us i d) (get_or us (i + 1) d) p → IsQueued (points_of new.ahead) p)
           (segs_parts under stay over) both.found
 
       seam : (i : ℕ) → (i + 1 ≡ length u) ⊎ (i + 1 ≡ length (u ++ s)) → Contains seams (i + 1)
@@ -284,7 +283,8 @@ module _ (input : StripInput) (n : ℤ) (units : List Unit) (q : Point) (at : HP
       by (yes e) =
           kept p hp (come.queue.fixed p hp (or_left (is_end segments p) (is_on_border segments p) (end_at_right input lower p (All-contains (IsUnit input.marked) unit_segs lower are_units among) e))
           (less_through q r p stands.come.full.status_at.small.positive hr hp first.after less) up_to) less
-      by (no e) = found i d p (seam i which) inside hp crossing less (within p hp less up_to) (λ f. both_ways (same_place p (whole lower.right)) e f)
+      by (no e) =
+          found i d p (seam i which) inside (record { positive = hp; crossing = crossing; after = less; in_strip = within p hp less up_to; no_end = λ f. both_ways (same_place p (whole lower.right)) e f })
 
   grown : IsGrown input.strip r u s o (r ∷ keys) (points_of new.ahead)
   grown = record { kept = kept; tested = λ i d p which inside. by i d p which inside (told tests) }

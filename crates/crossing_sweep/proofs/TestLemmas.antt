@@ -24,11 +24,11 @@ use Rattle.crossing_sweep.proofs.KnownLemmas.{within_alike}
 module _ (strip : Span) (r : Point) (hr : pos 0 <ℤ r.w) (a b : Segment) (old : List (HPoint × PointName)) where
   -- two that cross nowhere
   pub nowhere : CrossNowhere a b → AreTested strip r a b old old
-  nowhere none = record { kept = λ e c. c; found = λ p hp crossing less within apart. absurd (none p hp crossing); only = λ e c. inl c }
+  nowhere none = record { kept = λ e c. c; found = λ p is. absurd (none p is.positive is.crossing); only = λ e c. inl c }
 
   -- two that end at one point cross there alone
   pub one_end : a.right ≡ b.right → AreTested strip r a b old old
-  one_end same = record { kept = λ e c. c; found = λ p hp crossing less within apart. absurd (apart (there p hp crossing)); only = λ e c. inl c }
+  one_end same = record { kept = λ e c. c; found = λ p is. absurd (is.no_end (there p is.positive is.crossing)); only = λ e c. inl c }
     where
       level : height_over b (whole a.right) ≡ pos 0
       level = subst (λ v. height_over b (whole v) ≡ pos 0) (sym same) (right_on_line b)
@@ -51,11 +51,11 @@ module _ (strip : Span) (r : Point) (hr : pos 0 <ℤ r.w) (a b : Segment) (old :
     pub elsewhere : is_ahead ≡ false → AreTested strip r a b old old
     elsewhere out = record {
       kept = λ e c. c;
-      found = λ p hp crossing less within apart.
-          let same : IsTrue (same_place (place z) p) = alone p hp crossing in
+      found = λ p is.
+          let same : IsTrue (same_place (place z) p) = alone p is.positive is.crossing in
           absurd (both_ways is_ahead out
-          (and_from (is_lt (point_cmp r (place z))) (is_in_closed_strip strip (place z)) (ap is_lt (alike_right r (place z) p hr (place_positive z) hp same ∙ less))
-          (within_alike strip (place z) p (place_positive z) hp same ∙ within)));
+          (and_from (is_lt (point_cmp r (place z))) (is_in_closed_strip strip (place z)) (ap is_lt (alike_right r (place z) p hr (place_positive z) is.positive same ∙ is.after))
+          (within_alike strip (place z) p (place_positive z) is.positive same ∙ is.in_strip)));
       only = λ e c. inl c;
     }
 
@@ -63,11 +63,11 @@ module _ (strip : Span) (r : Point) (hr : pos 0 <ℤ r.w) (a b : Segment) (old :
     pub ahead : is_ahead ≡ true → place z ≡ crossing_place a b → (new : List (HPoint × PointName)) → HasAdded old z (Cross a b) new → AreTested strip r a b old new
     ahead holds value new added = record {
       kept = added.kept;
-      found = λ p hp crossing less within apart.
+      found = λ p is.
           let there = added.there in
           any_from (λ q. IsTrue (same_place p q)) (points_of new) (place there.1.0)
           (contains_map (λ (e : HPoint × PointName). place e.0) new there.1 (any_contains (λ e. IsTrue (same_place (place z) (place e.0))) new there))
-          (same_through p (place z) (place there.1.0) hp (place_positive z) (place_positive there.1.0) (same_turned (place z) p (alone p hp crossing)) there.4);
+          (same_through p (place z) (place there.1.0) is.positive (place_positive z) (place_positive there.1.0) (same_turned (place z) p (alone p is.positive is.crossing)) there.4);
       only = λ e c. which e (added.only e c);
     }
       where

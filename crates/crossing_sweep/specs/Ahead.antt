@@ -32,14 +32,14 @@ put_all [] known = known
 put_all (e ∷ es) known = put_place e (put_all es known)
 
 -- a place over a whole x, as all known ones are
-abbrev pub IsUpright : RankedPlace → Type 0
-IsUpright z = IsOverWhole (place z.at)
+abbrev pub LiesOverWhole : RankedPlace → Type 0
+LiesOverWhole z = IsOverWhole (place z.at)
 
 -- known places in one sorted list, each over a whole x, the first of which are taken out; none of those found since is
 -- one still in the list
 pub record AreAhead (known : List RankedPlace) (taken : ℕ) (found : List (HPoint × PointName)) : Type 0 where
   pub ordered : AllPairs (λ a b. ranked_cmp a b ≡ Less) known
-  pub whole : All IsUpright known
+  pub whole : All LiesOverWhole known
   pub few : taken ≤ length known
   pub apart : All (λ e. All (λ z. hpoint_cmp z.at e.0 ≡ Equal → ⊥) (drop taken known)) found
 

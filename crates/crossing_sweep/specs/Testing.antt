@@ -21,12 +21,18 @@ pub record IsFound (strip : Span) (r : Point) (a b : Segment) (e : HPoint × Poi
   pub named : HasPlace e.1
   pub told : place e.0 ≡ place_of e.1
 
--- two segments have been tested: what was known is known, where they cross after r in the closed strip is
--- known, but for a place where the first one ends, and nothing else has come
+-- two segments cross at a place after r, in the closed strip, at which the first one does not end
+pub record CrossAhead (strip : Span) (r : Point) (a b : Segment) (p : Point) : Type 0 where
+  pub positive : pos 0 <ℤ p.w
+  pub crossing : IsCrossingOf a b p
+  pub after : point_cmp r p ≡ Less
+  pub in_strip : IsTrue (is_in_closed_strip strip p)
+  pub no_end : ¬ IsTrue (same_place p (whole a.right))
+
+-- two segments have been tested: what was known is known, where they cross ahead is known, and nothing else has come
 pub record AreTested (strip : Span) (r : Point) (a b : Segment) (old new : List (HPoint × PointName)) : Type 0 where
   pub kept : (e : HPoint × PointName) → Contains old e → Contains new e
-  pub found : (p : Point) → pos 0 <ℤ p.w → IsCrossingOf a b p → point_cmp r p ≡ Less → IsTrue (is_in_closed_strip strip p)
-      → ¬ IsTrue (same_place p (whole a.right)) → IsQueued (points_of new) p
+  pub found : (p : Point) → CrossAhead strip r a b p → IsQueued (points_of new) p
   pub only : (e : HPoint × PointName) → Contains new e → Contains old e ⊎ IsFound strip r a b e
 
 -- a place that a test of two neighbours of a status has found; where the tests are listed, theirs is
@@ -45,14 +51,13 @@ seams_at true low high = low ∷ high ∷ []
 seams_at false low high = []
 
 -- the neighbours at some seams of a status have been tested: at a seam the members under it end. What was known is
--- known, where neighbours at a seam cross after r in the closed strip is known, but for a place where the lower one ends,
--- and nothing else has come; at most one test a seam is listed, of members, and none where no list is kept
+-- known, where neighbours at a seam cross ahead is known, and nothing else has come; at most one test a seam is listed,
+-- of members, and none where no list is kept
 pub record AreSeamsTested (strip : Span) (r : Point) (status : List Segment) (seams : List ℕ) (old new : Search) : Type 0 where
   pub listed : new.listed ≡ old.listed
   pub kept : (e : HPoint × PointName) → Contains old.ahead e → Contains new.ahead e
-  pub found : (i : ℕ) (d : Segment) (p : Point) → Contains seams (i + 1) → i + 1 < length status → pos 0 <ℤ p.w → IsCrossingOf (get_or status i d) (get_or status (i + 1) d) p
-      → point_cmp r p ≡ Less → IsTrue (is_in_closed_strip strip p) → ¬ IsTrue (same_place p (whole (get_or status i d).right))
-      → IsQueued (points_of new.ahead) p
+  pub found : (i : ℕ) (d : Segment) (p : Point) → Contains seams (i + 1) → i + 1 < length status
+      → CrossAhead strip r (get_or status i d) (get_or status (i + 1) d) p → IsQueued (points_of new.ahead) p
   pub only : (e : HPoint × PointName) → Contains new.ahead e → Contains old.ahead e ⊎ IsFoundIn strip r status old.listed new.tests.items e
   pub more : List (Segment × Segment)
   pub tests : new.tests.items ≡ old.tests.items ++ more

@@ -7,7 +7,7 @@ ghost use Rattle.exact_point.specs.Place.{place, hpoint_cmp};
 ghost use Rattle.exact_point.specs.declared.point.HPoint.{HPoint};
 ghost use Rattle.exact_point.specs.declared.point_name.PointName.{PointName};
 ghost use Rattle.crossing_sweep.specs.RankedPlace.{ranked_cmp, ranked_entry};
-ghost use Rattle.crossing_sweep.specs.Ahead.{HasAdded, IsUpright, is_first_before};
+ghost use Rattle.crossing_sweep.specs.Ahead.{HasAdded, LiesOverWhole, is_first_before};
 
 use crate::rank::{is_between, rank};
 use crate::ranked_place::RankedPlace;
@@ -44,7 +44,7 @@ impl Ahead {
     /// Known places in their order, each once: ends of segments and places on borders, all over whole x.
     pub(crate) fn of(alloc: Global, known: Vec<RankedPlace>) -> Ahead
         requires in_order { AllPairs (λ a b. ranked_cmp a b ≡ Less) known.items }
-        requires whole { All IsUpright known.items }
+        requires whole { All LiesOverWhole known.items }
         ensures { result ≡ map ranked_entry known.items }
     {
         Ahead {
@@ -118,11 +118,11 @@ fn first_found(found: &mut BTreeSet<RankedPlace>) -> Option<RankedPlace>
     Some(first)
 }
 
-/// Whether a place, under any name, is one of some places in order, all over whole x. One between two of these need not
-/// be looked for: most crossings are.
+/// Whether a place, under any name, is one of some places in order, all over whole x. A place between two whole x is
+/// none of them, and is not looked for: most crossings are such.
 fn is_among(known: &[RankedPlace], place: &RankedPlace) -> bool
     requires in_order { AllPairs (λ a b. ranked_cmp a b ≡ Less) known.now }
-    requires whole { All IsUpright known.now }
+    requires whole { All LiesOverWhole known.now }
     ensures among { result ≡ true → Any (λ z. ranked_cmp z place.now ≡ Equal) known.now }
     ensures apart { result ≡ false → All (λ z. ranked_cmp z place.now ≡ Equal → ⊥) known.now }
 {

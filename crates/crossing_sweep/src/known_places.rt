@@ -17,7 +17,7 @@ use crate::rank::{rank, rank_over};
 use crate::ranked_place::RankedPlace;
 use crate::strip::Strip;
 use exact_point::{NearPoint, PointName};
-use plane_base::{COLUMN_COUNT, Column, Pt, Seg, column_of};
+use plane_base::{COLUMN_COUNT, COLUMN_WIDTH, Column, Pt, Seg, column_of};
 use std::alloc::{AllocError, Global};
 
 /// The ends of an input's segments, and where the borders of the strip cut them, in the closed
@@ -55,7 +55,9 @@ fn room_for_places(input: &PassInput) -> usize {
     let mut room = 0_usize;
     for m in input.marked() {
         let across = m.seg.right().x().wrapping_sub(m.seg.left().x());
-        let cuts = usize::from(columns).min((across.unsigned_abs() >> 16) as usize);
+        let cuts = usize::from(columns).min(
+            (across.unsigned_abs() / COLUMN_WIDTH.unsigned_abs()) as usize,
+        );
         room = room.wrapping_add(cuts).wrapping_add(2);
     }
     room

@@ -72,13 +72,13 @@ impl Ord for Start {
         if by_place.is_ne() {
             return by_place;
         }
-        turned_cmp(&self.unit.seg, &other.unit.seg)
+        start_direction_cmp(&self.unit.seg, &other.unit.seg)
     }
 }
 
 /// The order of two segments by direction, the vertical one first. It is kept out of the loops of sorts.
 #[inline(never)]
-fn turned_cmp(a: &Seg, b: &Seg) -> Ordering
+fn start_direction_cmp(a: &Seg, b: &Seg) -> Ordering
     ensures { result ≡ int_cmp (pos 0) (turn_of b.now a.now) }
 {
     direction_cmp(b, a)

@@ -72,7 +72,7 @@ impl Strip {
         self.last.end()
     }
 
-    /// Whether a point lies in the strip: at its left border or right of it, and left of its right border.
+    /// Whether a node lies in the strip: at its left border or right of it, and left of its right border.
     pub(crate) fn holds(self, node: &RankedPlace) -> bool
         ensures { result ≡ is_in_strip self (place node.now.at) }
     {

@@ -82,17 +82,17 @@ fn by_left(segs: Vec<Seg>) -> Result<Vec<Seg>, AllocError>
     Ok(sorted)
 }
 
-/// Whether the left ends seldom turn from right to left or back. Only time rests on it.
+/// Whether the left ends seldom turn from right to left or back. Only time and room rest on it.
 fn is_in_few_runs(segs: &[Seg]) -> bool {
-    let mut turns_left = segs.len() / SEGMENTS_PER_RUN;
+    let mut turns_allowed = segs.len() / SEGMENTS_PER_RUN;
     let mut was_falling = false;
     for i in 1..segs.len() {
         let is_falling = segs[i].left().x() < segs[i - 1].left().x();
         if is_falling != was_falling {
-            if turns_left == 0 {
+            if turns_allowed == 0 {
                 return false;
             }
-            turns_left -= 1;
+            turns_allowed -= 1;
             was_falling = is_falling;
         }
     }

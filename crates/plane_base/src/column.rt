@@ -11,7 +11,7 @@ use std::marker::Model;
 pub const COLUMN_COUNT: u8 = 33;
 
 /// How wide a column is.
-const COLUMN_WIDTH: i64 = 65536;
+pub const COLUMN_WIDTH: i64 = 65536;
 
 /// A column, by its number from 0 on.
 #[derive(Clone, Copy, Debug, PartialEq, Eq, PartialOrd, Ord)]
