@@ -10,3 +10,4 @@ pub mod WrittenNumbers
 pub mod RoundTrip
 pub mod PlainNumbers
 pub mod PlainPoints
+pub mod FirstDigits

@@ -1,10 +1,9 @@
 //! Numbers as texts write them.
-ghost use Rattle.std.specs.Prelude.{◌≡◌, ◌||◌, ℕ, min, count_by, take, IfSome};
-ghost use Rattle.std.specs.List.{list_all, list_any, position_or_len, prefix_len};
+ghost use Rattle.std.specs.Prelude.{◌≡◌, ◌||◌, ◌==◌, ℕ, min, count_by, take, IfSome};
+ghost use Rattle.std.specs.List.{list_all, list_any, prefix_len};
 ghost use Rattle.std.specs.Char.{is_ascii_digit};
 ghost use Rattle.overlay_terms.specs.Bytes.{begins, digits_value};
-ghost use Rattle.wkt_form.specs.Number.{is_number, is_whole, is_point, unsigned};
-ghost use Rattle.wkt_form.specs.Number.{before_point, behind_point, is_negative, with_sign};
+ghost use Rattle.wkt_form.specs.Number.{is_number, is_point, unsigned, with_sign};
 ghost use Rattle.wkt_form.specs.Token.{is_run_byte};
 ghost use Rattle.wkt_form.specs.Symbol.{number_of, whole_worth, BeginsWithNumber};
 
@@ -22,19 +21,6 @@ pub enum Number {
     OutOfRange,
 }
 
-impl Number {
-    /// Its value, if it is whole and within the range.
-    #[inline(always)]
-    pub fn whole(self) -> Option<Coordinate>
-        ensures { IfSome result (λ value. self ≡ Number.Whole value) }
-    {
-        match self {
-            Number::Whole(value) => Some(value),
-            _ => None,
-        }
-    }
-}
-
 /// What the run of digits, signs and points is worth, if it is a number.
 pub fn number_of(run: &[u8]) -> Option<Number>
     ensures { result ≡ number_of run.now }
@@ -42,15 +28,18 @@ pub fn number_of(run: &[u8]) -> Option<Number>
     if !is_number(run) {
         return None;
     }
-    if !is_whole(run) {
+    let digits = unsigned(run);
+    let (size, count) = leading_digits(digits);
+    // What follows the point, if there is one.
+    let fraction = &digits[digits.len().min(count + 1)..];
+    if !are_zeros(fraction) {
         return Some(Number::Fraction);
     }
-    let size = size_up_to_limit(whole_digits(unsigned(run)));
     Some(whole_worth(run, size))
 }
 
 /// The number that bytes begin with, and how many of them it takes, where it has a sign or none and then digits alone:
-/// each of its bytes is looked at once.
+/// its digits are gone over once.
 #[inline(always)]
 pub fn plain_number(bytes: &[u8]) -> Option<(Number, usize)>
     ensures { IfSome result (λ found. BeginsWithNumber bytes.now found.0 found.1) }
@@ -68,7 +57,11 @@ fn whole_worth(bytes: &[u8], size: u32) -> Number
     ensures { (n : ℕ) → size ≡ min 2097152 n → result ≡ whole_worth (with_sign bytes.now n) }
 {
     let value = i64::from(size);
-    let signed = if is_negative(bytes) { -value } else { value };
+    let signed = if matches!(bytes, [b'-', ..]) {
+        -value
+    } else {
+        value
+    };
     Coordinate::new(signed).map_or(Number::OutOfRange, Number::Whole)
 }
 
@@ -117,15 +110,6 @@ fn unsigned(run: &[u8]) -> &[u8]
     }
 }
 
-fn is_negative(run: &[u8]) -> bool
-    ensures { result ≡ is_negative run.now }
-{
-    match run {
-        [first, ..] => *first == b'-',
-        [] => false,
-    }
-}
-
 /// Whether there are only digits and points.
 fn are_digits_and_points(bytes: &[u8]) -> bool
     ensures { result ≡ list_all (λ b. is_ascii_digit b || is_point b) bytes.now }
@@ -152,45 +136,8 @@ fn is_number(run: &[u8]) -> bool
     are_digits_and_points(digits) && point_count(digits) <= 1 && has_digit(digits)
 }
 
-/// Where the point is, or the length where there is none.
-fn point_place(digits: &[u8]) -> usize
-    ensures { result ≡ position_or_len is_point digits.now }
+fn are_zeros(digits: &[u8]) -> bool
+    ensures { result ≡ list_all (λ b. b == 48) digits.now }
 {
-    digits.iter().take_while(|b| **b != b'.').count()
-}
-
-/// The digits before the point.
-fn whole_digits(digits: &[u8]) -> &[u8]
-    ensures { result.now ≡ before_point digits.now }
-{
-    &digits[..point_place(digits)]
-}
-
-/// The digits after the point.
-fn fraction_digits(digits: &[u8]) -> &[u8]
-    ensures { result.now ≡ behind_point digits.now }
-{
-    let point = point_place(digits);
-    if point < digits.len() {
-        &digits[point + 1..]
-    } else {
-        &[]
-    }
-}
-
-fn is_whole(run: &[u8]) -> bool
-    ensures { result ≡ is_whole run.now }
-{
-    fraction_digits(unsigned(run)).iter().all(|b| *b == b'0')
-}
-
-/// What digits are worth, or the limit where that is more.
-fn size_up_to_limit(digits: &[u8]) -> u32
-    ensures { result ≡ min 2097152 (digits_value digits.now) }
-{
-    let mut size = 0;
-    for digit in digits {
-        size = LIMIT.min(10 * size + u32::from(digit.saturating_sub(b'0')));
-    }
-    size
+    digits.iter().all(|b| *b == b'0')
 }

@@ -14,7 +14,7 @@ pub struct PlainPoint {
     pub behind: usize,
 }
 
-/// The offset behind the space at an offset, if there is one.
+/// The offset behind the space at an offset, or the offset where there is none.
 #[inline(always)]
 fn past_space(bytes: &[u8], at: usize) -> usize
     requires { at ≤ length bytes.now }
@@ -28,7 +28,7 @@ fn past_space(bytes: &[u8], at: usize) -> usize
     }
 }
 
-/// The plain number that comes next from an offset on, and the offset behind it.
+/// The plain number that comes next from an offset on, if one does, and the offset behind it.
 #[inline(always)]
 fn number_from(bytes: &[u8], at: usize) -> Option<(Number, usize)>
     requires { at ≤ length bytes.now }
@@ -41,7 +41,7 @@ fn number_from(bytes: &[u8], at: usize) -> Option<(Number, usize)>
     }
 }
 
-/// The offset behind the comma at an offset.
+/// The offset behind the comma at an offset, if there is one.
 #[inline(always)]
 fn behind_comma(bytes: &[u8], at: usize) -> Option<usize>
     requires { at ≤ length bytes.now }
@@ -54,7 +54,7 @@ fn behind_comma(bytes: &[u8], at: usize) -> Option<usize>
     }
 }
 
-/// The point that comes next from an offset on.
+/// The plain point that comes next from an offset on, if one does, with a comma behind it.
 #[inline(always)]
 #[tactic(auto, using(crate::proofs::PlainPoints::next_point))]
 pub fn point_from(bytes: &[u8], at: usize) -> Option<PlainPoint>
@@ -64,7 +64,11 @@ pub fn point_from(bytes: &[u8], at: usize) -> Option<PlainPoint>
     let (first, behind_x) = number_from(bytes, at)?;
     let (second, behind_y) = number_from(bytes, behind_x)?;
     let behind = behind_comma(bytes, behind_y)?;
-    let x = first.whole()?;
-    let y = second.whole()?;
+    let Number::Whole(x) = first else {
+        return None;
+    };
+    let Number::Whole(y) = second else {
+        return None;
+    };
     Some(PlainPoint { x, y, behind })
 }

@@ -13,8 +13,8 @@ use plane_base::{BaseLayer, Ring};
 use std::alloc::{AllocError, Global};
 
 /// The base layer that a text spells. Every other text is refused by its first fault from the
-/// left, and where it is a text, by the first fault of its rings. It goes over the tokens once, each
-/// byte a few times, and takes memory for the rings and the layer alone.
+/// left, and where it is a text, by the first fault of its rings. It goes over each token twice at most,
+/// each byte a few times, and takes memory for the rings and the layer alone.
 pub fn read_wkt(alloc: Global, bytes: &[u8]) -> Result<BaseLayer, WktFault>
     ensures ok { IfOk result (λ layer. ReadsAs bytes.now layer) }
     ensures refused { IfErr result (λ fault. (fault ≡ WktFault.OutOfMemory) ⊎ IsRefusedBy bytes.now fault) }

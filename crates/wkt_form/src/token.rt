@@ -96,14 +96,18 @@ fn mark_symbol(byte: u8) -> Symbol
     }
 }
 
-/// The symbol that bytes begin with, by the first of them, and how many of them it takes.
-fn symbol_by_first_byte(bytes: &[u8]) -> (Symbol, usize)
+/// The symbol that bytes begin with, and how many of them it takes. Most are plain numbers; others are known by their
+/// first byte.
+fn first_symbol(bytes: &[u8]) -> (Symbol, usize)
     requires some { 0 < length bytes.now }
     requires no_blank { is_blank (slice_index bytes.now 0) ≡ false }
     ensures size { (0 < result.1) × (result.1 ≤ length bytes.now) }
     ensures first { (at : ℕ) → seen_from at bytes.now
         ≡ record { at = at; symbol = result.0 } ∷ seen_from (at + result.1) (drop result.1 bytes.now) }
 {
+    if let Some((number, size)) = plain_number(bytes) {
+        return (Symbol::Number(number), size);
+    }
     let first = bytes[0];
     if first.is_ascii_alphabetic() {
         let size = letter_count(bytes);
@@ -113,20 +117,6 @@ fn symbol_by_first_byte(bytes: &[u8]) -> (Symbol, usize)
         (run_symbol(&bytes[..size]), size)
     } else {
         (mark_symbol(first), 1)
-    }
-}
-
-/// The symbol that bytes begin with, and how many of them it takes.
-fn first_symbol(bytes: &[u8]) -> (Symbol, usize)
-    requires some { 0 < length bytes.now }
-    requires no_blank { is_blank (slice_index bytes.now 0) ≡ false }
-    ensures size { (0 < result.1) × (result.1 ≤ length bytes.now) }
-    ensures first { (at : ℕ) → seen_from at bytes.now
-        ≡ record { at = at; symbol = result.0 } ∷ seen_from (at + result.1) (drop result.1 bytes.now) }
-{
-    match plain_number(bytes) {
-        Some((number, size)) => (Symbol::Number(number), size),
-        None => symbol_by_first_byte(bytes),
     }
 }
 
