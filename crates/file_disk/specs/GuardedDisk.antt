@@ -1,5 +1,5 @@
 -- What a disk is that gives up once a write or a sync has failed.
-use Rattle.std.specs.Prelude.{◌≡◌, ℕ, ◌+◌, Result, IsErr}
+use Rattle.std.specs.Prelude.{◌≡◌, ◌⊎◌, ℕ, ◌+◌, Result, IsErr}
 use Rattle.disk_model.specs.declared.disk.Disk.{Ghosts}
 use Rattle.disk_model.specs.Disk.{Fewer, Elapses, CountsFailure, CountsCall}
 use Rattle.file_disk.specs.declared.guarded_disk.Access.TheVariants as access
@@ -26,6 +26,16 @@ pub record GivesUp {D T E : Type 0} (result : Result T E) (old new : GuardedDisk
   pub failed : HasFailed old → IsErr result
   pub untouched : HasFailed old → below_of new ≡ below_of old
   pub remains : HasFailed old → HasFailed new
+
+-- a disk that is read alone refuses a write, which leaves the disk below as it was; and it is read alone after it
+pub record RefusesWrite {D T E : Type 0} (result : Result T E) (old new : GuardedDisk D) : Type 0 where
+  pub refused : IsReadAlone old → IsErr result
+  pub untouched : IsReadAlone old → below_of new ≡ below_of old
+  pub remains : IsReadAlone old → IsReadAlone new
+
+-- a disk that is read alone is so after a call, unless it has failed
+abbrev pub StaysReadAlone : {D : Type 0} → GuardedDisk D → GuardedDisk D → Type 0
+StaysReadAlone old new = IsReadAlone old → IsReadAlone new ⊎ HasFailed new
 
 -- a call of an honest disk: time goes on, and the call is counted, as a failure too where it is one
 pub record IsCallCounted {D T E : Type 0} (g : Ghosts D) (result : Result T E)

@@ -2,6 +2,7 @@
 ghost use Rattle.std.specs.Prelude.{[], ◌≤ℤ◌, IfOk, pos};
 ghost use Rattle.std.specs.Fd.{file_raw_fd};
 ghost use Rattle.file_disk.specs.Descriptor.{IsOwn};
+ghost use Rattle.file_disk.specs.GuardedDisk.{IsReadAlone};
 
 use crate::guarded_disk::{Access, GuardedDisk};
 use disk_model::disk::Disk;
@@ -50,6 +51,7 @@ impl GuardedDisk<OpenFile> {
     /// program has it to write; that one has it is an error.
     pub fn reading<R: Files<File = File>>(rt: &R, path: &str) -> io::Result<FileDisk>
         ensures own { IfOk result IsOwn }
+        ensures alone { IfOk result IsReadAlone }
     {
         let file = OpenFile {
             file: opened_to_read(rt, path)?,

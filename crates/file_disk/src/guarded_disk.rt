@@ -1,5 +1,5 @@
 //! A disk that gives up once a write or a sync has failed, and refuses each write where it is read alone.
-ghost use Rattle.std.specs.Prelude.{◌≡◌, ◌⊎◌, ◌↔◌, ◌+◌, ◌≤◌, false, length, IfErr, IfOk, IsErr, OnErr, OnOk};
+ghost use Rattle.std.specs.Prelude.{◌≡◌, ◌⊎◌, ◌↔◌, ◌+◌, ◌≤◌, false, true, length, IfErr, IfOk, IsErr, OnErr, OnOk};
 ghost use Rattle.disk_model.specs.Disk.{part, Holds, Torn, OneStepOn, Only, CountsFailure};
 
 use disk_model::disk::Disk;
@@ -49,6 +49,7 @@ impl<D: Disk> GuardedDisk<D> {
         ensures failed { HasFailed self.old → IsErr result }
         ensures whole { OnErr result (HasFailed self.old ⊎ IsReadAlone self.old) }
         ensures read { is_write ≡ false → OnErr result (HasFailed self.old) }
+        ensures alone { is_write ≡ true → IsReadAlone self.old → IsErr result }
         ensures counts { CountsFailure result (refused_of self.old) (refused_of self.new) }
         ensures by_one { refused_of self.new ≤ refused_of self.old + 1 }
     {
@@ -77,7 +78,8 @@ impl<D: Disk> GuardedDisk<D> {
 }
 
 impl<D: Disk> Disk for GuardedDisk<D> {
-    ghost use Rattle.file_disk.specs.GuardedDisk.{below_of, GivesUp, HasFailed, IsCallCounted, IsReadAlone, StaysAsItWas};
+    ghost use Rattle.file_disk.specs.GuardedDisk.{below_of, GivesUp, HasFailed, IsCallCounted, IsReadAlone};
+    ghost use Rattle.file_disk.specs.GuardedDisk.{RefusesWrite, StaysAsItWas, StaysReadAlone};
 
     ghost is_honest = { λ d. D.Disk.is_honest d.disk };
 
@@ -101,6 +103,7 @@ impl<D: Disk> Disk for GuardedDisk<D> {
 
     fn length(&mut self) -> Result<usize, DiskFault>
         ensures gives_up { GivesUp result self.old self.new }
+        ensures alone { StaysReadAlone self.old self.new }
         ensures honest { D.is_honest (below_of self.new) ↔ D.is_honest (below_of self.old) }
         ensures length { D.is_honest (below_of self.old) → IfOk result (λ n. n ≡ length (D.seen (below_of self.old))) }
         ensures kept { D.is_honest (below_of self.old) → StaysAsItWas D.Disk (below_of self.old) (below_of self.new) }
@@ -113,6 +116,7 @@ impl<D: Disk> Disk for GuardedDisk<D> {
     fn read(&mut self, at: usize, buf: &mut [u8]) -> Result<(), DiskFault>
         requires { D.is_honest (below_of self.old) → at + length buf.old ≤ length (D.seen (below_of self.old)) }
         ensures gives_up { GivesUp result self.old self.new }
+        ensures alone { StaysReadAlone self.old self.new }
         ensures honest { D.is_honest (below_of self.new) ↔ D.is_honest (below_of self.old) }
         ensures read { D.is_honest (below_of self.old)
             → OnOk result (buf.new ≡ part (D.seen (below_of self.old)) at (length buf.old)) }
@@ -125,6 +129,7 @@ impl<D: Disk> Disk for GuardedDisk<D> {
 
     fn write_at(&mut self, at: usize, bytes: &[u8]) -> Result<(), DiskFault>
         ensures gives_up { GivesUp result self.old self.new }
+        ensures alone { RefusesWrite result self.old self.new }
         ensures fails { OnErr result (HasFailed self.new ⊎ IsReadAlone self.new) }
         ensures honest { D.is_honest (below_of self.new) ↔ D.is_honest (below_of self.old) }
         ensures written { D.is_honest (below_of self.old)
@@ -143,6 +148,7 @@ impl<D: Disk> Disk for GuardedDisk<D> {
 
     fn sync(&mut self) -> Result<(), DiskFault>
         ensures gives_up { GivesUp result self.old self.new }
+        ensures alone { StaysReadAlone self.old self.new }
         ensures fails { OnErr result (HasFailed self.new) }
         ensures honest { D.is_honest (below_of self.new) ↔ D.is_honest (below_of self.old) }
         ensures durable { D.is_honest (below_of self.old)
