@@ -16,6 +16,7 @@ pub mod MarkedLayers
 pub mod InReach
 pub mod InputReach
 pub mod SameMarks
+pub mod CommonEnds
 pub mod TouchedLemmas
 pub mod Sketches
 pub mod BatchRefusals
