@@ -1,5 +1,5 @@
 -- Slots and rows one after another.
-use Rattle.std.specs.Prelude.{◌≡◌, ℕ, ◌+◌, ◌<◌, ◌≤◌, ◌&&◌, is_some, Bool, true, false, not, List, [], ◌∷◌, ◌++◌, map, set, take, replicate, slice_get, Option, Some, None, if◌then◌else◌}
+use Rattle.std.specs.Prelude.{◌≡◌, ℕ, ◌+◌, ◌<◌, ◌≤◌, is_some, Bool, true, false, List, [], ◌∷◌, ◌++◌, map, set, take, replicate, slice_get, Option, Some, None, if◌then◌else◌}
 use Rattle.std.specs.List.{range_with_len, list_any}
 use Rattle.std.proofs.Common.{zero, suc, nat_lt, length, get_or, refl, ap, sym, subst, ◌∙◌, add-one, add-zero, arith}
 use Rattle.std.proofs.lemmas.Bool.Decides.{nat_tests}
@@ -45,54 +45,44 @@ left_more row marks made after kept i here so_far pushed =
     ap (map tile_in_slot) pushed ∙ map-append tile_in_slot made (kept ∷ []) ∙ (λ x. so_far x ++ here x ∷ [])
     ∙ sym (ap (λ n. map at (range_with_len 0 n)) (add-one i) ∙ ap (map at) (range_more 0 i ∙ ap (λ j. range_with_len 0 i ++ j ∷ []) start) ∙ map-append at (range_with_len 0 i) (i ∷ []))
 
+pub no_tile : (slot : Option Named) → is_some slot ≡ false → slot ≡ None
+no_tile None e = refl
+no_tile (Some tile) e = absurd (cc)
+
 -- the tiles of a row that no mark takes away
 module _ (marks : List Bool) (row : List (Option Named)) where
   abbrev left_at_column : ℕ → Option Named
   left_at_column k = if get_or marks k false then None else get_or row k None
 
-  unmarked : (is_marked : Bool) (slot : Option Named) → (is_marked && is_some slot) ≡ false → (if is_marked then None else slot) ≡ slot
-  unmarked true None e = refl
-  unmarked true (Some tile) e = absurd (cc)
-  unmarked false slot e = refl
-
-  pub whole_more : (n : ℕ) → ((k : ℕ) → k < n → left_at_column k ≡ get_or row k None) → (get_or marks n false && is_some (get_or row n None)) ≡ false → (k : ℕ) → k < n + 1 → left_at_column k ≡ get_or row k None
-  whole_more n before here k h = split (nat_lt k n) refl where
-    split : (b : Bool) → nat_lt k n ≡ b → left_at_column k ≡ get_or row k None
-    split true e = let near : k < n = grind (arith, nat_tests) in before k near
-    split false e =
+  -- no column before one is marked, or not marked, and has a tile
+  pub none_more : (marked : Bool) (n : ℕ) → ((k : ℕ) → k < n → get_or marks k false ≡ marked → get_or row k None ≡ None) → (get_or marks n false ≡ marked → get_or row n None ≡ None)
+      → (k : ℕ) → k < n + 1 → get_or marks k false ≡ marked → get_or row k None ≡ None
+  none_more marked n before here k h e = split (nat_lt k n) refl where
+    split : (b : Bool) → nat_lt k n ≡ b → get_or row k None ≡ None
+    split true less = let near : k < n = grind (arith, nat_tests) in before k near e
+    split false more =
         let past : n ≤ k = grind (arith, nat_tests) in
         let last : n ≡ k = omega arith in
-        subst (λ m. left_at_column m ≡ get_or row m None) last (unmarked (get_or marks n false) (get_or row n None) here)
+        subst (λ m. get_or marks m false ≡ marked → get_or row m None ≡ None) last here e
 
-  emptied : (is_marked : Bool) (slot : Option Named) → (not is_marked && is_some slot) ≡ false → (if is_marked then None else slot) ≡ None
-  emptied true slot e = refl
-  emptied false None e = refl
-  emptied false (Some tile) e = absurd (cc)
+  pub whole_left : ((k : ℕ) → k < column_count → get_or marks k false ≡ true → get_or row k None ≡ None) → (k : ℕ) → k < column_count → left_at_column k ≡ get_or row k None
+  whole_left none k less = by_mark (get_or marks k false) (none k less) where
+    by_mark : (b : Bool) → (b ≡ true → get_or row k None ≡ None) → (if b then None else get_or row k None) ≡ get_or row k None
+    by_mark true gone = sym (gone refl)
+    by_mark false gone = refl
 
-  pub bare_more : (n : ℕ) → ((k : ℕ) → k < n → left_at_column k ≡ None) → (not (get_or marks n false) && is_some (get_or row n None)) ≡ false → (k : ℕ) → k < n + 1 → left_at_column k ≡ None
-  bare_more n before here k h = split (nat_lt k n) refl where
-    split : (b : Bool) → nat_lt k n ≡ b → left_at_column k ≡ None
-    split true e = let near : k < n = grind (arith, nat_tests) in before k near
-    split false e =
-        let past : n ≤ k = grind (arith, nat_tests) in
-        let last : n ≡ k = omega arith in
-        subst (λ m. left_at_column m ≡ None) last (emptied (get_or marks n false) (get_or row n None) here)
+  pub bare_left : ((k : ℕ) → k < column_count → get_or marks k false ≡ false → get_or row k None ≡ None) → (k : ℕ) → k < column_count → left_at_column k ≡ None
+  bare_left none k less = by_mark (get_or marks k false) (none k less) where
+    by_mark : (b : Bool) → (b ≡ false → get_or row k None ≡ None) → (if b then None else get_or row k None) ≡ None
+    by_mark true gone = refl
+    by_mark false gone = gone refl
 
-  -- a row without a tile, whatever is marked
-  nothing_there : (slots : List (Option Named)) (k : ℕ) → list_any is_some slots ≡ false → get_or slots k None ≡ None
+  -- a row without a tile
+  pub nothing_there : (slots : List (Option Named)) (k : ℕ) → list_any is_some slots ≡ false → get_or slots k None ≡ None
   nothing_there [] k e = refl
   nothing_there (None ∷ slots) zero e = refl
   nothing_there (None ∷ slots) (suc k) e = nothing_there slots k e
   nothing_there (Some tile ∷ slots) k e = absurd (cc)
-
-  pub bare_stays : list_any is_some row ≡ false → (k : ℕ) → left_at_column k ≡ get_or row k None
-  bare_stays none k =
-      let nothing = nothing_there row k none in
-      ap (λ (o : Option Named). if get_or marks k false then None else o) nothing ∙ none_either (get_or marks k false) ∙ sym nothing
-    where
-      none_either : (b : Bool) → ◌≡◌ {A = Option Named} (if b then None else None) None
-      none_either true = refl
-      none_either false = refl
 
   pub bare_row : ((k : ℕ) → k < column_count → left_at_column k ≡ None) → replicate column_count None ≡ row_by left_at_column
   bare_row each = sym (all_none column_count 0 (λ k less. let start : 0 + k ≡ k = omega arith in ap left_at_column start ∙ each k less)) where

@@ -1,5 +1,5 @@
 //! Rows of finished tiles.
-ghost use Rattle.std.specs.Prelude.{◌≡◌, ◌<◌, ◌&&◌, None, Some, false, not, get_or, is_some, length, map};
+ghost use Rattle.std.specs.Prelude.{◌≡◌, ◌<◌, None, Some, false, get_or, is_some, length, map};
 ghost use Rattle.std.specs.Prelude.{replicate, set, IfNone, IfOk, IfSome, IsTrue, OnErr, OnOk, if◌then◌else◌, List, Option};
 ghost use Rattle.std.specs.List.{list_all};
 ghost use Rattle.std.specs.Option.{option_map};
@@ -65,7 +65,11 @@ impl TileRow {
     pub(crate) fn empty(alloc: Global) -> Result<TileRow, AllocError>
         ensures { IfOk result (λ row. row ≡ replicate column_count None) }
     {
-        TileRow::of(alloc, no_tiles(alloc)?)
+        let mut slots = Vec::with_capacity(alloc, COLUMNS)?;
+        for _ in 0..COLUMNS {
+            slots.push(Slot { tile: None })?;
+        }
+        TileRow::of(alloc, slots)
     }
 
     /// The row of its slots.
@@ -185,71 +189,30 @@ impl TileRow {
         ensures { IfOk result (λ row. row
             ≡ row_by (λ k. if get_or marks.now k false then None else get_or self.now k None)) }
     {
-        if self.is_left_whole(marks) {
+        if self.has_none_of(marks, true) {
             return self.share();
         }
-        if self.is_left_bare(marks) {
+        if self.has_none_of(marks, false) {
             return bare.share();
         }
         let slots = left_in(alloc, &self.parts, marks)?;
         TileRow::of(alloc, slots)
     }
 
-    /// Whether the row has no tile of the columns that are marked.
-    fn is_left_whole(&self, marks: &[bool; COLUMNS]) -> bool
-        ensures { IsTrue result → (k : _) → k < column_count
-            → (if get_or marks.now k false then None else get_or self.now k None) ≡ get_or self.now k None }
+    /// Whether the row has no tile of the columns that are marked, or of those that are not, as is asked for.
+    fn has_none_of(&self, marks: &[bool; COLUMNS], marked: bool) -> bool
+        ensures { IsTrue result → (k : _) → k < column_count → get_or marks.now k false ≡ marked
+            → get_or self.now k None ≡ None }
     {
         if self.missing == COLUMNS {
             return true;
         }
         for number in 0..COLUMNS {
-            if self.has_marked(marks, number) {
+            if marks[number] == marked && self.tile_at(number).is_some() {
                 return false;
             }
         }
         true
-    }
-
-    /// Whether the row has no tile of the columns that are not marked.
-    fn is_left_bare(&self, marks: &[bool; COLUMNS]) -> bool
-        ensures { IsTrue result → (k : _) → k < column_count
-            → (if get_or marks.now k false then None else get_or self.now k None) ≡ None }
-    {
-        for number in 0..COLUMNS {
-            if self.has_unmarked(marks, number) {
-                return false;
-            }
-        }
-        true
-    }
-
-    /// Whether the column with a number is marked and has a tile.
-    fn has_marked(&self, marks: &[bool; COLUMNS], number: usize) -> bool
-        requires { number < column_count }
-        ensures { result ≡ (get_or marks.now number false && is_some (get_or self.now number None)) }
-    {
-        if !marks[number] {
-            return false;
-        }
-        match self.tile_at(number) {
-            Some(_) => true,
-            None => false,
-        }
-    }
-
-    /// Whether the column with a number has a tile and is not marked.
-    fn has_unmarked(&self, marks: &[bool; COLUMNS], number: usize) -> bool
-        requires { number < column_count }
-        ensures { result ≡ (not (get_or marks.now number false) && is_some (get_or self.now number None)) }
-    {
-        if marks[number] {
-            return false;
-        }
-        match self.tile_at(number) {
-            Some(_) => true,
-            None => false,
-        }
     }
 }
 
@@ -427,17 +390,6 @@ fn slot_of(tile: Option<&Arc<Tile>>, is_gone: bool) -> Result<Slot, AllocError>
         }),
         _ => Ok(Slot { tile: None }),
     }
-}
-
-/// A slot for each column, each empty.
-fn no_tiles(alloc: Global) -> Result<Vec<Slot>, AllocError>
-    ensures { IfOk result (λ slots. map tile_in_slot slots.items ≡ replicate column_count None) }
-{
-    let mut slots = Vec::with_capacity(alloc, COLUMNS)?;
-    for _ in 0..COLUMNS {
-        slots.push(Slot { tile: None })?;
-    }
-    Ok(slots)
 }
 
 /// How many slots have no tile.

@@ -1,8 +1,8 @@
-use Rattle.std.proofs.Common.{◌++◌, ◌∷◌, [], ℕ, ◌≡◌, None, map, replicate, ap, ◌∙◌, arith}
+use Rattle.std.proofs.Common.{◌++◌, ◌∷◌, [], ◌≡◌, None, map, ap, ◌∙◌, arith, rules}
 use Rattle.std.proofs.lemmas.List.{map_push, replicate_more}
 use Rattle.overlay_terms.specs.Column.{column_count}
 use Rattle.layer_tiles.specs.Table.{tile_in_slot}
-use Rattle.layer_tiles.proofs.tiles.no_tiles.Goals as goal
+use Rattle.layer_tiles.proofs.tiles.TileRow.empty.Goals as goal
 
 pub loop-preserved : goal.loop-preserved
 loop-preserved c =
@@ -11,4 +11,4 @@ loop-preserved c =
 pub returns : goal.returns
 returns c =
     let all : c.loop.counter ≡ column_count = omega (arith, c.loop-test.false, c.loop.auto.counter-end) in
-    c.loop.invariant ∙ ap (λ (n : ℕ). replicate n None) all
+    search rules
