@@ -50,6 +50,11 @@ module _ (live : LiveContent) where
   kept_tile name k tile e is =
       kept_sizes (tile_record_stays live (finished_as name k (by_places (named_pieces tile)))) (tile_size k (named_pieces tile)) e (stays_same name k tile ∙ is)
 
+  -- that of a slot which has it
+  pub slot_sizes : (name : Name) (k : ℕ) (slot : Option Named) (held : Named) → slot ≡ Some held → row_sizes live name k (slot ∷ []) ≡ tile_sizes live name k held
+  slot_sizes name k slot held is =
+      ap (λ (o : Option Named). row_sizes live name k (o ∷ [])) is ∙ append-nil (tile_sizes live name k held)
+
   -- ---- rows
 
   sizes_both : (name : Name) (k : ℕ) (xs ys : List (Option Named)) → row_sizes live name k (xs ++ ys) ≡ row_sizes live name k xs ++ row_sizes live name (k + length xs) ys

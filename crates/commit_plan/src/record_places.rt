@@ -5,17 +5,16 @@ ghost use Rattle.std.specs.Option.{option_map};
 ghost use Rattle.overlay_terms.specs.Column.{column_count};
 ghost use Rattle.overlay_terms.specs.Commands.{is_derived};
 ghost use Rattle.overlay_terms.specs.Histories.{is_formed, tile_at};
-ghost use Rattle.tile_build.specs.Tile.{named_pieces, tile_of};
+ghost use Rattle.tile_build.specs.Tile.{named_pieces};
 ghost use Rattle.layer_book.specs.Layer.{content};
-ghost use Rattle.layer_tiles.specs.Filling.{finished_as};
 ghost use Rattle.layer_tiles.specs.Table.{places_in, row_tiles, tiles_in};
 ghost use Rattle.layer_tiles.specs.TileCode.{by_places, Named};
 ghost use Rattle.store_terms.specs.Listing.{entry_of, entries_of, records_of, IsListable};
-ghost use Rattle.commit_plan.specs.Filed.{SaysLayer, SaysTile, SpellsContent};
+ghost use Rattle.commit_plan.specs.Filed.{SaysLayer, SpellsContent};
 ghost use Rattle.commit_plan.specs.Staying.{layer_named, records_named};
 ghost use Rattle.commit_plan.specs.Live.{live_content};
 ghost use Rattle.commit_plan.specs.Drafted.{HasNoRunFor, sizes_in};
-ghost use Rattle.commit_plan.specs.Sizes.{layer_sizes, own_record, own_sizes, row_sizes, sizes_of_layers, tile_sizes};
+ghost use Rattle.commit_plan.specs.Sizes.{layer_sizes, own_record, own_sizes, row_sizes, sizes_of_layers};
 ghost use Rattle.commit_plan.specs.RecordPlaces.{AreFormedIn, AreKnown, AreKnownIn, AreLayersFiled};
 ghost use Rattle.commit_plan.specs.RecordPlaces.{AreTilesFiled, IsFiled, IsLayerFiled, IsSlotFiled};
 
@@ -83,39 +82,9 @@ fn file_own(
     draft.file(bytes)
 }
 
-/// Where the record of a layer and column's tile lies: where it stays, or the lowest place that is free for it.
+/// Where the record of a layer and column's tile lies, if it has one: where it stays, or the lowest place that is free
+/// for it. The live root lists these records under the layer's name.
 fn file_tile(
-    alloc: Global,
-    draft: &mut Draft<'_>,
-    live: &LiveRecords,
-    name: &Name,
-    column: Column,
-    tile: &Tile,
-    records: Option<&Records>,
-    known: bool,
-) -> Result<RecordExtent, StoreFault>
-    requires listed { option_map (λ records. records_of records.now) records
-        ≡ records_named (live_content live.now).listing name.now }
-    requires formed { IsTrue (is_formed (tile_of tile.now) column) }
-    requires known { IsTrue known → tile_at (live_content live.now).tiles name.now column ≡ Some (tile_of tile.now) }
-    ensures ok { IfOk result (λ e. IsFiled draft.old
-        (SaysTile (live_content live.now) (finished_as name.now column (tile_of tile.now))) e draft.new) }
-    ensures sizes { IfOk result
-        (λ _. sizes_in draft.new ≡ sizes_in draft.old
-        ++ tile_sizes (live_content live.now) name.now column (named_pieces tile.now)) }
-    ensures full { IsErrOf result StoreFault.Full
-        → HasNoRunFor draft.old (tile_sizes (live_content live.now) name.now column (named_pieces tile.now)) }
-    ensures err { IfErr result (λ fault. (fault ≡ StoreFault.Full) ⊎ (fault ≡ StoreFault.OutOfMemory)) }
-{
-    if let Some(extent) = live.tile_stays(name, column, tile, records, known) {
-        return Ok(extent);
-    }
-    let bytes = write_tile(alloc, column, tile)?;
-    draft.file(bytes)
-}
-
-/// The same of a column that may have no tile.
-fn file_slot(
     alloc: Global,
     draft: &mut Draft<'_>,
     live: &LiveRecords,
@@ -142,13 +111,16 @@ fn file_slot(
         (option_map (λ t. named_pieces t.now.value) tile.entry ∷ [])) }
     ensures err { IfErr result (λ fault. (fault ≡ StoreFault.Full) ⊎ (fault ≡ StoreFault.OutOfMemory)) }
 {
-    match tile {
-        Some(tile) => {
-            let extent = file_tile(alloc, draft, live, name, column, tile, records, known)?;
-            Ok(Some(extent))
-        }
-        None => Ok(None),
+    let Some(tile) = tile else {
+        return Ok(None);
+    };
+    let tile: &Tile = tile;
+    if let Some(extent) = live.tile_stays(name, column, tile, records, known) {
+        return Ok(Some(extent));
     }
+    let bytes = write_tile(alloc, column, tile)?;
+    let extent = draft.file(bytes)?;
+    Ok(Some(extent))
 }
 
 /// Puts the records of a layer's tiles in their places, by column.
@@ -181,7 +153,7 @@ fn file_tiles(
             unreachable!()
         };
         let tile = row.tile_at(usize::from(number));
-        let entry = file_slot(alloc, draft, live, name, column, tile, records, known)?;
+        let entry = file_tile(alloc, draft, live, name, column, tile, records, known)?;
         entries.push(entry)?;
     }
     Ok(entries)

@@ -3,7 +3,7 @@ ghost use Rattle.std.specs.Prelude.{◌≡◌, ◌<◌, ◌^◌, true, length, O
 ghost use Rattle.exact_point.specs.PointName.{HasPlace};
 ghost use Rattle.record_writing.specs.Putting.{IsPut};
 ghost use Rattle.store_terms.specs.Fields.{counted};
-ghost use Rattle.store_terms.specs.TileRecord.{has_place, is_piece, piece as spelled, point_name, segment};
+ghost use Rattle.store_terms.specs.TileRecord.{has_place, piece as spelled, point_name, segment};
 
 use crate::bytes::{put_four_bytes, put_point};
 use exact_point::PointName;
@@ -26,22 +26,16 @@ pub(crate) fn put_pieces(out: &mut Vec<u8>, pieces: &[Piece]) -> Result<(), Allo
 fn put_piece(out: &mut Vec<u8>, piece: &Piece) -> Result<(), AllocError>
     ensures { OnOk result (IsPut spelled piece.now out.old.items out.new.items) }
 {
-    // Its ends have places by its type: the clause rests on that.
-    let _ = known(piece);
-    put_segment(out, piece.support())?;
-    put_point_name(out, piece.from())?;
-    put_point_name(out, piece.to())?;
-    Ok(())
-}
-
-/// Says of a piece what is true of each: both its names have places on its support, the left one first.
-fn known(piece: &Piece)
-    ensures { is_piece piece.now ≡ true }
-{
-    // Both ends have places by the type: the clause rests on that.
+    let from = piece.from();
+    let to = piece.to();
+    // Both ends have places by its type, the left one first: the clause rests on that.
     let _ = piece.ends();
-    let _ = known_name(&piece.from());
-    let _ = known_name(&piece.to());
+    let _ = known_name(&from);
+    let _ = known_name(&to);
+    put_segment(out, piece.support())?;
+    put_point_name(out, from)?;
+    put_point_name(out, to)?;
+    Ok(())
 }
 
 /// Says of a name that has a place that the test accepts it.

@@ -1,6 +1,5 @@
 -- The front of a record says what all of it says.
-use Rattle.std.proofs.Common.{◌≡◌, ◌⊎◌, inl, inr, ℕ, suc, ◌+◌, ◌*◌, ◌≤◌, true, List, take, drop, Option, Result, Ok, Err, Vec, Global, ap, ◌∙◌, sym, rules, arith, take_all, take-take, length-take}
-use Rattle.std.specs.Prelude.{IfOk, IfErr}
+use Rattle.std.proofs.Common.{◌≡◌, ◌⊎◌, inl, inr, ℕ, suc, ◌+◌, ◌*◌, ◌≤◌, true, List, take, drop, Option, Result, Ok, Err, ap, ◌∙◌, sym, rules, arith, take_all, take-take, length-take}
 use Rattle.std.proofs.lemmas.Bool.{cond-true}
 use Rattle.disk_model.specs.Disk.{part}
 use Rattle.store_terms.specs.Places.{block_size, is_placed, bytes_at}
@@ -9,7 +8,7 @@ use Rattle.store_terms.specs.declared.root.RecordExtent.{RecordExtent}
 use Rattle.store_terms.specs.Image.{◌>>=◌, or_fault, placed_bytes}
 use Rattle.root_reading.specs.declared.load_fault.LoadFault.{LoadFault}
 use Rattle.root_reading.specs.declared.load_fault.LoadFault.TheVariants.{Device, Damaged, OutOfMemory}
-use Rattle.root_reading.specs.Looking.{Gives, Refuses, IsUndamaged}
+use Rattle.root_reading.specs.Looking.{Refuses}
 use Rattle.root_reading.specs.LayerReading.{front_of}
 
 refused_by : {Y : Type 0} (placed : Result (List ℕ) Damage) (most : ℕ) (read : List ℕ → Result Y Damage) (damage : Damage)
@@ -59,15 +58,3 @@ front_is most count damage file e placed small few either_way =
     ap (λ (r : Result (List ℕ) Damage). r >>= λ bytes. Ok (take (suc most) bytes))
     (cond-true (is_placed file e) (Ok (bytes_at file e)) (Err damage) placed)
     ∙ ap Ok (shorter_take most e.size count (drop (block_size * e.block) file) small few either_way)
-
--- what is read of the part that shows a record is its front
-pub gives_front : (result : Result (Vec ℕ Global) LoadFault) (at most count : ℕ) (damage : Damage) (file : List ℕ)
-    (e : RecordExtent) → is_placed file e ≡ true → at ≡ block_size * e.block → count ≤ e.size → count ≤ most + 1
-    → (count ≡ e.size) ⊎ (count ≡ most + 1) → IfOk result (λ v. v.items ≡ part file at count) → IfErr result IsUndamaged
-    → Gives (λ v. v.items) result (front_of most damage file e)
-gives_front (Ok v) at most count damage file e placed start small few either_way is sound =
-    front_is most count damage file e placed small few either_way
-    ∙ ap Ok (ap (λ (n : ℕ). part file n count) (sym start) ∙ sym is)
-gives_front (Err Device) at most count damage file e placed start small few either_way is sound = search rules
-gives_front (Err OutOfMemory) at most count damage file e placed start small few either_way is sound = search rules
-gives_front (Err (Damaged other)) at most count damage file e placed start small few either_way is sound = absurd sound

@@ -20,12 +20,6 @@ Refuses Device read = Unit {0}
 Refuses OutOfMemory read = Unit {0}
 Refuses (Damaged damage) read = read ≡ Err damage
 
--- the device or memory failed, and nothing is said of the bytes
-abbrev pub IsUndamaged : LoadFault → Type 0
-IsUndamaged Device = Unit {0}
-IsUndamaged OutOfMemory = Unit {0}
-IsUndamaged (Damaged damage) = ⊥
-
 -- the value that reading gives, or the damage that it reports, unless the device or memory failed
 abbrev pub Gives : {X Y : Type 0} → (X → Y) → Result X LoadFault → Result Y Damage → Type 0
 Gives view (Ok x) read = read ≡ Ok (view x)

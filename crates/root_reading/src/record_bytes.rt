@@ -1,9 +1,8 @@
 //! Records as the disk has them.
-ghost use Rattle.std.specs.Prelude.{◌≡◌, ◌↔◌, ◌+◌, ◌*◌, ◌/◌, ◌<◌, ◌^◌, ◌&&◌, ◌≤◌, nat_le, length, IfOk, IfErr};
-ghost use Rattle.disk_model.specs.Disk.{part};
+ghost use Rattle.std.specs.Prelude.{◌≡◌, ◌↔◌, ◌+◌, ◌<◌, ◌^◌, ◌&&◌, nat_le, length};
 ghost use Rattle.store_terms.specs.Places.{blocks};
 ghost use Rattle.root_reading.specs.LayerReading.{front_of};
-ghost use Rattle.root_reading.specs.Looking.{Gives, Looks, Causes, IsUndamaged};
+ghost use Rattle.root_reading.specs.Looking.{Gives, Looks, Causes};
 
 use crate::load_fault::LoadFault;
 use disk_model::disk::Disk;
@@ -43,24 +42,7 @@ pub(crate) fn fetch<D: Disk>(
         return Err(LoadFault::Damaged(damage));
     }
     let count = usize::min(extent.size as usize, most + 1);
-    read_part(alloc, disk, extent.block as usize * BLOCK, count)
-}
-
-/// So many bytes of the disk from a place on.
-fn read_part<D: Disk>(
-    alloc: Global,
-    disk: &mut D,
-    at: usize,
-    count: usize,
-) -> Result<Vec<u8>, LoadFault>
-    requires { D.is_honest disk.old → at + count ≤ length (D.seen disk.old) }
-    ensures honest { D.is_honest disk.new ↔ D.is_honest disk.old }
-    ensures looks { D.is_honest disk.old → Looks D.Disk disk.old disk.new }
-    ensures part { D.is_honest disk.old → IfOk result (λ v. v.items ≡ part (D.seen disk.old) at count) }
-    ensures undamaged { IfErr result IsUndamaged }
-    ensures cause { D.is_honest disk.old → Causes result (D.faults disk.old) (D.faults disk.new) }
-{
     let mut bytes = vec![in alloc; 0; count]?;
-    disk.read(at, &mut bytes)?;
+    disk.read(extent.block as usize * BLOCK, &mut bytes)?;
     Ok(bytes)
 }

@@ -33,24 +33,15 @@ fn add_run(runs: &mut Vec<Run>, extent: RecordExtent) -> Result<(), AllocError>
     Ok(())
 }
 
-/// Adds the run of a tile, if it is finished.
-fn add_entry(runs: &mut Vec<Run>, entry: Option<RecordExtent>) -> Result<(), AllocError>
-    ensures { (es : List terms.RecordExtent) → AreRunsFor es runs.old.items
-        → OnOk result (AreRunsFor (es ++ some_extents (entry ∷ [])) runs.new.items) }
-{
-    match entry {
-        Some(extent) => add_run(runs, extent),
-        None => Ok(()),
-    }
-}
-
 /// Adds the run of each tile that is finished.
 fn add_entries(runs: &mut Vec<Run>, entries: &[Option<RecordExtent>]) -> Result<(), AllocError>
     ensures { (es : List terms.RecordExtent) → AreRunsFor es runs.old.items
         → OnOk result (AreRunsFor (es ++ some_extents entries.now) runs.new.items) }
 {
     for entry in entries.iter() {
-        add_entry(runs, *entry)?;
+        if let Some(extent) = entry {
+            add_run(runs, *extent)?;
+        }
     }
     Ok(())
 }

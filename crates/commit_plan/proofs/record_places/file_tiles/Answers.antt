@@ -38,7 +38,7 @@ loop-number-preserved c =
     let so_far = c.loop-number.invariant in
     let old = c.args.draft.now in
     let mid = c.loop-number.draft in
-    let new = c.file_slot.new.draft in
+    let new = c.file_tile.new.draft in
     let column : c.in-Some.column ≡ i = search rules in
     let slot : option_map (λ t. named_pieces t.now.value) c.tile_at-tile.result ≡ get_or row i None =
     c.tile_at-tile.ensures ∙ ap (λ n. get_or row n None) c.from-in-loop-number.ensures in
@@ -57,16 +57,16 @@ loop-number-preserved c =
           ∙ length-append c.loop-number.entries.items (entry ∷ []) ∙ ap (λ (n : ℕ). n + 1) so_far.count;
     }
 
-pub file_slot-requires-clause-known : goal.file_slot-requires-clause-known
-file_slot-requires-clause-known c known held is =
+pub file_tile-requires-clause-known : goal.file_tile-requires-clause-known
+file_tile-requires-clause-known c known held is =
     let row = c.args.row.now in
     let i = c.loop-number.number in
     let column : c.in-Some.column ≡ i = search rules in
     ap (tile_at (live_content c.args.live.now).tiles c.args.name.now) column
     ∙ c.requires.known known i held (sym (c.tile_at-tile.ensures ∙ ap (λ n. get_or row n None) c.from-in-loop-number.ensures) ∙ is)
 
-pub file_slot-requires-clause-formed : goal.file_slot-requires-clause-formed
-file_slot-requires-clause-formed c held is =
+pub file_tile-requires-clause-formed : goal.file_tile-requires-clause-formed
+file_tile-requires-clause-formed c held is =
     let row = c.args.row.now in
     let i = c.loop-number.number in
     let column : c.in-Some.column ≡ i = search rules in
