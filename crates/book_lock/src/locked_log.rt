@@ -165,7 +165,7 @@ impl<J: BookName, R: Wait + Drop> LockedLog<J, R> {
     }
 
     /// The reporter sees all of it, with the count of news that it gives with it.
-    pub fn show_reporter(&self, me: &mut Reporter, given: u64)
+    pub fn show_to_reporter(&self, me: &mut Reporter, given: u64)
         requires book { me.old.book ≡ J.book }
         requires heard { HasHeard self.now me.old }
         ensures { me.new ≡ record { book = me.old.book; log = self.now; given = given } }

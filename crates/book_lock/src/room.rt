@@ -32,28 +32,14 @@ impl Room {
         ensures ok { IfOk result (λ v. arc_value v ≡ version) }
         ensures err { IfErr result (λ fault. fault ≡ no_memory) }
     {
-        match self.place.take() {
-            Some(place) => put(place, alloc, version),
-            None => shared(alloc, version),
+        if let Some(place) = self.place.take() {
+            let mut place = place;
+            // Nobody else has it.
+            if let Some(own) = Arc::get_mut(&mut place) {
+                *own = version;
+                return Ok(place);
+            }
         }
-    }
-}
-
-// The same in the place of a version that nobody else has.
-fn put(
-    place: Arc<Version, Global>,
-    alloc: Global,
-    version: Version,
-) -> Result<Arc<Version, Global>, BookFault>
-    ensures ok { IfOk result (λ v. arc_value v ≡ version) }
-    ensures err { IfErr result (λ fault. fault ≡ no_memory) }
-{
-    let mut place = place;
-    match Arc::get_mut(&mut place) {
-        Some(old) => {
-            *old = version;
-            Ok(place)
-        }
-        None => shared(alloc, version),
+        shared(alloc, version)
     }
 }

@@ -25,7 +25,7 @@ use Rattle.session_threads.specs.declared.running.Script.{Script}
 use Rattle.session_threads.specs.declared.running.Ended.{Ended}
 use Rattle.overlay_server.specs.Moments.{HasOnlyNow}
 use Rattle.overlay_server.specs.Serving.{HadFailed, IsFailedOf, ServerReportsFault, IsHeldOf, ServerReports, IsStoredOf, WasHeld, first_log}
-use Rattle.server_session.specs.Fault.{store_reported}
+use Rattle.server_session.specs.Fault.{store_fault_of}
 use Rattle.server_session.proofs.Weaker.{session_weaker}
 
 module _ {D : Type 0} (g : Ghosts D) (now : HasOnlyNow g) (start : Version) (stored : List Entry → ℕ → Type 0) (failed : List Entry → ReportedFault → Type 0) where
@@ -71,7 +71,7 @@ module _ {D : Type 0} (g : Ghosts D) (now : HasOnlyNow g) (start : Version) (sto
       later_held old may.was log history on same may.longer (meant may.was (newest_in log).durable may.holds is)
 
   failed_before : (old : Flusher D g) (was log : List Entry) (history : History) (fault : CommandFault) → BeginsWith history (history_of (first_log start)) → history_of log ≡ history → IsPrefix was log
-      → (reported : ReportedFault) → fault ≡ store_reported reported → FailedAt g (history_of (first_log start)) old was reported → HadFailed g start old history fault
+      → (reported : ReportedFault) → fault ≡ store_fault_of reported → FailedAt g (history_of (first_log start)) old was reported → HadFailed g start old history fault
   failed_before old was log history fault on same longer reported is fails =
       record { log = was; before = before was log history longer same on fails.followed.goes_on; reported = reported; same = is; failed = fails }
 

@@ -17,7 +17,7 @@ use Rattle.book_lock.specs.Steps.{beginners, HasAllOf}
 use Rattle.book_history.specs.declared.fault.ReportedFault.{ReportedFault}
 use Rattle.script_form.specs.declared.fault.CommandFault.{CommandFault}
 use Rattle.script_form.specs.Transcript.{BookStore, StoreReport, of_number, of_fault, store_by}
-use Rattle.server_session.specs.Fault.{store_reported}
+use Rattle.server_session.specs.Fault.{store_fault_of}
 use Rattle.server_session.specs.Session.{IsSessionWithin}
 use Rattle.store_flushing.specs.Among.{IsFileIn, IsFileExactlyIn}
 use Rattle.store_flushing.specs.Failing.{FailedAt}
@@ -77,7 +77,7 @@ pub record HadFailed {D : Type 0} (g : Ghosts D) (start : Version) (old : Flushe
   pub log : List Entry
   pub before : BeginsWith history (history_of log)
   pub reported : ReportedFault
-  pub same : fault ≡ store_reported reported
+  pub same : fault ≡ store_fault_of reported
   pub failed : FailedAt g (history_of (first_log start)) old log reported
 
 -- which fault of its store a server reports to a session at which history: one for which that failed

@@ -7,7 +7,7 @@ ghost use Rattle.overlay_server.specs.Durability.{FilesAreCovered, NewEnginesAre
 ghost use Rattle.overlay_server.specs.Runs.{RunsLoseNothing};
 
 use disk_model::disk::Disk;
-use line_laws::laws::Tells;
+use line_laws::laws::Reports;
 
 /// An engine that was just made or recovered has the store of which the clauses on a server's files speak.
 pub fn new_engines_are_stores<D: Disk>()
@@ -27,7 +27,7 @@ pub fn versions_are_exact()
 
 /// The session of a book with no other one's commands was alone, as that of a server of one reader: what was accepted
 /// in all that it has seen are the batches that it made. So its lines decide the versions after them (`lines_decide`).
-pub fn one_session_is_alone<A: Tells>()
+pub fn one_session_is_alone<A: Reports>()
     ensures { (there : Bool) → OneSessionIsAlone (store_by A.reported there) }
 {}
 

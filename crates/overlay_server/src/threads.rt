@@ -82,7 +82,7 @@ where
     worked
 }
 
-/// Does nothing; by it the borrow checker knows that what came back is what was lent.
+/// Does nothing: the loan that came back ends here, so what was lent is what the threads made of it.
 fn take_back<T>(lent: &mut T)
     ensures { lent.new ≡ lent.old }
 {}

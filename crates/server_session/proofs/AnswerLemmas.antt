@@ -44,7 +44,7 @@ use Rattle.script_form.specs.declared.open_batch.LinesFault.{LinesFault}
 use Rattle.script_form.specs.declared.open_batch.LinesFault.TheVariants.{Unread, OutOfMemory as NoMemory}
 use Rattle.script_form.specs.declared.line_turn.LineTurn.TheVariants.{Waits, Alone, Whole}
 use Rattle.server_session.specs.Answering.{Answers, AnswersAll, IsAnswerToAll, Submits, SubmitsAll}
-use Rattle.server_session.specs.Fault.{fault_reported, lines_reported}
+use Rattle.server_session.specs.Fault.{command_fault_of, lines_reported}
 use Rattle.server_session.specs.Session.{IsSharedRun, Stays}
 use Rattle.script_form.specs.declared.line_reply.LineReply.{LineReply}
 use Rattle.server_session.specs.Turn.{EndsTurn, TakesTurn}
@@ -103,7 +103,7 @@ made_none gone fault was now (inl there) = ap (λ (k : Known). k.made) there.1
 made_none gone fault was now (inr there) = there.1
 
 submit_refused : (was now : Known) (command : Command) (fault : BookFault) → IsCommandRefused true (newest (seen now)) command fault
-    → IsRefused OutOfMemory [] (error_line (fault_reported fault)) ⊎ IsSubmitted was.session (seen was) command (seen now) [] (error_line (fault_reported fault))
+    → IsRefused OutOfMemory [] (error_line (command_fault_of fault)) ⊎ IsSubmitted was.session (seen was) command (seen now) [] (error_line (command_fault_of fault))
 submit_refused was now command (book.Version wrong) (inl memory) = inl (record { nothing_made = refl; says = ap (λ w. error_line (Version w)) memory.0 })
 submit_refused was now command (book.Version wrong) (inr by) =
     let r = refused_as (refusal_at (newest (seen now)).number (newest (seen now)).layers command) wrong by in
@@ -115,7 +115,7 @@ submit_refused was now command (book.Store fault) refused = absurd refused
 
 pub submits_refused : (was now : Known) (command : Command) (fault : BookFault) → BeginsWith (seen now) (seen was) → (now.book ≡ was.book) × (now.session ≡ was.session)
     → LeavesSession book.Gone was now fault → IsCommandRefused true (newest (seen now)) command fault
-    → (reported : CommandFault) → reported ≡ fault_reported fault → Submits was command now (error_line reported)
+    → (reported : CommandFault) → reported ≡ command_fault_of fault → Submits was command now (error_line reported)
 submits_refused was now command fault on same unchanged refused reported is =
     let stays : Stays was now = record { book = same.0; session = same.1; goes_on = on } in
     subst (λ (f : CommandFault). Submits was command now (error_line f)) (sym is) (record {

@@ -25,7 +25,7 @@ use Rattle.script_form.specs.Replies.{error_line, numbered_line, verdict_line}
 use Rattle.script_form.specs.Requests.{edges, wait, verify, sync}
 use Rattle.script_form.specs.Transcript.{BookStore, StoreReport, of_number, of_fault, store_by, asked_column, IsOutOfMemory, IsAnswered, IsOfStore}
 use Rattle.server_session.specs.Answering.{Answers}
-use Rattle.server_session.specs.Fault.{fault_reported, store_reported}
+use Rattle.server_session.specs.Fault.{command_fault_of, store_fault_of}
 use Rattle.server_session.specs.Session.{Stays}
 use Rattle.server_session.specs.Stores.{MayBeReportedAt}
 use Rattle.server_session.proofs.AnswerLemmas.{answers_so, answers_there, asked_none, asked_some, unnamed, refused_so}
@@ -117,7 +117,7 @@ pub waited_stays : (was now : Known) → BeginsWith (seen now) (seen was) → Wa
 waited_stays was now on same = record { book = same.0; session = same.1; goes_on = on }
 
 wait_refused_so : (stored : BookStore) (was now : Known) (name : List ℕ) (fault : BookFault) → IsTrue (is_name name) → IsWaitRefused true (newest (seen now)) name fault
-    → IsOutOfMemory (wait name) [] (error_line (fault_reported fault)) ⊎ IsAnswered stored was.session (seen was) (wait name) (seen now) [] (error_line (fault_reported fault))
+    → IsOutOfMemory (wait name) [] (error_line (command_fault_of fault)) ⊎ IsAnswered stored was.session (seen was) (wait name) (seen now) [] (error_line (command_fault_of fault))
 wait_refused_so stored was now name (book.Version wrong) named (inl by) = inr (refl, inr (named, inr (asked_some Version _ wrong _ by)))
 wait_refused_so stored was now name (book.Version wrong) named (inr memory) = inl (named, record { nothing_made = refl; says = ap (λ f. error_line (Version f)) memory.0 })
 wait_refused_so stored was now name book.Closing named refused =
@@ -127,10 +127,10 @@ wait_refused_so stored was now name book.NoStore named refused = absurd refused
 wait_refused_so stored was now name (book.Store fault) named refused = absurd refused
 
 pub wait_refused : (stored : BookStore) (was now : Known) (name known : List ℕ) (fault : BookFault) → BeginsWith (seen now) (seen was) → Waited was now → known ≡ name → IsTrue (is_name name)
-    → IsWaitRefused true (newest (seen now)) known fault → (reported : CommandFault) → reported ≡ fault_reported fault → Answers stored was (wait name) now (error_line reported)
+    → IsWaitRefused true (newest (seen now)) known fault → (reported : CommandFault) → reported ≡ command_fault_of fault → Answers stored was (wait name) now (error_line reported)
 wait_refused stored was now name known fault on same is named refused reported same_reported =
     subst (λ (f : CommandFault). Answers stored was (wait name) now (error_line f)) (sym same_reported)
-    (answers_so was now (waited_stays was now on same) same.2 stored (wait name) (error_line (fault_reported fault))
+    (answers_so was now (waited_stays was now on same) same.2 stored (wait name) (error_line (command_fault_of fault))
     (wait_refused_so stored was now name fault named (subst (λ n. IsWaitRefused true (newest (seen now)) n fault) is refused)))
 
 pub wait_reported : (stored : BookStore) (was now : Known) (name known : List ℕ) (number : ℕ) → BeginsWith (seen now) (seen was) → Waited was now → known ≡ name → IsTrue (is_name name)
@@ -142,7 +142,7 @@ wait_reported stored was now name known number on same is named built =
 
 -- ==== SYNC
 
-of_store : (fault : ReportedFault) → IsOfStore (store_reported fault)
+of_store : (fault : ReportedFault) → IsOfStore (store_fault_of fault)
 of_store store.Device = inl refl
 of_store store.Full = inr (inl refl)
 of_store store.Failed = inr (inr (inl refl))
@@ -151,7 +151,7 @@ of_store store.OutOfMemory = inr (inr (inr (inr (inl refl))))
 
 -- a refusal by a store's fault may be reported
 abbrev pub MayReportFault : (History → StoreReport → Type 0) → History → BookFault → Type 0
-MayReportFault reported history (book.Store fault) = reported history (of_fault (store_reported fault))
+MayReportFault reported history (book.Store fault) = reported history (of_fault (store_fault_of fault))
 MayReportFault reported history fault = Unit {0}
 
 -- what the book says of it is said of what the session has seen
@@ -166,7 +166,7 @@ may_report_fault stored failed now (book.Store fault) is = record { log = now.lo
 -- why a wait for a durable number is refused, and what that says of the store
 sync_refused_so : (reported : History → StoreReport → Type 0) (there : Bool) (was now : Known) (fault : BookFault) → IsSyncRefused (newest (seen was)).number (newest (seen now)) fault
     → MayReportFault reported (seen now) fault → (fault ≡ book.NoStore → there ≡ false) → (there ≡ false → (fault ≡ book.NoStore) ⊎ (fault ≡ book.Gone))
-    → IsOutOfMemory sync [] (error_line (fault_reported fault)) ⊎ IsAnswered (store_by reported there) was.session (seen was) sync (seen now) [] (error_line (fault_reported fault))
+    → IsOutOfMemory sync [] (error_line (command_fault_of fault)) ⊎ IsAnswered (store_by reported there) was.session (seen was) sync (seen now) [] (error_line (command_fault_of fault))
 sync_refused_so reported there was now (book.Version wrong) refused may only without = absurd refused
 sync_refused_so reported true was now book.Closing refused may only without =
     inr (inr (inr (inr (refl, record { behind = refused; fault = Closing; of_store = inr (inr (inr (inr (inr refl)))); may = inl refl; refused = refused_so Closing }))))
@@ -174,17 +174,17 @@ sync_refused_so reported false was now book.Closing refused may only without = a
 sync_refused_so reported there was now book.Gone refused may only without = inr (inr (inl (refused_so Gone)))
 sync_refused_so reported there was now book.NoStore refused may only without = inr (inl (only refl, refused_so NoStore))
 sync_refused_so reported true was now (book.Store fault) refused may only without =
-    inr (inr (inr (inr (refl, record { behind = refused; fault = store_reported fault; of_store = of_store fault; may = inr may; refused = refused_so (store_reported fault) }))))
+    inr (inr (inr (inr (refl, record { behind = refused; fault = store_fault_of fault; of_store = of_store fault; may = inr may; refused = refused_so (store_fault_of fault) }))))
 sync_refused_so reported false was now (book.Store fault) refused may only without = absurd (⊎_elim (λ e. absurd (cc)) (λ e. absurd (cc)) (without refl))
 
 pub sync_refused : (stored : BookStore) (was now : Known) (result : Result ℕ BookFault) (fault : BookFault) → result ≡ Err fault → BeginsWith (seen now) (seen was) → Waited was now
     → IsSyncRefused (newest (seen was)).number (newest (seen now)) fault → MayReportFault stored.reported (seen now) fault → (result ≡ Err book.NoStore → stored.there ≡ false)
     → (stored.there ≡ false → IsErrAnd result (λ f. (f ≡ book.NoStore) ⊎ (f ≡ book.Gone)))
-    → (reported : CommandFault) → reported ≡ fault_reported fault → Answers stored was sync now (error_line reported)
+    → (reported : CommandFault) → reported ≡ command_fault_of fault → Answers stored was sync now (error_line reported)
 sync_refused stored was now result fault is on same refused may only without reported same_reported =
     let P : BookFault → Type 0 = λ f. (f ≡ book.NoStore) ⊎ (f ≡ book.Gone) in
     subst (λ (f : CommandFault). Answers stored was sync now (error_line f)) (sym same_reported)
-    (answers_so was now (waited_stays was now on same) same.2 stored sync (error_line (fault_reported fault))
+    (answers_so was now (waited_stays was now on same) same.2 stored sync (error_line (command_fault_of fault))
     (sync_refused_so stored.reported stored.there was now fault refused may (λ e. only (is ∙ ap Err e)) (λ none. subst (λ (r : Result ℕ BookFault). IsErrAnd r P) is (without none))))
 
 -- a book that reports a durable number has a store

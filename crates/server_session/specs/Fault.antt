@@ -14,19 +14,19 @@ use Rattle.script_form.specs.Fault.{code_of}
 use Rattle.script_form.specs.Replies.{error_line, refused_line}
 use Rattle.script_form.specs.declared.fault.CommandFault.TheVariants.{Version, Device, Full, StoreFailed, SequenceLimit, OutOfMemory, Closing, Gone, NoStore}
 
-abbrev pub store_reported : ReportedFault → CommandFault
-store_reported store.Device = Device
-store_reported store.Full = Full
-store_reported store.Failed = StoreFailed
-store_reported store.SequenceLimit = SequenceLimit
-store_reported store.OutOfMemory = OutOfMemory
+abbrev pub store_fault_of : ReportedFault → CommandFault
+store_fault_of store.Device = Device
+store_fault_of store.Full = Full
+store_fault_of store.Failed = StoreFailed
+store_fault_of store.SequenceLimit = SequenceLimit
+store_fault_of store.OutOfMemory = OutOfMemory
 
-abbrev pub fault_reported : BookFault → CommandFault
-fault_reported (book.Version fault) = Version fault
-fault_reported book.Closing = Closing
-fault_reported book.Gone = Gone
-fault_reported book.NoStore = NoStore
-fault_reported (book.Store fault) = store_reported fault
+abbrev pub command_fault_of : BookFault → CommandFault
+command_fault_of (book.Version fault) = Version fault
+command_fault_of book.Closing = Closing
+command_fault_of book.Gone = Gone
+command_fault_of book.NoStore = NoStore
+command_fault_of (book.Store fault) = store_fault_of fault
 
 -- a fault by which a batch is refused: a refusal of the definitions, or the book closes, or
 -- is not as far, or memory ran out

@@ -6,7 +6,7 @@ use Rattle.book_history.specs.declared.fault.ReportedFault.{ReportedFault}
 use Rattle.book_lock.specs.Reporting.{ReportsStored, MayBeReported}
 use Rattle.script_form.specs.declared.fault.CommandFault.{CommandFault}
 use Rattle.script_form.specs.Transcript.{BookStore, StoreReport, of_number, of_fault, store_by}
-use Rattle.server_session.specs.Fault.{store_reported}
+use Rattle.server_session.specs.Fault.{store_fault_of}
 
 -- the number that a history reports durable is that of its first version, or was stored of a beginning of its log
 abbrev pub HistoryReportsStored : (List Entry → ℕ → Type 0) → History → Type 0
@@ -17,7 +17,7 @@ pub record FaultMayBeReportedAt (failed : List Entry → ReportedFault → Type 
   pub log : List Entry
   pub of : history_of log ≡ history
   pub reported : ReportedFault
-  pub same : fault ≡ store_reported reported
+  pub same : fault ≡ store_fault_of reported
   pub failed_so : ∥ MayBeReported failed log reported ∥₁
 
 -- what may be reported of a store at a history: its durable number, or a fault of the store

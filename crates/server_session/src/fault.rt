@@ -1,6 +1,6 @@
 //! What the book refuses, as a reply says it.
 ghost use Rattle.std.specs.Prelude.{◌≡◌};
-ghost use Rattle.server_session.specs.Fault.{fault_reported, store_reported, IsBatchNumber, IsNumbered};
+ghost use Rattle.server_session.specs.Fault.{command_fault_of, store_fault_of, IsBatchNumber, IsNumbered};
 
 use layer_book::fault::LayerFault;
 use script_form::CommandFault;
@@ -9,7 +9,7 @@ use versions::VersionFault;
 
 /// The fault as a reply says it.
 pub(crate) fn command_fault(fault: BookFault) -> CommandFault
-    ensures { result ≡ fault_reported fault }
+    ensures { result ≡ command_fault_of fault }
 {
     match fault {
         BookFault::Version(fault) => CommandFault::Version(fault),
@@ -21,7 +21,7 @@ pub(crate) fn command_fault(fault: BookFault) -> CommandFault
 }
 
 fn store_fault(fault: ReportedFault) -> CommandFault
-    ensures { result ≡ store_reported fault }
+    ensures { result ≡ store_fault_of fault }
 {
     match fault {
         ReportedFault::Device => CommandFault::Device,

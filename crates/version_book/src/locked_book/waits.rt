@@ -180,6 +180,6 @@ pub(crate) fn tell_news<J: BookName, R: Wait + Drop>(
     let Ok(version) = Arc::try_clone(&locked.log.last().version) else {
         return Err(NO_MEMORY);
     };
-    locked.log.show_reporter(me, locked.state.news);
+    locked.log.show_to_reporter(me, locked.state.news);
     Ok(Some(version))
 }

@@ -3,4 +3,4 @@ use Rattle.overlay_server.proofs.Alone.{one_session_is_alone}
 use Rattle.overlay_server.proofs.laws.one_session_is_alone.Goals as goal
 
 pub returns : goal.returns
-returns g c there = one_session_is_alone (store_by g.A.Tells.reported there)
+returns g c there = one_session_is_alone (store_by g.A.Reports.reported there)

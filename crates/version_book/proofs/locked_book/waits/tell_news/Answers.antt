@@ -12,8 +12,8 @@ returns-then-not-has_heard g c = record {
   heard = λ is. absurd (cc);
 }
 
-pub show_reporter-requires : goal.show_reporter-requires
-show_reporter-requires g c = record { book = c.requires.book; heard = c.if-not-has_heard.ensures.0 refl }
+pub show_to_reporter-requires : goal.show_to_reporter-requires
+show_to_reporter-requires g c = record { book = c.requires.book; heard = c.if-not-has_heard.ensures.0 refl }
 
 pub returns-in_default : goal.returns-in_default
 returns-in_default g c = record {
@@ -28,7 +28,7 @@ returns-in_default g c = record {
 pub returns : goal.returns
 returns g c = record {
   some = (c.in-Ok.ensures ∙ c.last.ensures.version, c.if-not-has_heard.ensures.0 refl, c.last.ensures.log);
-  news = (search rules, c.show_reporter.ensures);
+  news = (search rules, c.show_to_reporter.ensures);
   none = tt;
   err = tt;
   gone = λ is. absurd (cc);

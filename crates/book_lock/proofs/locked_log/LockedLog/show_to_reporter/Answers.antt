@@ -2,7 +2,7 @@ use Rattle.std.proofs.Common.{refl, ap, sym, ◌∙◌, subst}
 use mathlib.Core.List.{IsPrefix}
 use Rattle.book_history.specs.BookLogs.{BookLog}
 use Rattle.book_lock.proofs.Hearing.{durable_there, moved}
-use Rattle.book_lock.proofs.locked_log.LockedLog.show_reporter.Goals as goal
+use Rattle.book_lock.proofs.locked_log.LockedLog.show_to_reporter.Goals as goal
 
 pub move_on-requires : goal.move_on-requires
 move_on-requires g c =
