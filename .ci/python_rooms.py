@@ -1,4 +1,4 @@
-"""Reads files of Python: what each is, and what its functions do, by the first sentences of their docstrings."""
+"""Reads files of Python: what each is, what its functions do, by their docstrings, and which numbers have names."""
 
 from __future__ import annotations
 
@@ -12,8 +12,8 @@ HEAD = """# Rooms of Python
 
 Each file of Python by the sentence at its head, and its functions by the first sentence of each: look here, as in
 [ROOMS](ROOMS.md), for where a thing is done. `.ci/rooms` writes the page from the sources, and the gate compares it with
-them. A method is `Type.name`; at the end of a file stand those without a sentence. Of files of tests the functions are
-left out.
+them. A method is `Type.name`; at the end of a file stand its named numbers, as far as they are written out, then the
+functions without a sentence. Of files of tests the functions are left out.
 """
 TESTS = re.compile(r"(?:^|/)(?:testing/|test_|tests\.py|testing\.py|[\w-]+-tests$)")
 
@@ -23,6 +23,27 @@ def sentence(text: str | None) -> str:
     words = " ".join((text or "").strip().split("\n\n")[0].split())
     found = re.match(r"(.*?[.:])(?= [A-Z]|$)", words)
     return (found[1] if found else words).removesuffix(":")
+
+
+def is_number(value: ast.expr | None) -> bool:
+    """Whether an expression is a number that is written out, or some."""
+    if isinstance(value, ast.Tuple):
+        return bool(value.elts) and all(is_number(one) for one in value.elts)
+    if isinstance(value, ast.BinOp):
+        return is_number(value.left) and is_number(value.right)
+    if isinstance(value, ast.UnaryOp):
+        return is_number(value.operand)
+    return isinstance(value, ast.Constant) and type(value.value) in (int, float)
+
+
+def numbers(tree: ast.Module) -> list[str]:
+    """The names of a file's constants that are numbers written out, in their order."""
+    return [
+        name.id
+        for part in tree.body if isinstance(part, ast.Assign | ast.AnnAssign) and is_number(part.value)
+        for target in (part.targets if isinstance(part, ast.Assign) else [part.target])
+        for name in ast.walk(target) if isinstance(name, ast.Name) and name.id.isupper()
+    ]
 
 
 def functions(tree: ast.Module) -> list[tuple[str, str]]:
@@ -68,7 +89,8 @@ def part(path: pathlib.Path, top: pathlib.Path) -> list[str]:
         return [*lines, ""]
     told = functions(tree)
     lines += ["", *(f"- `{one}`: {what}" for one, what in told if what)] if any(what for _, what in told) else []
-    rest = [f"`{one}`" for one, what in told if not what and one.rpartition(".")[2] != "main"]
+    bare = [one for one, what in told if not what and one.rpartition(".")[2] != "main"]
+    rest = [f"`{one}`" for one in [*numbers(tree), *bare]]
     return [*lines, *(["", f"Also {', '.join(rest)}."] if rest else []), ""]
 
 
