@@ -2,7 +2,9 @@
 
 Sources are laid out by `rt fmt`, so a function begins at the margin or four columns in, and ends with a brace there or on
 its own line. The prover names one by its module, its type and itself: `bounds::Bounds::with`; one of an `impl` for a trait
-by both names in one, `point::PtOrd::cmp`; one of a type by the module where the type is, wherever its `impl` stands.
+by both names in one, `point::PtOrd::cmp`; one of a type by the module where the type is, wherever its `impl` stands; but
+one of an `impl` for some types alone by the module where that stands, and with what the type is given there:
+`fault_disk::PlannedDisk+D+FaultPlan::new`.
 """
 
 from __future__ import annotations
@@ -50,11 +52,20 @@ def within(*parts: str) -> str:
     return "::".join(part for part in parts if part)
 
 
+def parts_of(made: str) -> list[str]:
+    """The name of a type or trait, and those of the types that it is given, without their paths."""
+    return re.findall(r"(?:\w+::)*(\w+)", re.sub(r"'\w+", "", made))
+
+
+def is_parameter(name: str) -> bool:
+    """Whether a type's name is that of a parameter, which has one letter."""
+    return len(name) == 1
+
+
 def of_trait(trait: str, held: str) -> str:
-    """A trait's name with the types that it is given, but for parameters (one letter) and for the type that has it alone."""
-    parts: list[str] = re.findall(r"(?:\w+::)*(\w+)", re.sub(r"'\w+", "", trait))
-    name, given = parts[0], parts[1:]
-    return name + "".join(one for one in given if len(one) > 1 and given != [held])
+    """A trait's name with the types that it is given, but for parameters and for the type that has it alone."""
+    name, *given = parts_of(trait)
+    return name + "".join(one for one in given if not is_parameter(one) and given != [held])
 
 
 def owner(line: str, path: str, homes: dict[str, list[str]]) -> str | None:
@@ -68,6 +79,9 @@ def owner(line: str, path: str, homes: dict[str, list[str]]) -> str | None:
     left, is_trait, right = head["made"].partition(" for ")
     if is_trait:
         return within(module(path), bare(right) + of_trait(left, bare(right)))
+    name, *given = parts_of(left)
+    if not all(map(is_parameter, given)):
+        return within(module(path), "+".join([name, *given]))
     places = homes.get(bare(left), [])
     return within(places[0] if len(places) == 1 else module(path), bare(left))
 
