@@ -86,7 +86,7 @@ whole_below n k h l = low_zeros k n (λ i m. zeros_below n i h (omega arith))
 pub odd_rest : (n : ℕ) → 0 < n → n < 2 ^ 64 → (n / 2 ^ trailing_zeros w64 n) % 2 ≡ 1
 odd_rest n h l = (bit_at-trailing_zeros w64 n h l).1
 
--- ---- a step by a difference, where the factors 2 of y are left out
+-- ---- a step by a difference, where its factors 2 are left out
 from_apart : (x y g : ℕ) → IsGcd (min x y) (abs_diff x y) g → IsGcd x y g
 from_apart x y g h = by (cases_lt x y)
   where
@@ -105,14 +105,14 @@ odd_min x y h k = by (cases_lt x y)
     by (inl l) = rw (min-eq_left {n = x} {m = y} (omega arith)) h
     by (inr l) = rw (min-eq_right l) k
 
-pub next_odd : (x y m : ℕ) → x % 2 ≡ 1 → 0 < y → y < 2 ^ 64 → m ≡ min x (y / 2 ^ trailing_zeros w64 y) → m % 2 ≡ 1
-next_odd x y m odd h l em = rw em (odd_min x (y / 2 ^ trailing_zeros w64 y) odd (odd_rest y h l))
+pub least_is_odd : (x y m : ℕ) → x % 2 ≡ 1 → y % 2 ≡ 1 → m ≡ min x y → m % 2 ≡ 1
+least_is_odd x y m h k em = rw em (odd_min x y h k)
 
-pub IsGcd-from_next : (x y m d g : ℕ) → x % 2 ≡ 1 → y < 2 ^ 64 → m ≡ min x (y / 2 ^ trailing_zeros w64 y) → d ≡ abs_diff x (y / 2 ^ trailing_zeros w64 y) → IsGcd m d g → IsGcd x y g
+pub IsGcd-from_next : (x y m d g : ℕ) → m % 2 ≡ 1 → d < 2 ^ 64 → m ≡ min x y → d ≡ abs_diff x y → IsGcd m (d / 2 ^ trailing_zeros w64 d) g → IsGcd x y g
 IsGcd-from_next x y m d g odd l em ed h =
-    let zeros : ℕ = trailing_zeros w64 y in
-    let rest : ℕ = y / 2 ^ zeros in
-    subst (λ n. IsGcd x n g) (whole_below y zeros l (omega arith)) (IsGcd-from_shifted x rest zeros g odd (from_apart x rest g (rw (em, ed) at h)))
+    let zeros : ℕ = trailing_zeros w64 d in
+    let whole : IsGcd m d g = subst (λ n. IsGcd m n g) (whole_below d zeros l (omega arith)) (IsGcd-from_shifted m (d / 2 ^ zeros) zeros g odd h) in
+    from_apart x y g (rw (em, ed) at whole)
 
 -- ---- the factors 2 of both, put back
 positive_by : (a b : ℕ) → 0 < a → a < 2 ^ 64 → trailing_zeros w64 b < trailing_zeros w64 a → 0 < b
@@ -151,8 +151,11 @@ IsGcd-put_back a b g h la lb k = by (cases_lt (trailing_zeros w64 b) (trailing_z
     by (inr l) = rw (min-eq_left l) (put_back_all a b g h la lb l k)
 
 -- no bit is lost
-pub IsGcd-put_back_whole : (a b g k : ℕ) → 0 < a → a < 2 ^ 64 → b < 2 ^ 64 → k ≡ min (trailing_zeros w64 a) (trailing_zeros w64 b) → IsGcd (a / 2 ^ trailing_zeros w64 a) b g → IsGcd a b (g * 2 ^ k % 2 ^ 64)
-IsGcd-put_back_whole a b g k h la lb e i =
-    let whole = IsGcd-put_back a b g h la lb i in
+pub IsGcd-put_back_whole : (a b g k : ℕ) → 0 < a → a < 2 ^ 64 → 0 < b → b < 2 ^ 64 → k ≡ min (trailing_zeros w64 a) (trailing_zeros w64 b) → IsGcd (a / 2 ^ trailing_zeros w64 a) (b / 2 ^ trailing_zeros w64 b) g → IsGcd a b (g * 2 ^ k % 2 ^ 64)
+IsGcd-put_back_whole a b g k h la hb lb e i =
+    let zeros : ℕ = trailing_zeros w64 b in
+    let rest : ℕ = a / 2 ^ trailing_zeros w64 a in
+    let of_b : IsGcd rest b g = subst (λ n. IsGcd rest n g) (whole_below b zeros lb (omega arith)) (IsGcd-from_shifted rest (b / 2 ^ zeros) zeros g (odd_rest a h la) i) in
+    let whole = IsGcd-put_back a b g h la lb of_b in
     let small = le_of_dvd h whole.0 in
     rw (e, mod-eq_of_lt {n = g * 2 ^ min (trailing_zeros w64 a) (trailing_zeros w64 b)} {m = 2 ^ 64} (omega arith)) whole

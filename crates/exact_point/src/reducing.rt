@@ -90,23 +90,27 @@ fn gcd(a: u64, b: u64) -> u64
     requires positive { 0 < a }
     ensures { IsGcd a b result }
 {
-    let twos = a.trailing_zeros();
-    odd_gcd(a >> twos, b) << twos.min(b.trailing_zeros())
+    if b == 0 {
+        return a;
+    }
+    let (of_a, of_b) = (a.trailing_zeros(), b.trailing_zeros());
+    odd_gcd(a >> of_a, b >> of_b) << of_a.min(of_b)
 }
 
-/// That of an odd number and another, by Stein's algorithm: shifts and differences where Euclid's divides. Beside an odd
-/// number the factors 2 of the other do not count. (Stein, 1967; Knuth, The Art of Computer Programming, volume 2,
-/// 4.5.2, algorithm B.)
+/// That of two odd numbers, by Stein's algorithm: shifts and differences where Euclid's divides. Beside an odd number the
+/// factors 2 of a difference do not count. (Stein, 1967; Knuth, The Art of Computer Programming, volume 2, 4.5.2,
+/// algorithm B.)
 fn odd_gcd(a: u64, b: u64) -> u64
     requires odd { a % 2 ≡ 1 }
+    requires other_odd { b % 2 ≡ 1 }
     ensures { IsGcd a b result }
 {
     let mut x = a;
     let mut y = b;
-    while y != 0 {
-        let odd = y >> y.trailing_zeros();
-        y = x.abs_diff(odd);
-        x = x.min(odd);
+    while x != y {
+        let apart = x.abs_diff(y);
+        x = x.min(y);
+        y = apart >> apart.trailing_zeros();
     }
     x
 }
