@@ -83,7 +83,7 @@ impl Search {
     }
 }
 
-/// Tests two neighbours: where they cross after a place, in the closed strip, that place is found.
+/// Tests two neighbours: where they cross after a place, in the closed strip, that place is found, unless both end there.
 pub(crate) fn test_pair(
     ahead: &mut Ahead,
     strip: Strip,
@@ -93,7 +93,7 @@ pub(crate) fn test_pair(
 ) -> Result<(), AllocError>
     ensures { OnOk result (AreTested strip (place at) lower.now upper.now ahead.old ahead.new) }
 {
-    // Where both end, they cross nowhere else, and all ends ahead are known.
+    // Where both end at one point, they cross nowhere else, and all ends ahead are known.
     if lower.right() == upper.right() {
         return Ok(());
     }

@@ -40,8 +40,8 @@ pub(crate) fn differing_columns(new: &[Seg], old: &[Seg]) -> [bool; COLUMNS]
     differing
 }
 
-/// What is left of two lists without the segments with which both begin, and without those with which both then end.
-/// Of an outline of which one point was moved that is little.
+/// What is left of two lists without the segments with which both begin, and without those with which both rests end.
+/// Where one point of an outline was moved, little is left.
 fn between_common_ends<'a>(new: &'a [Seg], old: &'a [Seg]) -> (&'a [Seg], &'a [Seg])
     ensures { (k : ℕ) → same_in k result.0.now result.1.now ≡ same_in k new.now old.now }
 {

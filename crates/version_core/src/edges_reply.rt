@@ -128,7 +128,7 @@ fn put_crossing(line: &mut LineText, texts: &mut EndTexts, name: &PointName, mar
     put_made(line, texts, name, mark);
 }
 
-/// Puts down the place where a border cuts a segment. Its text is not kept.
+/// Puts down, in lowest terms, the place where a border cuts a segment. Its text is not kept.
 fn put_cut(line: &mut LineText, seg: &Seg, number: u8)
     requires cut { IsCutBy seg.now number }
     requires room { length line.old ≤ 128 }
@@ -140,7 +140,7 @@ fn put_cut(line: &mut LineText, seg: &Seg, number: u8)
     line.put_near(reduced_cut(seg, column.border()));
 }
 
-/// Puts down the place of a name whose text is not kept, and keeps it.
+/// Puts down, in lowest terms, the place of a name whose text is not kept, and keeps it.
 fn put_made(line: &mut LineText, texts: &mut EndTexts, name: &PointName, mark: u32)
     requires named { HasPlace name.now }
     requires room { length line.old ≤ 128 }
