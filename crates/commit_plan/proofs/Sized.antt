@@ -3,6 +3,9 @@ use Rattle.std.proofs.Common.{◌≡◌, ℕ, ◌+◌, ◌<◌, zero, suc, List,
 use Rattle.std.proofs.Math.Seq.{take-suc}
 use Rattle.std.proofs.lemmas.List.{append-nil, length-take, take-append-drop}
 use Rattle.std.proofs.lemmas.Option.{same_Some}
+use Rattle.std.specs.Borrow.{Bor}
+use Rattle.std.specs.declared.sync.Arc.{Arc}
+use Rattle.std.specs.Option.{option_map}
 use Rattle.overlay_terms.specs.Layers.{Name, Layer}
 use Rattle.tile_build.specs.Tile.{named_pieces, tile_of}
 use Rattle.tile_build.specs.declared.tile.Tile.{Tile}
@@ -27,6 +30,11 @@ new_sizes stays n none = ap (λ (s : Option RecordExtent). if_new s n) none
 kept_sizes : (stays : Option RecordExtent) (n : ℕ) (e : RecordExtent) → stays ≡ Some e → if_new stays n ≡ []
 kept_sizes stays n e is = ap (λ (s : Option RecordExtent). if_new s n) is
 
+-- the tile that a column has, by its pieces
+pub slot_of : {Z : Type 0} (held : Option (Bor (Arc Tile Z))) (there : Bor (Arc Tile Z)) (tile : Tile) → held ≡ Some there → there.now.value ≡ tile
+    → option_map (λ t. named_pieces t.now.value) held ≡ Some (named_pieces tile)
+slot_of held there tile is same = ap (λ o. option_map (λ t. named_pieces t.now.value) o) is ∙ ap (λ t. Some (named_pieces t)) same
+
 module _ (live : LiveContent) where
   -- ---- one record
 
@@ -40,20 +48,28 @@ module _ (live : LiveContent) where
   stays_same : (name : Name) (k : ℕ) (tile : Tile) → tile_record_stays live (finished_as name k (by_places (named_pieces tile))) ≡ tile_record_stays live (finished_as name k (tile_of tile))
   stays_same name k tile = ap (λ t. tile_record_stays live (finished_as name k t)) (by_its_names tile)
 
-  pub new_tile : (name : Name) (k : ℕ) (tile : Tile) (bytes : List ℕ) → tile_record_stays live (finished_as name k (tile_of tile)) ≡ None → bytes ≡ named_tile.text (named_by k tile)
+  new_tile : (name : Name) (k : ℕ) (tile : Tile) (bytes : List ℕ) → tile_record_stays live (finished_as name k (tile_of tile)) ≡ None → bytes ≡ named_tile.text (named_by k tile)
       → length bytes ∷ [] ≡ tile_sizes live name k (named_pieces tile)
   new_tile name k tile bytes none spelled =
       ap (λ (l : List ℕ). length l ∷ []) spelled
       ∙ sym (new_sizes (tile_record_stays live (finished_as name k (by_places (named_pieces tile)))) (tile_size k (named_pieces tile)) (stays_same name k tile ∙ none))
 
-  pub kept_tile : (name : Name) (k : ℕ) (tile : Tile) (e : RecordExtent) → tile_record_stays live (finished_as name k (tile_of tile)) ≡ Some e → tile_sizes live name k (named_pieces tile) ≡ []
+  kept_tile : (name : Name) (k : ℕ) (tile : Tile) (e : RecordExtent) → tile_record_stays live (finished_as name k (tile_of tile)) ≡ Some e → tile_sizes live name k (named_pieces tile) ≡ []
   kept_tile name k tile e is =
       kept_sizes (tile_record_stays live (finished_as name k (by_places (named_pieces tile)))) (tile_size k (named_pieces tile)) e (stays_same name k tile ∙ is)
 
   -- that of a slot which has it
-  pub slot_sizes : (name : Name) (k : ℕ) (slot : Option Named) (held : Named) → slot ≡ Some held → row_sizes live name k (slot ∷ []) ≡ tile_sizes live name k held
+  slot_sizes : (name : Name) (k : ℕ) (slot : Option Named) (held : Named) → slot ≡ Some held → row_sizes live name k (slot ∷ []) ≡ tile_sizes live name k held
   slot_sizes name k slot held is =
       ap (λ (o : Option Named). row_sizes live name k (o ∷ [])) is ∙ append-nil (tile_sizes live name k held)
+
+  pub new_slot : (name : Name) (k : ℕ) (tile : Tile) (slot : Option Named) (bytes : List ℕ) → slot ≡ Some (named_pieces tile)
+      → tile_record_stays live (finished_as name k (tile_of tile)) ≡ None → bytes ≡ named_tile.text (named_by k tile) → length bytes ∷ [] ≡ row_sizes live name k (slot ∷ [])
+  new_slot name k tile slot bytes is none spelled = new_tile name k tile bytes none spelled ∙ sym (slot_sizes name k slot (named_pieces tile) is)
+
+  pub kept_slot : (name : Name) (k : ℕ) (tile : Tile) (slot : Option Named) (e : RecordExtent) → slot ≡ Some (named_pieces tile)
+      → tile_record_stays live (finished_as name k (tile_of tile)) ≡ Some e → row_sizes live name k (slot ∷ []) ≡ []
+  kept_slot name k tile slot e is stays = slot_sizes name k slot (named_pieces tile) is ∙ kept_tile name k tile e stays
 
   -- ---- rows
 

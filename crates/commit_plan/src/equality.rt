@@ -3,7 +3,6 @@ ghost use Rattle.std.specs.Prelude.{◌≡◌, map};
 ghost use Rattle.std.specs.Cmp.Lexicographic.{pointwise};
 ghost use Rattle.exact_point.specs.Place.{place};
 ghost use Rattle.exact_point.specs.NamedPiece.{ends_of};
-ghost use Rattle.overlay_terms.specs.Plane.{same_whole};
 ghost use Rattle.layer_book.specs.Layer.{content};
 ghost use Rattle.tile_build.specs.Tile.{tile_of};
 ghost use Rattle.commit_plan.specs.Same.{same_rings, same_content, same_point_name, same_numbers, same_ends, same_tile};
@@ -13,13 +12,6 @@ use layer_book::layer::Layer;
 use plane_base::Ring;
 use tile_build::{Piece, Tile};
 
-/// Whether two rings have the same points.
-fn same_ring(held: &Ring, new: &Ring) -> bool
-    ensures { result ≡ pointwise same_whole held.now new.now }
-{
-    held.points() == new.points()
-}
-
 /// Whether there are as many rings, and each has the points of the one at its place.
 fn same_rings(held: &[Ring], new: &[Ring]) -> bool
     ensures { result ≡ same_rings held.now new.now }
@@ -28,7 +20,7 @@ fn same_rings(held: &[Ring], new: &[Ring]) -> bool
         return false;
     }
     for i in 0..held.len() {
-        if !same_ring(&held[i], &new[i]) {
+        if held[i].points() != new[i].points() {
             return false;
         }
     }
