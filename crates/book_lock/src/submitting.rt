@@ -1,9 +1,6 @@
 //! Entries that a session makes: what it submits is accepted.
 ghost use Rattle.std.specs.Prelude.{◌≡◌, IfOk, IfErr, false};
-ghost use Rattle.std.specs.Arc.{arc_value};
-ghost use Rattle.overlay_terms.specs.Histories.{FollowsBatch};
-ghost use Rattle.book_history.specs.Logs.{newest_in};
-ghost use Rattle.book_lock.specs.Steps.{IsAcceptedIn, IsLevel, IsRefusedIn, IsTurnedAway};
+ghost use Rattle.book_lock.specs.Steps.{IsAcceptedIn, IsRefusedIn, IsTurnedAway};
 
 use crate::change::Change;
 use crate::locked_log::LockedLog;
@@ -12,8 +9,7 @@ use crate::session::Session;
 use book_history::entry::Cause;
 use book_history::seen_log::BookName;
 use std::alloc::Global;
-use std::sync::{Arc, Wait};
-use versions::Version;
+use std::sync::Wait;
 
 impl<J: BookName, R: Wait + Drop> LockedLog<J, R> {
     /// Accepts what a session submits: the one entry that this adds, or nothing.
@@ -31,10 +27,19 @@ impl<J: BookName, R: Wait + Drop> LockedLog<J, R> {
         if !self.is_level(me) {
             return Err(Refused::Gone);
         }
-        match change.version_after(alloc, &self.last().version) {
-            Ok(version) => self.accept(me, change, version),
-            Err(fault) => Err(self.turn_away(me, Refused::Version(fault))),
-        }
+        let version = match change.version_after(alloc, &self.last().version) {
+            Ok(version) => version,
+            Err(fault) => return Err(self.turn_away(me, Refused::Version(fault))),
+        };
+        let by = me.number();
+        let cause = Cause::Accepted(by, change.commands());
+        let Ok(()) = self.add(cause, version) else {
+            return Err(Refused::Gone);
+        };
+        let last = self.last();
+        let accepted = last.version.number();
+        me.made_one(&last.seen_log, accepted);
+        Ok(accepted)
     }
 
     /// A session that is turned away looks, and gets the reason, which may be that the log is behind what it saw.
@@ -46,29 +51,5 @@ impl<J: BookName, R: Wait + Drop> LockedLog<J, R> {
             Ok(_) => why,
             Err(_) => Refused::Gone,
         }
-    }
-
-    /// Adds the entry of a session's commands, which made a version, or nothing.
-    fn accept<C: Change>(
-        &mut self,
-        me: &mut Session,
-        change: &C,
-        version: Arc<Version, Global>,
-    ) -> Result<u64, Refused<C::Fault>>
-        requires book { me.old.book ≡ J.book }
-        requires level { IsLevel self.old me.old }
-        requires follows { FollowsBatch (newest_in self.old) (C.batch change.now) (arc_value version) }
-        ensures ok { IfOk result (IsAcceptedIn self.old me.old (C.batch change.now) self.new me.new) }
-        ensures err { IfErr result (λ refused. (refused ≡ Refused.Gone) × (self.new ≡ self.old) × (me.new ≡ me.old)) }
-    {
-        let by = me.number();
-        let cause = Cause::Accepted(by, change.commands());
-        let Ok(()) = self.add(cause, version) else {
-            return Err(Refused::Gone);
-        };
-        let last = self.last();
-        let accepted = last.version.number();
-        me.made_one(&last.seen_log, accepted);
-        Ok(accepted)
     }
 }

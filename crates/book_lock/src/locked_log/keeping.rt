@@ -1,15 +1,14 @@
 //! Entries of tiles that are kept: of one, or of several of a layer with one publication.
 ghost use Rattle.std.specs.Prelude.{◌≡◌, ◌⊎◌, ◌<◌, ◌≤◌, length, take, All, IsTrue, IfOk, IfErr, IfSome};
-ghost use Rattle.std.specs.Arc.{arc_value};
 ghost use Rattle.overlay_terms.specs.Tiles.{input_of};
 ghost use Rattle.book_history.specs.Fault.{no_memory};
 ghost use Rattle.book_history.specs.Logs.{newest_in, IsLog};
 ghost use Rattle.book_lock.specs.Steps.{AreFinishedIn, IsFinishedIn};
 
 use crate::locked_log::{LockedLog, MOST};
-use crate::shared_version::{kept, shared_again};
+use crate::shared_version::shared;
 use book_history::entry::Cause;
-use book_history::fault::BookFault;
+use book_history::fault::{BookFault, NO_MEMORY};
 use book_history::published::Published;
 use book_history::publisher::put_out;
 use book_history::seen_log::{BookName, SeenLog};
@@ -77,37 +76,16 @@ impl<J: BookName, R: Wait + Drop> LockedLog<J, R> {
     {
         let now = self.last();
         let mut seen_log = now.seen_log.again();
-        let mut version = shared_again(alloc, &now.version)?;
-        let count = self.add_to_own(alloc, &mut version, &mut seen_log, name, tiles, are_present)?;
+        let Ok(copy) = now.version.again(alloc) else {
+            return Err(NO_MEMORY);
+        };
+        let mut version = shared(alloc, copy)?;
+        // Nobody else has it.
+        let Some(own) = Arc::get_mut(&mut version) else {
+            return Err(BookFault::Gone);
+        };
+        let count = self.add_tiles(alloc, own, &mut seen_log, name, tiles, are_present)?;
         Ok((Published { version, seen_log }, count))
-    }
-
-    // The same as `add_tiles`, of a version that nobody else has.
-    fn add_to_own(
-        &self,
-        alloc: Global,
-        version: &mut Arc<Version, Global>,
-        seen_log: &mut SeenLog,
-        name: &Name,
-        tiles: &[SharedBuilt],
-        are_present: bool,
-    ) -> Result<usize, BookFault>
-        requires last { arc_value version.old ≡ newest_in seen_log.old.log }
-        requires book { seen_log.old.book ≡ J.book }
-        requires present { IsTrue are_present
-            → All (λ built. built.0 ≡ input_of (arc_value version.old).layers name.now built.0.column) tiles.now }
-        ensures last { IfOk result (λ _. arc_value version.new ≡ newest_in seen_log.new.log) }
-        ensures book { seen_log.new.book ≡ J.book }
-        ensures few { IfOk result (λ count. count ≤ length tiles.now) }
-        ensures some { IfOk result (λ count. 0 < length tiles.now → 0 < count) }
-        ensures finished { IfOk result
-            (λ count. AreFinishedIn seen_log.old.log name.now (take count tiles.now) seen_log.new.log) }
-        ensures err { IfErr result (λ fault. (fault ≡ no_memory) ⊎ (fault ≡ BookFault.Gone)) }
-    {
-        match Arc::get_mut(version) {
-            Some(own) => self.add_tiles(alloc, own, seen_log, name, tiles, are_present),
-            None => Err(BookFault::Gone),
-        }
     }
 
     // Changes a version by built tiles, one after another, and adds the entry of each to the log that it ends. It says
@@ -176,7 +154,10 @@ impl<J: BookName, R: Wait + Drop> LockedLog<J, R> {
         if seen_log.at() >= MOST {
             return Ok(None);
         }
-        let is_kept = kept(alloc, version, name, built, is_present)?;
+        let is_kept = match version.keep(alloc, name, built, is_present) {
+            Ok(is_kept) => is_kept,
+            Err(fault) => return Err(BookFault::Version(fault)),
+        };
         if !is_kept {
             // Who builds a tile has it alone, so it cannot be there.
             if version.shared_tile(name, column).is_some() {

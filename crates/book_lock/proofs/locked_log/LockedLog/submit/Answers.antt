@@ -1,8 +1,9 @@
-use Rattle.std.proofs.Common.{sym, ◌∙◌, subst, refl, false}
+use Rattle.std.proofs.Common.{length, ap, sym, ◌∙◌, subst, refl, arith, inl, rules, false}
 use Rattle.std.specs.Arc.{arc_value}
-use Rattle.std.proofs.lemmas.Result.{IfErr-weaker}
-use Rattle.overlay_terms.specs.Histories.{FollowsBatch}
-use Rattle.book_lock.specs.Steps.{IsRefusedIn}
+use Rattle.overlay_terms.specs.Histories.{accepted, commands_of, FollowsBatch}
+use Rattle.book_history.specs.Logs.{newest_in}
+use Rattle.book_history.proofs.Owned.{own_le, own_then}
+use Rattle.book_lock.proofs.Growing.{newest_of, entry_by}
 use Rattle.book_lock.proofs.Turning.{refused_by}
 use Rattle.book_lock.proofs.locked_log.LockedLog.submit.Goals as goal
 
@@ -19,25 +20,46 @@ returns-in-Err g c =
       err = (refl, refused_by c.args.self.now c.args.me.now _ refuses false _ _ c.turn_away.ensures (λ looked. (why, looked)));
     }
 
-pub accept-requires : goal.accept-requires
-accept-requires g c =
+pub add-requires : goal.add-requires
+add-requires g c =
     let old = c.deref.ensures ∙ c.last.ensures.version in
-    let level = c.if-not-is_level.ensures in
     let batch = g.C.Change.batch c.args.change.now in
-    record {
-      book = c.requires.book;
-      level = record { has_all = record { longer = level.longer refl; own = level.own refl }; seat = level.seat refl };
-      follows = subst (λ v. FollowsBatch v batch (arc_value c.in-Ok.version)) old c.in-Ok.ensures.ok;
-    }
+    let follows : FollowsBatch (newest_in c.args.self.now) batch (arc_value c.in-Ok.version) = subst (λ v. FollowsBatch v batch (arc_value c.in-Ok.version)) old c.in-Ok.ensures.ok in
+    record { follows = search rules; seat = search rules; reported = inl follows.durable }
 
-pub returns-in-Ok : goal.returns-in-Ok
-returns-in-Ok g c =
-    let was = c.args.me.now in
-    let log = c.args.self.now in
-    let refuses = g.C.Change.refuses c.args.change.now in
-    let e = c.accept.ensures in
+pub made_one-requires-clause-own : goal.made_one-requires-clause-own
+made_one-requires-clause-own g c =
+    let me = c.args.me.now in
+    let old = c.args.self.now in
+    let now = ap (λ t. t.log) c.last-last.ensures.seen_log ∙ c.in-Ok-add.ensures.ok in
+    let own = c.if-not-is_level.ensures.own refl in
+    (_, own_then me.session _ old c.last-last.result.now.seen_log.log me.made _ _ c.number-by.ensures.value now own)
+
+pub made_one-requires-clause-room : goal.made_one-requires-clause-room
+made_one-requires-clause-room g c =
+    let me = c.args.me.now in
+    omega (arith, own_le me.session c.args.self.now, ap length (c.if-not-is_level.ensures.own refl), c.in-Ok-add.ensures.room)
+
+pub returns-clause-ok : goal.returns-clause-ok
+returns-clause-ok g c =
+    let me = c.args.me.now in
+    let old = c.args.self.now in
+    let after = c.add.new.self in
+    let batch = g.C.Change.batch c.args.change.now in
+    let follows = subst (λ v. FollowsBatch v batch (arc_value c.in-Ok.version)) (c.deref.ensures ∙ c.last.ensures.version) c.in-Ok.ensures.ok in
+    let is = c.in-Ok-add.ensures.ok in
+    let level = c.if-not-is_level.ensures in
+    let log = ap (λ t. t.log) c.last-last.ensures.seen_log in
+    let cause = ap (accepted c.number-by.result) c.commands.ensures ∙ ap (λ s. accepted s batch) c.number-by.ensures.value in
+    let added = entry_by old after _ _ _ cause is in
+    let own = own_then me.session me.session old after me.made batch (newest_in after) refl added (level.own refl) in
+    let made = ap (commands_of me.session) log ∙ own in
     record {
-      ok = e.ok;
-      err = IfErr-weaker c.accept.result _ _
-          (λ r gone. (gone.1, subst (λ x. IsRefusedIn log was refuses false x c.accept.new.me) (sym gone.0) gone.2)) e.err;
+      longer = level.longer refl;
+      follows = subst (FollowsBatch (newest_in old) batch) (sym (newest_of old after _ is)) follows;
+      added = added;
+      numbered = sym (c.number-accepted.ensures.value ∙ ap (λ v. v.number) (c.deref-2.ensures ∙ c.last-last.ensures.version));
+      knows = c.made_one.ensures ∙ (λ i. record { book = me.book; session = me.session; log = log i; made = made i });
+      own = own;
+      valid = c.last-last.ensures.log;
     }

@@ -14,10 +14,10 @@ returns-in_err-version g c =
     let failed = c.from_residual.ensures in
     record { begun = c.last-now.ensures.log; book = IfOk-from_err _ _ failed.0; few = IfOk-from_err _ _ failed.0; some = IfOk-from_err _ _ failed.0; finished = IfOk-from_err _ _ failed.0; err = passed _ _ _ failed.1 (inl c.in_err-version.ensures.err) }
 
-pub add_to_own-requires : goal.add_to_own-requires
-add_to_own-requires g c =
+pub add_tiles-requires : goal.add_tiles-requires
+add_tiles-requires g c =
     let is = c.again-seen_log.ensures ∙ c.last-now.ensures.seen_log in
-    let old = c.in_ok-version.ensures.ok ∙ c.deref.ensures ∙ c.last-now.ensures.version in
+    let old = c.in-Some.ensures.value ∙ c.in_ok-version.ensures.ok ∙ c.in-Ok.ensures ∙ c.deref.ensures ∙ c.last-now.ensures.version in
     record {
       last = old ∙ ap (λ (t : BookLog). newest_in t.log) (sym is);
       book = ap (λ (t : BookLog). t.book) is;
@@ -38,6 +38,6 @@ returns g c =
       book = made.book;
       few = made.few;
       some = made.some;
-      finished = subst (λ (t : BookLog). AreFinishedIn t.log c.args.name.now (take c.in_ok-count.count c.args.tiles.now) c.add_to_own.new.seen_log.log) is made.finished;
+      finished = subst (λ (t : BookLog). AreFinishedIn t.log c.args.name.now (take c.in_ok-count.count c.args.tiles.now) c.add_tiles.new.seen_log.log) is made.finished;
       err = tt;
     }
