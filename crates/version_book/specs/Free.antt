@@ -14,12 +14,6 @@ pub record IsFree (version : Version) (held : List HeldTile) (name : Name) (colu
   pub there : column < column_count
   pub free : is_held name column held ≡ false
 
--- the same of a layer that is known to be derived
-pub record IsFreeColumn (version : Version) (held : List HeldTile) (name : Name) (column : ℕ) : Type 0 where
-  pub there : column < column_count
-  pub pending : tile_at version.tiles name column ≡ None
-  pub free : is_held name column held ≡ false
-
 -- each tile of a layer that is not finished is handed out or marked
 abbrev pub AreHeld : Version → List HeldTile → Name → Type 0
 AreHeld version held name =

@@ -2,7 +2,7 @@
 ghost use Rattle.std.specs.Prelude.{◌≡◌};
 ghost use Rattle.version_book.specs.HeldTiles.{given_back, strip_given_back, strip_taken_in, taken_in, unmarked_of};
 ghost use Rattle.version_book.specs.BookState.{HasHeld, IsAfterClosing, IsAfterCommand, IsAfterFailure, IsAfterFinish};
-ghost use Rattle.version_book.specs.BookState.{IsFresh, left_over, kept_fault};
+ghost use Rattle.version_book.specs.BookState.{IsFresh};
 
 use crate::held_tiles::HeldTiles;
 use book_history::fault::ReportedFault;
@@ -42,7 +42,9 @@ impl BookState {
         ensures { IsAfterCommand self.old self.new }
     {
         self.held.unmark();
-        self.fault = left_over(self.fault);
+        if self.fault.is_some_and(|fault| fault.passes()) {
+            self.fault = None;
+        }
         self.resting = false;
         self.news = self.news.wrapping_add(1);
     }
@@ -71,7 +73,9 @@ impl BookState {
     pub fn store_failed(&mut self, fault: ReportedFault)
         ensures { IsAfterFailure self.old fault self.new }
     {
-        self.fault = kept_fault(self.fault, fault);
+        if self.fault.is_none_or(|first| first.passes()) {
+            self.fault = Some(fault);
+        }
         self.resting = true;
     }
 
@@ -101,23 +105,5 @@ impl BookState {
         ensures { IsAfterClosing self.old self.new }
     {
         self.closing = true;
-    }
-}
-
-fn left_over(old: Option<ReportedFault>) -> Option<ReportedFault>
-    ensures { result ≡ left_over old }
-{
-    match old {
-        Some(fault) => if fault.passes() { None } else { old },
-        None => None,
-    }
-}
-
-fn kept_fault(old: Option<ReportedFault>, fault: ReportedFault) -> Option<ReportedFault>
-    ensures { result ≡ kept_fault old fault }
-{
-    match old {
-        Some(first) => if first.passes() { Some(fault) } else { old },
-        None => Some(fault),
     }
 }

@@ -1,5 +1,5 @@
 //! Tiles that are handed out, and tiles that wait for memory.
-ghost use Rattle.std.specs.Prelude.{◌≡◌, [], length, take, OnErr, OnOk};
+ghost use Rattle.std.specs.Prelude.{◌≡◌, [], OnErr, OnOk};
 ghost use Rattle.version_book.specs.HeldTiles.{given_back, handed_out, has_mark, is_held, is_of, is_within, marked_if};
 ghost use Rattle.version_book.specs.HeldTiles.{marked_within, strip_given_back, strip_handed_out, strip_taken_in, taken_in, unmarked, unmarked_of};
 
@@ -102,25 +102,14 @@ impl HeldTiles {
         ensures err { OnErr result (self.new.list.items ≡ self.old.list.items) }
     {
         let before = self.list.len();
-        match self.hand_out_each(name, strip) {
-            Ok(()) => Ok(()),
-            Err(error) => {
-                self.list.truncate(before);
-                Err(error)
-            }
-        }
-    }
-
-    // Hands the tiles of a strip out, one after another.
-    fn hand_out_each(&mut self, name: &Name, strip: Strip) -> Result<(), AllocError>
-        ensures ok { OnOk result (self.new.list.items ≡ strip_handed_out name.now strip self.old.list.items) }
-        ensures err { OnErr result (take (length self.old.list.items) self.new.list.items ≡ self.old.list.items) }
-    {
         for number in strip.first().number()..strip.last().number() + 1 {
             let Some(column) = Column::new(u64::from(number)) else {
                 unreachable!()
             };
-            self.hand_out(name, column)?;
+            if let Err(error) = self.hand_out(name, column) {
+                self.list.truncate(before);
+                return Err(error);
+            }
         }
         Ok(())
     }

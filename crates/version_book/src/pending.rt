@@ -2,21 +2,18 @@
 ghost use Rattle.std.specs.Prelude.{◌≡◌, ◌<◌, ◌≤◌, ◌+◌, IsTrue, IfOk, IfSome, IfNone};
 ghost use Rattle.overlay_terms.specs.Column.{column_count};
 ghost use Rattle.overlay_terms.specs.Commands.{stands_as_derived};
-ghost use Rattle.overlay_terms.specs.Histories.{tile_at};
 ghost use Rattle.overlay_terms.specs.Tiles.{input_of};
-ghost use Rattle.layer_tiles.specs.Table.{places_in, row_by};
-ghost use Rattle.version_book.specs.Free.{AllAreHeld, AreHeld, AreHeldAt, IsFree, IsFreeColumn};
+ghost use Rattle.version_book.specs.Free.{AllAreHeld, AreHeldAt, IsFree};
 
 use crate::held_tiles::HeldTiles;
 use arrange::TileInput;
 use layer_expr::name::Name;
-use layer_tiles::TileRow;
 use plane_base::{COLUMN_COUNT, Column};
 use std::alloc::{AllocError, Global};
 use versions::Version;
 
 /// A pending tile of a version that is neither handed out nor marked. The layer at a place is looked at first, from a
-/// column on.
+/// column on, and then all layers in their order.
 pub fn free<'a>(
     version: &'a Version,
     held: &HeldTiles,
@@ -26,17 +23,9 @@ pub fn free<'a>(
     ensures some { IfSome result (λ r. IsFree version.now held.now.list.items r.0.now r.1) }
     ensures none { IfNone result (AllAreHeld version.now held.now.list.items) }
 {
-    match free_at(version, held, near, from) {
-        Some(found) => Some(found),
-        None => free_of_all(version, held),
+    if let Some(found) = free_at(version, held, near, from) {
+        return Some(found);
     }
-}
-
-// The same among all layers, in their order.
-fn free_of_all<'a>(version: &'a Version, held: &HeldTiles) -> Option<(&'a Name, Column)>
-    ensures some { IfSome result (λ r. IsFree version.now held.now.list.items r.0.now r.1) }
-    ensures none { IfNone result (AllAreHeld version.now held.now.list.items) }
-{
     for place in 0..version.layers().len() {
         if let Some(found) = free_at(version, held, place, 0) {
             return Some(found);
@@ -45,7 +34,8 @@ fn free_of_all<'a>(version: &'a Version, held: &HeldTiles) -> Option<(&'a Name, 
     None
 }
 
-// The same among the tiles of the layer at a place.
+// The same among the tiles of the layer at a place alone. Its row says which are pending, and each column is looked at once:
+// from one on, and after the last from the first on.
 fn free_at<'a>(
     version: &'a Version,
     held: &HeldTiles,
@@ -55,31 +45,14 @@ fn free_at<'a>(
     ensures some { IfSome result (λ r. IsFree version.now held.now.list.items r.0.now r.1) }
     ensures none { IfNone result (AreHeldAt version.now held.now.list.items place) }
 {
-    if let Some((name, layer, row)) = version.at(place) {
-        // The layers of a version are in order by its type: the clauses rest on that.
-        let _ = version.layers().len();
-        if layer.is_derived() {
-            if let Some(column) = free_column(version, held, name, row, from) {
-                return Some((name, column));
-            }
-        }
+    let Some((name, layer, row)) = version.at(place) else {
+        return None;
+    };
+    // The layers of a version are in order by its type: the clauses rest on that.
+    let _ = version.layers().len();
+    if !layer.is_derived() {
+        return None;
     }
-    None
-}
-
-// The same among the columns of a layer, whose row says which tiles are pending. Each is looked at once: from one
-// on, and after the last from the first on.
-fn free_column(
-    version: &Version,
-    held: &HeldTiles,
-    name: &Name,
-    row: &TileRow,
-    from: u8,
-) -> Option<Column>
-    requires { places_in row.now ≡ row_by (tile_at version.now.tiles name.now) }
-    ensures some { IfSome result (IsFreeColumn version.now held.now.list.items name.now) }
-    ensures none { IfNone result (AreHeld version.now held.now.list.items name.now) }
-{
     if version.is_built(name) {
         return None;
     }
@@ -87,7 +60,7 @@ fn free_column(
     for step in 0..COLUMN_COUNT {
         let column = column_around(first + step);
         if !row.has(column) && !held.has(name, column) {
-            return Some(column);
+            return Some((name, column));
         }
     }
     None

@@ -1,15 +1,11 @@
 //! Neighbouring tiles that can be handed out as one strip.
-ghost use Rattle.std.specs.Prelude.{◌≡◌, ◌≤◌, ◌↔◌, ℕ, IsTrue, IfOk};
-ghost use Rattle.overlay_terms.specs.Commands.{stands_as_derived};
-ghost use Rattle.overlay_terms.specs.Histories.{tile_at};
+ghost use Rattle.std.specs.Prelude.{◌≡◌, ◌≤◌, ℕ, IfOk};
 ghost use Rattle.crossing_sweep.specs.StripInput.{part};
-ghost use Rattle.layer_tiles.specs.Table.{places_in, row_by};
 ghost use Rattle.version_book.specs.Free.{IsFree};
 ghost use Rattle.version_book.specs.Jobs.{IsHandedOut};
 
 use crate::held_tiles::HeldTiles;
 use layer_expr::name::Name;
-use layer_tiles::TileRow;
 use plane_base::{BaseLayer, Column};
 use std::alloc::{AllocError, Global};
 use tile_build::{Strip, StripInput};
@@ -46,7 +42,8 @@ pub fn strip_parts(
     Ok((copy, input))
 }
 
-// The last of neighbouring columns, from one on, whose tiles can be handed out. They are at most so many.
+// The last of neighbouring columns, from one on, whose tiles can be handed out. They are at most so many. The layer's row
+// says which tiles are pending.
 fn last_free(version: &Version, held: &HeldTiles, name: &Name, first: Column, most: usize) -> Column
     requires { IsFree version.now held.now.list.items name.now first }
     ensures from { first ≤ result }
@@ -61,24 +58,12 @@ fn last_free(version: &Version, held: &HeldTiles, name: &Name, first: Column, mo
         let Some(next) = Column::new(u64::from(last.number()) + 1) else {
             return last;
         };
-        if !is_free(version, held, name, row, next) {
+        if row.has(next) || held.has(name, next) {
             return last;
         }
         last = next;
     }
     last
-}
-
-// Whether the tile of a derived layer in a column can be handed out. The layer's row says whether it is pending.
-fn is_free(_version: &Version, held: &HeldTiles, name: &Name, row: &TileRow, column: Column) -> bool
-    requires derived_layer { IsTrue (stands_as_derived _version.now.layers name.now) }
-    requires row { places_in row.now ≡ row_by (tile_at _version.now.tiles name.now) }
-    ensures { IsTrue result ↔ IsFree _version.now held.now.list.items name.now column }
-{
-    if row.has(column) {
-        return false;
-    }
-    !held.has(name, column)
 }
 
 // How many columns a strip over these base layers has at most.

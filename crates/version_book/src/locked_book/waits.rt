@@ -7,7 +7,7 @@ ghost use Rattle.book_history.specs.Reporting.{ReportsStored};
 ghost use Rattle.version_book.specs.Failing.{IsReportedFault};
 ghost use Rattle.book_lock.specs.Steps.{IsLevel};
 ghost use Rattle.book_lock.specs.Heard.{HasHeard};
-ghost use Rattle.version_book.specs.Waits.{IsAfterAnswered, IsBuilding, IsBuiltAt, IsIdle, IsQuiet, IsSyncRefusedAt};
+ghost use Rattle.version_book.specs.Waits.{IsAfterAnswered, IsBuilding, IsBuiltAt, IsQuiet, IsSyncRefusedAt};
 ghost use Rattle.version_book.specs.Waits.{IsWaitRefused, IsWriting, Looks, Waits};
 
 use crate::locked_book::LockedBook;
@@ -33,53 +33,31 @@ pub(crate) enum Awaited<'a> {
     News(u64),
 }
 
-/// Whether a wait goes on.
+/// Whether a wait goes on. Each ends at closing.
 pub(crate) fn waits<J: BookName, R: Wait + Drop>(
     locked: &LockedBook<J, R>,
     awaited: &Awaited<'_>,
 ) -> bool
     ensures { IsTrue result ↔ Waits (newest_in locked.now.log) locked.now.state awaited.now }
 {
-    match awaited {
-        Awaited::Tile => is_idle(locked),
-        Awaited::Built(name) => is_building(locked, name),
-        Awaited::Durable(number) => is_writing(locked, *number),
-        Awaited::News(given) => is_quiet(locked, *given),
+    if locked.state.closing {
+        return false;
     }
-}
-
-// Whether nothing can be handed out, and the book does not close.
-fn is_idle<J: BookName, R: Wait + Drop>(locked: &LockedBook<J, R>) -> bool
-    ensures { IsTrue result ↔ IsIdle (newest_in locked.now.log) locked.now.state }
-{
-    !locked.state.closing && locked.free().is_none()
-}
-
-// Whether a layer's tiles can be waited for (not after a DROP), and none of the ends of the wait is there.
-fn is_building<J: BookName, R: Wait + Drop>(locked: &LockedBook<J, R>, name: &Name) -> bool
-    ensures { IsTrue result ↔ IsBuilding (newest_in locked.now.log) locked.now.state name.now }
-{
     let version = &locked.log.last().version;
-    version.wait_refusal(name).is_none()
-        && !version.is_built(name)
-        && !locked.state.held.has_mark(name)
-        && !locked.state.closing
-}
-
-// Whether a version of this number is not yet durable, and none of the other ends of the wait is there.
-fn is_writing<J: BookName, R: Wait + Drop>(locked: &LockedBook<J, R>, number: u64) -> bool
-    ensures { IsTrue result ↔ IsWriting (newest_in locked.now.log) locked.now.state number }
-{
-    locked.log.last().version.durable() < number
-        && locked.state.fault.is_none()
-        && !locked.state.closing
-}
-
-// Whether there are no news for the reporter, or it rests.
-fn is_quiet<J: BookName, R: Wait + Drop>(locked: &LockedBook<J, R>, given: u64) -> bool
-    ensures { IsTrue result ↔ IsQuiet locked.now.state given }
-{
-    !locked.state.closing && (locked.state.news == given || locked.state.resting)
+    match awaited {
+        // Nothing can be handed out.
+        Awaited::Tile => locked.free().is_none(),
+        // The layer's tiles can be waited for (not after a DROP), and none of the ends of the wait is there.
+        Awaited::Built(name) => {
+            version.wait_refusal(name).is_none()
+                && !version.is_built(name)
+                && !locked.state.held.has_mark(name)
+        }
+        // A version of this number is not yet durable, and the store reported no fault.
+        Awaited::Durable(number) => version.durable() < *number && locked.state.fault.is_none(),
+        // There are no news for the reporter, or it rests.
+        Awaited::News(given) => locked.state.news == *given || locked.state.resting,
+    }
 }
 
 /// Reports to a session how a wait for the tiles of a layer ends. The marks of the layer go where it ends by them.

@@ -4,7 +4,7 @@ use Rattle.std.specs.List.{All}
 use Rattle.overlay_terms.specs.Layers.{Layer}
 use Rattle.overlay_terms.specs.Commands.{stands_as_derived}
 use Rattle.version_book.specs.Free.{AreHeld}
-use Rattle.version_book.proofs.pending.free_of_all.Given as goal
+use Rattle.version_book.proofs.pending.free.Given as goal
 
 -- the tiles of the layers before this one are finished or held
 abbrev pub invariant-loop-place : goal.invariant-loop-place

@@ -2,7 +2,7 @@ use Rattle.std.specs.Prelude.{◌≡◌, ◌<◌, ◌≤◌, ◌+◌, ℕ, true,
 use Rattle.overlay_terms.specs.Column.{column_count}
 use Rattle.overlay_terms.specs.Histories.{tile_at}
 use Rattle.version_book.specs.HeldTiles.{is_held}
-use Rattle.version_book.proofs.pending.free_column.Given as goal
+use Rattle.version_book.proofs.pending.free_at.Given as goal
 
 -- the tiles of the columns so far are finished or held: from the first one on, and from 0 on after the last
 abbrev pub invariant-loop-step : goal.invariant-loop-step

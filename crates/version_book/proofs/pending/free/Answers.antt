@@ -7,7 +7,7 @@ use Rattle.overlay_terms.specs.Commands.{stands_as_derived}
 use Rattle.layer_book.proofs.Answering.{layer_there}
 use Rattle.version_book.specs.Free.{AreHeld}
 use Rattle.book_history.proofs.Holding.{one_more, of_named}
-use Rattle.version_book.proofs.pending.free_of_all.Goals as goal
+use Rattle.version_book.proofs.pending.free.Goals as goal
 
 pub loop-place-preserved : goal.loop-place-preserved
 loop-place-preserved c =
@@ -17,7 +17,7 @@ loop-place-preserved c =
     let inside : i < length layers =
     subst (λ ls. i < length ls) c.layers.ensures.value (subst (λ n. i < n) c.len-place-end.ensures.value c.loop-place-test.true) in
     let there = layer_there layers i inside in
-    one_more held layers i there.0 there.1 c.loop-place.invariant (subst (λ o. IfSome o held) there.1 c.in_default.ensures.none)
+    one_more held layers i there.0 there.1 c.loop-place.invariant (subst (λ o. IfSome o held) there.1 c.in_default-free_at.ensures.none)
 
 pub returns-clause-none : goal.returns-clause-none
 returns-clause-none c name stands =

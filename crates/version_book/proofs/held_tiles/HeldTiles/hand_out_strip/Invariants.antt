@@ -1,6 +1,6 @@
 use Rattle.std.proofs.Common.{◌≡◌, ◌-◌, ◌≤◌, ◌++◌}
 use Rattle.version_book.specs.HeldTiles.{tiles_from}
-use Rattle.version_book.proofs.held_tiles.HeldTiles.hand_out_each.Given as goal
+use Rattle.version_book.proofs.held_tiles.HeldTiles.hand_out_strip.Given as goal
 
 -- the tiles of the columns so far are handed out
 abbrev pub invariant-loop-number : goal.invariant-loop-number
