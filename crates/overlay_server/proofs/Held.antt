@@ -15,7 +15,7 @@ use Rattle.book_history.proofs.Chains.{begins_with}
 use Rattle.book_history.specs.declared.fault.ReportedFault.{ReportedFault}
 use Rattle.script_form.specs.declared.fault.CommandFault.{CommandFault}
 use Rattle.script_form.specs.Transcript.{StoreReport, of_number, of_fault, store_by}
-use Rattle.server_session.specs.Stores.{FaultMayBeReportedAt, MayBeReportedAt, HistoryReportsStored, store_of}
+use Rattle.server_session.specs.Stores.{FaultMayBeReportedAt, MayBeReportedAt, NumberMayBeReportedAt, store_of}
 use Rattle.store_flushing.specs.Failing.{FailedAt}
 use Rattle.store_flushing.specs.Storing.{IsStoreOf, IsStored}
 use Rattle.store_flushing.proofs.Following.{by_run}
@@ -63,7 +63,7 @@ module _ {D : Type 0} (g : Ghosts D) (now : HasOnlyNow g) (start : Version) (sto
   }
 
   was_held : (store : Option (Flusher D g)) → ((log : List Entry) (number : ℕ) → stored log number → IsStoredOf g start store log number) → IsTrue (is_some store)
-      → (history : History) → BeginsWith history (history_of (first_log start)) → HistoryReportsStored stored history → IsHeldOf g start store history
+      → (history : History) → BeginsWith history (history_of (first_log start)) → NumberMayBeReportedAt stored history → IsHeldOf g start store history
   was_held None meant there history on reported = absurd (false≢true there)
   was_held (Some old) meant there history on (log, same, inl first) =
       first_held old history on (subst (λ (h : History). (newest h).durable ≡ h.start.durable) same first)

@@ -54,7 +54,7 @@ module _ {D : Type 0} (g : Ghosts D) where
     flushes = λ is. let one = first.flushes is in
         then g (history_of a.reporter.log) (history_of b.reporter.log) (history_of c.reporter.log) a.held.flusher b.held.flusher c.held.flusher one (second.flushes one.store);
     rests = second.rests;
-    reports = reporting_then g a b c first.reports (λ is. (first.flushes is).store) second.reports;
+    notes_stay = reporting_then g a b c first.notes_stay (λ is. (first.flushes is).store) second.notes_stay;
   }
   flushed_twice (Kept a) (Kept b) (Alone c) first second = absurd second
   flushed_twice (Kept a) (Alone b) c first second = absurd first
@@ -144,7 +144,7 @@ module _ {D : Type 0} (g : Ghosts D) where
         let rest = reported_at_end g now end (notes_in l.notes) last.commit.disk on (is_history log closes.log) closes.heard.durable in
         let whole : NotesGoOn g was (notes_in f.notes) old.commit.disk end (notes_in closed.notes) last.commit.disk =
         subst (λ (ts : List ReportNote). NotesGoOn g was (notes_in f.notes) old.commit.disk end ts last.commit.disk) (sym closes.notes)
-        (reports_then g was now end (notes_in f.notes) (notes_in l.notes) (notes_in l.notes) old.commit.disk last.commit.disk last.commit.disk (flushed.reports was_store) rest) in
+        (reports_then g was now end (notes_in f.notes) (notes_in l.notes) (notes_in l.notes) old.commit.disk last.commit.disk last.commit.disk (flushed.notes_stay was_store) rest) in
         record {
           no_less = run.no_less;
           moments =

@@ -20,7 +20,7 @@ module _ {D : Type 0} (g : Ghosts D) where
   pub record IsFlushed (old new : Keeper D g) : Type 0 where
     pub flushes : IsStoreOf g (history_of old.reporter.log) old.held.flusher → Flushes g (history_of old.reporter.log) old.held.flusher (history_of new.reporter.log) new.held.flusher
     pub rests : is_busy new.held.flusher.commit.phase ≡ false
-    pub reports : KeepsNotes g old new
+    pub notes_stay : KeepsNotes g old new
 
   -- the same where there is a store; and where there is none, the reporter has seen no more
   abbrev pub AreFlushed : Store D g → Store D g → Type 0

@@ -9,8 +9,8 @@ use Rattle.script_form.specs.Transcript.{BookStore, StoreReport, of_number, of_f
 use Rattle.server_session.specs.Fault.{store_fault_of}
 
 -- the number that a history reports durable is that of its first version, or was stored of a beginning of its log
-abbrev pub HistoryReportsStored : (List Entry → ℕ → Type 0) → History → Type 0
-HistoryReportsStored stored history = (log : List Entry) × (history_of log ≡ history) × ReportsStored stored log
+abbrev pub NumberMayBeReportedAt : (List Entry → ℕ → Type 0) → History → Type 0
+NumberMayBeReportedAt stored history = (log : List Entry) × (history_of log ≡ history) × ReportsStored stored log
 
 -- a fault is that of a store which failed so, of a beginning of a history's log
 pub record FaultMayBeReportedAt (failed : List Entry → ReportedFault → Type 0) (history : History) (fault : CommandFault) : Type 0 where
@@ -22,7 +22,7 @@ pub record FaultMayBeReportedAt (failed : List Entry → ReportedFault → Type 
 
 -- what may be reported of a store at a history: its durable number, or a fault of the store
 abbrev pub MayBeReportedAt : (List Entry → ℕ → Type 0) → (List Entry → ReportedFault → Type 0) → History → StoreReport → Type 0
-MayBeReportedAt stored failed history of_number = HistoryReportsStored stored history
+MayBeReportedAt stored failed history of_number = NumberMayBeReportedAt stored history
 MayBeReportedAt stored failed history (of_fault fault) = FaultMayBeReportedAt failed history fault
 
 -- whether there is a store, by what counts as stored, and for what it failed

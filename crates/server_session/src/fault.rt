@@ -1,6 +1,6 @@
 //! What the book refuses, as a reply says it.
 ghost use Rattle.std.specs.Prelude.{◌≡◌};
-ghost use Rattle.server_session.specs.Fault.{command_fault_of, store_fault_of, IsBatchNumber, IsNumbered};
+ghost use Rattle.server_session.specs.Fault.{command_fault_of, IsBatchNumber, IsNumbered};
 
 use layer_book::fault::LayerFault;
 use script_form::CommandFault;
@@ -16,19 +16,11 @@ pub(crate) fn command_fault(fault: BookFault) -> CommandFault
         BookFault::Closing => CommandFault::Closing,
         BookFault::Gone => CommandFault::Gone,
         BookFault::NoStore => CommandFault::NoStore,
-        BookFault::Store(fault) => store_fault(fault),
-    }
-}
-
-fn store_fault(fault: ReportedFault) -> CommandFault
-    ensures { result ≡ store_fault_of fault }
-{
-    match fault {
-        ReportedFault::Device => CommandFault::Device,
-        ReportedFault::Full => CommandFault::Full,
-        ReportedFault::Failed => CommandFault::StoreFailed,
-        ReportedFault::SequenceLimit => CommandFault::SequenceLimit,
-        ReportedFault::OutOfMemory => CommandFault::OutOfMemory,
+        BookFault::Store(ReportedFault::Device) => CommandFault::Device,
+        BookFault::Store(ReportedFault::Full) => CommandFault::Full,
+        BookFault::Store(ReportedFault::Failed) => CommandFault::StoreFailed,
+        BookFault::Store(ReportedFault::SequenceLimit) => CommandFault::SequenceLimit,
+        BookFault::Store(ReportedFault::OutOfMemory) => CommandFault::OutOfMemory,
     }
 }
 
