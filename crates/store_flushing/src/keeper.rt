@@ -187,6 +187,8 @@ impl<D: Disk> Keeper<D> {
         ensures nothing { self.new ≡ self.old }
         ensures passes { result ≡ passes (reported_fault_of fault) }
     {
-        reports::report_fault(rt, shared, &mut self.reporter, fault)
+        let fault = reports::reported_fault(fault);
+        shared.store_failed(rt, &mut self.reporter, fault);
+        fault.passes()
     }
 }

@@ -1,7 +1,6 @@
 //! What the reporter reports to the book: that a number is durable, or why the store did not write.
 ghost use Rattle.std.specs.Prelude.{◌≡◌, ◌⊎◌, ◌≤◌};
 ghost use Rattle.overlay_terms.specs.Histories.{BeginsWith, IsHistory, newest};
-ghost use Rattle.book_history.specs.Fault.{passes};
 ghost use Rattle.book_history.specs.Logs.{history_of};
 ghost use Rattle.store_flushing.specs.ReportedFaults.{reported_fault_of};
 
@@ -44,25 +43,8 @@ pub(crate) fn report<J: BookName, R: Wait + Drop, W: Wait>(
     unreachable!()
 }
 
-/// Reports a fault to the book, and says whether the store can go on after it.
-pub(crate) fn report_fault<J: BookName, R: Wait + Drop, W: Wait>(
-    rt: &W,
-    shared: &Shared<J, R>,
-    me: &mut Reporter,
-    fault: StoreFault,
-) -> bool
-    requires book { me.old.book ≡ J.book }
-    requires failed { J.failed me.old.log (reported_fault_of fault) }
-    ensures nothing { me.new ≡ me.old }
-    ensures passes { result ≡ passes (reported_fault_of fault) }
-{
-    let fault = reported_fault(fault);
-    shared.store_failed(rt, me, fault);
-    fault.passes()
-}
-
 /// A fault of a store, as it is reported to the book.
-fn reported_fault(fault: StoreFault) -> ReportedFault
+pub(crate) fn reported_fault(fault: StoreFault) -> ReportedFault
     ensures { result ≡ reported_fault_of fault }
 {
     match fault {

@@ -47,7 +47,10 @@ fn work<J: BookName, R: Wait + Drop, G: Gate, W: Wait>(
     requires book { strip.book ≡ J.book }
     requires whole { strip.next ≡ strip.input.strip.first }
 {
-    enter(gate, &strip);
+    let columns = strip.input().strip();
+    for number in columns.first().number()..columns.last().number() + 1 {
+        gate.enter(strip.name(), number);
+    }
     let is_left = match finish_whole(rt, alloc, shared, &mut strip) {
         Ok(is_left) => is_left,
         Err(_) => finish_apart(rt, alloc, shared, &mut strip),
@@ -79,14 +82,6 @@ fn finish_whole<J: BookName, R: Wait + Drop, W: Wait>(
     // Where memory runs out, the strip has those that are left.
     let _ = shared.finish_strip(rt, alloc, strip, &built);
     Ok(false)
-}
-
-/// Enters the gate for each column of a strip.
-fn enter<G: Gate>(gate: &G, strip: &StripJob) {
-    let columns = strip.input().strip();
-    for number in columns.first().number()..columns.last().number() + 1 {
-        gate.enter(strip.name(), number);
-    }
 }
 
 /// Builds the tiles of a strip one after another, each by a pass over its own column alone, and spends them, until
