@@ -1,6 +1,9 @@
 //! The tests from points to books, and what they share.
 mod arrangement_tests;
 mod batch_tests;
+mod book_calls;
+mod book_rows;
+mod book_store_tests;
 mod book_tests;
 mod books;
 mod crossing_tests;

@@ -1,13 +1,12 @@
-//! What a book answers: a snapshot, commands of two threads, tiles that are taken, finished and given back, durable
-//! numbers, and how it closes.
-use crate::tests::books::{Call, Late, Row, WaitFor, play};
+//! What a book answers: a snapshot, commands of two threads, tiles that are taken, finished and given back, and how it
+//! closes.
+use crate::tests::book_rows::{Beside, Call, OVERLAP, PUT_A, Row, WaitFor};
+use crate::tests::books::play;
 use crate::tests::testing::{Change, Corners, LEFT_HALF, SHIFTED, SQUARE};
 use layer_book::batch_fault::BatchFault;
 use layer_book::fault::LayerFault;
-use version_book::fault::{BookFault, ReportedFault};
+use version_book::fault::BookFault;
 use versions::VersionFault;
-
-const PUT_A: Call = Call::Submit(Change::Put("A", SQUARE));
 
 const BUILDS: Row = Row::Builds(true);
 
@@ -66,13 +65,6 @@ const MANY: &[&[Row]] = &[&[BESIDE]];
 fn two_threads_share_one_row_of_numbers_beside_a_reporter(rt: HostRuntime) {
     play(&rt, rt.alloc(), false, MANY, 3000);
 }
-
-/// The squares A and B, and I where both are.
-const OVERLAP: &[Row] = &[
-    Row::Calls(PUT_A, Ok(Some(1))),
-    Row::Calls(Call::Submit(Change::Put("B", SHIFTED)), Ok(Some(2))),
-    Row::Calls(Call::Submit(Change::Define("I", "A & B")), Ok(Some(3))),
-];
 
 /// A ring that lies in all columns.
 const WIDE: Corners = &[&[
@@ -148,9 +140,12 @@ const GIVEN_BACK: &[&[Row]] = &[
     OVERLAP,
     &[BUILDS; 32],
     &[
-        Row::WaitsBeside(WaitFor::Built("I"), Call::GiveBack, Err(NO_MEMORY)),
+        Row::Beside(
+            Beside::Waits(WaitFor::Built("I"), Call::GiveBack),
+            Err(NO_MEMORY),
+        ),
         Row::GivesBack(true),
-        Row::BuildsBeside("I", Err(NO_MEMORY)),
+        Row::Beside(Beside::Builds("I"), Err(NO_MEMORY)),
     ],
     &[Row::Calls(Call::WaitBuilt("I"), Ok(Some(3)))],
 ];
@@ -166,18 +161,19 @@ const BUILT: &[&[Row]] = &[
     OVERLAP,
     &[BUILDS; 32],
     &[
-        Row::WaitsBeside(WaitFor::Built("I"), Call::Build, Ok(Some(3))),
+        Row::Beside(Beside::Waits(WaitFor::Built("I"), Call::Build), Ok(Some(3))),
         Row::Calls(PUT_A, Ok(Some(4))),
         Row::Calls(Call::Submit(Change::Define("I", "A | B")), Ok(Some(5))),
-        Row::WaitsBeside(
-            WaitFor::Built("I"),
-            Call::Submit(Change::Remove("I")),
+        Row::Beside(
+            Beside::Waits(WaitFor::Built("I"), Call::Submit(Change::Remove("I"))),
             Err(UNKNOWN_LAYER),
         ),
         Row::Calls(Call::Submit(Change::Define("I", "A | B")), Ok(Some(7))),
-        Row::WaitsBeside(
-            WaitFor::Built("I"),
-            Call::SubmitAll(&[Change::Remove("I"), Change::Remove("B")]),
+        Row::Beside(
+            Beside::Waits(
+                WaitFor::Built("I"),
+                Call::SubmitAll(&[Change::Remove("I"), Change::Remove("B")]),
+            ),
             Err(UNKNOWN_LAYER),
         ),
     ],
@@ -196,10 +192,10 @@ const WOKEN: &[&[Row]] = &[
     OVERLAP,
     &[BUILDS; 33],
     &[
-        Row::WaitsBeside(WaitFor::Tile, PUT_HALF, Ok(Some(16))),
+        Row::Beside(Beside::Waits(WaitFor::Tile, PUT_HALF), Ok(Some(16))),
         Row::Calls(PUT_A, Ok(Some(5))),
-        Row::StaleBeside(PUT_HALF, Ok(Some(16))),
-        Row::WaitsBeside(WaitFor::Tile, Call::BeginClose, Ok(None)),
+        Row::Beside(Beside::Stale(PUT_HALF), Ok(Some(16))),
+        Row::Beside(Beside::Waits(WaitFor::Tile, Call::BeginClose), Ok(None)),
     ],
 ];
 
@@ -212,9 +208,8 @@ fn a_command_a_tile_that_is_not_kept_and_closing_each_wake_a_worker(rt: HostRunt
 
 const CLOSED_BESIDE: &[&[Row]] = &[
     OVERLAP,
-    &[Row::WaitsBeside(
-        WaitFor::Built("I"),
-        Call::BeginClose,
+    &[Row::Beside(
+        Beside::Waits(WaitFor::Built("I"), Call::BeginClose),
         Err(BookFault::Closing),
     )],
 ];
@@ -222,92 +217,6 @@ const CLOSED_BESIDE: &[&[Row]] = &[
 #[test]
 fn closing_ends_a_wait_for_tiles(rt: HostRuntime) {
     play(&rt, rt.alloc(), false, CLOSED_BESIDE, 3);
-}
-
-const DURABLE: &[&[Row]] = &[&[
-    Row::Calls(PUT_A, Ok(Some(1))),
-    Row::Calls(Call::NextVersion, Ok(Some(1))),
-    Row::Calls(Call::Report(1), Ok(Some(1))),
-    Row::Calls(Call::Report(9), Ok(Some(1))),
-    Row::Calls(Call::WaitDurable, Ok(Some(1))),
-    Row::Calls(Call::StoreFailed(ReportedFault::Device), Ok(None)),
-    Row::Calls(PUT_A, Ok(Some(2))),
-    Row::Calls(
-        Call::WaitDurable,
-        Err(BookFault::Store(ReportedFault::Device)),
-    ),
-]];
-
-#[test]
-fn a_version_that_is_reported_is_durable(rt: HostRuntime) {
-    play(&rt, rt.alloc(), true, DURABLE, 2);
-}
-
-const ENDED: &[&[Row]] = &[&[
-    Row::Calls(PUT_A, Ok(Some(1))),
-    Row::WaitsBeside(WaitFor::Durable, Call::Report(1), Ok(Some(1))),
-    Row::Calls(PUT_A, Ok(Some(2))),
-    Row::WaitsBeside(
-        WaitFor::Durable,
-        Call::StoreFailed(ReportedFault::Full),
-        Err(BookFault::Store(ReportedFault::Full)),
-    ),
-    Row::Calls(PUT_A, Ok(Some(3))),
-    Row::WaitsBeside(WaitFor::Durable, Call::BeginClose, Err(BookFault::Closing)),
-]];
-
-#[test]
-fn a_report_a_fault_and_closing_each_end_a_wait(rt: HostRuntime) {
-    play(&rt, rt.alloc(), true, ENDED, 3);
-}
-
-const REPORTED: &[&[Row]] = &[&[
-    Row::Calls(PUT_A, Ok(Some(1))),
-    Row::Calls(Call::StoreFailed(ReportedFault::SequenceLimit), Ok(None)),
-    Row::Calls(
-        Call::WaitDurable,
-        Err(BookFault::Store(ReportedFault::SequenceLimit)),
-    ),
-    Row::Calls(PUT_A, Ok(Some(2))),
-    Row::Calls(Call::StoreFailed(ReportedFault::OutOfMemory), Ok(None)),
-    Row::Calls(
-        Call::WaitDurable,
-        Err(BookFault::Store(ReportedFault::OutOfMemory)),
-    ),
-    Row::Calls(PUT_A, Ok(Some(3))),
-    Row::Calls(Call::StoreFailed(ReportedFault::Failed), Ok(None)),
-    Row::Calls(
-        Call::WaitDurable,
-        Err(BookFault::Store(ReportedFault::Failed)),
-    ),
-]];
-
-#[test]
-fn a_fault_of_the_store_is_reported_as_it_is(rt: HostRuntime) {
-    play(&rt, rt.alloc(), true, REPORTED, 3);
-}
-
-const NEWS: &[&[Row]] = &[
-    OVERLAP,
-    &[
-        Row::Calls(Call::NextVersion, Ok(Some(3))),
-        // others of its layer are still pending then
-        Row::NewsBeside(Late::Builds, Ok(Some(3))),
-        Row::NewsBeside(Late::Submits(Change::Put("A", SQUARE)), Ok(Some(4))),
-        Row::NewsBeside(Late::BeginsToClose, Ok(None)),
-    ],
-];
-
-#[test]
-fn a_kept_tile_a_command_and_closing_each_end_the_wait_of_the_reporter(rt: HostRuntime) {
-    play(&rt, rt.alloc(), true, NEWS, 4);
-}
-
-const WITHOUT_STORE: &[&[Row]] = &[&[Row::Calls(Call::WaitDurable, Err(BookFault::NoStore))]];
-
-#[test]
-fn nothing_is_durable_without_a_store(rt: HostRuntime) {
-    play(&rt, rt.alloc(), false, WITHOUT_STORE, 0);
 }
 
 const CLOSING: &[&[Row]] = &[&[

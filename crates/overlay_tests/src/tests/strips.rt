@@ -1,7 +1,8 @@
 //! Strips of tiles, taken and spent, for the tests.
 ghost use Rattle.std.specs.Prelude.{◌≡◌, IfSome};
 
-use crate::tests::books::{Call, answer};
+use crate::tests::book_calls::answer;
+use crate::tests::book_rows::Call;
 use crate::tests::tokens::Tokens;
 use std::alloc::Global;
 use std::process::Abort;

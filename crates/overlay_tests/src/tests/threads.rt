@@ -1,7 +1,8 @@
 //! What two sessions do in threads of their own, for the tests.
 ghost use Rattle.std.specs.Prelude.{◌≡◌, IfSome};
 
-use crate::tests::books::{Answer, Call, answer, finish, news, take};
+use crate::tests::book_calls::{answer, finish, news, take};
+use crate::tests::book_rows::{Answer, Call};
 use crate::tests::tokens::Tokens;
 use layer_book::command::Command;
 use layer_expr::name::Name;
