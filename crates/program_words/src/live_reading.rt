@@ -14,7 +14,7 @@ use crate::live_plan::{Asked, LivePlan, PAIRS_MAX};
 use crate::matching::{
     flag, is_set, named, number_or, opening_of, option, others, owned, refused, value, values,
 };
-use crate::plan::{BLOCKS_MAX, WORKERS_MAX};
+use crate::plan::{BLOCKS_MAX, BLOCKS_USUAL, WORKERS_MAX, WORKERS_USUAL};
 use crate::reading::is_known;
 use clap::{ArgMatches, Command, Error};
 use std::alloc::{AllocError, Global};
@@ -99,7 +99,7 @@ fn live_line<'a>(alloc: Global) -> Result<Command<'a>, AllocError>
         .arg(others(alloc, "path"))
 }
 
-/// What matched words ask for.
+/// What matched words ask for. Where an option is left out, its usual number is taken.
 fn planned(alloc: Global, matches: &ArgMatches<'_>) -> Result<LivePlan, WordFault>
     ensures ok { IfOk result (λ plan. live_request_in (rows_of (found_of matches.now)) ≡ Some (live_request_kept plan)) }
     ensures refused { IfErr result (λ fault. fault ≡ Words → live_request_in (rows_of (found_of matches.now)) ≡ None) }
@@ -108,8 +108,8 @@ fn planned(alloc: Global, matches: &ArgMatches<'_>) -> Result<LivePlan, WordFaul
     let read_only = is_set(value(matches, "read-only"));
     let store = value(matches, "store");
     let opening = opening_of(create, read_only, store.is_some())?;
-    let workers = number_or(value(matches, "workers"), 2, WORKERS_MAX)?;
-    let max_blocks = number_or(value(matches, "max-blocks"), 65_536, BLOCKS_MAX)?;
+    let workers = number_or(value(matches, "workers"), WORKERS_USUAL, WORKERS_MAX)?;
+    let max_blocks = number_or(value(matches, "max-blocks"), BLOCKS_USUAL, BLOCKS_MAX)?;
     let paths = values(matches, "path").unwrap_or(&[]);
     if !are_paired(paths.len()) {
         return Err(WordFault::Words);

@@ -6,8 +6,14 @@ use crate::keeping::Keeping;
 /// The most workers.
 pub const WORKERS_MAX: u32 = 8;
 
+/// How many workers there are where the words do not say it.
+pub(crate) const WORKERS_USUAL: u32 = 2;
+
 /// The most blocks that a file may be allowed.
 pub const BLOCKS_MAX: u32 = 1_048_576;
+
+/// How many blocks a file is allowed where the words do not say it.
+pub(crate) const BLOCKS_USUAL: u32 = 65_536;
 
 /// The most scripts.
 pub const SCRIPTS_MAX: usize = 4;

@@ -14,7 +14,7 @@ use crate::matching::{
     all_owned, flag, is_set, named, number_or, opening_of, option, others, owned, refused, value,
     values,
 };
-use crate::plan::{BLOCKS_MAX, Plan, SCRIPTS_MAX, WORKERS_MAX};
+use crate::plan::{BLOCKS_MAX, BLOCKS_USUAL, Plan, SCRIPTS_MAX, WORKERS_MAX, WORKERS_USUAL};
 use clap::{ArgMatches, Command, Error};
 use std::alloc::{AllocError, Global};
 
@@ -80,7 +80,7 @@ fn command_line<'a>(alloc: Global) -> Result<Command<'a>, AllocError>
         .arg(others(alloc, "script"))
 }
 
-/// What matched words ask for.
+/// What matched words ask for. Where an option is left out, its usual number is taken.
 fn planned(alloc: Global, matches: &ArgMatches<'_>) -> Result<Plan, WordFault>
     ensures ok { IfOk result (λ plan. request_in (rows_of (found_of matches.now)) ≡ Some (request_kept plan)) }
     ensures refused { IfErr result (λ fault. fault ≡ Words → request_in (rows_of (found_of matches.now)) ≡ None) }
@@ -88,8 +88,8 @@ fn planned(alloc: Global, matches: &ArgMatches<'_>) -> Result<Plan, WordFault>
     let create = is_set(value(matches, "create"));
     let store = value(matches, "store");
     let opening = opening_of(create, false, store.is_some())?;
-    let workers = number_or(value(matches, "workers"), 2, WORKERS_MAX)?;
-    let max_blocks = number_or(value(matches, "max-blocks"), 65_536, BLOCKS_MAX)?;
+    let workers = number_or(value(matches, "workers"), WORKERS_USUAL, WORKERS_MAX)?;
+    let max_blocks = number_or(value(matches, "max-blocks"), BLOCKS_USUAL, BLOCKS_MAX)?;
     let paths = values(matches, "script").unwrap_or(&[]);
     if !are_few(paths.len()) {
         return Err(WordFault::Words);
