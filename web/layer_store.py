@@ -170,7 +170,7 @@ class LayerStore:
             raise TooLarge(f"its rings take longer than the {seconds:g} seconds that they are given") from None
 
     def _built_pieces(self, found: Listed) -> list[Piece]:
-        """All pieces of a derived layer. It is waited for a little, and by no session, as that could last for ever."""
+        """All pieces of a derived layer. Waits BUILDING seconds for it, by no session, as that could last for ever."""
         columns: dict[int, list[Piece]] = {}
         end = time.monotonic() + BUILDING
         while not self._add_built(found, columns):
@@ -200,6 +200,7 @@ class LayerStore:
             threading.Thread(target=self._wait, args=(name,), daemon=True).start()
 
     def _wait(self, name: str) -> None:
+        """Asks WAIT of a layer once, so that tiles given back for want of memory are tried again."""
         try:  # an OSError or a ValueError where its files are closed meanwhile
             with contextlib.suppress(Refused, Ended, OSError, ValueError):
                 with self._server.session(slow=True, timeout=0) as one:

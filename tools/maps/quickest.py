@@ -16,5 +16,5 @@ __all__ = ["ByNumpy", "ByWindows", "drawing", "planning"]
 
 
 def drawing(window: str | None) -> Plain:
-    """Who draws in: the program overlay_window at a path, or Python where there is none."""
+    """Who draws in: the program overlay_window at a path, else Python; both by numpy where it is there."""
     return ByNumpy() if window is None else ByWindows(window)
