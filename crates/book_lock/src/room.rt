@@ -34,7 +34,7 @@ impl Room {
     {
         if let Some(place) = self.place.take() {
             let mut place = place;
-            // Nobody else ever has it; where somebody did, other memory would be asked for.
+            // Nobody else ever has it; if somebody had, other memory would be asked for.
             if let Some(own) = Arc::get_mut(&mut place) {
                 *own = version;
                 return Ok(place);

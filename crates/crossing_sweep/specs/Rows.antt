@@ -115,7 +115,7 @@ pub record AreSorted (rows sorted : List Row) : Type 0 where
   pub moved : IsPermutation rows sorted
   pub in_order : IsSortedByKey row_numbers number_cmp sorted
 
--- whether a place has a row: a row ends after node 0, a vacant one ends there
+-- whether a place has a row: a row ends after node 0, a vacant one at node 0
 abbrev pub is_taken : Row → Bool
 is_taken row = not (row.last == 0)
 

@@ -83,7 +83,8 @@ impl Search {
     }
 }
 
-/// Tests two neighbours: where they cross after a place, in the closed strip, that place is found, unless both end there.
+/// Tests two neighbours: where they cross after a place, in the closed strip, that place is found, unless both end
+/// there.
 pub(crate) fn test_pair(
     ahead: &mut Ahead,
     strip: Strip,

@@ -97,9 +97,9 @@ fn gcd(a: u64, b: u64) -> u64
     odd_gcd(a >> of_a, b >> of_b) << of_a.min(of_b)
 }
 
-/// That of two odd numbers, by Stein's algorithm: shifts and differences where Euclid's divides. Beside an odd number the
-/// factors 2 of a difference do not count. (Stein, 1967; Knuth, The Art of Computer Programming, volume 2, 4.5.2,
-/// algorithm B.)
+/// The greatest common divisor of two odd numbers, by Stein's algorithm: shifts and differences where Euclid's
+/// divides. Beside an odd number the factors 2 of a difference do not count. (Stein, 1967; Knuth, The Art of Computer
+/// Programming, volume 2, 4.5.2, algorithm B.)
 fn odd_gcd(a: u64, b: u64) -> u64
     requires odd { a % 2 ≡ 1 }
     requires other_odd { b % 2 ≡ 1 }

@@ -157,6 +157,7 @@ impl<'a> Sketch<'a> {
         }
     }
 
+    /// Why PUT is refused, the first reason: a derived layer has the name, no room.
     fn refusal_of_put(&self, name: &Name) -> Option<LayerFault>
         ensures { result ≡ option_map fault_of (refusal_of_put (sketched self.now) name.now) }
     {
@@ -169,6 +170,7 @@ impl<'a> Sketch<'a> {
         None
     }
 
+    /// Why DEFINE is refused, the first reason: a base layer has the name, a name of the expression, no room.
     fn refusal_of_define(&self, name: &Name, expression: &Expr) -> Option<LayerFault>
         ensures { result ≡ option_map fault_of (refusal_of_define (sketched self.now) name.now expression.now) }
     {
@@ -198,6 +200,7 @@ impl<'a> Sketch<'a> {
         }
     }
 
+    /// Why a definition may not name a layer: there is none, or it is the defined layer or comes later.
     fn refusal_of_use(&self, defined: &Name, used: &Name) -> Option<LayerFault>
         ensures { result ≡ option_map fault_of (refusal_of_use (sketched self.now) defined.now used.now) }
     {

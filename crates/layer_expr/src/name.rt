@@ -1,7 +1,7 @@
 //! Names of layers.
 ghost use Rattle.std.specs.Prelude.{◌≡◌, ◌≤◌, List, ℕ, length, take, IfOk, IsOk, IsTrue, true, false};
 ghost use Rattle.std.specs.List.{list_all};
-ghost use Rattle.layer_expr.specs.Name.{is_name, is_name_byte, first_is_letter};
+ghost use Rattle.layer_expr.specs.Name.{is_name, is_name_byte};
 
 use crate::fault::ExprFault;
 use std::alloc::{AllocError, Global};
@@ -76,16 +76,10 @@ pub(crate) fn is_well_formed(bytes: &[u8]) -> bool
     ensures value { result ≡ is_name bytes.now }
     ensures short { IsTrue result → length bytes.now ≤ 32 }
 {
-    starts_with_letter(bytes) && bytes.len() <= NAME_MAX && all_name_bytes(bytes)
-}
-
-fn starts_with_letter(bytes: &[u8]) -> bool
-    ensures { result ≡ first_is_letter bytes.now }
-{
-    match bytes {
-        [] => false,
-        [first, ..] => first.is_ascii_alphabetic(),
-    }
+    let [first, ..] = bytes else {
+        return false;
+    };
+    first.is_ascii_alphabetic() && bytes.len() <= NAME_MAX && all_name_bytes(bytes)
 }
 
 fn all_name_bytes(bytes: &[u8]) -> bool

@@ -1,4 +1,4 @@
-//! Built tiles with what they were built from.
+//! Built tiles with what they were built from, and how many pieces a tile may hold.
 ghost use Rattle.std.specs.Prelude.{◌≡◌, IfOk, IfErr};
 ghost use Rattle.overlay_terms.specs.Histories.{IsTileAt, pieces_max};
 ghost use Rattle.tile_build.specs.Tile.{tile_of};

@@ -34,8 +34,8 @@ pub fn free<'a>(
     None
 }
 
-// The same among the tiles of the layer at a place alone. Its row says which are pending, and each column is looked at once:
-// from one on, and after the last from the first on.
+// The same among the tiles of the layer at a place alone. Its row says which are pending, and each column is looked at
+// once: from one on, and after the last from the first on.
 fn free_at<'a>(
     version: &'a Version,
     held: &HeldTiles,

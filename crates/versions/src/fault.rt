@@ -7,7 +7,7 @@ ghost use Rattle.layer_book.specs.declared.fault.LayerFault.TheVariants.{OutOfMe
 
 use fault_texts::FaultText;
 use layer_book::fault::LayerFault;
-use std::alloc::AllocError;
+use std::alloc::{AllocError, AllocFailed};
 use thiserror::Error;
 
 /// Why a call on a version is refused.
@@ -58,6 +58,14 @@ impl From<AllocError> for VersionFault {
     ghost from_gives = { λ _ e. e ≡ Layer OutOfMemory };
 
     fn from(_e: AllocError) -> VersionFault {
+        VersionFault::Layer(LayerFault::OutOfMemory)
+    }
+}
+
+impl<T: Drop> From<AllocFailed<T>> for VersionFault {
+    ghost from_gives = { λ _ e. e ≡ Layer OutOfMemory };
+
+    fn from(_e: AllocFailed<T>) -> VersionFault {
         VersionFault::Layer(LayerFault::OutOfMemory)
     }
 }

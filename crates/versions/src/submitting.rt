@@ -1,5 +1,5 @@
 //! What a command makes of a version.
-ghost use Rattle.std.specs.Prelude.{◌≡◌, None, IfOk, IfErr};
+ghost use Rattle.std.specs.Prelude.{◌≡◌, IfOk, IfErr};
 ghost use Rattle.std.specs.Option.{option_map};
 ghost use Rattle.overlay_terms.specs.Commands.{refusal_at};
 ghost use Rattle.overlay_terms.specs.Histories.{FollowsCommand};
@@ -11,12 +11,12 @@ use crate::fault::VersionFault;
 use crate::version::{VERSION_MAX, Version};
 use layer_book::command::Command;
 use layer_book::fault::LayerFault;
-use std::alloc::{AllocError, Global};
+use std::alloc::Global;
 use std::sync::Arc;
 
 impl Version {
-    /// The version after a command. A refusal for another reason than memory comes before any
-    /// memory is taken.
+    /// The version after a command: its number is one higher. A refusal for another reason than memory comes before
+    /// any memory is taken.
     pub fn submit(&self, alloc: Global, change: &Command) -> Result<Version, VersionFault>
         ensures ok { IfOk result (λ next. FollowsCommand self.now (command change.now) next) }
         ensures refused { IfErr result (RefusedBy (VersionFault.Layer LayerFault.OutOfMemory) (option_map version_fault.version_fault_of (refusal_at self.now.number self.now.layers (command change.now)))) }
@@ -25,14 +25,6 @@ impl Version {
             Some(fault) => return Err(VersionFault::Layer(fault)),
             None => {}
         }
-        Ok(self.after(alloc, change)?)
-    }
-
-    /// The version after a command that is accepted: its number is one higher.
-    fn after(&self, alloc: Global, change: &Command) -> Result<Version, AllocError>
-        requires { refusal_at self.now.number self.now.layers (command change.now) ≡ None }
-        ensures { IfOk result (λ next. FollowsCommand self.now (command change.now) next) }
-    {
         let table = self.table(alloc)?;
         let made = table.after(alloc, change)?;
         let next = Arc::new(alloc, made)?;

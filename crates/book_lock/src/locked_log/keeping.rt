@@ -80,7 +80,7 @@ impl<J: BookName, R: Wait + Drop> LockedLog<J, R> {
             return Err(NO_MEMORY);
         };
         let mut version = shared(alloc, copy)?;
-        // Nobody else has it.
+        // Nobody else has it: it was copied just now.
         let Some(own) = Arc::get_mut(&mut version) else {
             return Err(BookFault::Gone);
         };
