@@ -4,7 +4,7 @@ use Rattle.std.specs.Prelude.{IsTrue, Option, Some, None, option_and_then}
 use Rattle.overlay_terms.specs.Trees.{Operation, intersection, union, difference, sym_difference, Tree}
 use Rattle.layer_expr.specs.Token.{Kind, name, operator, open_bracket, close_bracket, stray}
 use Rattle.layer_expr.specs.Grammar.{Written, a_name, in_brackets, joined, Level, atom, product, sum, level_of, is_atom, is_sum, is_intersection, is_grouped, written_kinds, written_tree}
-use Rattle.layer_expr.specs.ReaderState.{Making, written_making, tree_making, Frame, frame, ReaderState, awaits, holds, times, plus, behind, moved, behind_all, at_start, finished}
+use Rattle.layer_expr.specs.ReaderState.{Making, written_making, tree_making, Frame, frame, ReaderState, awaits, holds, times, plus, after_operator, moved, after_kinds, at_start, finished}
 
 abbrev pub W : Making Written
 W = written_making
@@ -15,13 +15,13 @@ both true b h = (refl, h)
 both false b h = absurd (cc)
 
 -- what is read of some tokens and then of more
-pub behind_all-append : {A : Type 0} (m : Making A) (s : Option (ReaderState A)) (xs ys : List Kind) → behind_all m s (xs ++ ys) ≡ behind_all m (behind_all m s xs) ys
-behind_all-append m s [] ys = refl
-behind_all-append m s (k ∷ xs) ys = behind_all-append m (option_and_then (moved m k) s) xs ys
+pub after_kinds-append : {A : Type 0} (m : Making A) (s : Option (ReaderState A)) (xs ys : List Kind) → after_kinds m s (xs ++ ys) ≡ after_kinds m (after_kinds m s xs) ys
+after_kinds-append m s [] ys = refl
+after_kinds-append m s (k ∷ xs) ys = after_kinds-append m (option_and_then (moved m k) s) xs ys
 
-pub behind_all-none : {A : Type 0} (m : Making A) (ks : List Kind) → behind_all m None ks ≡ None
-behind_all-none m [] = refl
-behind_all-none m (k ∷ ks) = behind_all-none m ks
+pub after_kinds-none : {A : Type 0} (m : Making A) (ks : List Kind) → after_kinds m None ks ≡ None
+after_kinds-none m [] = refl
+after_kinds-none m (k ∷ ks) = after_kinds-none m ks
 
 -- the sum that waits before the last product of what is written, and that product
 abbrev pub left_of : Written → Option (Operation × Written)
@@ -50,35 +50,35 @@ plus-whole (joined sym_difference l r) = refl
 
 -- what is written is read to its end, as an atom, as a product and as a sum, whatever is round it
 pub record IsRead (w : Written) : Type 0 where
-  pub as_atom : IsTrue (is_atom (level_of w)) → (outer : List (Frame Written)) (left : Option (Operation × Written)) (factor : Option Written) → behind_all W (Some (awaits outer left factor)) (written_kinds w) ≡ Some (holds outer left (times W factor w))
-  pub as_product : IsTrue (not (is_sum (level_of w))) → (outer : List (Frame Written)) (left : Option (Operation × Written)) → behind_all W (Some (awaits outer left None)) (written_kinds w) ≡ Some (holds outer left w)
-  pub as_sum : (outer : List (Frame Written)) → behind_all W (Some (awaits outer None None)) (written_kinds w) ≡ Some (holds outer (left_of w) (last_of w))
+  pub as_atom : IsTrue (is_atom (level_of w)) → (outer : List (Frame Written)) (left : Option (Operation × Written)) (factor : Option Written) → after_kinds W (Some (awaits outer left factor)) (written_kinds w) ≡ Some (holds outer left (times W factor w))
+  pub as_product : IsTrue (not (is_sum (level_of w))) → (outer : List (Frame Written)) (left : Option (Operation × Written)) → after_kinds W (Some (awaits outer left None)) (written_kinds w) ≡ Some (holds outer left w)
+  pub as_sum : (outer : List (Frame Written)) → after_kinds W (Some (awaits outer None None)) (written_kinds w) ≡ Some (holds outer (left_of w) (last_of w))
 
 -- an operator that is no `&`
 abbrev pub IsLoose : Operation → Type 0
-IsLoose o = (outer : List (Frame Written)) (left : Option (Operation × Written)) (a : Written) → behind W o outer left a ≡ awaits outer (Some (o, plus W left a)) None
+IsLoose o = (outer : List (Frame Written)) (left : Option (Operation × Written)) (a : Written) → after_operator W o outer left a ≡ awaits outer (Some (o, plus W left a)) None
 
 pub read_name : (n : List ℕ) → IsRead (a_name n)
 read_name n = record { as_atom = λ _ outer left factor. refl; as_product = λ _ outer left. refl; as_sum = λ outer. refl }
 
-pub read_brackets : (w : Written) → IsRead w → (outer : List (Frame Written)) (left : Option (Operation × Written)) (factor : Option Written) → behind_all W (Some (awaits outer left factor)) (written_kinds (in_brackets w)) ≡ Some (holds outer left (times W factor (in_brackets w)))
+pub read_brackets : (w : Written) → IsRead w → (outer : List (Frame Written)) (left : Option (Operation × Written)) (factor : Option Written) → after_kinds W (Some (awaits outer left factor)) (written_kinds (in_brackets w)) ≡ Some (holds outer left (times W factor (in_brackets w)))
 read_brackets w ih outer left factor =
-    behind_all-append W (Some (awaits (frame left factor ∷ outer) None None)) (written_kinds w) (close_bracket ∷ [])
-    ∙ ap (λ s. behind_all W s (close_bracket ∷ [])) (ih.as_sum (frame left factor ∷ outer))
+    after_kinds-append W (Some (awaits (frame left factor ∷ outer) None None)) (written_kinds w) (close_bracket ∷ [])
+    ∙ ap (λ s. after_kinds W s (close_bracket ∷ [])) (ih.as_sum (frame left factor ∷ outer))
     ∙ ap (λ u. Some (holds outer left (times W factor (in_brackets u)))) (plus-whole w)
 
-pub read_product : (l r : Written) → IsRead l → IsRead r → IsTrue (not (is_sum (level_of l))) → IsTrue (is_atom (level_of r)) → (outer : List (Frame Written)) (left : Option (Operation × Written)) → behind_all W (Some (awaits outer left None)) (written_kinds (joined intersection l r)) ≡ Some (holds outer left (joined intersection l r))
+pub read_product : (l r : Written) → IsRead l → IsRead r → IsTrue (not (is_sum (level_of l))) → IsTrue (is_atom (level_of r)) → (outer : List (Frame Written)) (left : Option (Operation × Written)) → after_kinds W (Some (awaits outer left None)) (written_kinds (joined intersection l r)) ≡ Some (holds outer left (joined intersection l r))
 read_product l r on_left on_right no_sum single outer left =
-    behind_all-append W (Some (awaits outer left None)) (written_kinds l) (operator intersection ∷ written_kinds r)
-    ∙ ap (λ s. behind_all W s (operator intersection ∷ written_kinds r)) (on_left.as_product no_sum outer left)
+    after_kinds-append W (Some (awaits outer left None)) (written_kinds l) (operator intersection ∷ written_kinds r)
+    ∙ ap (λ s. after_kinds W s (operator intersection ∷ written_kinds r)) (on_left.as_product no_sum outer left)
     ∙ on_right.as_atom single outer left (Some l)
 
-pub read_sum : (o : Operation) → IsLoose o → (l r : Written) → IsRead l → IsRead r → IsTrue (not (is_sum (level_of r))) → (outer : List (Frame Written)) → behind_all W (Some (awaits outer None None)) (written_kinds l ++ operator o ∷ written_kinds r) ≡ Some (holds outer (Some (o, l)) r)
+pub read_sum : (o : Operation) → IsLoose o → (l r : Written) → IsRead l → IsRead r → IsTrue (not (is_sum (level_of r))) → (outer : List (Frame Written)) → after_kinds W (Some (awaits outer None None)) (written_kinds l ++ operator o ∷ written_kinds r) ≡ Some (holds outer (Some (o, l)) r)
 read_sum o loose l r on_left on_right no_sum outer =
-    behind_all-append W (Some (awaits outer None None)) (written_kinds l) (operator o ∷ written_kinds r)
-    ∙ ap (λ s. behind_all W s (operator o ∷ written_kinds r)) (on_left.as_sum outer)
-    ∙ ap (λ s. behind_all W (Some s) (written_kinds r)) (loose outer (left_of l) (last_of l))
-    ∙ ap (λ u. behind_all W (Some (awaits outer (Some (o, u)) None)) (written_kinds r)) (plus-whole l)
+    after_kinds-append W (Some (awaits outer None None)) (written_kinds l) (operator o ∷ written_kinds r)
+    ∙ ap (λ s. after_kinds W s (operator o ∷ written_kinds r)) (on_left.as_sum outer)
+    ∙ ap (λ s. after_kinds W (Some s) (written_kinds r)) (loose outer (left_of l) (last_of l))
+    ∙ ap (λ u. after_kinds W (Some (awaits outer (Some (o, u)) None)) (written_kinds r)) (plus-whole l)
     ∙ on_right.as_product no_sum outer (Some (o, l))
 
 pub false_is_true : {A : Type 0} → false ≡ true → A
@@ -113,12 +113,12 @@ is_read (joined sym_difference l r) g =
     record { as_atom = λ h. false_is_true h; as_product = λ h. false_is_true h; as_sum = whole }
 
 -- an expression is read to its end, and is what the reader then has; so its tokens have one spelling
-pub read_whole : (w : Written) → IsTrue (is_grouped w) → behind_all W (Some at_start) (written_kinds w) ≡ Some (holds [] (left_of w) (last_of w))
+pub read_whole : (w : Written) → IsTrue (is_grouped w) → after_kinds W (Some at_start) (written_kinds w) ≡ Some (holds [] (left_of w) (last_of w))
 read_whole w g = (is_read w g).as_sum []
 
 pub one_spelling : (v w : Written) → IsTrue (is_grouped v) → IsTrue (is_grouped w) → written_kinds v ≡ written_kinds w → v ≡ w
 one_spelling v w gv gw same =
-    let ends : Some (holds [] (left_of v) (last_of v)) ≡ Some (holds [] (left_of w) (last_of w)) = sym (read_whole v gv) ∙ ap (behind_all W (Some at_start)) same ∙ read_whole w gw in
+    let ends : Some (holds [] (left_of v) (last_of v)) ≡ Some (holds [] (left_of w) (last_of w)) = sym (read_whole v gv) ∙ ap (after_kinds W (Some at_start)) same ∙ read_whole w gw in
     let lefts : left_of v ≡ left_of w = cc in
     let lasts : last_of v ≡ last_of w = cc in
     sym (plus-whole v) ∙ ap (λ left. plus W left (last_of v)) lefts ∙ ap (λ last. plus W (left_of w) last) lasts ∙ plus-whole w
@@ -233,12 +233,12 @@ pub moved-fits_any : (ks : List Kind) (s : Option (ReaderState Written)) (k : Ki
 moved-fits_any ks None k h = tt
 moved-fits_any ks (Some s) k h = subst (λ xs. Fits (xs ++ k ∷ []) (moved W k s)) h.1 (moved-fits k s h.0)
 
-pub all-fits : (done : List Kind) (s : Option (ReaderState Written)) (ks : List Kind) → Fits done s → Fits (done ++ ks) (behind_all W s ks)
+pub all-fits : (done : List Kind) (s : Option (ReaderState Written)) (ks : List Kind) → Fits done s → Fits (done ++ ks) (after_kinds W s ks)
 all-fits done s [] h = subst (λ xs. Fits xs s) (sym (append-nil done)) h
 all-fits done s (k ∷ ks) h =
-    subst (λ xs. Fits xs (behind_all W (option_and_then (moved W k) s) ks)) (append_assoc done (k ∷ []) ks) (all-fits (done ++ k ∷ []) (option_and_then (moved W k) s) ks (moved-fits_any done s k h))
+    subst (λ xs. Fits xs (after_kinds W (option_and_then (moved W k) s) ks)) (append_assoc done (k ∷ []) ks) (all-fits (done ++ k ∷ []) (option_and_then (moved W k) s) ks (moved-fits_any done s k h))
 
-pub start-fits : (ks : List Kind) → Fits ks (behind_all W (Some at_start) ks)
+pub start-fits : (ks : List Kind) → Fits ks (after_kinds W (Some at_start) ks)
 start-fits ks = all-fits [] (Some at_start) ks ((tt, tt, tt), refl)
 
 -- the tokens are those of an expression
@@ -273,10 +273,10 @@ begun ks (awaits outer left factor) h =
     (name [] ∷ more.0, more.1, (more.2.0, sym (append_assoc ks (name [] ∷ []) more.0) ∙ more.2.1))
 
 -- where a token cannot stand there, no more tokens make an expression of them
-pub not_begun : (ks : List Kind) → behind_all W (Some at_start) ks ≡ None → Begun ks → ⊥
+pub not_begun : (ks : List Kind) → after_kinds W (Some at_start) ks ≡ None → Begun ks → ⊥
 not_begun ks dead b =
-    let gone : behind_all W (Some at_start) (ks ++ b.0) ≡ None = behind_all-append W (Some at_start) ks b.0 ∙ ap (λ s. behind_all W s b.0) dead ∙ behind_all-none W b.0 in
-    let there : behind_all W (Some at_start) (ks ++ b.0) ≡ Some (holds [] (left_of b.1) (last_of b.1)) = ap (behind_all W (Some at_start)) b.2.1 ∙ read_whole b.1 b.2.0 in
+    let gone : after_kinds W (Some at_start) (ks ++ b.0) ≡ None = after_kinds-append W (Some at_start) ks b.0 ∙ ap (λ s. after_kinds W s b.0) dead ∙ after_kinds-none W b.0 in
+    let there : after_kinds W (Some at_start) (ks ++ b.0) ≡ Some (holds [] (left_of b.1) (last_of b.1)) = ap (after_kinds W (Some at_start)) b.2.1 ∙ read_whole b.1 b.2.0 in
     absurd (cc)
 
 -- the same without the brackets that are written
@@ -333,24 +333,24 @@ moved-bare_any : (k : Kind) (s : Option (ReaderState Written)) → bare_any (opt
 moved-bare_any k None = refl
 moved-bare_any k (Some s) = moved-bare k s
 
-pub all-bare : (s : Option (ReaderState Written)) (ks : List Kind) → bare_any (behind_all W s ks) ≡ behind_all T (bare_any s) ks
+pub all-bare : (s : Option (ReaderState Written)) (ks : List Kind) → bare_any (after_kinds W s ks) ≡ after_kinds T (bare_any s) ks
 all-bare s [] = refl
-all-bare s (k ∷ ks) = all-bare (option_and_then (moved W k) s) ks ∙ ap (λ o. behind_all T o ks) (moved-bare_any k s)
+all-bare s (k ∷ ks) = all-bare (option_and_then (moved W k) s) ks ∙ ap (λ o. after_kinds T o ks) (moved-bare_any k s)
 
 -- a reader of trees, after tokens that can stand there: they may begin an expression
 pub begun_by : (ks : List Kind) (s : Option (ReaderState Written)) (t : ReaderState (Tree (List ℕ))) → Fits ks s → bare_any s ≡ Some t → Begun ks
 begun_by ks None t h e = absurd (cc)
 begun_by ks (Some s) t h e = begun ks s h
 
-pub tree_begun : (ks : List Kind) (t : ReaderState (Tree (List ℕ))) → behind_all T (Some at_start) ks ≡ Some t → Begun ks
-tree_begun ks t e = begun_by ks (behind_all W (Some at_start) ks) t (start-fits ks) (all-bare (Some at_start) ks ∙ e)
+pub tree_begun : (ks : List Kind) (t : ReaderState (Tree (List ℕ))) → after_kinds T (Some at_start) ks ≡ Some t → Begun ks
+tree_begun ks t e = begun_by ks (after_kinds W (Some at_start) ks) t (start-fits ks) (all-bare (Some at_start) ks ∙ e)
 
 none_bare : (s : Option (ReaderState Written)) → bare_any s ≡ None → s ≡ None
 none_bare None e = refl
 none_bare (Some s) e = absurd (cc)
 
-pub tree_not_begun : (ks : List Kind) → behind_all T (Some at_start) ks ≡ None → Begun ks → ⊥
-tree_not_begun ks dead = not_begun ks (none_bare (behind_all W (Some at_start) ks) (all-bare (Some at_start) ks ∙ dead))
+pub tree_not_begun : (ks : List Kind) → after_kinds T (Some at_start) ks ≡ None → Begun ks → ⊥
+tree_not_begun ks dead = not_begun ks (none_bare (after_kinds W (Some at_start) ks) (all-bare (Some at_start) ks ∙ dead))
 
 -- where it ends
 abbrev pub SpelledAs : List Kind → Tree (List ℕ) → Type 0
@@ -370,14 +370,14 @@ ended_by ks (Some s) t tree h e f =
     let same : bare s ≡ t = cc in
     finished_by ks s tree h (ap (finished T) same ∙ f)
 
-pub tree_finished : (ks : List Kind) (t : ReaderState (Tree (List ℕ))) (tree : Tree (List ℕ)) → behind_all T (Some at_start) ks ≡ Some t → finished T t ≡ Some tree → SpelledAs ks tree
-tree_finished ks t tree e f = ended_by ks (behind_all W (Some at_start) ks) t tree (start-fits ks) (all-bare (Some at_start) ks ∙ e) f
+pub tree_finished : (ks : List Kind) (t : ReaderState (Tree (List ℕ))) (tree : Tree (List ℕ)) → after_kinds T (Some at_start) ks ≡ Some t → finished T t ≡ Some tree → SpelledAs ks tree
+tree_finished ks t tree e f = ended_by ks (after_kinds W (Some at_start) ks) t tree (start-fits ks) (all-bare (Some at_start) ks ∙ e) f
 
-pub tree_not_finished : (ks : List Kind) (t : ReaderState (Tree (List ℕ))) → behind_all T (Some at_start) ks ≡ Some t → finished T t ≡ None → (w : Written) → Spelled ks w → ⊥
+pub tree_not_finished : (ks : List Kind) (t : ReaderState (Tree (List ℕ))) → after_kinds T (Some at_start) ks ≡ Some t → finished T t ≡ None → (w : Written) → Spelled ks w → ⊥
 tree_not_finished ks t e f w h =
-    let end : behind_all W (Some at_start) ks ≡ Some (holds [] (left_of w) (last_of w)) = ap (behind_all W (Some at_start)) h.1 ∙ read_whole w h.0 in
-    let there : bare_any (behind_all W (Some at_start) ks) ≡ Some t = all-bare (Some at_start) ks ∙ e in
-    let ended : bare_any (behind_all W (Some at_start) ks) ≡ Some (holds [] (bare_left (left_of w)) (written_tree (last_of w))) = ap bare_any end in
+    let end : after_kinds W (Some at_start) ks ≡ Some (holds [] (left_of w) (last_of w)) = ap (after_kinds W (Some at_start)) h.1 ∙ read_whole w h.0 in
+    let there : bare_any (after_kinds W (Some at_start) ks) ≡ Some t = all-bare (Some at_start) ks ∙ e in
+    let ended : bare_any (after_kinds W (Some at_start) ks) ≡ Some (holds [] (bare_left (left_of w)) (written_tree (last_of w))) = ap bare_any end in
     let same : t ≡ holds [] (bare_left (left_of w)) (written_tree (last_of w)) = cc in
     let none : finished T (holds [] (bare_left (left_of w)) (written_tree (last_of w))) ≡ None = ap (finished T) (sym same) ∙ f in
     absurd (cc)

@@ -13,9 +13,9 @@ use Rattle.layer_expr.specs.Name.{name_max, is_name, is_name_byte, first_is_lett
 use Rattle.overlay_terms.specs.Blank.{is_blank}
 use Rattle.layer_expr.specs.Token.{Kind, name, operator, open_bracket, close_bracket, stray, Token, sign_kind, tokens_after, tokens_of}
 use Rattle.layer_expr.specs.Grammar.{kinds_of, IsSum, IsBegun, is_name_short, IsGoodSoFar, IsFaultAt, IsRefusedBy, ReadsAs}
-use Rattle.layer_expr.specs.ReaderState.{ReaderState, at_start, moved, behind_all, finished}
+use Rattle.layer_expr.specs.ReaderState.{ReaderState, at_start, moved, after_kinds, finished}
 use Rattle.layer_expr.specs.Reader.{is_good, IsStepFault, IsEndFault}
-use Rattle.layer_expr.proofs.ReaderStateLemmas.{T, both, all_true, Begun, false_is_true, behind_all-append, tree_begun, tree_not_begun, tree_finished, tree_not_finished}
+use Rattle.layer_expr.proofs.ReaderStateLemmas.{T, both, all_true, Begun, false_is_true, after_kinds-append, tree_begun, tree_not_begun, tree_finished, tree_not_finished}
 use Rattle.layer_expr.proofs.TokenLemmas.{name_front, name_more, name_stop, letter_goes_on}
 
 -- each name among the tokens is a run of letters, digits and `_` after a letter: it is a name of a layer if it is short
@@ -156,7 +156,7 @@ shaped_behind bytes count left e t rest f = subst IsShaped (e ∙ f) (shaped_res
 pub record IsAt (bytes : List ℕ) (count : ℕ) (left : List Token) (s : ReaderState (Tree (List ℕ))) : Type 0 where
   pub rest : drop count (tokens_of bytes) ≡ left
   pub few : count ≤ 64
-  pub there : behind_all T (Some at_start) (kinds_of (take count (tokens_of bytes))) ≡ Some s
+  pub there : after_kinds T (Some at_start) (kinds_of (take count (tokens_of bytes))) ≡ Some s
   pub good : IsTrue (list_all is_good (kinds_of (take count (tokens_of bytes))))
 
 pub is_at_start : (bytes : List ℕ) → IsAt bytes 0 (tokens_of bytes) at_start
@@ -168,10 +168,10 @@ kinds_next ts i t rest h =
     let more : i + 1 ≡ suc i = omega arith in
     ap (λ n. kinds_of (take n ts)) more ∙ ap kinds_of (before_next ts i t rest h) ∙ map-append (λ (u : Token). u.kind) (take i ts) (t ∷ [])
 
-next_state : (bytes : List ℕ) (count : ℕ) (left : List Token) (s : ReaderState (Tree (List ℕ))) (t : Token) (rest : List Token) → IsAt bytes count left s → left ≡ t ∷ rest → behind_all T (Some at_start) (kinds_of (take (count + 1) (tokens_of bytes))) ≡ moved T t.kind s
+next_state : (bytes : List ℕ) (count : ℕ) (left : List Token) (s : ReaderState (Tree (List ℕ))) (t : Token) (rest : List Token) → IsAt bytes count left s → left ≡ t ∷ rest → after_kinds T (Some at_start) (kinds_of (take (count + 1) (tokens_of bytes))) ≡ moved T t.kind s
 next_state bytes count left s t rest h e =
-    ap (behind_all T (Some at_start)) (kinds_next (tokens_of bytes) count t rest (h.rest ∙ e))
-    ∙ behind_all-append T (Some at_start) (kinds_of (take count (tokens_of bytes))) (t.kind ∷ [])
+    ap (after_kinds T (Some at_start)) (kinds_next (tokens_of bytes) count t rest (h.rest ∙ e))
+    ∙ after_kinds-append T (Some at_start) (kinds_of (take count (tokens_of bytes))) (t.kind ∷ [])
     ∙ ap (option_and_then (moved T t.kind)) h.there
 
 pub goes_on : (bytes : List ℕ) (count : ℕ) (left more : List Token) (s u : ReaderState (Tree (List ℕ))) (t : Token) → IsAt bytes count left s → count < 64 → left ≡ t ∷ more → moved T t.kind s ≡ Some u → IsTrue (is_good t.kind) → IsAt bytes (count + 1) more u
@@ -207,7 +207,7 @@ pub cannot_stand : (bytes : List ℕ) (count : ℕ) (left : List Token) (s : Rea
 cannot_stand bytes count left s t rest h e few step =
     refused_at bytes count left s t rest (ExprSyntax t.at) h e (inr (inl (few, (λ b. tree_not_begun (kinds_of (take (count + 1) (tokens_of bytes))) (next_state bytes count left s t rest h e ∙ step) (begun_kinds (take (count + 1) (tokens_of bytes)) b)), refl)))
 
-begun_if_some : (ks : List Kind) (s : Option (ReaderState (Tree (List ℕ)))) → behind_all T (Some at_start) ks ≡ s → IsTrue (is_some s) → Begun ks
+begun_if_some : (ks : List Kind) (s : Option (ReaderState (Tree (List ℕ)))) → after_kinds T (Some at_start) ks ≡ s → IsTrue (is_some s) → Begun ks
 begun_if_some ks None e h = false_is_true h
 begun_if_some ks (Some s) e h = tree_begun ks s e
 
@@ -221,14 +221,14 @@ long_name bytes count left s t rest h e few bad there =
 pub ends_early : (bytes : List ℕ) (count : ℕ) (left : List Token) (s : ReaderState (Tree (List ℕ))) → IsAt bytes count left s → left ≡ [] → finished T s ≡ None → IsRefusedBy bytes (ExprSyntax (length bytes))
 ends_early bytes count left s h e f =
     let whole = all_taken (tokens_of bytes) count (h.rest ∙ e) in
-    let there : behind_all T (Some at_start) (kinds_of (tokens_of bytes)) ≡ Some s = ap (λ ts. behind_all T (Some at_start) (kinds_of ts)) (sym whole) ∙ h.there in
+    let there : after_kinds T (Some at_start) (kinds_of (tokens_of bytes)) ≡ Some s = ap (λ ts. after_kinds T (Some at_start) (kinds_of ts)) (sym whole) ∙ h.there in
     let no_sum : ¬ (IsSum (tokens_of bytes)) = λ w. tree_not_finished (kinds_of (tokens_of bytes)) s there f w.0 (w.1.grouped, w.1.spelled) in
     (count, good_so_far bytes count left s h, subst (λ o. IsFaultAt bytes count o (ExprSyntax (length bytes))) (sym (no_token_at (tokens_of bytes) count (h.rest ∙ e))) (no_sum, refl))
 
 pub ends_whole : (bytes : List ℕ) (count : ℕ) (left : List Token) (s : ReaderState (Tree (List ℕ))) (tree : Tree (List ℕ)) → IsAt bytes count left s → left ≡ [] → finished T s ≡ Some tree → ReadsAs bytes tree
 ends_whole bytes count left s tree h e f =
     let whole = all_taken (tokens_of bytes) count (h.rest ∙ e) in
-    let there : behind_all T (Some at_start) (kinds_of (tokens_of bytes)) ≡ Some s = ap (λ ts. behind_all T (Some at_start) (kinds_of ts)) (sym whole) ∙ h.there in
+    let there : after_kinds T (Some at_start) (kinds_of (tokens_of bytes)) ≡ Some s = ap (λ ts. after_kinds T (Some at_start) (kinds_of ts)) (sym whole) ∙ h.there in
     let spelled = tree_finished (kinds_of (tokens_of bytes)) s tree there f in
     let good = subst IsGoodSoFar whole (good_so_far bytes count left s h) in
     (spelled.0, record { grouped = spelled.1.0; spelled = spelled.1.1 }, good, spelled.2)

@@ -5,7 +5,7 @@ use Rattle.overlay_terms.specs.Trees as terms
 use Rattle.layer_expr.specs.Name.{is_name}
 use Rattle.layer_expr.specs.Expr.{operation, tree}
 use Rattle.layer_expr.specs.Token.{Kind, name, operator, open_bracket, close_bracket, stray}
-use Rattle.layer_expr.specs.ReaderState.{tree_making, behind, moved, finished, frame, awaits, holds}
+use Rattle.layer_expr.specs.ReaderState.{tree_making, after_operator, moved, finished, frame, awaits, holds}
 use Rattle.layer_expr.specs.ReaderState as pure
 use Rattle.layer_expr.specs.declared.expr.Node.{Node}
 use Rattle.layer_expr.specs.declared.expr.Operation.{Operation}
@@ -40,10 +40,10 @@ abbrev pub state_of : Reader → pure.ReaderState (Tree (List ℕ))
 state_of reader = within_state (outer_trees reader.outer.items) reader.within
 
 -- what waits after an operator, whatever is open round it
-abbrev pub IsBehind : Operation → Option Left → Node → Within → Type 0
-IsBehind o left operand within =
+abbrev pub IsAfterOperator : Operation → Option Left → Node → Within → Type 0
+IsAfterOperator o left operand within =
     (outer : List (pure.Frame (Tree (List ℕ))))
-    → within_state outer within ≡ behind tree_making (operation o) outer (left_tree left) (tree operand)
+    → within_state outer within ≡ after_operator tree_making (operation o) outer (left_tree left) (tree operand)
 
 -- whether a token that is a name is a name of a layer
 abbrev pub is_good : Kind → Bool

@@ -38,11 +38,11 @@ plus m None p = p
 plus m (Some left) p = m.of_join left.0 left.1 p
 
 -- after an operator
-abbrev pub behind : {A : Type 0} → Making A → Operation → List (Frame A) → Option (Operation × A) → A → ReaderState A
-behind m intersection outer left a = awaits outer left (Some a)
-behind m union outer left a = awaits outer (Some (union, plus m left a)) None
-behind m difference outer left a = awaits outer (Some (difference, plus m left a)) None
-behind m sym_difference outer left a = awaits outer (Some (sym_difference, plus m left a)) None
+abbrev pub after_operator : {A : Type 0} → Making A → Operation → List (Frame A) → Option (Operation × A) → A → ReaderState A
+after_operator m intersection outer left a = awaits outer left (Some a)
+after_operator m union outer left a = awaits outer (Some (union, plus m left a)) None
+after_operator m difference outer left a = awaits outer (Some (difference, plus m left a)) None
+after_operator m sym_difference outer left a = awaits outer (Some (sym_difference, plus m left a)) None
 
 -- after a closing bracket, if a bracket is open
 abbrev pub closed : {A : Type 0} → Making A → List (Frame A) → A → Option (ReaderState A)
@@ -57,15 +57,15 @@ moved m open_bracket (awaits outer left factor) = Some (awaits (frame left facto
 moved m close_bracket (awaits outer left factor) = None
 moved m stray (awaits outer left factor) = None
 moved m (name n) (holds outer left a) = None
-moved m (operator o) (holds outer left a) = Some (behind m o outer left a)
+moved m (operator o) (holds outer left a) = Some (after_operator m o outer left a)
 moved m open_bracket (holds outer left a) = None
 moved m close_bracket (holds outer left a) = closed m outer (plus m left a)
 moved m stray (holds outer left a) = None
 
 -- after some more tokens
-abbrev pub behind_all : {A : Type 0} → Making A → Option (ReaderState A) → List Kind → Option (ReaderState A)
-behind_all m s [] = s
-behind_all m s (k ∷ ks) = behind_all m (option_and_then (moved m k) s) ks
+abbrev pub after_kinds : {A : Type 0} → Making A → Option (ReaderState A) → List Kind → Option (ReaderState A)
+after_kinds m s [] = s
+after_kinds m s (k ∷ ks) = after_kinds m (option_and_then (moved m k) s) ks
 
 abbrev pub at_start : {A : Type 0} → ReaderState A
 at_start = awaits [] None None

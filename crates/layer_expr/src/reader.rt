@@ -4,7 +4,7 @@ ghost use Rattle.layer_expr.specs.Expr.{operation, tree};
 ghost use Rattle.layer_expr.specs.Token.{name, operator, open_bracket, close_bracket};
 ghost use Rattle.layer_expr.specs.Lexeme.{token_in};
 ghost use Rattle.layer_expr.specs.ReaderState.{tree_making, at_start, times, plus, finished};
-ghost use Rattle.layer_expr.specs.Reader.{state_of, left_tree, factor_tree, IsBehind, IsNext, IsStepFault, IsEndFault};
+ghost use Rattle.layer_expr.specs.Reader.{state_of, left_tree, factor_tree, IsAfterOperator, IsNext, IsStepFault, IsEndFault};
 
 use crate::expr::{Node, Operation, combine};
 use crate::fault::ExprFault;
@@ -53,22 +53,22 @@ impl Reader {
     }
 
     /// The reader after one more token of the bytes.
-    pub fn behind(self, alloc: Global, bytes: &[u8], lexeme: Lexeme) -> Result<Reader, ExprFault>
+    pub fn after(self, alloc: Global, bytes: &[u8], lexeme: Lexeme) -> Result<Reader, ExprFault>
         requires low { lexeme.at ≤ lexeme.end }
         requires high { lexeme.end ≤ length bytes.now }
         ensures ok { IfOk result (IsNext (token_in bytes.now lexeme).kind self) }
         ensures refused { IfErr result (IsStepFault (token_in bytes.now lexeme).kind lexeme.at (state_of self)) }
     {
         match lexeme.sort {
-            Sort::Name => self.behind_name(alloc, &bytes[lexeme.at..lexeme.end], lexeme.at),
-            Sort::Sign(Sign::Operator(o)) => self.behind_operator(alloc, o, lexeme.at),
-            Sort::Sign(Sign::OpenBracket) => self.behind_open(lexeme.at),
-            Sort::Sign(Sign::CloseBracket) => self.behind_close(alloc, lexeme.at),
+            Sort::Name => self.after_name(alloc, &bytes[lexeme.at..lexeme.end], lexeme.at),
+            Sort::Sign(Sign::Operator(o)) => self.after_operator(alloc, o, lexeme.at),
+            Sort::Sign(Sign::OpenBracket) => self.after_open(lexeme.at),
+            Sort::Sign(Sign::CloseBracket) => self.after_close(alloc, lexeme.at),
             Sort::Sign(Sign::Stray) => Err(ExprFault::ExprSyntax(lexeme.at)),
         }
     }
 
-    fn behind_name(self, alloc: Global, bytes: &[u8], at: usize) -> Result<Reader, ExprFault>
+    fn after_name(self, alloc: Global, bytes: &[u8], at: usize) -> Result<Reader, ExprFault>
         ensures ok { IfOk result (IsNext (name bytes.now) self) }
         ensures refused { IfErr result (IsStepFault (name bytes.now) at (state_of self)) }
     {
@@ -86,7 +86,7 @@ impl Reader {
         }
     }
 
-    fn behind_operator(self, alloc: Global, o: Operation, at: usize) -> Result<Reader, ExprFault>
+    fn after_operator(self, alloc: Global, o: Operation, at: usize) -> Result<Reader, ExprFault>
         ensures ok { IfOk result (IsNext (operator (operation o)) self) }
         ensures refused { IfErr result (IsStepFault (operator (operation o)) at (state_of self)) }
     {
@@ -100,7 +100,7 @@ impl Reader {
         }
     }
 
-    fn behind_open(self, at: usize) -> Result<Reader, ExprFault>
+    fn after_open(self, at: usize) -> Result<Reader, ExprFault>
         ensures ok { IfOk result (IsNext open_bracket self) }
         ensures refused { IfErr result (IsStepFault open_bracket at (state_of self)) }
     {
@@ -119,7 +119,7 @@ impl Reader {
         }
     }
 
-    fn behind_close(self, alloc: Global, at: usize) -> Result<Reader, ExprFault>
+    fn after_close(self, alloc: Global, at: usize) -> Result<Reader, ExprFault>
         ensures ok { IfOk result (IsNext close_bracket self) }
         ensures refused { IfErr result (IsStepFault close_bracket at (state_of self)) }
     {
@@ -195,7 +195,7 @@ fn waiting(
     operand: Node,
     o: Operation,
 ) -> Result<Within, AllocError>
-    ensures { IfOk result (IsBehind o left operand) }
+    ensures { IfOk result (IsAfterOperator o left operand) }
 {
     if o == Operation::Intersection {
         return Ok(Within::Awaits(left, Some(operand)));

@@ -24,7 +24,7 @@ pub fn read_expr(alloc: Global, bytes: &[u8]) -> Result<Expr, ExprFault>
         if count == TOKENS_MAX {
             return Err(ExprFault::ExprTooLong);
         }
-        reader = reader.behind(alloc, bytes, lexeme)?;
+        reader = reader.after(alloc, bytes, lexeme)?;
         count += 1;
         at = lexeme.end;
     }

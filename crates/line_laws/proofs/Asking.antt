@@ -83,7 +83,7 @@ one_of o = option_map (λ (command : Command). command ∷ []) o
 
 read_or_not : (requests : List Request) (cs : Batch) → AreCommandsOf requests cs → AreUnread requests → ⊥
 read_or_not requests cs read none =
-    some_or_not none.first.before none.first.behind none.first.request cs none.fault (subst (λ (rs : List Request). AreCommandsOf rs cs) none.first.lines read) none.first.why
+    some_or_not none.first.before none.first.after none.first.request cs none.fault (subst (λ (rs : List Request). AreCommandsOf rs cs) none.first.lines read) none.first.why
 
 alone_one : (request : Request) (cs ds : Batch) → TurnAsks (alone request) (Some cs) → TurnAsks (alone request) (Some ds) → Some cs ≡ Some ds
 unfolding one_of

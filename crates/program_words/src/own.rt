@@ -8,11 +8,11 @@ use std::io::ErrorKind;
 pub fn own_words<Q: Env + AllocGlobal>(rt: &Q) -> Result<Vec<String>, WordFault> {
     match env::args(rt) {
         Ok(words) => {
-            let mut behind = Vec::new(rt.alloc());
+            let mut rest = Vec::new(rt.alloc());
             for word in words.skip(1) {
-                behind.push(word)?;
+                rest.push(word)?;
             }
-            Ok(behind)
+            Ok(rest)
         }
         Err(error) if error.kind() == ErrorKind::OutOfMemory => Err(WordFault::OutOfMemory),
         Err(_) => Err(WordFault::Words),

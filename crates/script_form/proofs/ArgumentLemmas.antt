@@ -4,7 +4,7 @@ use Rattle.std.specs.List.{list_all, take_while}
 use Rattle.std.proofs.lemmas.Bool.{and_parts, not-true, cond-true, cond-false, eqb-true}
 use Rattle.overlay_terms.specs.Blank.{is_blank}
 use Rattle.script_form.specs.Lines.{is_gap}
-use Rattle.script_form.specs.Words.{is_word_byte, is_name_side, is_empty, skip_while, number_of, some_front, front_at, word_at, number_in, number_at, behind_sign}
+use Rattle.script_form.specs.Words.{is_word_byte, is_name_side, is_empty, skip_while, number_of, some_front, front_at, word_at, number_in, number_at, after_sign}
 use Rattle.script_form.specs.Requests.{ArgumentKind, a_word, a_number, a_number_or_one, a_left_side, a_right_side, a_text, Value, argument_at}
 use Rattle.script_form.specs.Shapes.{AreSome, IsNext, IsNextNumber, IsArgument}
 use Rattle.script_form.proofs.Fronts.{either, parts, front_passes, rest_fails, some_is, skip_front, take_front, begins_some, some_bytes, not_empty}
@@ -44,7 +44,7 @@ number_tells bytes = by (word_at bytes) (front_tells is_word_byte bytes) where
   by None tells = tt
   by (Some (digits, behind)) next = worth digits behind next (number_of digits) refl
 
-sign_tells : (bytes rest : List ℕ) → skip_while is_gap bytes ≡ rest → Tells (λ value behind. IsArgument a_right_side value behind bytes) (behind_sign rest)
+sign_tells : (bytes rest : List ℕ) → skip_while is_gap bytes ≡ rest → Tells (λ value behind. IsArgument a_right_side value behind bytes) (after_sign rest)
 sign_tells bytes [] is = tt
 sign_tells bytes (b ∷ bs) is =
     let gaps = take_while is_gap bytes in
@@ -132,7 +132,7 @@ argument_found a_number_or_one value behind bytes (inr is) =
     cond-false (list_all is_gap bytes) _ _ (not_gaps is.digits behind bytes is.next) ∙ number_found value behind bytes is
 argument_found a_left_side value behind bytes is = front_found is_name_side side_apart value behind bytes is
 argument_found a_right_side value behind bytes (is, none) =
-    ap behind_sign (ap (skip_while is_gap) is.bytes_are ∙ skip_front is_gap is.gaps (61 ∷ (is.blanks ++ value)) is.in_front refl)
+    ap after_sign (ap (skip_while is_gap) is.bytes_are ∙ skip_front is_gap is.gaps (61 ∷ (is.blanks ++ value)) is.in_front refl)
     ∙ ap (λ (t : List ℕ). Some (t, [])) (skip_front is_blank is.blanks value is.white is.begins_at_once) ∙ ap (λ (r : List ℕ). Some (value, r)) (sym none)
 argument_found a_text value behind bytes (is, none) =
     ap (λ (r : List ℕ). some_front r []) (ap (skip_while is_gap) is.bytes_are ∙ skip_front is_gap is.gaps value is.in_front is.begins_at_once)

@@ -17,8 +17,8 @@ use Rattle.script_form.proofs.ArgumentLemmas.{Tells, front_tells, argument_tells
 
 asked_found : (arguments : Arguments) (request : Request) (bytes : List ℕ) → AreArguments arguments request bytes → asked_in arguments bytes ≡ Some request
 asked_found (ends asked) request bytes (gaps, is) = cond-true (list_all is_gap bytes) _ _ gaps ∙ ap Some (sym is)
-asked_found (takes kind more) request bytes (value, behind, is, rest) =
-    ap (option_and_then (λ (v, b). asked_in (more v) b)) (argument_found kind value behind bytes is) ∙ asked_found (more value) request behind rest
+asked_found (takes kind more) request bytes (value, after, is, rest) =
+    ap (option_and_then (λ (v, b). asked_in (more v) b)) (argument_found kind value after bytes is) ∙ asked_found (more value) request after rest
 
 -- what is true of a request, if one was found
 abbrev Asks : (Request → Type 0) → Option Request → Type 0
@@ -28,17 +28,17 @@ Asks is (Some request) = is request
 asked_tells : (arguments : Arguments) (bytes : List ℕ) → Asks (λ request. AreArguments arguments request bytes) (asked_in arguments bytes)
 asked_tells (ends asked) bytes =
     either (Asks (λ request. AreArguments (ends asked) request bytes)) (list_all is_gap bytes) (Some asked) None (λ gaps. (gaps, refl)) (λ _. tt)
-asked_tells (takes kind more) bytes = by (λ value behind. asked_tells (more value) behind) (argument_at kind bytes) (argument_tells kind bytes) where
-  onward : (value : Value kind) (behind : List ℕ) → IsArgument kind value behind bytes → (o : Option Request) → Asks (λ request. AreArguments (more value) request behind) o
+asked_tells (takes kind more) bytes = by (λ value after. asked_tells (more value) after) (argument_at kind bytes) (argument_tells kind bytes) where
+  onward : (value : Value kind) (after : List ℕ) → IsArgument kind value after bytes → (o : Option Request) → Asks (λ request. AreArguments (more value) request after) o
       → Asks (λ request. AreArguments (takes kind more) request bytes) o
-  onward value behind is None tells = tt
-  onward value behind is (Some request) rest = (value, behind, is, rest)
+  onward value after is None tells = tt
+  onward value after is (Some request) rest = (value, after, is, rest)
 
-  by : ((value : Value kind) (behind : List ℕ) → Asks (λ request. AreArguments (more value) request behind) (asked_in (more value) behind))
-      → (o : Option (Value kind × List ℕ)) → Tells (λ value behind. IsArgument kind value behind bytes) o
-      → Asks (λ request. AreArguments (takes kind more) request bytes) (option_and_then (λ (value, behind). asked_in (more value) behind) o)
+  by : ((value : Value kind) (after : List ℕ) → Asks (λ request. AreArguments (more value) request after) (asked_in (more value) after))
+      → (o : Option (Value kind × List ℕ)) → Tells (λ value after. IsArgument kind value after bytes) o
+      → Asks (λ request. AreArguments (takes kind more) request bytes) (option_and_then (λ (value, after). asked_in (more value) after) o)
   by rest None tells = tt
-  by rest (Some (value, behind)) is = onward value behind is (asked_in (more value) behind) (rest value behind)
+  by rest (Some (value, after)) is = onward value after is (asked_in (more value) after) (rest value after)
 
 -- ==== The table
 
@@ -74,45 +74,45 @@ row (form ∷ forms) (plain, asks, all) name =
 
 asks_command : (arguments : Arguments) (request : Request) (bytes : List ℕ) → AskCommands arguments → AreArguments arguments request bytes → is_command request ≡ true
 asks_command (ends asked) request bytes asks (gaps, is) = ap is_command is ∙ asks
-asks_command (takes kind more) request bytes asks (value, behind, is, rest) = asks_command (more value) request behind (asks value) rest
+asks_command (takes kind more) request bytes asks (value, after, is, rest) = asks_command (more value) request after (asks value) rest
 
 -- ==== Lines of commands
 
 line_found : (request : Request) (line : List ℕ) → IsCommandLine request line → asked_of line ≡ Some request
 line_found request line is =
-    ap (option_and_then asked_by) (word_found is.name is.behind line is.next)
-    ∙ ap (option_and_then (λ arguments. asked_in arguments is.behind)) is.known ∙ asked_found is.arguments request is.behind is.asks
+    ap (option_and_then asked_by) (word_found is.name is.after line is.next)
+    ∙ ap (option_and_then (λ arguments. asked_in arguments is.after)) is.known ∙ asked_found is.arguments request is.after is.asks
 
 line_tells : (line : List ℕ) → Asks (λ request. IsCommandLine request line) (asked_of line)
 line_tells line = by (word_at line) (front_tells is_word_byte line) where
-  onward : (name behind : List ℕ) → IsNext is_word_byte name behind line → (arguments : Arguments) → arguments_of forms name ≡ Some arguments
-      → (o : Option Request) → Asks (λ request. AreArguments arguments request behind) o → Asks (λ request. IsCommandLine request line) o
-  onward name behind next arguments known None tells = tt
-  onward name behind next arguments known (Some request) is =
-      record { name = name; behind = behind; next = next; arguments = arguments; known = known; asks = is }
+  onward : (name after : List ℕ) → IsNext is_word_byte name after line → (arguments : Arguments) → arguments_of forms name ≡ Some arguments
+      → (o : Option Request) → Asks (λ request. AreArguments arguments request after) o → Asks (λ request. IsCommandLine request line) o
+  onward name after next arguments known None tells = tt
+  onward name after next arguments known (Some request) is =
+      record { name = name; after = after; next = next; arguments = arguments; known = known; asks = is }
 
-  known_by : (name behind : List ℕ) → IsNext is_word_byte name behind line → (o : Option Arguments) → arguments_of forms name ≡ o
-      → Asks (λ request. IsCommandLine request line) (option_and_then (λ arguments. asked_in arguments behind) o)
-  known_by name behind next None known = tt
-  known_by name behind next (Some arguments) known = onward name behind next arguments known (asked_in arguments behind) (asked_tells arguments behind)
+  known_by : (name after : List ℕ) → IsNext is_word_byte name after line → (o : Option Arguments) → arguments_of forms name ≡ o
+      → Asks (λ request. IsCommandLine request line) (option_and_then (λ arguments. asked_in arguments after) o)
+  known_by name after next None known = tt
+  known_by name after next (Some arguments) known = onward name after next arguments known (asked_in arguments after) (asked_tells arguments after)
 
-  by : (o : Option (List ℕ × List ℕ)) → Tells (λ name behind. IsNext is_word_byte name behind line) o
+  by : (o : Option (List ℕ × List ℕ)) → Tells (λ name after. IsNext is_word_byte name after line) o
       → Asks (λ request. IsCommandLine request line) (option_and_then asked_by o)
   by None tells = tt
-  by (Some (name, behind)) next = known_by name behind next (arguments_of forms name) refl
+  by (Some (name, after)) next = known_by name after next (arguments_of forms name) refl
 
 gap_is_no_comment : (b : ℕ) → is_gap b ≡ true → begins_comment (b ∷ []) ≡ false
 gap_is_no_comment b gap = grind (arith, nat_tests)
 
-begins_no_comment : (gaps name behind : List ℕ) → AreGaps gaps → 0 < length name → begins_comment name ≡ false → begins_comment (gaps ++ (name ++ behind)) ≡ false
-begins_no_comment [] [] behind all some plain = absurd (omega arith)
-begins_no_comment [] (b ∷ name) behind all some plain = plain
-begins_no_comment (g ∷ gaps) name behind all some plain = gap_is_no_comment g (and_parts (is_gap g) (list_all is_gap gaps) all).0
+begins_no_comment : (gaps name after : List ℕ) → AreGaps gaps → 0 < length name → begins_comment name ≡ false → begins_comment (gaps ++ (name ++ after)) ≡ false
+begins_no_comment [] [] after all some plain = absurd (omega arith)
+begins_no_comment [] (b ∷ name) after all some plain = plain
+begins_no_comment (g ∷ gaps) name after all some plain = gap_is_no_comment g (and_parts (is_gap g) (list_all is_gap gaps) all).0
 
 no_comment : (request : Request) (line : List ℕ) → IsCommandLine request line → begins_comment line ≡ false
 no_comment request line is =
     let plain = subst (IsRow is.name) is.known (row forms rows is.name) in
-    ap begins_comment is.next.bytes_are ∙ begins_no_comment is.next.gaps is.name is.behind is.next.in_front is.next.passes.some plain.0
+    ap begins_comment is.next.bytes_are ∙ begins_no_comment is.next.gaps is.name is.after is.next.in_front is.next.passes.some plain.0
 
 short_line : (line : List ℕ) → IsShort line → is_too_long line ≡ false
 short_line line short = ap not (le-leb (length line) line_max short)
@@ -122,7 +122,7 @@ read_short line short plain = cond-false (is_too_long line) _ _ (short_line line
 
 command_read : (request : Request) (line : List ℕ) → IsShort line → IsCommandLine request line → request_of line ≡ request
 command_read request line short is =
-    read_short line short (or_from (begins_comment line) (list_all is_gap line) (no_comment request line is) (not_gaps is.name is.behind line is.next))
+    read_short line short (or_from (begins_comment line) (list_all is_gap line) (no_comment request line is) (not_gaps is.name is.after line is.next))
     ∙ ap (λ o. unwrap_or o malformed) (line_found request line is)
 
 -- ==== Each line
@@ -182,7 +182,7 @@ tells line =
         none_is_none request is = absurd (cc)
       by short plain (Some request) is line_is =
           let asks = subst (IsRow line_is.name) line_is.known (row forms rows line_is.name) in
-          of_command request line (asks_command line_is.arguments request line_is.behind asks.1 line_is.asks) short line_is
+          of_command request line (asks_command line_is.arguments request line_is.after asks.1 line_is.asks) short line_is
 
 pub lines_are_read : laws.LinesAreRead
 lines_are_read request line = (shaped request line, λ is. subst (λ (r : Request). IsShapeOf r line) is (tells line))

@@ -39,7 +39,7 @@ pub unread-push : (requests : List Request) (commands : Batch) (request : Reques
 unread-push requests commands request place fault read at why = record {
   before = requests;
   request = request;
-  behind = [];
+  after = [];
   lines = refl;
   place_is = at ∙ sym (as_many requests commands read);
   commands = commands;
@@ -53,8 +53,8 @@ pub unread-more : (requests : List Request) (request : Request) (place : ℕ) (f
 unread-more requests request place fault first = record {
   before = first.before;
   request = first.request;
-  behind = first.behind ++ request ∷ [];
-  lines = ap (λ (rs : List Request). rs ++ request ∷ []) first.lines ∙ append_assoc first.before (first.request ∷ first.behind) (request ∷ []);
+  after = first.after ++ request ∷ [];
+  lines = ap (λ (rs : List Request). rs ++ request ∷ []) first.lines ∙ append_assoc first.before (first.request ∷ first.after) (request ∷ []);
   place_is = first.place_is;
   commands = first.commands;
   read = first.read;

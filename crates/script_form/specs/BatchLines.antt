@@ -47,8 +47,8 @@ AreCommandsOf requests commands = ⊥
 pub record IsFirstUnread (requests : List Request) (place : ℕ) (fault : CommandFault) : Type 0 where
   pub before : List Request
   pub request : Request
-  pub behind : List Request
-  pub lines : requests ≡ before ++ request ∷ behind
+  pub after : List Request
+  pub lines : requests ≡ before ++ request ∷ after
   pub place_is : place ≡ length before
   pub commands : Batch
   pub read : AreCommandsOf before commands

@@ -73,8 +73,8 @@ ReadsNext read asked result =
     (requests : List Request) → AreReadSoFar requests read → AreReadSoFar (requests ++ asked ∷ []) result
 
 -- one line more is read after commands
-abbrev pub ReadsBehind : {Z : Type 0} → Batch → Request → Result (Vec Command Z) LinesFault → Type 0
-ReadsBehind commands asked result =
+abbrev pub ReadsAfter : {Z : Type 0} → Batch → Request → Result (Vec Command Z) LinesFault → Type 0
+ReadsAfter commands asked result =
     (requests : List Request) → AreCommandsOf requests commands → AreReadSoFar (requests ++ asked ∷ []) result
 
 -- what was read, as a batch

@@ -93,7 +93,7 @@ argument_at a_text bytes = text_at bytes
 -- what arguments ask for, if the bytes are just these
 abbrev pub asked_in : Arguments → List ℕ → Option Request
 asked_in (ends request) bytes = if list_all is_gap bytes then Some request else None
-asked_in (takes kind more) bytes = option_and_then (λ (value, behind). asked_in (more value) behind) (argument_at kind bytes)
+asked_in (takes kind more) bytes = option_and_then (λ (value, after). asked_in (more value) after) (argument_at kind bytes)
 
 -- the arguments of the command with this word
 abbrev pub arguments_of : List Form → List ℕ → Option Arguments
@@ -102,7 +102,7 @@ arguments_of (form ∷ forms) name = if bytes_eq name form.name then Some form.a
 
 -- what a command's word and what comes after it ask for
 abbrev pub asked_by : List ℕ × List ℕ → Option Request
-asked_by (name, behind) = option_and_then (λ arguments. asked_in arguments behind) (arguments_of forms name)
+asked_by (name, after) = option_and_then (λ arguments. asked_in arguments after) (arguments_of forms name)
 
 -- what a line asks for by its first word and what comes after it
 abbrev pub asked_of : List ℕ → Option Request

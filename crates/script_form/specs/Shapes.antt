@@ -28,17 +28,17 @@ pub record AreSome (test : ℕ → Bool) (bytes : List ℕ) : Type 0 where
   pub alone : IsTrue (list_all test bytes)
 
 -- perhaps gaps, then bytes that pass a test, and after them none that does
-pub record IsNext (test : ℕ → Bool) (front behind bytes : List ℕ) : Type 0 where
+pub record IsNext (test : ℕ → Bool) (front after bytes : List ℕ) : Type 0 where
   pub gaps : List ℕ
-  pub bytes_are : bytes ≡ gaps ++ (front ++ behind)
+  pub bytes_are : bytes ≡ gaps ++ (front ++ after)
   pub in_front : AreGaps gaps
   pub passes : AreSome test front
-  pub fails : begins test behind ≡ false
+  pub fails : begins test after ≡ false
 
 -- a word that is a number
-pub record IsNextNumber (n : ℤ) (behind bytes : List ℕ) : Type 0 where
+pub record IsNextNumber (n : ℤ) (after bytes : List ℕ) : Type 0 where
   pub digits : List ℕ
-  pub next : IsNext is_word_byte digits behind bytes
+  pub next : IsNext is_word_byte digits after bytes
   pub number_is : number_of digits ≡ Some n
 
 -- perhaps gaps, `=`, perhaps white space, and a text that begins with none: it runs to the end of the line
@@ -60,29 +60,29 @@ pub record IsText (text bytes : List ℕ) : Type 0 where
 
 -- bytes are an argument of a kind, and what comes after it
 abbrev pub IsArgument : (kind : ArgumentKind) → Value kind → List ℕ → List ℕ → Type 0
-IsArgument a_word value behind bytes = IsNext is_word_byte value behind bytes
-IsArgument a_number value behind bytes = IsNextNumber value behind bytes
-IsArgument a_number_or_one value behind bytes =
-    (AreGaps bytes × (value ≡ pos 1) × (behind ≡ [])) ⊎ IsNextNumber value behind bytes
-IsArgument a_left_side value behind bytes = IsNext is_name_side value behind bytes
-IsArgument a_right_side value behind bytes = IsRightSide value bytes × (behind ≡ [])
-IsArgument a_text value behind bytes = IsText value bytes × (behind ≡ [])
+IsArgument a_word value after bytes = IsNext is_word_byte value after bytes
+IsArgument a_number value after bytes = IsNextNumber value after bytes
+IsArgument a_number_or_one value after bytes =
+    (AreGaps bytes × (value ≡ pos 1) × (after ≡ [])) ⊎ IsNextNumber value after bytes
+IsArgument a_left_side value after bytes = IsNext is_name_side value after bytes
+IsArgument a_right_side value after bytes = IsRightSide value bytes × (after ≡ [])
+IsArgument a_text value after bytes = IsText value bytes × (after ≡ [])
 
 -- bytes are just these arguments, by which a request is asked for
 abbrev pub AreArguments : Arguments → Request → List ℕ → Type 0
 AreArguments (ends asked) request bytes = AreGaps bytes × (request ≡ asked)
 AreArguments (takes kind more) request bytes =
-    (value : Value kind) × (behind : List ℕ) × IsArgument kind value behind bytes
-    × AreArguments (more value) request behind
+    (value : Value kind) × (after : List ℕ) × IsArgument kind value after bytes
+    × AreArguments (more value) request after
 
 -- a command's word and its arguments, by which a request is asked for
 pub record IsCommandLine (request : Request) (line : List ℕ) : Type 0 where
   pub name : List ℕ
-  pub behind : List ℕ
-  pub next : IsNext is_word_byte name behind line
+  pub after : List ℕ
+  pub next : IsNext is_word_byte name after line
   pub arguments : Arguments
   pub known : arguments_of forms name ≡ Some arguments
-  pub asks : AreArguments arguments request behind
+  pub asks : AreArguments arguments request after
 
 -- the shape of lines that ask for a request
 abbrev pub IsShapeOf : Request → List ℕ → Type 0

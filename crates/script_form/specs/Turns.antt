@@ -68,8 +68,8 @@ turns_from waiting [] = []
 turns_from waiting (request ∷ requests) = ended_by waiting request ++ turns_from (waiting_after waiting request) requests
 
 -- the batch that waits after lines
-abbrev pub waiting_behind : List (List ℕ) → Option Waiting
-waiting_behind lines = fold waiting_after None (map request_of lines)
+abbrev pub waiting_after_lines : List (List ℕ) → Option Waiting
+waiting_after_lines lines = fold waiting_after None (map request_of lines)
 
 -- the turns that lines end: a batch has its turn when all its lines came
 abbrev pub turns_of : List (List ℕ) → List Turn
@@ -82,4 +82,4 @@ cut_off_in (Some waiting) = cut_off waiting.came ∷ []
 
 -- the turns of all lines of a script
 abbrev pub all_turns_of : List (List ℕ) → List Turn
-all_turns_of lines = turns_of lines ++ cut_off_in (waiting_behind lines)
+all_turns_of lines = turns_of lines ++ cut_off_in (waiting_after_lines lines)

@@ -33,7 +33,7 @@ number_of (b ∷ bs) =
 
 -- bytes in front, if there are some, and what comes after them
 abbrev pub some_front : List ℕ → List ℕ → Option (List ℕ × List ℕ)
-some_front front behind = if is_empty front then None else Some (front, behind)
+some_front front after = if is_empty front then None else Some (front, after)
 
 -- after gaps, all bytes up to the first that fails a test
 abbrev pub front_at : (ℕ → Bool) → List ℕ → Option (List ℕ × List ℕ)
@@ -49,7 +49,7 @@ left_side_at bytes = front_at is_name_side bytes
 
 -- a word as a number, with what comes after it
 abbrev pub number_in : List ℕ × List ℕ → Option (ℤ × List ℕ)
-number_in (word, behind) = option_map (λ n. (n, behind)) (number_of word)
+number_in (word, after) = option_map (λ n. (n, after)) (number_of word)
 
 -- the next word as a number, and what comes after it
 abbrev pub number_at : List ℕ → Option (ℤ × List ℕ)
@@ -60,13 +60,13 @@ abbrev pub number_or_one_at : List ℕ → Option (ℤ × List ℕ)
 number_or_one_at bytes = if list_all is_gap bytes then Some (pos 1, []) else number_at bytes
 
 -- after the `=` and the white space that follows it
-abbrev pub behind_sign : List ℕ → Option (List ℕ × List ℕ)
-behind_sign [] = None
-behind_sign (b ∷ bs) = if b == 61 then Some (skip_while is_blank bs, []) else None
+abbrev pub after_sign : List ℕ → Option (List ℕ × List ℕ)
+after_sign [] = None
+after_sign (b ∷ bs) = if b == 61 then Some (skip_while is_blank bs, []) else None
 
 -- what comes after the sign `=`, to the end of the line
 abbrev pub right_side_at : List ℕ → Option (List ℕ × List ℕ)
-right_side_at bytes = behind_sign (skip_while is_gap bytes)
+right_side_at bytes = after_sign (skip_while is_gap bytes)
 
 -- the rest of the line, from its first byte that is no blank
 abbrev pub text_at : List ℕ → Option (List ℕ × List ℕ)

@@ -5,7 +5,7 @@ ghost use Rattle.script_form.specs.Lines.{is_gap};
 ghost use Rattle.script_form.specs.Words.{word_at, left_side_at, number_at, number_or_one_at, right_side_at, text_at};
 
 use crate::number::number_of;
-use crate::words::{all_gaps, behind_blanks, behind_gaps, split_name, split_word};
+use crate::words::{after_blanks, after_gaps, all_gaps, split_name, split_word};
 
 /// What of a line is not taken yet.
 #[derive(Clone, Copy)]
@@ -17,7 +17,7 @@ impl<'a> Rest<'a> {
         ensures none { IfNone result (word_at self.old.0.now ≡ None) }
         ensures some { IfSome result (λ word. word_at self.old.0.now ≡ Some (word.now, self.new.0.now)) }
     {
-        let (word, rest) = split_word(behind_gaps(self.0));
+        let (word, rest) = split_word(after_gaps(self.0));
         if word.is_empty() {
             return None;
         }
@@ -30,7 +30,7 @@ impl<'a> Rest<'a> {
         ensures none { IfNone result (left_side_at self.old.0.now ≡ None) }
         ensures some { IfSome result (λ name. left_side_at self.old.0.now ≡ Some (name.now, self.new.0.now)) }
     {
-        let (name, rest) = split_name(behind_gaps(self.0));
+        let (name, rest) = split_name(after_gaps(self.0));
         if name.is_empty() {
             return None;
         }
@@ -63,10 +63,10 @@ impl<'a> Rest<'a> {
         ensures none { IfNone result (right_side_at self.old.0.now ≡ None) }
         ensures some { IfSome result (λ text. right_side_at self.old.0.now ≡ Some (text.now, self.new.0.now)) }
     {
-        match behind_gaps(self.0) {
+        match after_gaps(self.0) {
             [b'=', text @ ..] => {
                 self.0 = &[];
-                Some(behind_blanks(text))
+                Some(after_blanks(text))
             }
             _ => None,
         }
@@ -77,7 +77,7 @@ impl<'a> Rest<'a> {
         ensures none { IfNone result (text_at self.old.0.now ≡ None) }
         ensures some { IfSome result (λ text. text_at self.old.0.now ≡ Some (text.now, self.new.0.now)) }
     {
-        let text = behind_gaps(self.0);
+        let text = after_gaps(self.0);
         if text.is_empty() {
             return None;
         }

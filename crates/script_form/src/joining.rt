@@ -4,7 +4,7 @@ ghost use Rattle.overlay_terms.specs.Batches.{IsSized};
 ghost use Rattle.layer_book.specs.Command.{command};
 ghost use Rattle.script_form.specs.BatchLines.{IsCommandOf, IsNoCommand};
 ghost use Rattle.script_form.specs.Fault.{code_of};
-ghost use Rattle.script_form.specs.OpenBatch.{IsOpen, Joins, ReadsAll, ReadsBehind, ReadsNext, unread};
+ghost use Rattle.script_form.specs.OpenBatch.{IsOpen, Joins, ReadsAll, ReadsAfter, ReadsNext, unread};
 ghost use Rattle.script_form.specs.Requests.{batch, request};
 ghost use Rattle.script_form.specs.Turns.{asked_size, begun_by, size_within};
 
@@ -115,7 +115,7 @@ fn push_next(
     asked: Request<'_>,
 ) -> Result<Vec<Command>, LinesFault>
     requires { length commands.items ≡ place }
-    ensures reads { ReadsBehind (map command commands.items) (request asked.entry) result }
+    ensures reads { ReadsAfter (map command commands.items) (request asked.entry) result }
     ensures counted { IfOk result (λ commands. length commands.items ≡ place + 1) }
 {
     match read_command(alloc, asked) {

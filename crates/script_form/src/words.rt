@@ -60,14 +60,14 @@ fn name_size(bytes: &[u8]) -> usize
 }
 
 /// The bytes from the first on that is no gap.
-pub fn behind_gaps(bytes: &[u8]) -> &[u8]
+pub fn after_gaps(bytes: &[u8]) -> &[u8]
     ensures { result.now ≡ skip_while is_gap bytes.now }
 {
     &bytes[gap_count(bytes)..]
 }
 
 /// The bytes from the first on that is no white space.
-pub fn behind_blanks(text: &[u8]) -> &[u8]
+pub fn after_blanks(text: &[u8]) -> &[u8]
     ensures { result.now ≡ skip_while is_blank text.now }
 {
     &text[blank_count(text)..]

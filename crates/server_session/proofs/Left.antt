@@ -15,7 +15,7 @@ use Rattle.script_form.specs.Replies.{error_line, reply_text}
 use Rattle.script_form.specs.Requests.{request_of}
 use Rattle.book_history.specs.declared.fault.ReportedFault.{ReportedFault}
 use Rattle.script_form.specs.Transcript.{BookStore, StoreReport, store_by}
-use Rattle.script_form.specs.Turns.{Turn, Waiting, cut_off, cut_off_in, ended_by, turns_of, all_turns_of, waiting_after, waiting_behind}
+use Rattle.script_form.specs.Turns.{Turn, Waiting, cut_off, cut_off_in, ended_by, turns_of, all_turns_of, waiting_after, waiting_after_lines}
 use Rattle.script_form.proofs.LongLines.{request_of-cut, request_of-cut_ended}
 use Rattle.script_form.proofs.Pieces.{ended_lines-more}
 use Rattle.server_session.specs.Replying.{IsAtStart, IsNextReply, MayReport}
@@ -157,20 +157,20 @@ part_away old part none (Some l) = λ taken has. without_none (turns_ended taken
 -- with a line feed behind it: the turn that the line ends
 module _ (old : SessionState) (part line : List ℕ) (none : has_no_feed part ≡ true) (pushed : line ≡ take line_room (old.line ++ part)) (before : Option OpenBatch) (ended : List ℕ)
     (same : before ≡ old.waiting) (is : ended ≡ without_cr line) where
-  fed_open : (taken : List ℕ) → HasTaken old taken → IsOpen (waiting_behind (ended_lines taken)) before
-  fed_open taken has = subst (IsOpen (waiting_behind (ended_lines taken))) (sym same) has.waits
+  fed_open : (taken : List ℕ) → HasTaken old taken → IsOpen (waiting_after_lines (ended_lines taken)) before
+  fed_open taken has = subst (IsOpen (waiting_after_lines (ended_lines taken))) (sym same) has.waits
 
-  fed_turns : (taken : List ℕ) → HasTaken old taken → turns_ended taken (part ++ 10 ∷ []) ≡ ended_by (waiting_behind (ended_lines taken)) (request_of ended)
+  fed_turns : (taken : List ℕ) → HasTaken old taken → turns_ended taken (part ++ 10 ∷ []) ≡ ended_by (waiting_after_lines (ended_lines taken)) (request_of ended)
   fed_turns taken has =
       turns_ended-line taken part none
-      ∙ ap (ended_by (waiting_behind (ended_lines taken)))
+      ∙ ap (ended_by (waiting_after_lines (ended_lines taken)))
       (sym (ap request_of is ∙ ap (λ l. request_of (without_cr l)) (kept_part old part line taken none pushed has) ∙ request_of-cut_ended (unended (taken ++ part))))
 
   pub at_line : (l : List Turn) → AreNext old (part ++ 10 ∷ []) l → IsAtLine before ended l
   at_line l (more, on) =
       let behind = left_behind on.taken (part ++ 10 ∷ []) more l on.parts in
       record {
-        waiting = waiting_behind (ended_lines on.taken);
+        waiting = waiting_after_lines (ended_lines on.taken);
         is_open = fed_open on.taken on.has;
         later = behind.0;
         parts = behind.1 ∙ ap (λ (ts : List Turn). ts ++ behind.0) (fed_turns on.taken on.has);
@@ -179,7 +179,7 @@ module _ (old : SessionState) (part line : List ℕ) (none : has_no_feed part �
   pub line_away : (left left_then : Option (List Turn)) → TakesEnded before ended left left_then → TakesAway old (part ++ 10 ∷ []) left left_then
   line_away None left_then away = away
   line_away (Some l) left_then away = λ taken has.
-      away (waiting_behind (ended_lines taken)) (fed_open taken has) ∙ ap (λ (ts : List Turn). Some (drop (length ts) l)) (sym (fed_turns taken has))
+      away (waiting_after_lines (ended_lines taken)) (fed_open taken has) ∙ ap (λ (ts : List Turn). Some (drop (length ts) l)) (sym (fed_turns taken has))
 
 -- ==== Bytes, one after another
 
@@ -202,13 +202,13 @@ module _ (state : SessionState) (before : Option OpenBatch) (same : before ≡ s
   left_at_end : (l : List Turn) (on : IsOnWay state [] l) → turns_at_end on.taken ≡ l
   left_at_end l on = turns_at_end-are on.taken l (ap (λ bs. all_turns_of (whole_lines bs)) (sym (append-nil on.taken)) ∙ on.parts)
 
-  end_open : (taken : List ℕ) → HasTaken state taken → IsOpen (waiting_behind (ended_lines taken)) before
-  end_open taken has = subst (IsOpen (waiting_behind (ended_lines taken))) (sym same) has.waits
+  end_open : (taken : List ℕ) → HasTaken state taken → IsOpen (waiting_after_lines (ended_lines taken)) before
+  end_open taken has = subst (IsOpen (waiting_after_lines (ended_lines taken))) (sym same) has.waits
 
   -- after a line feed
   pub at_last_feed : length state.line ≡ 0 → (l : List Turn) → IsOnWay state [] l → IsAtLast before l
   at_last_feed none l on = record {
-    waiting = waiting_behind (ended_lines on.taken);
+    waiting = waiting_after_lines (ended_lines on.taken);
     is_open = end_open on.taken on.has;
     last = sym (left_at_end l on) ∙ turns_at_end-empty on.taken (no_rest state on.taken on.has none);
   }
@@ -216,17 +216,17 @@ module _ (state : SessionState) (before : Option OpenBatch) (same : before ≡ s
   -- a last line that lacks its line feed
   module _ (line : List ℕ) (is : line ≡ state.line) (some : 0 < length state.line) where
     last_parts : (l : List Turn) (on : IsOnWay state [] l)
-        → l ≡ ended_by (waiting_behind (ended_lines on.taken)) (request_of line) ++ cut_off_in (waiting_after (waiting_behind (ended_lines on.taken)) (request_of line))
+        → l ≡ ended_by (waiting_after_lines (ended_lines on.taken)) (request_of line) ++ cut_off_in (waiting_after (waiting_after_lines (ended_lines on.taken)) (request_of line))
     last_parts l on =
         sym (left_at_end l on) ∙ turns_at_end-last on.taken (some_rest state on.taken on.has some)
-        ∙ ap (λ r. ended_by (waiting_behind (ended_lines on.taken)) r ++ cut_off_in (waiting_after (waiting_behind (ended_lines on.taken)) r))
+        ∙ ap (λ r. ended_by (waiting_after_lines (ended_lines on.taken)) r ++ cut_off_in (waiting_after (waiting_after_lines (ended_lines on.taken)) r))
         (sym (ap request_of (is ∙ on.has.line) ∙ request_of-cut (unended on.taken)))
 
     pub at_last_line : (l : List Turn) → IsOnWay state [] l → IsAtLine before line l
     at_last_line l on = record {
-      waiting = waiting_behind (ended_lines on.taken);
+      waiting = waiting_after_lines (ended_lines on.taken);
       is_open = end_open on.taken on.has;
-      later = cut_off_in (waiting_after (waiting_behind (ended_lines on.taken)) (request_of line));
+      later = cut_off_in (waiting_after (waiting_after_lines (ended_lines on.taken)) (request_of line));
       parts = last_parts l on;
     }
 
@@ -235,7 +235,7 @@ module _ (state : SessionState) (before : Option OpenBatch) (same : before ≡ s
         → (left left_then : Option (List Turn)) → TakesEnded before line left left_then → IfSome left (IsOnWay state []) → IfSome left_then (IsAtLast after)
     behind_last was now after stored P (reply, takes, writes) None left_then ended on = subst (λ o. IfSome o (IsAtLast after)) (sym ended) tt
     behind_last was now after stored P (reply, takes, writes) (Some l) left_then ended on =
-        let waiting = waiting_behind (ended_lines on.taken) in
+        let waiting = waiting_after_lines (ended_lines on.taken) in
         let turns = ended_by waiting (request_of line) in
         let opened = end_open on.taken on.has in
         subst (λ o. IfSome o (IsAtLast after)) (sym (ended waiting opened)) (record {

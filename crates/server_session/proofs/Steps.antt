@@ -12,10 +12,10 @@ use Rattle.script_form.specs.Lines.{line_room, has_no_feed, without_cr, ended_li
 use Rattle.script_form.specs.Replies.{error_line}
 use Rattle.script_form.specs.Requests.{request_of}
 use Rattle.script_form.specs.Writing.{IsCutShort, Writes}
-use Rattle.script_form.specs.Turns.{Turn, Waiting, cut_off, cut_off_in, ended_by, turns_from, turns_of, all_turns_of, waiting_after, waiting_behind}
+use Rattle.script_form.specs.Turns.{Turn, Waiting, cut_off, cut_off_in, ended_by, turns_from, turns_of, all_turns_of, waiting_after, waiting_after_lines}
 use Rattle.script_form.proofs.LongLines.{request_of-cut, request_of-cut_ended, take-join, take-nil}
 use Rattle.script_form.proofs.Pieces.{ended_lines-line, ended_lines-more, ended_lines-part, unended-line, unended-part}
-use Rattle.script_form.proofs.TurnLemmas.{turns_of-more, turns_of-push, waiting_behind-push}
+use Rattle.script_form.proofs.TurnLemmas.{turns_of-more, turns_of-push, waiting_after_lines-push}
 use Rattle.server_session.specs.Loop.{AnswersLine, EndsBatch}
 use Rattle.server_session.specs.Session.{IsSharedRun, Stays}
 use Rattle.server_session.specs.SessionState.{HasTaken, turns_ended, turns_at_end, AnswersTurns, AnswersInPart}
@@ -37,7 +37,7 @@ turns_ended-are taken bytes turns is = behind_front (turns_of (ended_lines taken
 pub turns_ended-behind : (taken bytes : List ℕ) → turns_of (ended_lines (taken ++ bytes)) ≡ turns_of (ended_lines taken) ++ turns_ended taken bytes
 turns_ended-behind taken bytes =
     let on = ended_lines-more taken bytes in
-    let more : List Turn = turns_from (waiting_behind (ended_lines taken)) (map request_of on.more) in
+    let more : List Turn = turns_from (waiting_after_lines (ended_lines taken)) (map request_of on.more) in
     let is : turns_of (ended_lines (taken ++ bytes)) ≡ turns_of (ended_lines taken) ++ more = ap turns_of on.is ∙ turns_of-more (ended_lines taken) on.more in
     is ∙ ap (λ (ts : List Turn). turns_of (ended_lines taken) ++ ts) (sym (turns_ended-are taken bytes more is))
 
@@ -48,9 +48,9 @@ pub turns_ended-part : (taken part : List ℕ) → has_no_feed part ≡ true →
 turns_ended-part taken part none = turns_ended-are taken part [] (ap turns_of (ended_lines-part taken part none) ∙ sym (append-nil (turns_of (ended_lines taken))))
 
 pub turns_ended-line : (taken part : List ℕ) → has_no_feed part ≡ true
-    → turns_ended taken (part ++ 10 ∷ []) ≡ ended_by (waiting_behind (ended_lines taken)) (request_of (without_cr (unended (taken ++ part))))
+    → turns_ended taken (part ++ 10 ∷ []) ≡ ended_by (waiting_after_lines (ended_lines taken)) (request_of (without_cr (unended (taken ++ part))))
 turns_ended-line taken part none =
-    turns_ended-are taken (part ++ 10 ∷ []) (ended_by (waiting_behind (ended_lines taken)) (request_of (without_cr (unended (taken ++ part)))))
+    turns_ended-are taken (part ++ 10 ∷ []) (ended_by (waiting_after_lines (ended_lines taken)) (request_of (without_cr (unended (taken ++ part)))))
     (ap turns_of (ended_lines-line taken part none) ∙ turns_of-push (ended_lines taken) (without_cr (unended (taken ++ part))))
 
 pub turns_ended-join : (taken xs ys : List ℕ) → turns_ended taken xs ++ turns_ended (taken ++ xs) ys ≡ turns_ended taken (xs ++ ys)
@@ -64,9 +64,9 @@ turns_ended-join taken xs ys =
 -- those at the end of the script
 pub last_lines_on : (ended last : List (List ℕ)) → (more : List Turn) × (all_turns_of (ended ++ last) ≡ turns_of ended ++ more)
 last_lines_on ended last = (
-  turns_from (waiting_behind ended) (map request_of last) ++ cut_off_in (waiting_behind (ended ++ last)),
-  ap (λ (ts : List Turn). ts ++ cut_off_in (waiting_behind (ended ++ last))) (turns_of-more ended last)
-      ∙ append_assoc (turns_of ended) (turns_from (waiting_behind ended) (map request_of last)) (cut_off_in (waiting_behind (ended ++ last))),
+  turns_from (waiting_after_lines ended) (map request_of last) ++ cut_off_in (waiting_after_lines (ended ++ last)),
+  ap (λ (ts : List Turn). ts ++ cut_off_in (waiting_after_lines (ended ++ last))) (turns_of-more ended last)
+      ∙ append_assoc (turns_of ended) (turns_from (waiting_after_lines ended) (map request_of last)) (cut_off_in (waiting_after_lines (ended ++ last))),
 )
 
 pub turns_at_end-are : (taken : List ℕ) (turns : List Turn) → all_turns_of (whole_lines taken) ≡ turns_of (ended_lines taken) ++ turns → turns_at_end taken ≡ turns
@@ -77,9 +77,9 @@ turns_at_end-behind taken =
     let on = last_lines_on (ended_lines taken) (last_line (unended taken)) in
     on.1 ∙ ap (λ (ts : List Turn). turns_of (ended_lines taken) ++ ts) (sym (turns_at_end-are taken on.0 on.1))
 
-pub turns_at_end-empty : (taken : List ℕ) → unended taken ≡ [] → turns_at_end taken ≡ cut_off_in (waiting_behind (ended_lines taken))
+pub turns_at_end-empty : (taken : List ℕ) → unended taken ≡ [] → turns_at_end taken ≡ cut_off_in (waiting_after_lines (ended_lines taken))
 turns_at_end-empty taken none =
-    turns_at_end-are taken (cut_off_in (waiting_behind (ended_lines taken)))
+    turns_at_end-are taken (cut_off_in (waiting_after_lines (ended_lines taken)))
     (ap all_turns_of (ap (λ l. ended_lines taken ++ last_line l) none ∙ append-nil (ended_lines taken)))
 
 last_line-is : (rest : List ℕ) → 0 < length rest → last_line rest ≡ rest ∷ []
@@ -87,15 +87,15 @@ last_line-is [] some = absurd (omega arith)
 last_line-is (b ∷ rest) some = refl
 
 pub turns_at_end-last : (taken : List ℕ) → 0 < length (unended taken) → turns_at_end taken
-    ≡ ended_by (waiting_behind (ended_lines taken)) (request_of (unended taken)) ++ cut_off_in (waiting_after (waiting_behind (ended_lines taken)) (request_of (unended taken)))
+    ≡ ended_by (waiting_after_lines (ended_lines taken)) (request_of (unended taken)) ++ cut_off_in (waiting_after (waiting_after_lines (ended_lines taken)) (request_of (unended taken)))
 turns_at_end-last taken some =
     let lines = ended_lines taken in
     let last = unended taken in
-    turns_at_end-are taken (ended_by (waiting_behind lines) (request_of last) ++ cut_off_in (waiting_after (waiting_behind lines) (request_of last))) (
+    turns_at_end-are taken (ended_by (waiting_after_lines lines) (request_of last) ++ cut_off_in (waiting_after (waiting_after_lines lines) (request_of last))) (
     ap (λ l. all_turns_of (lines ++ l)) (last_line-is last some)
-    ∙ ap (λ (ts : List Turn). ts ++ cut_off_in (waiting_behind (lines ++ last ∷ []))) (turns_of-push lines last)
-    ∙ ap (λ w. (turns_of lines ++ ended_by (waiting_behind lines) (request_of last)) ++ cut_off_in w) (waiting_behind-push lines last)
-    ∙ append_assoc (turns_of lines) (ended_by (waiting_behind lines) (request_of last)) (cut_off_in (waiting_after (waiting_behind lines) (request_of last)))
+    ∙ ap (λ (ts : List Turn). ts ++ cut_off_in (waiting_after_lines (lines ++ last ∷ []))) (turns_of-push lines last)
+    ∙ ap (λ w. (turns_of lines ++ ended_by (waiting_after_lines lines) (request_of last)) ++ cut_off_in w) (waiting_after_lines-push lines last)
+    ∙ append_assoc (turns_of lines) (ended_by (waiting_after_lines lines) (request_of last)) (cut_off_in (waiting_after (waiting_after_lines lines) (request_of last)))
     )
 
 -- ==== A part of a line
@@ -110,8 +110,8 @@ pub takes_part : (old new : SessionState) (part : List ℕ) → has_no_feed part
     → (taken : List ℕ) → HasTaken old taken → HasTaken new (taken ++ part)
 takes_part old new part none is same taken has = record {
   line = kept_part old part new.line taken none is has;
-  waits = subst (λ (lines : List (List ℕ)). IsOpen (waiting_behind lines) new.waiting) (sym (ended_lines-part taken part none))
-      (subst (λ (o : Option OpenBatch). IsOpen (waiting_behind (ended_lines taken)) o) (sym same) has.waits);
+  waits = subst (λ (lines : List (List ℕ)). IsOpen (waiting_after_lines lines) new.waiting) (sym (ended_lines-part taken part none))
+      (subst (λ (o : Option OpenBatch). IsOpen (waiting_after_lines (ended_lines taken)) o) (sym same) has.waits);
 }
 
 pub answers_part : (stored : BookStore) (me : Known) (part : List ℕ) (output : Option (List ℕ)) → has_no_feed part ≡ true → (taken : List ℕ) → AnswersTurns stored me (turns_ended taken part) me output output
@@ -122,17 +122,17 @@ answers_part stored me part output none taken =
 module _ (stored : BookStore) (old : SessionState) (part line : List ℕ) (none : has_no_feed part ≡ true) (pushed : line ≡ take line_room (old.line ++ part)) (was now : Known) (before after : Option OpenBatch)
     (ended : List ℕ) (same : before ≡ old.waiting) (is : ended ≡ without_cr line) where
   module _ (reply : List ℕ) (takes : TakesTurn stored was before ended now after reply) (taken : List ℕ) (has : HasTaken old taken) where
-    fed_line : IsLineTaken stored was (waiting_behind (ended_lines taken)) (without_cr (unended (taken ++ part))) now after reply
+    fed_line : IsLineTaken stored was (waiting_after_lines (ended_lines taken)) (without_cr (unended (taken ++ part))) now after reply
     fed_line =
         let kept = kept_part old part line taken none pushed has in
         let whole =
         takes_turn-same stored ended (without_cr (unended (taken ++ part))) (ap request_of is ∙ ap (λ l. request_of (without_cr l)) kept ∙ request_of-cut_ended (unended (taken ++ part))) was now before after reply
         takes in
-        whole.taken (waiting_behind (ended_lines taken)) (subst (IsOpen (waiting_behind (ended_lines taken))) (sym same) has.waits)
+        whole.taken (waiting_after_lines (ended_lines taken)) (subst (IsOpen (waiting_after_lines (ended_lines taken))) (sym same) has.waits)
 
-    fed_waits : IsOpen (waiting_behind (ended_lines (taken ++ (part ++ 10 ∷ [])))) after
+    fed_waits : IsOpen (waiting_after_lines (ended_lines (taken ++ (part ++ 10 ∷ [])))) after
     fed_waits =
-        subst (λ w. IsOpen w after) (sym (ap waiting_behind (ended_lines-line taken part none) ∙ waiting_behind-push (ended_lines taken) (without_cr (unended (taken ++ part))))) fed_line.waits
+        subst (λ w. IsOpen w after) (sym (ap waiting_after_lines (ended_lines-line taken part none) ∙ waiting_after_lines-push (ended_lines taken) (without_cr (unended (taken ++ part))))) fed_line.waits
 
     fed_answers : (output all : Option (List ℕ)) → Appends output all reply → AnswersTurns stored was (turns_ended taken (part ++ 10 ∷ [])) now output all
     fed_answers output all appended =
@@ -142,7 +142,7 @@ module _ (stored : BookStore) (old : SessionState) (part line : List ℕ) (none 
     fed_stops output all front short appended =
         stops_as stored was now _ (turns_ended taken (part ++ 10 ∷ [])) output all (sym (turns_ended-line taken part none)) (record {
           written = front;
-          cut = cut_one stored was now _ reply front (ended_one (waiting_behind (ended_lines taken)) (request_of (without_cr (unended (taken ++ part))))) fed_line.answered short;
+          cut = cut_one stored was now _ reply front (ended_one (waiting_after_lines (ended_lines taken)) (request_of (without_cr (unended (taken ++ part))))) fed_line.answered short;
           appended = appended;
         })
 
@@ -151,7 +151,7 @@ module _ (stored : BookStore) (old : SessionState) (part line : List ℕ) (none 
         → OnOk result ((taken : List ℕ) → HasTaken old taken → HasTaken new (taken ++ (part ++ 10 ∷ [])))
     takes_line (Ok a) new cleared open_after (reply, takes, appended) = λ taken has. record {
       line = cleared ∙ sym (ap (take line_room) (unended-line taken part) ∙ take-nil line_room);
-      waits = subst (IsOpen (waiting_behind (ended_lines (taken ++ (part ++ 10 ∷ []))))) (sym open_after) (fed_waits reply takes taken has);
+      waits = subst (IsOpen (waiting_after_lines (ended_lines (taken ++ (part ++ 10 ∷ []))))) (sym open_after) (fed_waits reply takes taken has);
     }
     takes_line (Err e) new cleared open_after answers = tt
 
@@ -258,27 +258,27 @@ module _ {A E : Type 0} (stored : BookStore) (state : SessionState) (me : Known)
   pub answers_empty : (result : Result A E) → EndsBatch stored result before output all → OnOk result ((taken : List ℕ) → HasTaken state taken → AnswersTurns stored me (turns_at_end taken) me output all)
   answers_empty (Ok a) ends = λ taken has.
       answers_as stored me me _ (turns_at_end taken) output all (sym (turns_at_end-empty taken (no_rest state taken has none)))
-      (ends me (waiting_behind (ended_lines taken)) (subst (IsOpen (waiting_behind (ended_lines taken))) (sym same) has.waits))
+      (ends me (waiting_after_lines (ended_lines taken)) (subst (IsOpen (waiting_after_lines (ended_lines taken))) (sym same) has.waits))
   answers_empty (Err e) ends = tt
 
   pub stops_empty : (result : Result A E) → EndsBatch stored result before output all → OnErr result ((taken : List ℕ) → HasTaken state taken → AnswersInPart stored me (turns_at_end taken) me output all)
   stops_empty (Ok a) ends = tt
   stops_empty (Err e) ends = λ taken has.
       stops_as stored me me _ (turns_at_end taken) output all (sym (turns_at_end-empty taken (no_rest state taken has none)))
-      (ends me (waiting_behind (ended_lines taken)) (subst (IsOpen (waiting_behind (ended_lines taken))) (sym same) has.waits))
+      (ends me (waiting_after_lines (ended_lines taken)) (subst (IsOpen (waiting_after_lines (ended_lines taken))) (sym same) has.waits))
 
 -- a last line
 module _ (stored : BookStore) (state : SessionState) (was now : Known) (before after : Option OpenBatch) (bytes reply : List ℕ) (same : before ≡ state.waiting) (is : bytes ≡ state.line) (some : 0 < length state.line)
     (takes : TakesTurn stored was before bytes now after reply) (taken : List ℕ) (has : HasTaken state taken) where
-  last_taken : IsLineTaken stored was (waiting_behind (ended_lines taken)) (unended taken) now after reply
+  last_taken : IsLineTaken stored was (waiting_after_lines (ended_lines taken)) (unended taken) now after reply
   last_taken =
       let whole = takes_turn-same stored bytes (unended taken) (ap request_of (is ∙ has.line) ∙ request_of-cut (unended taken)) was now before after reply takes in
-      whole.taken (waiting_behind (ended_lines taken)) (subst (IsOpen (waiting_behind (ended_lines taken))) (sym same) has.waits)
+      whole.taken (waiting_after_lines (ended_lines taken)) (subst (IsOpen (waiting_after_lines (ended_lines taken))) (sym same) has.waits)
 
-  last_turns : ended_by (waiting_behind (ended_lines taken)) (request_of (unended taken)) ++ cut_off_in (waiting_after (waiting_behind (ended_lines taken)) (request_of (unended taken))) ≡ turns_at_end taken
+  last_turns : ended_by (waiting_after_lines (ended_lines taken)) (request_of (unended taken)) ++ cut_off_in (waiting_after (waiting_after_lines (ended_lines taken)) (request_of (unended taken))) ≡ turns_at_end taken
   last_turns = sym (turns_at_end-last taken (some_rest state taken has some))
 
-  last_answers : (output all : Option (List ℕ)) → Appends output all reply → AnswersTurns stored was (ended_by (waiting_behind (ended_lines taken)) (request_of (unended taken))) now output all
+  last_answers : (output all : Option (List ℕ)) → Appends output all reply → AnswersTurns stored was (ended_by (waiting_after_lines (ended_lines taken)) (request_of (unended taken))) now output all
   last_answers output all appended = record { replies = reply; reported = last_taken.answered; appended = appended }
 
 pub answers_last : {A E : Type 0} (result : Result A E) (stored : BookStore) (state : SessionState) (was now : Known) (before after : Option OpenBatch) (bytes : List ℕ) (output middle all : Option (List ℕ))
@@ -308,7 +308,7 @@ stops_at_last stored state was now before after bytes output all same is some (r
     stops_as stored was now _ (turns_at_end taken) output all (last_turns stored state was now before after bytes reply same is some takes taken has)
     (stops_before stored was now _ _ output all (record {
       written = front;
-      cut = cut_one stored was now _ reply front (ended_one (waiting_behind (ended_lines taken)) (request_of (unended taken)))
+      cut = cut_one stored was now _ reply front (ended_one (waiting_after_lines (ended_lines taken)) (request_of (unended taken)))
           (last_taken stored state was now before after bytes reply same is some takes taken has).answered short;
       appended = appended;
     }))

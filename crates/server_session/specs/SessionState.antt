@@ -4,7 +4,7 @@ use Rattle.std.specs.Io.KnownBytes.{Appends}
 use Rattle.book_history.specs.Known.{Known}
 use Rattle.script_form.specs.OpenBatch.{IsOpen}
 use Rattle.script_form.specs.Lines.{line_room, ended_lines, unended, whole_lines}
-use Rattle.script_form.specs.Turns.{Turn, turns_of, all_turns_of, waiting_behind}
+use Rattle.script_form.specs.Turns.{Turn, turns_of, all_turns_of, waiting_after_lines}
 use Rattle.server_session.specs.Session.{IsSharedRun, IsCutOff}
 use Rattle.server_session.specs.declared.session_state.SessionState.{SessionState}
 use Rattle.script_form.specs.Transcript.{BookStore}
@@ -16,7 +16,7 @@ has_ended state = state.ended
 -- it has taken these bytes: it keeps those after the last line feed, as far as they tell the line, and the batch that waits
 pub record HasTaken (state : SessionState) (taken : List ℕ) : Type 0 where
   pub line : state.line ≡ take line_room (unended taken)
-  pub waits : IsOpen (waiting_behind (ended_lines taken)) state.waiting
+  pub waits : IsOpen (waiting_after_lines (ended_lines taken)) state.waiting
 
 -- the turns that bytes end, which come after others: those that were not ended before
 abbrev pub turns_ended : List ℕ → List ℕ → List Turn

@@ -6,7 +6,7 @@ use Rattle.overlay_terms.specs.Layers.{Name}
 use Rattle.layer_expr.specs.Name.{is_name}
 use Rattle.layer_expr.specs.Token.{Kind, tokens_of}
 use Rattle.layer_expr.specs.Grammar.{Written, written_kinds, written_tree, kinds_of, tokens_max}
-use Rattle.layer_expr.specs.ReaderState.{written_making, behind_all, at_start, finished}
+use Rattle.layer_expr.specs.ReaderState.{written_making, after_kinds, at_start, finished}
 use Rattle.layer_expr.specs.Spelling.{canonical, expression_text}
 use Rattle.store_terms.specs.Fields.{◌>>?◌}
 
@@ -16,7 +16,7 @@ is_expression tree = list_all is_name (leaves tree) && nat_le (length (written_k
 
 -- what some tokens spell
 abbrev pub written_of : List Kind → Option Written
-written_of kinds = behind_all written_making (Some at_start) kinds >>? λ s. finished written_making s
+written_of kinds = after_kinds written_making (Some at_start) kinds >>? λ s. finished written_making s
 
 -- the tree, if it is an expression and the bytes are its text
 abbrev pub spelled_tree : List ℕ → Tree Name → Option (Tree Name)

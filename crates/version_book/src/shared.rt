@@ -168,7 +168,7 @@ impl<J: BookName, R: Wait + Drop> Shared<J, R> {
         let _ = me.number();
         let mut turn = self
             .turns
-            .behind(rt, &Awaited::Built(name), TurnKind::Unsaid);
+            .after(rt, &Awaited::Built(name), TurnKind::Unsaid);
         let reported = tell_built(&mut turn.book, me, name);
         turn.kind = TurnKind::Answered {
             fault: reported.is_err(),
@@ -202,7 +202,7 @@ impl<J: BookName, R: Wait + Drop> Shared<J, R> {
         }
         let turn = self
             .turns
-            .behind(rt, &Awaited::Durable(number), TurnKind::Looked);
+            .after(rt, &Awaited::Durable(number), TurnKind::Looked);
         tell_durable(&turn.book, me, number)
     }
 

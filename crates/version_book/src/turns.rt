@@ -125,7 +125,7 @@ impl<J: BookName, R: Wait + Drop> Turns<J, R> {
     }
 
     /// A turn after a wait.
-    pub fn behind<W: Wait>(&self, rt: &W, awaited: &Awaited<'_>, kind: TurnKind) -> Turn<'_, J, R>
+    pub fn after<W: Wait>(&self, rt: &W, awaited: &Awaited<'_>, kind: TurnKind) -> Turn<'_, J, R>
         ensures { ¬ (Waits (newest_in (mutex_guard_value result.book).log) (mutex_guard_value result.book).state awaited.now) }
     {
         let book = self

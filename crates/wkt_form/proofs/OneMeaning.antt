@@ -98,7 +98,7 @@ first_fault_once bytes f g a b =
       | inr apart ↦
           elim apart [
             | inl before ↦ earlier bytes a.0 b.0 (slice_get (tokens_of bytes) a.0) f g before refl a.2 b.1 b.2
-            | inr behind ↦ sym (earlier bytes b.0 a.0 (slice_get (tokens_of bytes) b.0) g f behind refl b.2 a.1 a.2)
+            | inr after ↦ sym (earlier bytes b.0 a.0 (slice_get (tokens_of bytes) b.0) g f after refl b.2 a.1 a.2)
           ]
     ]
 

@@ -107,7 +107,7 @@ by_sign (b ∷ bs) some ends =
           subst (λ (ds : List ℕ). Plain (b ∷ bs) ds (prefix_len is_ascii_digit ds)) (sym (cond-false (is_sign b) bs (b ∷ bs) none)) (unsigned_run b bs) some ends
     ]
 
--- the number that bytes begin with, by the digits behind its sign
+-- the number that bytes begin with, by the digits after its sign
 pub plain_run : (bytes digits : List ℕ) (number : Number) (count size : ℕ) → digits ≡ unsigned bytes → count ≡ prefix_len is_ascii_digit digits → 0 < count → begins is_run_byte (drop count digits) ≡ false → number ≡ whole_worth (with_sign bytes (digits_value (take count digits))) → size ≡ length bytes - length digits + count → BeginsWithNumber bytes number size
 plain_run bytes digits number count size u c some ends w s =
     let plain = subst (λ (ds : List ℕ). Plain bytes ds (prefix_len is_ascii_digit ds)) (sym u) (by_sign bytes) in

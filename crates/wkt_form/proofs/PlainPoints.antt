@@ -19,7 +19,7 @@ first_from bytes at = get_or-drop at bytes 0 0 ∙ ap (λ k. get_or bytes k 0) (
 some_from : (bytes : List ℕ) (at : ℕ) → at < length bytes → 0 < length (drop at bytes)
 some_from bytes at short = omega (arith, short, length-drop at bytes)
 
--- a number, behind what is no token
+-- a number, after what is no token
 pub number_next : (number : Number) (bytes : List ℕ) (at start size : ℕ) → seen_from at (drop at bytes) ≡ seen_from start (drop start bytes) → at ≤ start → start ≤ length bytes → BeginsWithNumber (take (length bytes - start) (drop start bytes)) number size → IsNext (symbols.Number number) bytes at (start + size)
 number_next number bytes at start size same on within begins =
     let begins_there = subst (λ bs. BeginsWithNumber bs number size) (take_rest bytes start) begins in
@@ -51,13 +51,13 @@ comma_next bytes at short comma =
     }
 
 -- two whole numbers and a comma
-pub next_point : (x y : ℤ) (first second : Number) (bytes : List ℕ) (at behind_x behind_y behind : ℕ) → first ≡ Whole x → second ≡ Whole y → IsNext (symbols.Number first) bytes at behind_x → IsNext (symbols.Number second) bytes behind_x behind_y → IsNext symbols.Comma bytes behind_y behind → IsNextPoint x y bytes at behind
-next_point x y first second bytes at behind_x behind_y behind e f p q comma =
+pub next_point : (x y : ℤ) (first second : Number) (bytes : List ℕ) (at after_x after_y after : ℕ) → first ≡ Whole x → second ≡ Whole y → IsNext (symbols.Number first) bytes at after_x → IsNext (symbols.Number second) bytes after_x after_y → IsNext symbols.Comma bytes after_y after → IsNextPoint x y bytes at after
+next_point x y first second bytes at after_x after_y after e f p q comma =
     record {
-      behind_x = behind_x;
-      behind_y = behind_y;
-      first = subst (λ n. IsNext (symbols.Number n) bytes at behind_x) e p;
-      second = subst (λ n. IsNext (symbols.Number n) bytes behind_x behind_y) f q;
+      after_x = after_x;
+      after_y = after_y;
+      first = subst (λ n. IsNext (symbols.Number n) bytes at after_x) e p;
+      second = subst (λ n. IsNext (symbols.Number n) bytes after_x after_y) f q;
       comma = comma;
     }
 
@@ -67,12 +67,12 @@ next_point x y first second bytes at behind_x behind_y behind e f p q comma =
 three_tokens : (r : Reading) (x y : ℤ) (i j k : ℕ) (rest : List code.Token) → with_tokens (record r { state = states.First }) (record { at = i; symbol = symbols.Number (Whole x) } ∷ record { at = j; symbol = symbols.Number (Whole y) } ∷ record { at = k; symbol = symbols.Comma } ∷ rest) ≡ with_tokens (with_point (record r { state = states.First }) x y) rest
 three_tokens r x y i j k rest = refl
 
-pub point_taken : (r : Reading) (x y : ℤ) (bytes : List ℕ) (at behind : ℕ) → r.state ≡ states.First → IsNextPoint x y bytes at behind → with_tokens r (seen_from at (drop at bytes)) ≡ with_tokens (with_point r x y) (seen_from behind (drop behind bytes))
-point_taken r x y bytes at behind state p =
+pub point_taken : (r : Reading) (x y : ℤ) (bytes : List ℕ) (at after : ℕ) → r.state ≡ states.First → IsNextPoint x y bytes at after → with_tokens r (seen_from at (drop at bytes)) ≡ with_tokens (with_point r x y) (seen_from after (drop after bytes))
+point_taken r x y bytes at after state p =
     let i = p.first.offset in
     let j = p.second.offset in
     let k = p.comma.offset in
-    let rest = seen_from behind (drop behind bytes) in
+    let rest = seen_from after (drop after bytes) in
     let tokens : List code.Token = record { at = i; symbol = symbols.Number (Whole x) } ∷ record { at = j; symbol = symbols.Number (Whole y) } ∷ record { at = k; symbol = symbols.Comma } ∷ rest in
     let seen : seen_from at (drop at bytes) ≡ tokens =
     p.first.seen
@@ -83,5 +83,5 @@ point_taken r x y bytes at behind state p =
     ∙ three_tokens r x y i j k rest
     ∙ ap (λ s. with_tokens (with_point (record r { state = s }) x y) rest) (sym state)
 
-pub point_on : (x y : ℤ) (bytes : List ℕ) (at behind : ℕ) → IsNextPoint x y bytes at behind → (at < behind) × (behind ≤ length bytes)
-point_on x y bytes at behind p = (omega (arith, p.first.on, p.second.on, p.comma.on), p.comma.within)
+pub point_on : (x y : ℤ) (bytes : List ℕ) (at after : ℕ) → IsNextPoint x y bytes at after → (at < after) × (after ≤ length bytes)
+point_on x y bytes at after p = (omega (arith, p.first.on, p.second.on, p.comma.on), p.comma.within)

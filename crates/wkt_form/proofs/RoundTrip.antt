@@ -34,23 +34,23 @@ lexed_nothing = record { spelled = λ at. refl; good = λ at. All-nil IsGood }
 
 -- one token, and those after it
 lexed_token : (bytes rest : List ℕ) (kind : Kind) (kinds : List Kind) (size : ℕ) → in_upper_case kind ≡ kind → ((at : ℕ) → number_fault (record { at = at; kind = kind }) ≡ None) → ((at : ℕ) → tokens_from at bytes ≡ record { at = at; kind = kind } ∷ tokens_from (at + size) rest) → Lexed rest kinds → Lexed bytes (kind ∷ kinds)
-lexed_token bytes rest kind kinds size upper fault e behind =
+lexed_token bytes rest kind kinds size upper fault e after =
     record {
-      spelled = λ at. ap kinds_of (e at) ∙ ap (λ k. k ∷ kinds_of (tokens_from (at + size) rest)) upper ∙ ap (λ ks. kind ∷ ks) (behind.spelled (at + size));
-      good = λ at. subst (All IsGood) (sym (e at)) (All-cons IsGood (record { at = at; kind = kind }) (tokens_from (at + size) rest) (fault at) (behind.good (at + size)));
+      spelled = λ at. ap kinds_of (e at) ∙ ap (λ k. k ∷ kinds_of (tokens_from (at + size) rest)) upper ∙ ap (λ ks. kind ∷ ks) (after.spelled (at + size));
+      good = λ at. subst (All IsGood) (sym (e at)) (All-cons IsGood (record { at = at; kind = kind }) (tokens_from (at + size) rest) (fault at) (after.good (at + size)));
     }
 
 lexed_open : (rest : List ℕ) (kinds : List Kind) → Lexed rest kinds → Lexed (40 ∷ rest) (open_bracket ∷ kinds)
-lexed_open rest kinds behind = lexed_token (40 ∷ rest) rest open_bracket kinds 1 refl (λ at. refl) (λ at. refl) behind
+lexed_open rest kinds after = lexed_token (40 ∷ rest) rest open_bracket kinds 1 refl (λ at. refl) (λ at. refl) after
 
 lexed_close : (rest : List ℕ) (kinds : List Kind) → Lexed rest kinds → Lexed (41 ∷ rest) (close_bracket ∷ kinds)
-lexed_close rest kinds behind = lexed_token (41 ∷ rest) rest close_bracket kinds 1 refl (λ at. refl) (λ at. refl) behind
+lexed_close rest kinds after = lexed_token (41 ∷ rest) rest close_bracket kinds 1 refl (λ at. refl) (λ at. refl) after
 
 lexed_comma : (rest : List ℕ) (kinds : List Kind) → Lexed rest kinds → Lexed (44 ∷ rest) (comma ∷ kinds)
-lexed_comma rest kinds behind = lexed_token (44 ∷ rest) rest comma kinds 1 refl (λ at. refl) (λ at. refl) behind
+lexed_comma rest kinds after = lexed_token (44 ∷ rest) rest comma kinds 1 refl (λ at. refl) (λ at. refl) after
 
 lexed_space : (rest : List ℕ) (kinds : List Kind) → Lexed rest kinds → Lexed (32 ∷ rest) kinds
-lexed_space rest kinds behind = record { spelled = λ at. behind.spelled (at + 1); good = λ at. behind.good (at + 1) }
+lexed_space rest kinds after = record { spelled = λ at. after.spelled (at + 1); good = λ at. after.good (at + 1) }
 
 -- ==== Numbers
 
@@ -78,17 +78,17 @@ front_tokens test make grows bs rest all some stop at =
     ∙ ap (λ ts. record { at = at; kind = make bs } ∷ tokens_from (at + length bs) ts) (drop_at bs rest (length bs) refl)
 
 lexed_word : (bs rest : List ℕ) (kinds : List Kind) → list_all is_ascii_alphabetic bs ≡ true → 0 < length bs → in_upper_case (word bs) ≡ word bs → begins is_ascii_alphabetic rest ≡ false → Lexed rest kinds → Lexed (bs ++ rest) (word bs ∷ kinds)
-lexed_word bs rest kinds all some upper stop behind =
-    lexed_token (bs ++ rest) rest (word bs) kinds (length bs) upper (λ at. refl) (front_tokens is_ascii_alphabetic word words_grow bs rest all some stop) behind
+lexed_word bs rest kinds all some upper stop after =
+    lexed_token (bs ++ rest) rest (word bs) kinds (length bs) upper (λ at. refl) (front_tokens is_ascii_alphabetic word words_grow bs rest all some stop) after
 
 run_fault : (z : ℤ) (bs : List ℕ) → InRange z → IsWritten z bs → (at : ℕ) → number_fault (record { at = at; kind = run bs }) ≡ None
 run_fault z bs h w at =
     cond-true (is_whole bs) _ _ w.whole ∙ cond-true (is_coordinate (number_value bs)) _ _ (ap is_coordinate w.value ∙ in_range_passes z h)
 
 lexed_number : (z : ℤ) (rest : List ℕ) (kinds : List Kind) → InRange z → begins is_run_byte rest ≡ false → Lexed rest kinds → Lexed (signed_decimal z ++ rest) (run (signed_decimal z) ∷ kinds)
-lexed_number z rest kinds h stop behind =
+lexed_number z rest kinds h stop after =
     let w = written z h in
-    lexed_token (signed_decimal z ++ rest) rest (run (signed_decimal z)) kinds (length (signed_decimal z)) refl (run_fault z (signed_decimal z) h w) (front_tokens is_run_byte run runs_grow (signed_decimal z) rest w.run w.some stop) behind
+    lexed_token (signed_decimal z ++ rest) rest (run (signed_decimal z)) kinds (length (signed_decimal z)) refl (run_fault z (signed_decimal z) h w) (front_tokens is_run_byte run runs_grow (signed_decimal z) rest w.run w.some stop) after
 
 -- ==== Points, rings, layers
 
@@ -108,26 +108,26 @@ written_text (ring ∷ layer) = polygons (map written_polygon (ring ∷ layer))
 
 -- the text of a member is lexed so, whatever follows that is no digit, sign or point
 abbrev IsLexedAs : List ℕ → List Kind → Type 0
-IsLexedAs text kinds = (rest : List ℕ) (behind : List Kind) → begins is_run_byte rest ≡ false → Lexed rest behind → Lexed (text ++ rest) (kinds ++ behind)
+IsLexedAs text kinds = (rest : List ℕ) (after : List Kind) → begins is_run_byte rest ≡ false → Lexed rest after → Lexed (text ++ rest) (kinds ++ after)
 
 lexed_point : (p : WholePoint) → InRange p.x × InRange p.y → IsLexedAs (wkt_point p) (point_kinds (written_point p))
-lexed_point p h rest behind stop e =
-    subst (λ bytes. Lexed bytes (point_kinds (written_point p) ++ behind)) (sym (append_assoc (signed_decimal p.x) (codes " " ++ signed_decimal p.y) rest))
-    (lexed_number p.x (32 ∷ (signed_decimal p.y ++ rest)) (run (signed_decimal p.y) ∷ behind) h.0 refl
-    (lexed_space (signed_decimal p.y ++ rest) (run (signed_decimal p.y) ∷ behind) (lexed_number p.y rest behind h.1 stop e)))
+lexed_point p h rest after stop e =
+    subst (λ bytes. Lexed bytes (point_kinds (written_point p) ++ after)) (sym (append_assoc (signed_decimal p.x) (codes " " ++ signed_decimal p.y) rest))
+    (lexed_number p.x (32 ∷ (signed_decimal p.y ++ rest)) (run (signed_decimal p.y) ∷ after) h.0 refl
+    (lexed_space (signed_decimal p.y ++ rest) (run (signed_decimal p.y) ∷ after) (lexed_number p.y rest after h.1 stop e)))
 
 module _ {A : Type 0} (text : A → List ℕ) (kinds : A → List Kind) (P : A → Type 0) (member : (a : A) → P a → IsLexedAs (text a) (kinds a)) where
   lexed_list : (a : A) (as' : List A) → All P (a ∷ as') → IsLexedAs (comma_listed (map text (a ∷ as'))) (parted (map kinds (a ∷ as')))
-  lexed_list a [] h rest behind stop e = member a (All-head P a [] h) rest behind stop e
-  lexed_list a (b ∷ bs) h rest behind stop e =
+  lexed_list a [] h rest after stop e = member a (All-head P a [] h) rest after stop e
+  lexed_list a (b ∷ bs) h rest after stop e =
       let later = comma_listed (map text (b ∷ bs)) in
       let later_kinds = parted (map kinds (b ∷ bs)) in
-      let tail : Lexed (later ++ rest) (later_kinds ++ behind) = lexed_list b bs (All-tail P a (b ∷ bs) h) rest behind stop e in
-      let all : Lexed (text a ++ (44 ∷ 32 ∷ (later ++ rest))) (kinds a ++ (comma ∷ (later_kinds ++ behind))) =
-      member a (All-head P a (b ∷ bs) h) (44 ∷ 32 ∷ (later ++ rest)) (comma ∷ (later_kinds ++ behind)) refl
-      (lexed_comma (32 ∷ (later ++ rest)) (later_kinds ++ behind) (lexed_space (later ++ rest) (later_kinds ++ behind) tail)) in
-      subst (λ bytes. Lexed bytes ((kinds a ++ comma ∷ later_kinds) ++ behind)) (sym (append_assoc (text a) (codes ", " ++ later) rest))
-      (subst (λ ks. Lexed (text a ++ (44 ∷ 32 ∷ (later ++ rest))) ks) (sym (append_assoc (kinds a) (comma ∷ later_kinds) behind)) all)
+      let tail : Lexed (later ++ rest) (later_kinds ++ after) = lexed_list b bs (All-tail P a (b ∷ bs) h) rest after stop e in
+      let all : Lexed (text a ++ (44 ∷ 32 ∷ (later ++ rest))) (kinds a ++ (comma ∷ (later_kinds ++ after))) =
+      member a (All-head P a (b ∷ bs) h) (44 ∷ 32 ∷ (later ++ rest)) (comma ∷ (later_kinds ++ after)) refl
+      (lexed_comma (32 ∷ (later ++ rest)) (later_kinds ++ after) (lexed_space (later ++ rest) (later_kinds ++ after) tail)) in
+      subst (λ bytes. Lexed bytes ((kinds a ++ comma ∷ later_kinds) ++ after)) (sym (append_assoc (text a) (codes ", " ++ later) rest))
+      (subst (λ ks. Lexed (text a ++ (44 ∷ 32 ∷ (later ++ rest))) ks) (sym (append_assoc (kinds a) (comma ∷ later_kinds) after)) all)
 
 abbrev IsPointInRange : WholePoint → Type 0
 IsPointInRange p = InRange p.x × InRange p.y
@@ -141,24 +141,24 @@ map_twice f g [] = refl
 map_twice f g (x ∷ xs) = ap (λ ys. f (g x) ∷ ys) (map_twice f g xs)
 
 lexed_ring : (ring : List WholePoint) → IsRingWritable ring → IsLexedAs (ring_text ring) (polygon_kinds (written_polygon ring))
-lexed_ring [] h rest behind stop e = absurd (omega (arith, h.0))
-lexed_ring (p ∷ ps) h rest behind stop e =
+lexed_ring [] h rest after stop e = absurd (omega (arith, h.0))
+lexed_ring (p ∷ ps) h rest after stop e =
     let points = comma_listed (map wkt_point (p ∷ ps)) in
-    let inner : Lexed (points ++ (41 ∷ 41 ∷ rest)) (parted (map (λ q. point_kinds (written_point q)) (p ∷ ps)) ++ (close_bracket ∷ close_bracket ∷ behind)) =
-    lexed_list wkt_point (λ q. point_kinds (written_point q)) IsPointInRange lexed_point p ps h.1 (41 ∷ 41 ∷ rest) (close_bracket ∷ close_bracket ∷ behind) refl
-    (lexed_close (41 ∷ rest) (close_bracket ∷ behind) (lexed_close rest behind e)) in
+    let inner : Lexed (points ++ (41 ∷ 41 ∷ rest)) (parted (map (λ q. point_kinds (written_point q)) (p ∷ ps)) ++ (close_bracket ∷ close_bracket ∷ after)) =
+    lexed_list wkt_point (λ q. point_kinds (written_point q)) IsPointInRange lexed_point p ps h.1 (41 ∷ 41 ∷ rest) (close_bracket ∷ close_bracket ∷ after) refl
+    (lexed_close (41 ∷ rest) (close_bracket ∷ after) (lexed_close rest after e)) in
     let kinds : List Kind = parted (map point_kinds (written_ring (p ∷ ps))) in
-    let same : parted (map (λ q. point_kinds (written_point q)) (p ∷ ps)) ++ (close_bracket ∷ close_bracket ∷ behind) ≡ ((kinds ++ close_bracket ∷ []) ++ close_bracket ∷ []) ++ behind =
-    ap (λ ks. parted ks ++ (close_bracket ∷ close_bracket ∷ behind)) (sym (map_twice point_kinds written_point (p ∷ ps)))
-    ∙ sym (append_assoc (kinds ++ close_bracket ∷ []) (close_bracket ∷ []) behind ∙ append_assoc kinds (close_bracket ∷ []) (close_bracket ∷ behind)) in
-    let within : Lexed ((points ++ 41 ∷ 41 ∷ []) ++ rest) (((kinds ++ close_bracket ∷ []) ++ close_bracket ∷ []) ++ behind) =
-    subst (λ bytes. Lexed bytes (((kinds ++ close_bracket ∷ []) ++ close_bracket ∷ []) ++ behind)) (sym (append_assoc points (41 ∷ 41 ∷ []) rest))
+    let same : parted (map (λ q. point_kinds (written_point q)) (p ∷ ps)) ++ (close_bracket ∷ close_bracket ∷ after) ≡ ((kinds ++ close_bracket ∷ []) ++ close_bracket ∷ []) ++ after =
+    ap (λ ks. parted ks ++ (close_bracket ∷ close_bracket ∷ after)) (sym (map_twice point_kinds written_point (p ∷ ps)))
+    ∙ sym (append_assoc (kinds ++ close_bracket ∷ []) (close_bracket ∷ []) after ∙ append_assoc kinds (close_bracket ∷ []) (close_bracket ∷ after)) in
+    let within : Lexed ((points ++ 41 ∷ 41 ∷ []) ++ rest) (((kinds ++ close_bracket ∷ []) ++ close_bracket ∷ []) ++ after) =
+    subst (λ bytes. Lexed bytes (((kinds ++ close_bracket ∷ []) ++ close_bracket ∷ []) ++ after)) (sym (append_assoc points (41 ∷ 41 ∷ []) rest))
     (subst (Lexed (points ++ (41 ∷ 41 ∷ rest))) same inner) in
     lexed_open _ _ (lexed_open _ _ within)
 
 -- after MULTIPOLYGON and a space
 lexed_multi : (rest : List ℕ) (kinds : List Kind) → Lexed rest kinds → Lexed (codes "MULTIPOLYGON " ++ rest) (word (codes "MULTIPOLYGON") ∷ kinds)
-lexed_multi rest kinds behind = lexed_word (codes "MULTIPOLYGON") (32 ∷ rest) kinds refl (lit< tt) refl refl (lexed_space rest kinds behind)
+lexed_multi rest kinds after = lexed_word (codes "MULTIPOLYGON") (32 ∷ rest) kinds refl (lit< tt) refl refl (lexed_space rest kinds after)
 
 lexed_layer : (layer : List (List WholePoint)) → All IsRingWritable layer → Lexed (wkt_text layer) (text_kinds (written_text layer))
 lexed_layer [] h = lexed_multi (codes "EMPTY") (word (codes "EMPTY") ∷ []) (lexed_word (codes "EMPTY") [] [] refl (lit< tt) refl refl lexed_nothing)

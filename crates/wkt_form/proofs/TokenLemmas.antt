@@ -25,15 +25,15 @@ pub tokens_past_blanks : (at : ℕ) (bytes : List ℕ) → tokens_from at bytes 
 tokens_past_blanks at [] = refl
 tokens_past_blanks at (b ∷ bs) =
     let m = prefix_len is_blank bs in
-    let behind = λ (n : ℕ). tokens_from (at + n) (drop n (b ∷ bs)) in
+    let after = λ (n : ℕ). tokens_from (at + n) (drop n (b ∷ bs)) in
     elim (cases_Bool (is_blank b)) [
       | inl holds ↦
           first_blank at b bs holds
           ∙ tokens_past_blanks (at + 1) bs
           ∙ ap (λ k. tokens_from k (drop m bs)) (omega arith)
-          ∙ ap behind (the_suc m ∙ sym (cond-true (is_blank b) (1 + m) 0 holds))
+          ∙ ap after (the_suc m ∙ sym (cond-true (is_blank b) (1 + m) 0 holds))
       | inr fails ↦
-          ap (λ k. tokens_from k (b ∷ bs)) (omega arith) ∙ ap behind (sym (cond-false (is_blank b) (1 + m) 0 fails))
+          ap (λ k. tokens_from k (b ∷ bs)) (omega arith) ∙ ap after (sym (cond-false (is_blank b) (1 + m) 0 fails))
     ] where
       the_suc : (m : ℕ) → suc m ≡ 1 + m
       the_suc m = omega arith

@@ -12,7 +12,7 @@ use Rattle.std.proofs.lemmas.List.{take_all, drop_all}
 use Rattle.std.proofs.lemmas.List.Sums.{sum_by-cons}
 use Rattle.overlay_terms.specs.Plane.{InRange}
 use Rattle.overlay_terms.specs.Bytes.{digits_value}
-use Rattle.wkt_form.specs.Number.{is_sign, is_point, unsigned, is_unsigned, is_number, before_point, behind_point, is_whole, is_negative, number_value}
+use Rattle.wkt_form.specs.Number.{is_sign, is_point, unsigned, is_unsigned, is_number, before_point, after_point, is_whole, is_negative, number_value}
 use Rattle.wkt_form.specs.Token.{is_run_byte}
 
 -- a list of digits, as a test
@@ -92,7 +92,7 @@ digits_are_unsigned ds h =
 all_before : (ds : List ℕ) → AreDigits ds → before_point ds ≡ ds
 all_before ds h = take_all (prefix_len (λ b. not (is_point b)) ds) ds (omega (arith, prefix_all (λ b. not (is_point b)) ds (no_points ds h.all)))
 
-none_behind : (ds : List ℕ) → AreDigits ds → behind_point ds ≡ []
+none_behind : (ds : List ℕ) → AreDigits ds → after_point ds ≡ []
 none_behind ds h = drop_all (prefix_len (λ b. not (is_point b)) ds + 1) ds (omega (arith, prefix_all (λ b. not (is_point b)) ds (no_points ds h.all)))
 
 -- ==== What is written of a whole number
@@ -111,7 +111,7 @@ by_digits bs ds n z h v u r s e =
       run = r;
       some = s;
       number = ap is_unsigned u ∙ digits_are_unsigned ds h;
-      whole = ap (λ ts. list_all (λ b. b == 48) ts) (ap behind_point u ∙ none_behind ds h);
+      whole = ap (λ ts. list_all (λ b. b == 48) ts) (ap after_point u ∙ none_behind ds h);
       value = ap (λ m. cond (is_negative bs) (neg_ℤ (pos m)) (pos m)) (ap digits_value (ap before_point u ∙ all_before ds h) ∙ v) ∙ e;
     }
 

@@ -31,12 +31,12 @@ abbrev pub before_point : List ℕ → List ℕ
 before_point bs = before_first is_point bs
 
 -- the bytes after the point; none where there is no point
-abbrev pub behind_point : List ℕ → List ℕ
-behind_point bs = after_first is_point bs
+abbrev pub after_point : List ℕ → List ℕ
+after_point bs = after_first is_point bs
 
 -- whether a number is whole: every digit after its point is 0
 abbrev pub is_whole : List ℕ → Bool
-is_whole bs = list_all (λ b. b == 48) (behind_point (unsigned bs))
+is_whole bs = list_all (λ b. b == 48) (after_point (unsigned bs))
 
 -- whether a number begins with a minus sign
 abbrev pub is_negative : List ℕ → Bool

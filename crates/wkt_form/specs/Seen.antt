@@ -17,16 +17,16 @@ abbrev pub seen_from : ℕ → List ℕ → List code.Token
 seen_from at bytes = map seen_token (tokens_from at bytes)
 
 -- the tokens from an offset on are one of this symbol, and those from a later offset on
-pub record IsNext (symbol : Symbol) (bytes : List ℕ) (at behind : ℕ) : Type 0 where
+pub record IsNext (symbol : Symbol) (bytes : List ℕ) (at after : ℕ) : Type 0 where
   pub offset : ℕ
-  pub seen : seen_from at (drop at bytes) ≡ record { at = offset; symbol = symbol } ∷ seen_from behind (drop behind bytes)
-  pub on : at < behind
-  pub within : behind ≤ length bytes
+  pub seen : seen_from at (drop at bytes) ≡ record { at = offset; symbol = symbol } ∷ seen_from after (drop after bytes)
+  pub on : at < after
+  pub within : after ≤ length bytes
 
 -- the tokens from an offset on are the numbers of a point and a comma, and those from a later offset on
-pub record IsNextPoint (x y : ℤ) (bytes : List ℕ) (at behind : ℕ) : Type 0 where
-  pub behind_x : ℕ
-  pub behind_y : ℕ
-  pub first : IsNext (symbols.Number (Whole x)) bytes at behind_x
-  pub second : IsNext (symbols.Number (Whole y)) bytes behind_x behind_y
-  pub comma : IsNext symbols.Comma bytes behind_y behind
+pub record IsNextPoint (x y : ℤ) (bytes : List ℕ) (at after : ℕ) : Type 0 where
+  pub after_x : ℕ
+  pub after_y : ℕ
+  pub first : IsNext (symbols.Number (Whole x)) bytes at after_x
+  pub second : IsNext (symbols.Number (Whole y)) bytes after_x after_y
+  pub comma : IsNext symbols.Comma bytes after_y after

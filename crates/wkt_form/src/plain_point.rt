@@ -1,4 +1,4 @@
-//! Points as texts mostly write them: two plain numbers, each behind a space or none, and a comma.
+//! Points as texts mostly write them: two plain numbers, each after a space or none, and a comma.
 ghost use Rattle.std.specs.Prelude.{◌≡◌, ◌≤◌, length, drop, IfSome};
 ghost use Rattle.wkt_form.specs.Seen.{seen_from, IsNext, IsNextPoint};
 
@@ -6,15 +6,15 @@ use crate::coordinate::Coordinate;
 use crate::number::{Number, plain_number};
 use crate::token::Symbol;
 
-/// A point, and the offset behind the comma after it.
+/// A point, and the offset after its comma.
 #[derive(Clone, Copy, Debug)]
 pub struct PlainPoint {
     pub x: Coordinate,
     pub y: Coordinate,
-    pub behind: usize,
+    pub after: usize,
 }
 
-/// The offset behind the space at an offset, or the offset where there is none.
+/// The offset after the space at an offset, or the offset where there is none.
 #[inline(always)]
 fn past_space(bytes: &[u8], at: usize) -> usize
     requires { at ≤ length bytes.now }
@@ -28,7 +28,7 @@ fn past_space(bytes: &[u8], at: usize) -> usize
     }
 }
 
-/// The plain number that comes next from an offset on, if one does, and the offset behind it.
+/// The plain number that comes next from an offset on, if one does, and the offset after it.
 #[inline(always)]
 fn number_from(bytes: &[u8], at: usize) -> Option<(Number, usize)>
     requires { at ≤ length bytes.now }
@@ -41,11 +41,11 @@ fn number_from(bytes: &[u8], at: usize) -> Option<(Number, usize)>
     }
 }
 
-/// The offset behind the comma at an offset, if there is one.
+/// The offset after the comma at an offset, if there is one.
 #[inline(always)]
-fn behind_comma(bytes: &[u8], at: usize) -> Option<usize>
+fn after_comma(bytes: &[u8], at: usize) -> Option<usize>
     requires { at ≤ length bytes.now }
-    ensures { IfSome result (λ behind. IsNext Symbol.Comma bytes.now at behind) }
+    ensures { IfSome result (λ after. IsNext Symbol.Comma bytes.now at after) }
 {
     if at < bytes.len() && bytes[at] == b',' {
         Some(at + 1)
@@ -54,21 +54,21 @@ fn behind_comma(bytes: &[u8], at: usize) -> Option<usize>
     }
 }
 
-/// The plain point that comes next from an offset on, if one does, with a comma behind it.
+/// The plain point that comes next from an offset on, if one does, with a comma after it.
 #[inline(always)]
 #[tactic(auto, using(crate::proofs::PlainPoints::next_point))]
 pub fn point_from(bytes: &[u8], at: usize) -> Option<PlainPoint>
     requires { at ≤ length bytes.now }
-    ensures { IfSome result (λ found. IsNextPoint found.x found.y bytes.now at found.behind) }
+    ensures { IfSome result (λ found. IsNextPoint found.x found.y bytes.now at found.after) }
 {
-    let (first, behind_x) = number_from(bytes, at)?;
-    let (second, behind_y) = number_from(bytes, behind_x)?;
-    let behind = behind_comma(bytes, behind_y)?;
+    let (first, after_x) = number_from(bytes, at)?;
+    let (second, after_y) = number_from(bytes, after_x)?;
+    let after = after_comma(bytes, after_y)?;
     let Number::Whole(x) = first else {
         return None;
     };
     let Number::Whole(y) = second else {
         return None;
     };
-    Some(PlainPoint { x, y, behind })
+    Some(PlainPoint { x, y, after })
 }

@@ -73,7 +73,7 @@ impl Reader {
         matches!(self.state, State::First)
     }
 
-    /// Adds a point with a comma behind it, where a point must come.
+    /// Adds a point with a comma after it, where a point must come.
     pub fn add_point(&mut self, x: Coordinate, y: Coordinate) -> Result<(), AllocError>
         ensures { OnOk result (self.new ≡ with_point self.old x y) }
     {

@@ -43,26 +43,26 @@ fn read_tokens(alloc: Global, bytes: &[u8]) -> Result<Reader, WktFault>
 {
     let mut reader = Reader::new(alloc);
     let mut at = 0;
-    while let Some((token, behind)) = token_from(bytes, at) {
+    while let Some((token, after)) = token_from(bytes, at) {
         reader.take(alloc, token)?;
-        at = read_points(&mut reader, bytes, behind)?;
+        at = read_points(&mut reader, bytes, after)?;
     }
     Ok(reader)
 }
 
-/// Takes the plain points from an offset on, where a point must come, and gives the offset behind them.
+/// Takes the plain points from an offset on, where a point must come, and gives the offset after them.
 #[tactic(auto, using(crate::proofs::PlainPoints::point_taken, crate::proofs::PlainPoints::point_on))]
 fn read_points(reader: &mut Reader, bytes: &[u8], start: usize) -> Result<usize, AllocError>
     requires { start ≤ length bytes.now }
-    ensures same { IfOk result (λ behind. with_tokens reader.old (seen_from start (drop start bytes.now))
-        ≡ with_tokens reader.new (seen_from behind (drop behind bytes.now))) }
-    ensures on { IfOk result (λ behind. (start ≤ behind) × (behind ≤ length bytes.now)) }
+    ensures same { IfOk result (λ after. with_tokens reader.old (seen_from start (drop start bytes.now))
+        ≡ with_tokens reader.new (seen_from after (drop after bytes.now))) }
+    ensures on { IfOk result (λ after. (start ≤ after) × (after ≤ length bytes.now)) }
 {
     let mut at = start;
     if reader.is_before_point() {
         while let Some(found) = point_from(bytes, at) {
             reader.add_point(found.x, found.y)?;
-            at = found.behind;
+            at = found.after;
         }
     }
     Ok(at)

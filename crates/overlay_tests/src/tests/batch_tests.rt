@@ -80,7 +80,7 @@ const TOUCHING: &[(&[Change], usize)] = &[
 
 #[test]
 fn a_batch_touches_the_tiles_of_each_of_its_commands(rt: HostRuntime) {
-    let first = behind_batch(
+    let first = after_batch(
         &rt,
         rt.alloc(),
         &Edition::after_all(&rt, rt.alloc(), &[]),
@@ -88,14 +88,14 @@ fn a_batch_touches_the_tiles_of_each_of_its_commands(rt: HostRuntime) {
     );
     let edition = first.with_tile(&rt, rt.alloc(), "I", 16);
     for (row, (changes, want)) in TOUCHING.iter().enumerate() {
-        let next = behind_batch(&rt, rt.alloc(), &edition, changes);
+        let next = after_batch(&rt, rt.alloc(), &edition, changes);
         let pending = next.version().pending(rt.alloc()).expect(&rt, "memory");
         check(&rt, row, &pending.len(), want);
     }
 }
 
 /// The version after a batch that is accepted.
-fn behind_batch(rt: &impl Abort, alloc: Global, edition: &Edition, changes: &[Change]) -> Edition {
+fn after_batch(rt: &impl Abort, alloc: Global, edition: &Edition, changes: &[Change]) -> Edition {
     let batch = batch(rt, alloc, changes);
     edition.submit_all(alloc, &batch).expect(rt, "accepted")
 }

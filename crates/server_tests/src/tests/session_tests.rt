@@ -151,7 +151,7 @@ fn a_line_holds_65536_bytes_without_its_ending(rt: HostRuntime) -> Result<(), Fa
 }
 
 #[test]
-fn a_read_fault_is_reported_behind_a_read_that_failed(rt: HostRuntime) {
+fn a_read_fault_is_reported_after_a_read_that_failed(rt: HostRuntime) {
     for &(script, text) in &[
         (b"".as_slice(), "error 48 read\n"),
         (b"HELLO\nHELLO", "error 41 command syntax\nerror 48 read\n"),
@@ -196,7 +196,7 @@ fn expect_writes(
 }
 
 #[test]
-fn a_write_fault_is_reported_behind_a_write_that_was_refused(rt: HostRuntime) {
+fn a_write_fault_is_reported_after_a_write_that_was_refused(rt: HostRuntime) {
     for &fault in &[Some(ErrorKind::Other), Some(ErrorKind::Interrupted), None] {
         for &writes in &[0, 1, 2, 3, 7, 8, 9, 10, 11] {
             expect_writes(&rt, writes, fault);

@@ -26,7 +26,7 @@ impl<J: BookName, R: Wait + Drop> Shared<J, R> {
         ensures job { IfOk result (λ o. IfSome o (λ job. IsJob job)) }
         ensures err { IfErr result (λ fault. fault ≡ no_memory) }
     {
-        let mut turn = self.turns.behind(rt, &Awaited::Tile, TurnKind::HandedOut);
+        let mut turn = self.turns.after(rt, &Awaited::Tile, TurnKind::HandedOut);
         turn.book.take(alloc)
     }
 
@@ -82,7 +82,7 @@ impl<J: BookName, R: Wait + Drop> Shared<J, R> {
         ensures err { IfErr result (λ fault. fault ≡ no_memory) }
     {
         let awaited = Awaited::Tile;
-        let mut turn = self.turns.behind(rt, &awaited, TurnKind::HandedOut);
+        let mut turn = self.turns.after(rt, &awaited, TurnKind::HandedOut);
         turn.book.take_strip(alloc)
     }
 

@@ -39,7 +39,7 @@ impl<J: BookName, R: Wait + Drop> Shared<J, R> {
         let given = me.given();
         let turn = self
             .turns
-            .behind(rt, &Awaited::News(given), TurnKind::Looked);
+            .after(rt, &Awaited::News(given), TurnKind::Looked);
         tell_news(&turn.book, me)
     }
 
