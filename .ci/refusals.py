@@ -24,6 +24,8 @@ ASKED = re.compile(r"\(`(?P<goal>[\w-]+)`\)")
 NAMED = re.compile(r"^`(?P<first>[^`]+)`: |\(in `(?P<last>[^`]+)`\)")
 # A proof file that names what is not there, and what cites that proof.
 GONE = re.compile(r"has no field|is not in scope|has no `|was not admitted")
+# What a record lacks, where antt goes on in another line.
+GOES_ON = re.compile(r"\n {2}(?=has no )")
 # What is lent out by a method can be written by the caller, and the type's invariant goes with it.
 LENT = re.compile(r"that the struct's ghost fields, or its `invariant`, hold")
 # An error of antt's: one without the name of a goal, or with one of these, says that it could not read a text.
@@ -185,7 +187,7 @@ class Verdict:
 
 def read(output: str, known: list[functions.Function], changed: set[str]) -> Verdict:
     """What the lines of a check say of a crate whose functions are known, and of whose files some are changed."""
-    lines = output.rstrip("\n").split("\n")
+    lines = GOES_ON.sub(" ", output.rstrip("\n")).split("\n")
     told: dict[str, str] = {}
     found: list[tuple[str, Refusal]] = []
     for line in lines:
