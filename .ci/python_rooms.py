@@ -10,10 +10,12 @@ PAGE = pathlib.Path("docs/ROOMS-PYTHON.md")
 FOLDERS = ("tools", "web", "release", "bench", ".ci")
 HEAD = """# Rooms of Python
 
-Each file of Python by the sentence at its head, and its functions by the first sentence of each: look here, as in
-[ROOMS](ROOMS.md), for where a thing is done. `.ci/rooms` writes the page from the sources, and the gate compares it with
-them. A method is `Type.name`; at the end of a file stand its named numbers, as far as they are written out, then the
-functions without a sentence. Of files of tests the functions are left out.
+Each file of Python by the sentence at its head, its named numbers and its functions by the first sentence of each: look
+here, as in [ROOMS](ROOMS.md), for where a thing is done, and by a short value for where a number stands. `.ci/rooms` writes
+the page from the sources, and the gate compares it with them. A method is `Type.name`; at the end of a file stand numbers,
+then functions, without a sentence. Of files of tests all but the first sentence is left out. What is written in JavaScript
+is told of in [web/README](../web/README.md), what is written in C and in Rattle for trials in
+[bench/trials/README](../bench/trials/README.md).
 """
 TESTS = re.compile(r"(?:^|/)(?:testing/|test_|tests\.py|testing\.py|[\w-]+-tests$)")
 
@@ -25,25 +27,49 @@ def sentence(text: str | None) -> str:
     return (found[1] if found else words).removesuffix(":")
 
 
-def is_number(value: ast.expr | None) -> bool:
-    """Whether an expression is a number that is written out, or some."""
+def short(value: str) -> str:
+    """A value as the pages have it: digits in groups of three, nothing where it is long."""
+    if re.fullmatch(r"-?[\d_]+", value):
+        return f"{int(value):,}"
+    return value if len(value) <= 30 and "{" not in value else ""
+
+
+def leaves(value: ast.expr) -> list[ast.expr]:
+    """What an expression is reckoned from."""
+    if isinstance(value, ast.BinOp):
+        return leaves(value.left) + leaves(value.right)
+    return leaves(value.operand) if isinstance(value, ast.UnaryOp) else [value]
+
+
+def is_number(value: ast.expr) -> bool:
+    """Whether an expression is a number written out, or some, or is reckoned from one and from other constants."""
     if isinstance(value, ast.Tuple):
         return bool(value.elts) and all(is_number(one) for one in value.elts)
-    if isinstance(value, ast.BinOp):
-        return is_number(value.left) and is_number(value.right)
-    if isinstance(value, ast.UnaryOp):
-        return is_number(value.operand)
-    return isinstance(value, ast.Constant) and type(value.value) in (int, float)
+    parts = [part for part in leaves(value) if not (isinstance(part, ast.Name) and part.id.isupper())]
+    return bool(parts) and all(isinstance(part, ast.Constant) and type(part.value) in (int, float) for part in parts)
 
 
-def numbers(tree: ast.Module) -> list[str]:
-    """The names of a file's constants that are numbers written out, in their order."""
-    return [
-        name.id
-        for part in tree.body if isinstance(part, ast.Assign | ast.AnnAssign) and is_number(part.value)
-        for target in (part.targets if isinstance(part, ast.Assign) else [part.target])
-        for name in ast.walk(target) if isinstance(name, ast.Name) and name.id.isupper()
-    ]
+def numbers(tree: ast.Module, lines: list[str]) -> list[tuple[str, str]]:
+    """A file's constants that are numbers written out, each with its value if that is short, and its sentence: of the
+    text below it, or of the comment behind it."""
+    found: list[tuple[str, str]] = []
+    for part, below in zip(tree.body, [*tree.body[1:], None]):
+        if not isinstance(part, ast.Assign | ast.AnnAssign) or not part.value or not is_number(part.value):
+            continue
+        told = below.value.value if isinstance(below, ast.Expr) and isinstance(below.value, ast.Constant) else None
+        if not isinstance(told, str):
+            behind = lines[(part.end_lineno or part.lineno) - 1].partition("  # ")[2]
+            told = f"{behind[:1].upper()}{behind[1:].rstrip('.')}." if behind else ""
+        does = sentence(told)
+        for target in part.targets if isinstance(part, ast.Assign) else [part.target]:
+            pairs = [(target, part.value)]
+            if isinstance(target, ast.Tuple) and isinstance(part.value, ast.Tuple):
+                pairs = list(zip(target.elts, part.value.elts))
+            for name, value in pairs:
+                if isinstance(name, ast.Name) and name.id.isupper():
+                    shown = short(ast.unparse(value))
+                    found.append((f"`{name.id}` = {shown}" if shown else f"`{name.id}`", does))
+    return found
 
 
 def functions(tree: ast.Module) -> list[tuple[str, str]]:
@@ -80,17 +106,17 @@ def files(top: pathlib.Path) -> list[pathlib.Path]:
 def part(path: pathlib.Path, top: pathlib.Path) -> list[str]:
     """The lines of a file."""
     name = path.relative_to(top).as_posix()
-    tree = ast.parse(path.read_text())
+    source = path.read_text()
+    tree = ast.parse(source)
     said = sentence(ast.get_docstring(tree))
     if not said:
         raise SystemExit(f"rooms: {name} has no sentence at its head")
     lines = [f"### [{name}](../{name})", "", said]
     if TESTS.search(name):
         return [*lines, ""]
-    told = functions(tree)
-    lines += ["", *(f"- `{one}`: {what}" for one, what in told if what)] if any(what for _, what in told) else []
-    bare = [one for one, what in told if not what and one.rpartition(".")[2] != "main"]
-    rest = [f"`{one}`" for one in [*numbers(tree), *bare]]
+    told = [*numbers(tree, source.splitlines()), *((f"`{one}`", what) for one, what in functions(tree))]
+    lines += ["", *(f"- {one}: {what}" for one, what in told if what)] if any(what for _, what in told) else []
+    rest = [one for one, what in told if not what and one.strip("`").rpartition(".")[2] != "main"]
     return [*lines, *(["", f"Also {', '.join(rest)}."] if rest else []), ""]
 
 
