@@ -33,7 +33,7 @@ pub enum StoreFault {
 }
 
 impl StoreFault {
-    /// The number under which the fault is printed.
+    /// The number under which the fault is printed: 30 to 36 or 40.
     pub fn code(&self) -> u8
         ensures { result ≡ code_of self.now }
     {

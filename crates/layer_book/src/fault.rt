@@ -27,7 +27,7 @@ pub enum LayerFault {
 }
 
 impl LayerFault {
-    /// The number under which the fault is printed.
+    /// The number under which the fault is printed: 10 to 17, 23 or 40.
     pub fn code(&self) -> u8
         ensures { result ≡ code_of self.now }
     {

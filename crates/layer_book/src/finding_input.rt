@@ -30,7 +30,7 @@ impl Layers {
         Ok(self.input_in_reach(alloc, name, column)?)
     }
 
-    /// The column of a tile that there is: the layer has tiles, and the column is one. The name is looked up once.
+    /// The column of a tile that there is; else error 10, 12 or 23, the first that fits. The name is looked up once.
     pub fn tile_column(&self, name: &Name, column: Option<Column>) -> Result<Column, LayerFault>
         ensures ok { IfOk result (λ found. column ≡ Some found) }
         ensures accepted { IfOk result (λ _. tile_refusal self.now name.now column ≡ None) }

@@ -20,7 +20,7 @@ pub enum ExprFault {
 }
 
 impl ExprFault {
-    /// The number under which the fault is printed.
+    /// The number under which the fault is printed: 7, 8, 9 or 40.
     pub fn code(&self) -> u8
         ensures { result ≡ code_of self.now }
     {

@@ -99,7 +99,7 @@ fn coordinate(from: i64, step: i64, i: usize) -> i64
     from + step * i as i64
 }
 
-/// All columns of a picture, by as many threads as there are.
+/// All columns of a picture, in threads by the number of processors.
 fn columns(
     rt: &(impl Threads + Sync),
     alloc: Global,

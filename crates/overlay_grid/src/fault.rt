@@ -23,7 +23,7 @@ pub enum GridFault {
 }
 
 impl GridFault {
-    /// The number under which the fault is printed.
+    /// The number under which the fault is printed: 45, or that of its cause.
     pub fn code(&self) -> u8
         ensures { result ≡ code_of self.now }
     {

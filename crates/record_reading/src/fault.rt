@@ -29,7 +29,7 @@ pub enum RecordFault {
 }
 
 impl RecordFault {
-    /// The number under which the fault is printed.
+    /// The number under which the fault is printed: 32 or 33 for damage, or 40.
     pub fn code(&self) -> u8
         ensures { result ≡ code_of self.now }
     {

@@ -29,14 +29,15 @@ impl RootSlot {
         self.gate == GATE_OPEN
     }
 
-    /// Whether the slot is open and not ours.
+    /// Whether the slot is open and not ours: then the file is no store (error 32).
     fn is_foreign(&self) -> bool
         ensures { (file : List ℕ) (k : ℕ) → IsSlot file k self.now → result ≡ is_foreign file k }
     {
         self.is_open() && !self.body.is_ours
     }
 
-    /// The root in the slot with this number, if its gate is open.
+    /// The root in the slot with this number, if its gate is open; another format or wrong numbers are refused (error
+    /// 33, codes 1 and 2).
     fn root(&self, number: u64) -> Result<Option<Root>, Damage>
         ensures gives { (file : List ℕ) → IsSlot file number self.now → result ≡ slot file number }
         ensures numbered { IfOk result (λ o. IfSome o (λ r. r.version ≤ version_max)) }
@@ -55,7 +56,7 @@ impl RootSlot {
     }
 }
 
-/// The root with the greater sequence, or the only one there is.
+/// The root with the greater sequence, or the only one there is; without one the file is no store (error 32).
 fn newer(first: Option<Root>, second: Option<Root>) -> Result<Root, Damage>
     ensures gives { result ≡ newer_root first second }
     ensures numbered { IfSome first (λ r. r.version ≤ version_max) → IfSome second (λ r. r.version ≤ version_max)

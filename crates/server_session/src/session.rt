@@ -112,6 +112,7 @@ fn rooms(alloc: Global) -> Result<(SessionState, Vec<u8>), AllocError>
     Ok((state, chunk))
 }
 
+/// Reads chunks until the script ends, a read fails, or more bytes came than a script may have (error 47).
 fn run<J: BookName, S: Wait + Drop, Q: Wait + Threads + Sync, R: Read, W: ReplyWriter>(
     rt: &Q,
     alloc: Global,

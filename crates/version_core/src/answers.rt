@@ -27,7 +27,7 @@ pub trait Answers {
     /// The pieces of a tile, counted and then a line for each.
     fn edges(&self, alloc: Global, name: &Name, number: u64) -> Result<Vec<u8>, VersionFault>;
 
-    /// The same for a column, where it is one.
+    /// The same for a column, where it is one; else error 10, 12, 23, 21 or 22, the first that fits.
     fn edges_in(
         &self,
         alloc: Global,
@@ -38,7 +38,7 @@ pub trait Answers {
     /// Builds the tile of a layer and column anew, and compares it with the finished one.
     fn verify(&self, alloc: Global, name: &Name, number: u64) -> Result<Verdict, VersionFault>;
 
-    /// The same for a column, where it is one.
+    /// The same for a column, where it is one; else error 10, 12, 23 or 21, the first that fits.
     fn verify_in(
         &self,
         alloc: Global,
@@ -69,7 +69,7 @@ impl Answers for Version {
         self.edges_in(alloc, name, Column::new(number))
     }
 
-    /// The same for a column, where it is one.
+    /// The same for a column, where it is one; else error 10, 12, 23, 21 or 22, the first that fits.
     fn edges_in(
         &self,
         alloc: Global,
@@ -99,7 +99,7 @@ impl Answers for Version {
         self.verify_in(alloc, name, Column::new(number))
     }
 
-    /// The same for a column, where it is one.
+    /// The same for a column, where it is one; else error 10, 12, 23 or 21, the first that fits.
     fn verify_in(
         &self,
         alloc: Global,

@@ -22,7 +22,7 @@ pub enum VersionFault {
 }
 
 impl VersionFault {
-    /// The number under which the fault is printed.
+    /// The number under which the fault is printed: 21, 22 or that of its cause.
     pub fn code(&self) -> u8
         ensures { result ≡ code_of self.now }
     {

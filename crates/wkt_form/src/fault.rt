@@ -28,7 +28,7 @@ pub enum WktFault {
 }
 
 impl WktFault {
-    /// The number under which the fault is printed.
+    /// The number under which the fault is printed: 1 to 6 or 40.
     pub fn code(&self) -> u8
         ensures { result ≡ code_of self.now }
     {

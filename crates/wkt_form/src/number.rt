@@ -21,7 +21,7 @@ pub enum Number {
     OutOfRange,
 }
 
-/// What the run of digits, signs and points is worth, if it is a number.
+/// What the run of digits, signs and points is worth, if it is a number: a coordinate, a fraction, or out of range.
 pub fn number_of(run: &[u8]) -> Option<Number>
     ensures { result ≡ number_of run.now }
 {

@@ -7,7 +7,7 @@ use crate::fault::WktFault;
 use crate::number::Number;
 use plane_base::Pt;
 
-/// The value of a number whose token is at an offset.
+/// The value of a number whose token is at an offset, unless it has a fraction (error 2) or is out of range (3).
 pub fn whole_at(at: usize, number: Number) -> Result<Coordinate, WktFault>
     ensures { result ≡ whole_at at number }
 {
