@@ -58,7 +58,7 @@ def wide_ring(draw: random.Random) -> list[Point]:
 
 
 def text(draw: random.Random) -> str:
-    """A base layer as Well-Known Text."""
+    """A base layer as Well-Known Text: how many rings it has and of which form each is (the functions above) is drawn."""
     kinds: Sequence[Callable[[random.Random], list[Point]]] = [rectangle] * 5 + [random_ring] * 4 + [wide_ring]
     rings = [draw.choice(kinds)(draw) for _ in range(draw.choice([0, 1, 1, 1, 1, 2, 2, 3]))]
     if len(rings) == 1 and draw.random() < 0.7:

@@ -71,7 +71,8 @@ def only_planned(work: Work, folder: TaskFolder, numbers: Iterable[int]) -> Iter
 
 
 def by_processes(jobs: int) -> Engine:
-    """So many processes of this machine, which end with this one."""
+    """So many processes of this machine, which end with this one; where one of them dies, the tasks in hand are done
+    again, each by a worker of its own (`_alone`)."""
 
     def engine(work: Work, folder: TaskFolder, numbers: Iterable[int]) -> Iterator[int]:
         left, lost = iter(numbers), collections.deque[int]()
