@@ -46,7 +46,7 @@ impl Room {
         })
     }
 
-    /// The lowest run that is free for so many bytes. It is taken from then on.
+    /// The lowest run that is free for so many bytes; without one, error 31. It is taken from then on.
     pub(crate) fn place(&mut self, size: u32) -> Result<Extent, StoreFault>
         ensures size { IfOk result (λ run. run.blocks ≡ blocks size) }
         ensures fit { IfOk result

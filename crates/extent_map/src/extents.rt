@@ -125,7 +125,8 @@ impl Extents {
         })
     }
 
-    /// The lowest run that is free for so many bytes. It is taken from then on; a refusal changes nothing.
+    /// The lowest run that is free for so many bytes; without one, error 31. It is taken from then on; a refusal changes
+    /// nothing.
     pub fn place(&mut self, length: u32) -> Result<Extent, ExtentFault>
         ensures size { IfOk result (λ run. run.blocks ≡ blocks length) }
         ensures fit { IfOk result

@@ -117,6 +117,7 @@ fn asked_by<'a>(word: &[u8], mut rest: Rest<'a>) -> Option<Request<'a>>
     None
 }
 
+/// Whether a word is a command's, byte by byte: in capital letters.
 fn is_word(word: &[u8], command: &[u8]) -> bool
     ensures { result ≡ bytes_eq word.now command.now }
 {

@@ -124,7 +124,7 @@ impl<J: BookName, R: Wait + Drop> Turns<J, R> {
         }
     }
 
-    /// A turn after a wait.
+    /// The turn in which what is awaited has come or no longer can; until then it sleeps.
     pub fn after<W: Wait>(&self, rt: &W, awaited: &Awaited<'_>, kind: TurnKind) -> Turn<'_, J, R>
         ensures { ¬ (Waits (newest_in (mutex_guard_value result.book).log) (mutex_guard_value result.book).state awaited.now) }
     {
@@ -150,7 +150,7 @@ impl<J: BookName, R: Wait + Drop> Turns<J, R> {
 }
 
 impl Waiting {
-    /// Where a call waits.
+    /// The condition on which a call that awaits this sleeps.
     fn place(&self, awaited: &Awaited<'_>) -> &Condvar {
         match awaited {
             Awaited::Tile => &self.workers,
