@@ -30,7 +30,7 @@ use versions::Version;
 
 mod keeping;
 
-/// The most entries of a history.
+/// The most entries of a history after its first.
 const MOST: u64 = 1 << 60;
 
 /// What lies under the lock: the log that is published, and how many batches of each session it has.

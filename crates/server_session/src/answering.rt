@@ -199,7 +199,7 @@ fn answer_locate(
     Ok(LineReply::Located(place))
 }
 
-/// The picture of a layer, by as many threads as there are. Its sizes (error 45) are looked at before the book.
+/// The picture of a layer, in threads by the number of processors. Its sizes (error 45) are looked at before the book.
 fn answer_grid<Q: Threads + Sync>(
     rt: &Q,
     alloc: Global,

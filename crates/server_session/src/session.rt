@@ -112,7 +112,8 @@ fn rooms(alloc: Global) -> Result<(SessionState, Vec<u8>), AllocError>
     Ok((state, chunk))
 }
 
-/// Reads chunks until the script ends, a read fails, or more bytes came than a script may have (error 47).
+/// Reads chunks and answers their lines until the script ends, a read fails (error 48), a reply cannot be written (49),
+/// or more bytes came than a script may have (47).
 fn run<J: BookName, S: Wait + Drop, Q: Wait + Threads + Sync, R: Read, W: ReplyWriter>(
     rt: &Q,
     alloc: Global,

@@ -124,7 +124,7 @@ impl<J: BookName, R: Wait + Drop> Turns<J, R> {
         }
     }
 
-    /// The turn in which what is awaited has come or no longer can; until then it sleeps.
+    /// The turn in which a wait is over: what is awaited came, or the wait is refused. Until then the call sleeps.
     pub fn after<W: Wait>(&self, rt: &W, awaited: &Awaited<'_>, kind: TurnKind) -> Turn<'_, J, R>
         ensures { ¬ (Waits (newest_in (mutex_guard_value result.book).log) (mutex_guard_value result.book).state awaited.now) }
     {

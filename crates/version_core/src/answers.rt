@@ -27,7 +27,8 @@ pub trait Answers {
     /// The pieces of a tile, counted and then a line for each.
     fn edges(&self, alloc: Global, name: &Name, number: u64) -> Result<Vec<u8>, VersionFault>;
 
-    /// The same for a column, where it is one; else error 10, 12, 23, 21 or 22, the first that fits.
+    /// The same for a column, if it is one. It is refused by the first of 10, 12, 23, 21 and 22 that fits, else perhaps by
+    /// 40.
     fn edges_in(
         &self,
         alloc: Global,
@@ -38,7 +39,7 @@ pub trait Answers {
     /// Builds the tile of a layer and column anew, and compares it with the finished one.
     fn verify(&self, alloc: Global, name: &Name, number: u64) -> Result<Verdict, VersionFault>;
 
-    /// The same for a column, where it is one; else error 10, 12, 23 or 21, the first that fits.
+    /// The same for a column, if it is one. It is refused by the first of 10, 12, 23 and 21 that fits, else perhaps by 40.
     fn verify_in(
         &self,
         alloc: Global,
@@ -69,7 +70,8 @@ impl Answers for Version {
         self.edges_in(alloc, name, Column::new(number))
     }
 
-    /// The same for a column, where it is one; else error 10, 12, 23, 21 or 22, the first that fits.
+    /// The same for a column, if it is one. It is refused by the first of 10, 12, 23, 21 and 22 that fits, else perhaps by
+    /// 40.
     fn edges_in(
         &self,
         alloc: Global,
@@ -99,7 +101,7 @@ impl Answers for Version {
         self.verify_in(alloc, name, Column::new(number))
     }
 
-    /// The same for a column, where it is one; else error 10, 12, 23 or 21, the first that fits.
+    /// The same for a column, if it is one. It is refused by the first of 10, 12, 23 and 21 that fits, else perhaps by 40.
     fn verify_in(
         &self,
         alloc: Global,

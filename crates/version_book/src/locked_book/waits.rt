@@ -60,8 +60,8 @@ pub(crate) fn waits<J: BookName, R: Wait + Drop>(
     }
 }
 
-/// Reports to a session how a wait for the tiles of a layer ends: all are built, it is refused, a tile is marked (error
-/// 40), or the book closes (43). The marks of the layer go where it ends by them.
+/// Reports to a session how a wait for the tiles of a layer ends: it is refused (10, 12), all are built, a tile is marked
+/// (40), or the book closes (43). The marks of the layer go where it ends by them.
 pub(crate) fn tell_built<J: BookName, R: Wait + Drop>(
     locked: &mut LockedBook<J, R>,
     me: &mut Session,
