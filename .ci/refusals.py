@@ -24,6 +24,9 @@ ASKED = re.compile(r"\(`(?P<goal>[\w-]+)`\)")
 NAMED = re.compile(r"^`(?P<first>[^`]+)`: |\(in `(?P<last>[^`]+)`\)")
 # A proof file that names what is not there, and what cites that proof.
 GONE = re.compile(r"has no field|is not in scope|has no `|was not admitted")
+# An error in a file of lemmas, and what cites a declaration that was refused.
+LEMMA = re.compile(r"(?:\./)?proofs/\w+\.antt:\d+:\d+: error: (?P<said>.*)")
+CITED = re.compile(r"declarations? that depends? on `[^`]*`, which was (?:rejected|not admitted), w(?:as|ere) not checked: (?P<names>.*)")
 # What a record lacks, where antt goes on in another line.
 GOES_ON = re.compile(r"\n {2}(?=has no )")
 # What is lent out by a method can be written by the caller, and the type's invariant goes with it.
@@ -124,6 +127,18 @@ def of_answer(said: str, place: str) -> Refusal:
     return Refusal(kind_of(goal) + WRITTEN if named else UNKNOWN_KIND, goal, place)
 
 
+def are_lemmas_refused(lines: list[str]) -> bool:
+    """Whether lemmas have no proof, and none for want of a name: so it is where an edit changes a definition."""
+    said = [lemma["said"] for line in lines if (lemma := LEMMA.match(line)) and not CITED.search(lemma["said"])]
+    return bool(said) and not any(GONE.search(one) for one in said)
+
+
+def of_cited(names: str, place: str) -> Refusal:
+    """What goals say whose written proofs cite a lemma that has no proof: that which says most."""
+    goals = [name.partition(" ")[0] for name in names.split(", ")]
+    return min((Refusal(kind_of(goal) + WRITTEN, goal, place) for goal in goals), key=lambda said: said.rank)
+
+
 def of_line(said: str) -> Refusal | None:
     """What a goal that is open at a line of a source says."""
     asked = ASKED.search(said)
@@ -190,10 +205,13 @@ def read(output: str, known: list[functions.Function], changed: set[str]) -> Ver
     lines = GOES_ON.sub(" ", output.rstrip("\n")).split("\n")
     told: dict[str, str] = {}
     found: list[tuple[str, Refusal]] = []
+    by_lemmas = are_lemmas_refused(lines)
     for line in lines:
         answer, lined, function = ANSWER.match(line), AT_LINE.match(line), TOLD.match(line)
         if answer:
-            found.append((answer["place"].replace("/", "::"), of_answer(answer["said"], answer["file"])))
+            cited = CITED.search(answer["said"]) if by_lemmas else None
+            fallen = of_cited(cited["names"], answer["file"]) if cited else of_answer(answer["said"], answer["file"])
+            found.append((answer["place"].replace("/", "::"), fallen))
         said = of_line(lined["said"]) if lined else None
         if lined and said:
             found += [(name, said) for name in at_line(lined["path"], int(lined["line"]), known)]
