@@ -4,6 +4,7 @@ A module for web/ and its client; it is no tool of its own.
 """
 
 import contextlib
+import itertools
 import json
 import pathlib
 from collections.abc import Callable, Collection, Iterator, Mapping, Sequence
@@ -106,7 +107,7 @@ def removed(table: Table, held: Held, identity: int | str) -> Plan:
 
 def added(table: Table, held: Held, names: Collection[str], given: Given) -> Plan:
     """The plan that adds a feature: in coded layers under a free number. names are those of all layers of the store."""
-    identity = 1 + max((int(one.id) for one in table.features if str(one.id).isdigit()), default=0)
+    identity = free_id(table)
     polygons = given.polygons or []
     name = name_in(table, given.properties, f"{table.collection} {identity}")
     rings, faults = features.rings_of(polygons), list[ChangeFault]()
@@ -117,6 +118,18 @@ def added(table: Table, held: Held, names: Collection[str], given: Given) -> Pla
         except ChangeFault as fault:
             faults.append(fault)
     raise faults[0] if faults else ChangeFault("no number and no layer is free for another feature")
+
+
+def free_id(table: Table) -> int:
+    """An id for a new feature: the number after the greatest, or the least free one where there is none after it.
+
+    Words of digits count as numbers, unless they are too long to be one.
+    """
+    taken = {str(one.id) for one in table.features}
+    numbers = (int(word) for word in taken if word.isdigit())
+    greatest = max((number for number in numbers if number < features.ID_MAX), default=0)
+    return next(number for number in itertools.chain(range(greatest + 1, features.ID_MAX), itertools.count(1))
+                if str(number) not in taken)
 
 
 def carried_out(path: pathlib.Path, before: Table, plan: Plan, accept: Callable[[list[str]], object],

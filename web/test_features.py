@@ -323,6 +323,22 @@ class Editing(Case):
         self.assertEqual((self.items(), self.layer_texts()), before)
 
 
+class LargeIds(unittest.TestCase):
+    def test_a_new_feature_has_an_id_that_is_read_again(self) -> None:
+        """After ids that no number follows the map opens again, with the new feature."""
+        for given, wanted in (((1, features.ID_MAX - 1), 2), (("a", "9" * 64), 1), (("007", str(features.ID_MAX)), 8),
+                              ((features.ID_MAX - 2, str(features.ID_MAX - 1), "1"), 2)):
+            source = [one | {"id": identity} for one, identity in zip(MAP, given)]
+            with self.subTest(given), folder() as place:
+                store = made(place, source, *Case.words)
+                with opened(store) as (client, _, _):
+                    told = client.ask("/collections/plan/items", "POST", feature("Polygon", [MOVED], {}))
+                    self.assertEqual((told.status, told.value["id"]), (201, wanted))
+                with opened(store, writable=False) as (client, _, _):
+                    found = client.get("/collections/plan/items")["features"]
+                self.assertEqual([one["id"] for one in found], [*given, wanted])
+
+
 class Reading(Case):
     def setUp(self) -> None:
         self.folder = self.enterContext(folder())
