@@ -51,7 +51,7 @@ def on_file(tool: ModuleType, text: str | bytes, *words: object) -> tuple[int, s
 def status_of(suite: unittest.TestSuite) -> int:
     """Runs tests, prints how many were left out and why, and how many passed and failed; the exit status."""
     result = unittest.TextTestRunner(stream=sys.stdout, verbosity=1).run(suite)
-    failed = len({test.id() for test, _ in result.failures + result.errors})
+    failed = len({getattr(test, "test_case", test).id() for test, _ in result.failures + result.errors})  # of its parts once
     for reason, count in collections.Counter(reason for _, reason in result.skipped).items():
         print(f"left out: {count} tests: {reason}")
     print(f"{result.testsRun - failed - len(result.skipped)} passed, {failed} failed")
