@@ -13,7 +13,7 @@ import re
 import shutil
 import subprocess
 import tempfile
-from collections.abc import Iterator
+from collections.abc import Container, Iterator
 from typing import NamedTuple
 
 from . import ending, scale as scales, writing
@@ -201,12 +201,38 @@ def check_target(path: pathlib.Path) -> None:
         raise missing(f"{path}: {FORMS[path.suffix.lower()]}", line)
 
 
+def with_ids(path: pathlib.Path, geojson: str) -> tuple[str, list[str]]:
+    """A collection, and words for ogr2ogr, so that the file has the ids and all properties of its features: a GeoPackage
+    has whole numbers as its own ids; other ids, and those of a FlatGeobuf, are a property more."""
+    value = json.loads(geojson)
+    found = value["features"]
+    if not found or not all("id" in one for one in found):
+        return geojson, []
+    taken = {name.casefold() for one in found for name in one["properties"]}
+    is_package, whole = path.suffix.lower() == ".gpkg", all(isinstance(one["id"], int) for one in found)
+    if not is_package or not whole:
+        name = free_name("id", taken)
+        for place, one in enumerate(found, 1):  # an id that is a number, else GDAL takes a property `id` for it
+            kept = one["id"] if whole else str(one["id"])
+            one["id"], one["properties"] = place, {name: kept, **one["properties"]}
+    words = ["-preserve_fid", "-lco", f"FID={free_name('fid', taken)}", "-lco", f"GEOMETRY_NAME={free_name('geom', taken)}"]
+    return json.dumps(value), words if is_package else []
+
+
+def free_name(name: str, taken: Container[str]) -> str:
+    """The name of a further column, with so many `_` after it that no property has it."""
+    while name in taken:
+        name += "_"
+    return name
+
+
 def write(path: pathlib.Path, geojson: str, has_crs: bool) -> None:
     """Makes a file of GeoJSON, whole or not at all; without a coordinate system it is of a plane."""
     check_target(path)
-    words = [str(shutil.which("ogr2ogr")), "-f", WRITTEN[path.suffix.lower()], "-nln", path.stem]
+    text, own = with_ids(path, geojson)
+    words = [str(shutil.which("ogr2ogr")), "-f", WRITTEN[path.suffix.lower()], "-nln", path.stem, *own]
     words += [] if has_crs else ["-a_srs", PLANE]
     with tempfile.TemporaryDirectory() as folder:
         made = pathlib.Path(folder, path.name)
-        ran([*words, str(made), "/vsistdin/"], geojson.encode())
+        ran([*words, str(made), "/vsistdin/"], text.encode())
         writing.write_all({path: made.read_bytes()})

@@ -17,7 +17,9 @@ and with its area, which is called `area_` where the source has an `area`. An ou
 written as the boundary of its even-odd inside.
 
 --output writes the file whole or not at all; a GeoPackage (.gpkg) or a FlatGeobuf (.fgb) where gdal-bin is installed.
-What is read, and NAME.scale.json, NAME.features.json and NAME.names.csv of a store or a script, are not written over.
+Whole numbers are the ids of features in a GeoPackage too; other ids, and those of a FlatGeobuf, are a column `id` of it, or
+`id_` where the source has an `id`. What is read, and NAME.scale.json, NAME.features.json and NAME.names.csv of a store or a
+script, are not written over.
 
 Status 0: all layers or features are written; 1: a line of the script was refused (each is reported), a layer has no rings
 to give, or the output cannot be written; 2: a word is refused.

@@ -1,5 +1,6 @@
 """Tests of maps of other forms than GeoJSON and Well-Known Text, which GDAL reads and writes where it is installed."""
 
+import contextlib
 import json
 import os
 import pathlib
@@ -118,6 +119,33 @@ class FilesOfGdal(WithGdal):
         plane = self.folder / "plane.gpkg"
         self.assertEqual(outcome(to_geojson, script, "--program", program, "--output", plane)[:2], (0, ""))
         self.assertNotIn("crs", json.loads(gdal_files.as_geojson(plane)))
+
+    def test_features_keep_their_ids_and_all_properties(self) -> None:
+        cases: list[tuple[dict[int | str, dict[str, object]], str, list[str]]] = [
+            ({7: {"n": "a"}, 3: {"n": "b"}}, ".gpkg", ["fid 3 n b", "fid 7 n a"]),
+            ({7: {"fid": "x", "geom": 1}, 0: {"fid": "y"}}, ".gpkg", ["fid_ 0 fid y", "fid_ 7 fid x geom 1"]),
+            ({2**53 - 1: {"id": 5}, 1: {"id": 5}}, ".gpkg", ["fid 1 id 5", "fid 9007199254740991 id 5"]),
+            ({"Z-2": {"id": 5}, 1: {"id": 6}}, ".gpkg", ["fid 1 id_ Z-2 id 5", "fid 2 id_ 1 id 6"]),
+            ({7: {"n": "a"}, 3: {"n": "b"}}, ".fgb", ["id 3 n b", "id 7 n a"]),
+            ({"w": {"ID": "a"}}, ".fgb", ["id_ w ID a"]),
+        ]
+        for given, form, wanted in cases:
+            file = self.folder / f"ids{form}"
+            found = [json.loads(FIRST) | {"id": identity, "properties": own} for identity, own in given.items()]
+            gdal_files.write(file, json.dumps({"type": "FeatureCollection", "features": found}), True)
+            with self.subTest(wanted):
+                self.assertEqual(sorted(self.rows_of(file)), wanted)
+
+    def rows_of(self, file: pathlib.Path) -> list[str]:
+        """The columns of each feature that have a value, geometry left out; of a GeoPackage its own ids among them."""
+        package = self.made("rows.gpkg", str(file), "-nln", "ids") if file.suffix == ".fgb" else file
+        with contextlib.closing(sqlite3.connect(package)) as store:
+            store.row_factory = sqlite3.Row
+            found = [dict(row) for row in store.execute("SELECT * FROM ids")]
+        if package is not file:
+            found = [{name: value for name, value in row.items() if name != "fid"} for row in found]
+        return [" ".join(f"{name} {value}" for name, value in row.items() if value is not None and not isinstance(value, bytes))
+                for row in found]
 
 
 class WithoutGdal(InFolder):
