@@ -165,7 +165,8 @@ class Source:
             self.told.skipped.append(f"{label}: a feature without a geometry")
             return
         if self.place >= 0 and not feature.IsFieldSetAndNotNull(self.place):
-            raise MapFault(f"{self.path}: feature {feature.GetFID()}: no {self.id_field}; say another property")
+            raise MapFault(f"{self.path}: feature {feature.GetFID()}: no {self.id_field}; say another property, that each "
+                           "feature has")
         wkb = bytes(shape.ExportToWkb(self.ogr.wkbNDR))
         if wkb[1] not in (POLYGON, MULTIPOLYGON) or wkb[2:5] != b"\0\0\0":
             if self.ogr.GT_Flatten(shape.GetGeometryType()) not in (POLYGON, MULTIPOLYGON):

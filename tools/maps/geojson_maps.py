@@ -75,6 +75,8 @@ class Reading:
         """What a feature is called: its property, or its number in the file, from 1."""
         if not self.source.name_by:
             return str(self.seen)
+        if shape.wish is None and self.source.name_by in self.source.properties:
+            raise MapFault(f"{shape.label}: no {self.source.name_by}; say another property, that each feature has")
         if shape.wish is None:
             has = ", ".join(list(self.source.properties)[:20]) or "no properties"
             raise MapFault(f"{shape.label}: no property {self.source.name_by}; say one of: {has}")

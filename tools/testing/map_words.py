@@ -195,6 +195,10 @@ class Refusals(WithMaps):
     def test_a_property_that_is_not_there(self) -> None:
         self.assertEqual(self.line(self.map("b", {"Z": square(0, 0, 1)}), "--b-id", "code"),
                          "b.geojson, feature 1: no property code; say one of: nr")
+        empty = self.map("c", {"Z": square(0, 0, 1), "Y": square(2, 0, 1)})
+        empty.write_text(empty.read_text().replace('"Y"', "null"))
+        self.assertEqual(self.line(empty, "--b-id", "nr"),
+                         "c.geojson, feature 2: no nr; say another property, that each feature has")
 
     def test_a_ring_that_is_not_closed(self) -> None:
         self.assertEqual(self.line(self.map("b", {"Z": [[0, 0], [1, 0], [1, 1], [0, 1]]})),
