@@ -13,7 +13,7 @@ from decimal import Decimal
 from fractions import Fraction
 from typing import Any
 
-from . import features, layering, limits, rounding, wkt
+from . import ending, features, layering, limits, rounding, wkt
 from .features import Change, Feature, Held, Table
 from .map_reading import Refused
 from .rounding import Polygon, Ring
@@ -22,6 +22,10 @@ from .scale import Scale
 
 class ChangeFault(ValueError):
     """Why a feature cannot be changed so."""
+
+
+class Unwritten(OSError):
+    """The file of features cannot be written, so that a change is not made."""
 
 
 class GeometryFault(ChangeFault):
@@ -141,7 +145,7 @@ def carried_out(path: pathlib.Path, before: Table, plan: Plan, accept: Callable[
     is durable. note is given what the file says.
     """
     def write(table: Table) -> None:
-        features.write_durably(path, table.text())
+        put(path, table)
         note(table)
 
     after = before.changed(plan.change)
@@ -159,6 +163,14 @@ def carried_out(path: pathlib.Path, before: Table, plan: Plan, accept: Callable[
     with contextlib.suppress(OSError):  # what is pending is in the store, so it is durable all the same
         write(after)
     return after
+
+
+def put(path: pathlib.Path, table: Table) -> None:
+    """Writes the file of features durably."""
+    try:
+        features.write_durably(path, table.text())
+    except OSError as fault:
+        raise Unwritten(f"the change is not made: {ending.told(path.name, fault)}") from fault
 
 
 def known(table: Table, identity: int | str) -> Feature:

@@ -14,7 +14,7 @@ from dataclasses import dataclass
 from typing import NamedTuple
 
 from tools import features, layering, rounding, simple, wkt
-from tools.feature_changes import Plan, carried_out
+from tools.feature_changes import Plan, carried_out, put
 from tools.features import Feature, Held, Outline, Table
 from tools.overlay_client import Point, Refused
 from tools.rounding import Polygon
@@ -158,7 +158,7 @@ class FeatureStore:
                 state, names = self.state(view), list(view.layers)
             if self._table.pending:  # whether the one before is durable nobody knows
                 self.store.settle()
-                features.write_durably(self.path, state.table.text())
+                put(self.path, state.table)
                 self._note(state.table)
             made, versions = plan(state, names), [self.store.version]
 

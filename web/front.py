@@ -11,6 +11,7 @@ from collections.abc import Callable, Iterable, Mapping
 from http import HTTPStatus
 from typing import Any, NamedTuple
 
+from tools.feature_changes import Unwritten
 from tools.overlay_client import Ended, Refused
 from .feature_store import FeatureStore, Unlike
 from .features_api import ITEM_WORDS, FeaturesApi
@@ -129,7 +130,7 @@ class Front:
             return refusal(409, 409, str(fault))
         except (Busy, Pending) as fault:
             return refusal(503, 503, str(fault), {"Retry-After": "1"})
-        except NotWritten as fault:
+        except (NotWritten, Unwritten) as fault:
             return refusal(503, 503, str(fault), {"Retry-After": f"{AGAIN:.0f}"})
         except (Ended, OSError, TimeoutError) as fault:
             return refusal(503, 503, f"the store does not answer: {fault}")

@@ -3,6 +3,7 @@
 from __future__ import annotations
 
 import contextlib
+import errno
 import importlib.util
 import io
 import itertools
@@ -280,6 +281,19 @@ class Editing(Case):
         self.client.ask("/collections/plan/items", "POST", feature("Polygon", [over], {"name": "Over"}))
         found = self.client.get("/locate?x=9&y=3")["features"]
         self.assertEqual([one["name"] for one in found], ["West", "Over"])
+
+    def test_a_file_that_cannot_be_written_is_told(self) -> None:
+        before, items = self.layer_texts(), self.items()
+        full = OSError(errno.ENOSPC, os.strerror(errno.ENOSPC))
+        for coordinates, properties in (([MOVED], {"name": "East"}), ([EAST], {"name": "Anew"})):
+            body = feature("Polygon", coordinates, properties)
+            with unittest.mock.patch("tools.features.write_durably", side_effect=full):
+                told = self.put(2, body)
+            self.assertEqual((told.status, told.headers["Retry-After"]), (503, "5"))
+            self.assertEqual(told.value["description"],
+                             "the change is not made: plan.features.json: No space left on device")
+            self.assertEqual((self.layer_texts(), self.items()), (before, items))
+        self.assertEqual(self.put(2, body).status, 200)
 
     def test_what_is_no_feature_is_refused(self) -> None:
         before = (self.layer_texts(), features.beside(self.store).read_bytes())
