@@ -12,7 +12,7 @@ from http import HTTPStatus
 from typing import Any, NamedTuple
 
 from tools.feature_changes import Unwritten
-from tools.overlay_client import Ended, Refused
+from tools.overlay_client import NAME, Ended, Refused
 from .feature_store import FeatureStore, Unlike
 from .features_api import ITEM_WORDS, FeaturesApi
 from .joining import TooLarge
@@ -151,7 +151,7 @@ class Front:
         found = [(place.match(request.path), route) for place, route in self.routes]
         fitting = [(match, route) for match, route in found if match]
         if not fitting:
-            raise Problem(404, "there is no such page")
+            raise Problem(404, absent(request.path))
         for match, route in fitting:
             if route.method == method:
                 self._check(request, route)
@@ -201,6 +201,14 @@ class Front:
 
     def leaflet_file(self, _: Request, name: str) -> Answer:
         return file_answer(self.leaflet / name, {"Cache-Control": "max-age=86400"})
+
+
+def absent(path: str) -> str:
+    """What is said of a path that no page has: of a layer's, whether its name may be none."""
+    found = re.match(r"/collections/([^/]+)", path)
+    if found and not NAME.match(found[1]):
+        return "there is no such page: a name is 1 to 32 bytes, an ASCII letter, then letters, digits and _"
+    return "there is no such page"
 
 
 def editing(features: MapFeatures, items: str, item: str) -> list[Route]:

@@ -236,7 +236,8 @@ class Body:
         try:
             here = self._systems.back(self.geometry, self._uri)
         except Unplaced as fault:
-            raise GeometryFault(f"geometry: {fault}") from fault
+            raise GeometryFault(f"geometry: {fault}, as coordinates of {self._uri}; Content-Crs may name "
+                                f"{' or '.join(self._systems.uris)}") from fault
         found = feature_changes.rounded(exactly(here), scale.scale)
         self.moved = found.moved
         return Given(found.kind, found.polygons, properties)

@@ -173,6 +173,9 @@ class Refusals(RefusalCase):
             "/collections/Z/items", "/collections/Z/locate?x=1&y=1", "/collections/Z/tiles",
         ):
             self.refused(404, path)
+        for name, told in (("fl%C3%A4che", True), ("b" * 33, True), ("9x", True), ("Z/nowhere", False)):
+            refused = self.refused(404, f"/collections/{name}", "PUT", {"definition": "A"})
+            self.assertEqual("a name is 1 to 32 bytes" in refused.value["description"], told, name)
         for path, method, allowed in (
             ("/status", "POST", "GET"), ("/collections", "DELETE", "GET"), ("/batch", "GET", "POST"),
             ("/collections/A", "PATCH", "GET, PUT, DELETE"), ("/", "OPTIONS", "GET"), ("/status", "get", "GET"),

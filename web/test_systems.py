@@ -23,6 +23,8 @@ def to_degrees(xs: Any, ys: Any) -> tuple[list[float], list[float]]:
 
 
 def from_degrees(xs: Any, ys: Any) -> tuple[list[float], list[float]]:
+    if any(y > 1000 for y in ys):
+        raise Unplaced("too far")
     return [x * 8 for x in xs], [(y - 30) * 16 for y in ys]
 
 
@@ -104,6 +106,10 @@ class Projected(Case):
             self.assertEqual((told.status, self.ring()[1]), (200, degrees(WEST)))
         told = self.client.ask("/collections/plan/items/2", "PUT", body, {"HTTP_CONTENT_CRS": "EPSG:1"})
         self.assertEqual(told.status, 400)
+        body = feature("Polygon", [[[9, 2000], [9, 2009], [0, 2009], [9, 2000]]], {})
+        told = self.client.ask("/collections/plan/items/2", "PUT", body)
+        self.assertEqual((told.status, told.value["description"]), (
+            400, f"geometry: too far, as coordinates of {CRS84}; Content-Crs may name {CRS84} or {OWN}"))
 
     def test_what_was_served_and_comes_back_changes_no_layer(self) -> None:
         before = self.layer_texts()
