@@ -94,7 +94,9 @@ def name_property(described: Described) -> str | None:
 
 def script_words(words: argparse.Namespace, output: pathlib.Path) -> list[str]:
     """The words for to_script.py."""
-    found = [str(words.map), *map(str, words.others), "--fit", "--split", "--output", str(output)]
+    names = [str(path) for path in (words.map, *words.others)]
+    maps = [f"./{name}" if name.startswith("-") else name for name in names]  # else it is an option
+    found = [*maps, "--fit", "--split", "--output", str(output)]
     found += ["--crs", words.crs] if words.crs else []
     found += ["--source-layer", words.source_layer] if words.source_layer else []
     if words.others:

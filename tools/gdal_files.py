@@ -134,7 +134,7 @@ def ran(words: list[str], data: bytes | None = None) -> bytes:
 
 def source_of(path: pathlib.Path) -> str:
     """The file as GDAL names it."""
-    plain = str(path if path.is_absolute() else pathlib.Path(".", path))
+    plain = str(path) if path.is_absolute() else f"./{path}"  # a name that begins with - is no option
     return f"/vsizip/{plain}" if path.suffix.lower() == ".zip" else plain
 
 

@@ -1,5 +1,6 @@
 """Tests of a first map in one word: a store is made of files, and a front prints its address."""
 
+import contextlib
 import fcntl
 import json
 import os
@@ -85,6 +86,12 @@ class FirstMaps(WithProgram):
             given = self.file("city.geojson", text)
             status, _, errors = self.made(given, "--again")
             self.assertEqual((status, f"refused: {given}, {told}" in errors, "city.db" in self.names()), (1, True, True), errors)
+
+    def test_a_name_that_begins_with_a_dash_is_no_option(self) -> None:
+        self.file("-city.geojson", MAP)
+        with contextlib.chdir(self.folder):
+            status, _, errors = self.made("./-city.geojson")
+        self.assertEqual((status, "city.db" in self.names()), (0, True), errors)
 
     def test_of_a_file_with_layers_one_is_said(self) -> None:
         status, _, errors = self.made(self.file("city.geojson", MAP), "--source-layer", "streets")

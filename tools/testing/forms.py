@@ -120,6 +120,12 @@ class FilesOfGdal(WithGdal):
         self.assertEqual(outcome(to_geojson, script, "--program", program, "--output", plane)[:2], (0, ""))
         self.assertNotIn("crs", json.loads(gdal_files.as_geojson(plane)))
 
+    def test_a_name_that_begins_with_a_dash_is_no_option(self) -> None:
+        with contextlib.chdir(self.folder):
+            self.made("a.gpkg", str(self.file("plan.geojson", FIRST))).rename("-a.gpkg")
+            self.assertEqual(outcome(to_script, "./-a.gpkg", "--factor", 2)[0], 0)
+            self.assertEqual(outcome(to_script, "--factor", 2, "--", "-a.gpkg")[0], 0)
+
     def test_features_keep_their_ids_and_all_properties(self) -> None:
         cases: list[tuple[dict[int | str, dict[str, object]], str, list[str]]] = [
             ({7: {"n": "a"}, 3: {"n": "b"}}, ".gpkg", ["fid 3 n b", "fid 7 n a"]),
