@@ -388,5 +388,17 @@ def spelled_by(within: Iterable[Feature]) -> int:
 
 def ids_for(given: Sequence[Any]) -> Iterator[int | str]:
     """The ids of features: the source's where each has one of its own, else their places, from 1."""
-    own = all(map(is_id, given)) and len({str(one) for one in given}) == len(given)
-    yield from given if own else range(1, len(given) + 1)
+    yield from given if why_places(given) is None else range(1, len(given) + 1)
+
+
+def why_places(given: Sequence[Any]) -> str | None:
+    """Why the ids of a source are not those of its features; None where they are."""
+    counts = Counter(map(str, given))
+    for one in given:
+        if one is None:
+            return "a feature has none"
+        if not is_id(one):
+            return f"{str(one)[:40]!r} is none, as a whole number below 2^53 is, or a word of letters, digits, _ . and -"
+        if counts[str(one)] > 1:
+            return f"several features have {one}"
+    return None

@@ -383,6 +383,9 @@ def beside(words: argparse.Namespace, stores: list[Store], scale: Scale, describ
             found.add(features.beside(script), table.text().encode(), told)
     except features.FeaturesFault as fault:
         raise Stopped(str(fault)) from fault
+    ids = [one.id for one in described.values()]
+    if any(one is not None for one in ids) and (reason := features.why_places(ids)):
+        found.told.append(f"the source's ids are not kept, and features are numbered by their places: {reason}")
     return found
 
 

@@ -97,10 +97,15 @@ class Files(InFolder):
         self.assertEqual([one.number for one in table.features], [None] * 4)
 
     def test_ids_are_the_sources_where_each_feature_has_one(self) -> None:
-        for given, wanted in ((("a.1", 7), ["a.1", 7]), ((7, 7), [1, 2]), ((7, None), [1, 2]), ((7, "7"), [1, 2]),
-                              ((True, 3), [1, 2]), ((-1, 3), [1, 2]), (("a/b", 3), [1, 2])):
-            text = collection(*(feature([ring], {}, one) for ring, one in zip((WEST, EAST), given)))
-            self.assertEqual([one.id for one in self.table(text, "--coded").features], wanted, given)
+        for given, told in ((("a.1", 7), None), ((7, 7), "several features have 7"), ((7, None), "a feature has none"),
+                            ((7, "7"), "several features have 7"), ((True, 3), "'True' is none"), ((-1, 3), "'-1' is none"),
+                            ((None, None), None), ((3, "a/b"), "'a/b' is none, as a whole number below 2^53 is, or a word")):
+            made = self.file("plan.geojson", collection(*(feature([ring], {}, one) for ring, one in zip((WEST, EAST), given))))
+            status, _, errors = outcome(to_script, made, "--factor", 1, "--output", self.folder / "plan.txt", "--coded")
+            found = [one.id for one in features.read(self.folder / "plan.features.json").features]
+            self.assertEqual((status, found), (0, [1, 2] if told or given[0] is None else [*given]), errors)
+            note = "the source's ids are not kept, and features are numbered by their places: "
+            self.assertEqual((note in errors, f"{note}{told}" in errors), (bool(told), bool(told)), errors)
 
     def test_features_of_one_name_have_one_number_and_stay_apart(self) -> None:
         text = collection(feature([WEST], {"n": 1, "a": 1}), feature([ISLE], {"n": 1, "a": 2}), feature([EAST], {"n": 2}))
