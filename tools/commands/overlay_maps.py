@@ -62,7 +62,8 @@ def add_map_words(parser: argparse.ArgumentParser, two: bool) -> None:
                         help="whole units in one unit of the maps: 1000 for millimetres of a map in metres")
     for side in "ab" if two else "a":
         parser.add_argument(f"--{side}-id", metavar="PROPERTY",
-                            help=f"what calls the features of {side.upper()} (default: their numbers in the file)")
+                            help=f"what calls the features of {side.upper()} (default: their numbers in the file, from 1 in "
+                                 "GeoJSON, else as GDAL and QGIS count: from 0 in a Shapefile, FlatGeobuf or GML)")
         parser.add_argument(f"--{side}-layer", metavar="NAME",
                             help=f"the layer of {side.upper()}, where its file has several")
     parser.add_argument("--bend", action="store_true", help="bend edges of more than 524288 units at whole points")
