@@ -4,6 +4,8 @@ It needs Debian's python3-gdal and python3-numpy. Geometry goes as Well-Known Bi
 into one array, so no feature costs more than its way through GDAL.
 """
 
+import bisect
+import itertools
 import pathlib
 import struct
 from collections.abc import Iterator
@@ -13,7 +15,7 @@ from typing import Any
 
 from .. import ending, gdal_files
 from .spooled import Gathered, Spool
-from .whole_maps import MapFault, ReadMap, Told
+from .whole_maps import MapFault, ReadMap, Told, and_others
 
 BATCH = 1 << 16  # features that are taken apart at once
 LARGE = 10_000_000  # points of a map above which it stays in files
@@ -68,13 +70,11 @@ class Flat:
             at += 4 + 16 * size
         return at
 
-    def feature_of_ring(self, ring: int) -> str:
-        """What the feature of a ring is called."""
-        for label, count in zip(self.labels, self.rings_of_feature):
-            if ring < count:
-                return label
-            ring -= count
-        raise IndexError(ring)
+    def features_of_rings(self, rings: list[int]) -> Iterator[str]:
+        """What the features of rings are called, of rings that go up."""
+        ends = list(itertools.accumulate(self.rings_of_feature))
+        for ring in rings:
+            yield self.labels[bisect.bisect_right(ends, ring)]
 
     def arrays(self, numpy: Any) -> tuple[Any, Any, Any, Any, Any]:
         """xs, ys, ring_sizes, is_outer, rings_of_feature. A ring that is not closed, or has what is no number, is a
@@ -89,9 +89,9 @@ class Flat:
             odd = numpy.flatnonzero(~numpy.isfinite(xy).all(axis=1))
             wrong[numpy.searchsorted(ends, odd, "right")] = True
         if wrong.any():
-            label = self.feature_of_ring(int(numpy.flatnonzero(wrong)[0]))
+            label, *others = dict.fromkeys(self.features_of_rings(numpy.flatnonzero(wrong).tolist()))
             raise MapFault(f"{self.path}: {label}: a ring that is not closed, or a coordinate that is no number; mend it "
-                           "there")
+                           f"there{and_others(others)}")
         rings_of_feature = numpy.array(self.rings_of_feature, numpy.int64)
         return xy[:, 0], xy[:, 1], sizes, numpy.array(self.is_outer, bool), rings_of_feature
 

@@ -12,7 +12,7 @@ from typing import Any
 from .. import ending, map_reading, rounding, scale as scales, wkt
 from ..map_reading import Refused, Shape, Source
 from .bending import Longest, bent
-from .whole_maps import FARTHEST, MapFault, ReadMap, Ring, Told, WholeMap
+from .whole_maps import FARTHEST, MapFault, ReadMap, Ring, Told, WholeMap, and_others
 
 NAMED_MAX = 10  # SRIDs that a refusal names
 
@@ -39,6 +39,10 @@ def twice_area(ring: Ring) -> int:
     return sum(ax * by - ay * bx for (ax, ay), (bx, by) in zip(ring, ring[1:] + ring[:1]))
 
 
+class FeatureFault(MapFault):
+    """Why a feature is to be mended before its map is overlaid."""
+
+
 class Reading:
     """A map while it is read."""
 
@@ -56,7 +60,7 @@ class Reading:
         left_out = len(self.told.skipped)
         for shape in shapes:
             if shape.fault:
-                raise MapFault(f"{shape.label}: {shape.fault}; mend it there")
+                raise FeatureFault(f"{shape.label}: {shape.fault}; mend it there")
             try:
                 polygons += shape.polygons()
             except Refused as fault:
@@ -68,7 +72,7 @@ class Reading:
             rings = [ring for polygon in polygons for ring in self.rings(shapes[0].label, polygon)]
         except (Refused, TypeError, IndexError, KeyError) as fault:
             reason = fault if isinstance(fault, Refused) else "coordinates of another form"
-            raise MapFault(f"{shapes[0].label}: {reason}; mend it there") from fault
+            raise FeatureFault(f"{shapes[0].label}: {reason}; mend it there") from fault
         self.whole.add(name, rings)
 
     def name_of(self, shape: Shape) -> str:
@@ -105,8 +109,14 @@ def read(path: str, factor: Fraction, id_field: str | None, bend: bool) -> ReadM
     source = Source(1, path, "map", id_field)
     shapes, crs = shapes_of(source)
     reading = Reading(source, factor, bend)
+    faults = list[tuple[str, FeatureFault]]()
     for shapes_of_one in features_of(shapes):
-        reading.feature(shapes_of_one)
+        try:
+            reading.feature(shapes_of_one)
+        except FeatureFault as fault:
+            faults.append((shapes_of_one[0].label.removeprefix(f"{path}, "), fault))
+    if faults:
+        raise MapFault(f"{faults[0][1]}{and_others(label for label, _ in faults[1:])}") from faults[0][1]
     if not bend:
         reading.longest.check(factor)
     told = reading.told

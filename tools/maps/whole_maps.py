@@ -20,6 +20,8 @@ Box = tuple[int, int, int, int]
 NOWHERE: Box = (1, 1, 0, 0)
 FARTHEST = 2**52  # a coordinate is no greater than this either way, so that a double has it exactly
 
+OTHERS_MAX = 10  # features that a refusal names beside the first
+
 
 def as_box(given: Sequence[int]) -> Box:
     """Four numbers as a box."""
@@ -116,3 +118,12 @@ class ReadMap:
 
 class MapFault(Exception):
     """Why a map cannot be overlaid: one line with the file, the feature and what to do."""
+
+
+def and_others(labels: Iterable[str]) -> str:
+    """What follows the refusal of one feature where others are to be mended too: how many, and the first of them."""
+    others = list(dict.fromkeys(labels))
+    if not others:
+        return ""
+    more = ", .." if len(others) > OTHERS_MAX else ""
+    return f"; {len(others)} more to be mended: {', '.join(others[:OTHERS_MAX])}{more}"

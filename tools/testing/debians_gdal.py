@@ -117,8 +117,10 @@ class Reading(WithFiles):
         self.refused("no property code; say one of: nr", path, id_field="code")
 
     def test_a_ring_that_is_not_closed_is_refused(self) -> None:
-        path = self.made(f"POLYGON {text_of(RING)}", f"POLYGON {text_of(RING[:-1])}")
-        self.refused(r"map\.gpkg: feature 2 \(p1\): a ring that is not closed", path)
+        opened = f"POLYGON {text_of(RING[:-1])}"
+        path = self.made(f"POLYGON {text_of(RING)}", opened, f"POLYGON {text_of(RING)}", opened)
+        self.refused(r"map\.gpkg: feature 2 \(p1\): a ring that is not closed.* 1 more to be mended: feature 4 \(p3\)",
+                     path)
 
     def test_a_coordinate_that_is_no_number_is_refused(self) -> None:
         flat = gdal_maps.Flat()

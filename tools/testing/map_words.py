@@ -193,7 +193,7 @@ class Refusals(WithMaps):
         self.assertEqual(self.asked("pairs", self.good, degrees, "--factor", "0.24")[0], 0)
 
     def test_a_property_that_is_not_there(self) -> None:
-        self.assertEqual(self.line(self.map("b", {"Z": square(0, 0, 1)}), "--b-id", "code"),
+        self.assertEqual(self.line(self.map("b", {"Z": square(0, 0, 1), "Y": square(2, 0, 1)}), "--b-id", "code"),
                          "b.geojson, feature 1: no property code; say one of: nr")
         empty = self.map("c", {"Z": square(0, 0, 1), "Y": square(2, 0, 1)})
         empty.write_text(empty.read_text().replace('"Y"', "null"))
@@ -203,6 +203,10 @@ class Refusals(WithMaps):
     def test_a_ring_that_is_not_closed(self) -> None:
         self.assertEqual(self.line(self.map("b", {"Z": [[0, 0], [1, 0], [1, 1], [0, 1]]})),
                          "b.geojson, feature 1: a ring whose last point is not its first, 0 0; mend it there")
+        rings = {str(k): square(2 * k, 0, 1)[: 4 + (k == 1)] for k in range(13)}
+        self.assertEqual(self.line(self.map("c", rings)),
+                         "c.geojson, feature 1: a ring whose last point is not its first, 0 0; mend it there; 11 more "
+                         f"to be mended: {', '.join(f'feature {k}' for k in range(3, 13))}, ..")
 
     def test_a_coordinate_that_is_none(self) -> None:
         ring: list[Any] = [[0, 0], [1, 0], [1, "x"], [0, 0]]
