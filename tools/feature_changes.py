@@ -7,7 +7,7 @@ import contextlib
 import itertools
 import json
 import pathlib
-from collections.abc import Callable, Collection, Iterator, Mapping, Sequence
+from collections.abc import Callable, Collection, Mapping, Sequence
 from dataclasses import dataclass, replace
 from decimal import Decimal
 from fractions import Fraction
@@ -111,17 +111,13 @@ def removed(table: Table, held: Held, identity: int | str) -> Plan:
 
 def added(table: Table, held: Held, names: Collection[str], given: Given) -> Plan:
     """The plan that adds a feature: in coded layers under a free number. names are those of all layers of the store."""
+    check_layout(table)
     identity = free_id(table)
     polygons = given.polygons or []
     name = name_in(table, given.properties, f"{table.collection} {identity}")
-    rings, faults = features.rings_of(polygons), list[ChangeFault]()
-    for number, layers in places_for_new(table, names, name):
-        new = Feature(identity, number, name, given.kind, layers, rings, given.properties)
-        try:
-            return Plan(Change(None, new), relaid(table, held, None, new, polygons))
-        except ChangeFault as fault:
-            faults.append(fault)
-    raise faults[0] if faults else ChangeFault("no number and no layer is free for another feature")
+    number, layers = place_for_new(table, held, names, name, polygons)
+    new = Feature(identity, number, name, given.kind, layers, features.rings_of(polygons), given.properties)
+    return Plan(Change(None, new), relaid(table, held, None, new, polygons))
 
 
 def free_id(table: Table) -> int:
@@ -173,6 +169,12 @@ def put(path: pathlib.Path, table: Table) -> None:
         raise Unwritten(f"the change is not made: {ending.told(path.name, fault)}") from fault
 
 
+def check_layout(table: Table) -> None:
+    """Refuses a map whose features cannot be changed one by one."""
+    if table.union:
+        raise ChangeFault("a map that --union has laid out is not changed feature by feature: make it anew")
+
+
 def known(table: Table, identity: int | str) -> Feature:
     found = table.feature(identity)
     if found is None:
@@ -186,32 +188,63 @@ def name_in(table: Table, properties: Mapping[str, Any], otherwise: str) -> str:
     return otherwise if named is None else str(named)
 
 
-def places_for_new(table: Table, names: Collection[str], name: str) -> Iterator[tuple[int | None, tuple[str, ...]]]:
-    """Where a new feature may be put: numbers that are free with the layers of their bits, those of fewest bits first,
-    or the layer of its name."""
+def place_for_new(table: Table, held: Held, names: Collection[str], name: str,
+                  polygons: Sequence[Polygon]) -> tuple[int | None, tuple[str, ...]]:
+    """Where a new feature is put: the free number of fewest bits whose layers have room for it, else that of a layer
+    more; or the layer of its name."""
     if not table.coded:
         layers = {one.layers for one in table.named(name)} or {(layer,) for layer in table.layers}
         if len(layers) > 1:
             raise ChangeFault(f"no layer has features of the name {name}, and there are several: make the map anew")
-        yield None, layers.pop()
-        return
+        return None, layers.pop()
+    runs, roomy, faults = runs_of(polygons), list[int](), list[ChangeFault]()
+    for bit in range(len(table.layers)):
+        layer = f"b{bit}"
+        try:
+            put_in(layer, parts_of(table, held, layer), runs)
+            roomy.append(bit)
+        except ChangeFault as fault:
+            faults.append(fault)
+    number = free_number(roomy, {one.number for one in table.features})
+    if number is not None:
+        return number, tuple(layering.bits_of(number))
     bits = len(table.layers)
-    taken = {one.number for one in table.features}
-    free = [number for number in range(1, 2**bits) if number not in taken]
-    for number in sorted(free, key=lambda number: (number.bit_count(), number)):
-        yield number, tuple(layering.bits_of(number))
     if f"b{bits}" not in names and len(names) < limits.LAYERS_MAX:
-        yield 2**bits, (f"b{bits}",)
+        return 2**bits, (f"b{bits}",)
+    raise faults[0] if faults else ChangeFault("no number and no layer is free for another feature")
+
+
+def free_number(bits: Sequence[int], taken: Collection[int | None]) -> int | None:
+    """The least number of fewest bits, of these alone, that is not taken. It looks at no more numbers than are taken,
+    and one."""
+    for count in range(1, len(bits) + 1):
+        chosen = (1 << count) - 1  # which of the bits: all choices of so many, in the order of their numbers
+        while not chosen >> len(bits):
+            number = sum(1 << bit for place, bit in enumerate(bits) if chosen >> place & 1)
+            if number not in taken:
+                return number
+            least = chosen & -chosen
+            above = chosen + least
+            chosen = above | (chosen ^ above) // least >> 2
+    return None
+
+
+def runs_of(polygons: Sequence[Polygon]) -> list[Ring]:
+    """The rings of polygons as layers hold them, long ones in runs."""
+    return [run for polygon in polygons for ring in polygon for run in layering.runs_of(ring)]
+
+
+def parts_of(table: Table, held: Held, layer: str) -> dict[str, list[Ring]]:
+    """The rings of each base layer that a layer is of."""
+    return {part: list(held.get(part, ())) for part in table.layers.get(layer, (layer,))}
 
 
 def relaid(table: Table, held: Held, old: Feature | None, new: Feature | None, polygons: Sequence[Polygon]) -> list[str]:
     """The lines that take one feature's rings out of its layers and put another's into theirs."""
-    if table.union:
-        raise ChangeFault("a map that --union has laid out is not changed feature by feature: make it anew")
-    runs = [run for polygon in polygons for ring in polygon for run in layering.runs_of(ring)]
-    lines = []
+    check_layout(table)
+    runs, lines = runs_of(polygons), []
     for name in dict.fromkeys([*(old.layers if old else ()), *(new.layers if new else ())]):
-        parts = {part: list(held.get(part, ())) for part in table.layers.get(name, (name,))}
+        parts = parts_of(table, held, name)
         without = taken_out(parts, old) if old and name in old.layers else parts
         after = put_in(name, without, runs) if new and name in new.layers else without
         lines += [f"PUT {part} {text_of(rings)}" for part, rings in after.items() if rings != parts[part]]

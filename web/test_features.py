@@ -19,7 +19,7 @@ from collections.abc import Iterator
 from dataclasses import replace
 from typing import Any
 
-from tools import features, scale as scales
+from tools import feature_changes, features, scale as scales
 from tools.commands import to_script
 from tools.overlay_client import Server
 from . import map_scale, testing
@@ -335,6 +335,30 @@ class Editing(Case):
         for headers in ({"HTTP_ORIGIN": "http://elsewhere"}, {"HTTP_SEC_FETCH_SITE": "cross-site"}):
             self.assertEqual(self.put(1, MAP[1], **headers).status, 403)
         self.assertEqual((self.items(), self.layer_texts()), before)
+
+
+class Full(Case):
+    """A layer has room for two such outlines, and a store for 32 layers."""
+
+    ring = [[x, 90 if x % 2 else 80] for x in range(900)] + [[899, 99], [0, 99], [0, 80]]
+
+    def test_new_features_come_until_no_layer_has_room(self) -> None:
+        for count in itertools.count():
+            told = self.client.ask("/collections/plan/items", "POST", feature("Polygon", [self.ring], {"name": str(count)}))
+            if told.status != 201:
+                break
+        self.assertEqual((told.status, "layer b0 has no room" in told.value["description"]), (409, True), told.value)
+        numbers = [one.number for one in self.table().features]
+        self.assertEqual((numbers[:9], len({*numbers})), ([1, 2, 3, 4, 5, 6, 8, 9, 16], len(numbers)))
+        self.assertEqual((len(self.items()), max(number or 0 for number in numbers).bit_length()), (4 + count, 32))
+
+    def test_the_least_free_number_of_fewest_bits_is_taken(self) -> None:
+        for bits in ((0, 1, 2, 3), (1, 3), (2,), ()):
+            order = sorted((sum(one) for size in range(1, 5) for one in itertools.combinations([1 << bit for bit in bits], size)),
+                           key=lambda number: (number.bit_count(), number))
+            for taken in range(len(order)):
+                self.assertEqual(feature_changes.free_number(bits, order[:taken]), order[taken])
+            self.assertIsNone(feature_changes.free_number(bits, order))
 
 
 class LargeIds(unittest.TestCase):
