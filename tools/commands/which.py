@@ -185,7 +185,7 @@ def point_of(line: str) -> Point:
     try:
         x, y = (scales.exact(word) for word in line.replace(",", " ").replace(";", " ").split())
     except ValueError:
-        return Point(line, None, "two numbers are a point")
+        return Point(line, None, "two numbers are a point" + ("; 1,5 are two of them, 1.5 is one" if "," in line else ""))
     except scales.ScaleFault as fault:
         return Point(line, None, str(fault))
     return Point(line, (x, y))

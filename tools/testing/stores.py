@@ -281,6 +281,8 @@ class OverStores(WithProgram):
         self.assertEqual(self.each(which, store, "999999", "2"), (1, f"error\t999999 2: {beyond}\n", ""))
         none = "no number, or one that is too long"
         self.assertEqual(self.each(which, store, "1", "x"), (1, f"error\t1 x: {none}: x\n", ""))
+        self.assertEqual(self.each(which, store, "500,2", "19,9"), (
+            1, "error\t500,2 19,9: two numbers are a point; 1,5 are two of them, 1.5 is one\n", ""))
         points = self.file("points.txt", "\ufeff# x y\n500.2 -19.9\n\n  # far out:\n 1e99; -19.9\n500.01,-19.85\r\n"
                                          f"7\n1 2 3\n{'9' * 100} 1\n507;-10\n")
         status, output, errors = self.each(which, store, "--points", points)
