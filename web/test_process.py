@@ -193,7 +193,7 @@ class Processes(unittest.TestCase):
             "--store map.db --writable --host 0.0.0.0", "--writable --host ::", "", "--create",
             "--store map.db --create", "--writable --host map.example.org", "--colour",
             "--store map.db --base map.example.org", "--store map.db --base http://[", "--store map.db --base http://",
-            "--store map.db --base https://map.example.org:port",
+            "--store map.db --base https://map.example.org:port", "--store map.db --workers 9", "--store map.db --workers 0",
         ):
             with running(*line.split()) as (run, _):
                 status, text = self.ended(run)

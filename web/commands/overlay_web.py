@@ -80,7 +80,8 @@ def words_of(arguments: Sequence[str]) -> argparse.Namespace:
     parser.add_argument("--port", type=int, default=8080, help="the port; 0 for one that is free (default 8080)")
     parser.add_argument("--base", metavar="URL", help="the address that a server before this one is asked by")
     parser.add_argument("--name", action="append", default=[], help="a further name in the Host of questions")
-    parser.add_argument("--workers", type=int, default=2, help="threads that build tiles, 1 to 8 (default 2)")
+    parser.add_argument("--workers", metavar="WORKERS", type=int, choices=range(1, 9), default=2,
+                        help="threads that build tiles, 1 to 8 (default 2)")
     parser.add_argument("--program", metavar="PATH", help="overlay_live (default: as the tools find it)")
     parser.add_argument(
         "--leaflet", type=pathlib.Path, default=LEAFLET, metavar="FOLDER", help=f"where Leaflet is (default {LEAFLET})"
