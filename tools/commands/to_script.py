@@ -8,8 +8,8 @@
 A coordinate x becomes the whole number nearest to (x - X) * FACTOR, the greater one of two that are as near. Standard
 error says what was rounded, by how much in the given unit, merged and refused, and of which feature or text of a file,
 counted from 1. Each file is a layer, or with --name-by each value of the property (features without it make one of the
-file's name). Names are cut to 32 bytes; letters lose their marks, other characters become `_`, and of names that are
-then the same the later ones get a number.
+file's name). Names are cut to 32 bytes; letters lose their marks, ß becomes ss, other characters become `_`, and of names
+that are then the same the later ones get a number.
 
 Without --factor, --origin, --scale and --fit the factor is 1 where that fits: where rings collapse, or coordinates move
 by more than a 1000th of the extent, or are out of range, nothing is written, and the words to type are reported.
@@ -69,7 +69,8 @@ class Stopped(Exception):
 
 def fitted_name(wish: str) -> str:
     """A layer name that looks like the wish: marks dropped, other bytes made _."""
-    plain = unicodedata.normalize("NFKD", wish).encode("ascii", "ignore").decode()
+    apart = unicodedata.normalize("NFKD", wish.replace("ß", "ss").replace("ẞ", "SS"))
+    plain = "".join(letter for letter in apart if not unicodedata.combining(letter))
     plain = re.sub(r"[^A-Za-z0-9]+", "_", plain.strip()).strip("_")
     if not plain or not plain[0].isalpha():
         plain = "L" + ("_" + plain if plain else "")

@@ -153,6 +153,11 @@ def collection(*features: str) -> str:
 
 
 class Names(unittest.TestCase):
+    def test_letters_beyond_ascii_keep_their_place(self) -> None:
+        for wish, wanted in (("Größe", "Grosse"), ("STRAẞE", "STRASSE"), ("Süd-Öst", "Sud_Ost"), ("Małe", "Ma_e"),
+                             ("Kær", "K_r"), ("Łódź", "odz"), ("山田", "L"), ("7 Höfe", "L_7_Hofe")):
+            self.assertEqual(to_script.fitted_name(wish), wanted)
+
     def names(self, *wishes: str) -> tuple[list[str], int, str]:
         text = collection(*(feature(wish, 10 * i) for i, wish in enumerate(wishes)))
         status, output, errors = on_file(to_script, text, "--name-by", "name")
