@@ -20,8 +20,13 @@ INTERRUPTED = 130  # as shells tell it of a program that was stopped from the ke
 TEXT_MAX = 200
 
 
+UTF8 = "iconv -f ISO-8859-1 -t UTF-8 makes it of Latin-1"
+
+
 def told(of: object, fault: Exception) -> str:
     """What a fault says of a file, or of whatever it is of: of the system's the words without number and name."""
+    if isinstance(fault, UnicodeDecodeError):
+        return f"{of}: no UTF-8, by its byte {fault.object[fault.start]:#x}; {UTF8}"
     return f"{of}: {fault.strerror or fault}" if isinstance(fault, OSError) else f"{of}: {fault}"
 
 

@@ -170,11 +170,22 @@ def as_geojson(path: pathlib.Path, layer: str | None = None) -> str:
     words += ["-preserve_fid"] if begin_of(path).startswith(SQLITE) else []
     with under_fitting_name(path) as named:
         opened = opened_as(named)
-        value = json.loads(ran([*words, *words_of(opened), "/vsistdout/", opened.name, layer_of(named, layer)]))
+        written = ran([*words, *words_of(opened), "/vsistdout/", opened.name, layer_of(named, layer)])
+        try:
+            value = json.loads(written)
+        except UnicodeDecodeError as fault:
+            raise GdalFault(not_utf8(path)) from fault
         name = None if "crs" in value else coordinates_of(named)
     if name:
         value["crs"] = {"type": "name", "properties": {"name": name}}
     return json.dumps(value)
+
+
+def not_utf8(path: pathlib.Path) -> str:
+    """Why a file is not read whose texts GDAL takes for UTF-8, and what makes them so."""
+    if path.suffix.lower() == ".shp":
+        return f"its texts are no UTF-8: say in {path.stem}.cpg beside it what they are, as ISO-8859-1"
+    return f"its texts are no UTF-8; {ending.UTF8}"
 
 
 def coordinates_of(path: pathlib.Path) -> str | None:

@@ -13,7 +13,7 @@ from dataclasses import dataclass, field
 from fractions import Fraction
 from typing import Any
 
-from .. import ending, gdal_files
+from .. import ending, gdal_files, map_reading
 from .spooled import Gathered, Spool
 from .whole_maps import MapFault, ReadMap, Told, and_others
 
@@ -167,6 +167,8 @@ class Source:
         if self.place >= 0 and not feature.IsFieldSetAndNotNull(self.place):
             raise MapFault(f"{self.path}: feature {feature.GetFID()}: no {self.id_field}; say another property, that each "
                            "feature has")
+        if not isinstance(name, str) or map_reading.HALVES.search(name):  # GDAL hands on the bytes that are no UTF-8
+            raise MapFault(f"{self.path}: feature {feature.GetFID()}: {gdal_files.not_utf8(pathlib.Path(self.path))}")
         wkb = bytes(shape.ExportToWkb(self.ogr.wkbNDR))
         if wkb[1] not in (POLYGON, MULTIPOLYGON) or wkb[2:5] != b"\0\0\0":
             if self.ogr.GT_Flatten(shape.GetGeometryType()) not in (POLYGON, MULTIPOLYGON):

@@ -116,6 +116,10 @@ class Reading(WithFiles):
         self.assertEqual(self.read(path, id_field=None).whole.ids, ["1", "2"])
         self.refused("no property code; say one of: nr", path, id_field="code")
 
+    def test_a_name_that_is_no_utf_8_is_refused_before_anything_is_asked(self) -> None:
+        table = self.file("latin.csv", f'nr,WKT\np\u00e4,"POLYGON {text_of(RING)}"\n'.encode("latin-1"))
+        self.refused("latin.csv: feature 1: its texts are no UTF-8; iconv", str(table), id_field="nr")
+
     def test_a_ring_that_is_not_closed_is_refused(self) -> None:
         opened = f"POLYGON {text_of(RING[:-1])}"
         path = self.made(f"POLYGON {text_of(RING)}", opened, f"POLYGON {text_of(RING)}", opened)

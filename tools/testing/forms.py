@@ -104,6 +104,21 @@ class FilesOfGdal(WithGdal):
         absent = self.folder / "absent.gpkg"
         self.assertEqual(outcome(to_script, absent), (2, "", f"{absent}: not read: No such file or directory\n"))
 
+    def test_texts_that_are_no_utf_8_are_told_with_what_makes_them_so(self) -> None:
+        plan = self.file("plan.geojson", FIRST.replace('"a"', '"ä"'))
+        latin = self.file("latin.geojson", plan.read_text().encode("latin-1"))
+        self.assertEqual(outcome(to_script, latin), (
+            2, "", f"{latin}: not read: no UTF-8, by its byte 0xe4; iconv -f ISO-8859-1 -t UTF-8 makes it of Latin-1\n"))
+        table = self.file("latin.csv", b'WKT,n\n"POLYGON ((0 0, 9 0, 0 9, 0 0))",\xe4\n')
+        self.assertIn("no UTF-8; iconv -f ISO-8859-1", outcome(to_script, table)[2])
+        shape = self.made("latin.shp", str(plan), "-lco", "ENCODING=ISO-8859-1")
+        self.assertEqual(outcome(to_script, shape, "--factor", 2, "--name-by", "n")[0], 0)
+        shape.with_suffix(".cpg").unlink()
+        database = bytearray(shape.with_suffix(".dbf").read_bytes())
+        database[29] = 0  # nothing is said of its letters
+        shape.with_suffix(".dbf").write_bytes(database)
+        self.assertIn("no UTF-8: say in latin.cpg beside it what they are", outcome(to_script, shape, "--factor", 2)[2])
+
     def test_a_layer_as_a_geopackage(self) -> None:
         script, output = self.file("plan.txt", f"PUT A {SQUARE}\n"), self.folder / "out.gpkg"
         self.file("plan.scale.json", '{"factor": 10, "origin": [500, -20], "crs": "EPSG:25832", "digits": 3}')
