@@ -133,9 +133,9 @@ class Source:
         return named([definition.GetFieldDefn(k).GetName() for k in range(definition.GetFieldCount())])
 
     def crs(self) -> str | None:
-        """As EPSG:25832 where it has such a number, else as Well-Known Text."""
+        """As EPSG:25832 where it has such a number, else as Well-Known Text; None of a plane that says no more."""
         system = self.table.GetSpatialRef()
-        if system is None:
+        if system is None or system.IsLocal():
             return None
         name, code = system.GetAuthorityName(None), system.GetAuthorityCode(None)
         return f"{name}:{code}" if name and code else str(system.ExportToWkt())

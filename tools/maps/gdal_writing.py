@@ -14,7 +14,7 @@ from pathlib import Path
 from typing import Any
 from xml.sax.saxutils import escape, quoteattr, unescape
 
-from .. import ending, writing
+from .. import ending, gdal_files, writing
 from ..sessions import Unusable
 from .gdal_maps import modules
 from .whole_maps import MapFault
@@ -102,13 +102,12 @@ class Writing:
         self.count += 1
 
     def _system(self) -> Any:
-        if self.crs is None:
-            return None
+        """The coordinates' system; a plane where none is named, as GDAL takes none for degrees."""
         from osgeo import osr
 
         osr.UseExceptions()
         system = osr.SpatialReference()
-        system.SetFromUserInput(self.crs)
+        system.SetFromUserInput(self.crs or gdal_files.PLANE)
         system.SetAxisMappingStrategy(osr.OAMS_TRADITIONAL_GIS_ORDER)
         return system
 

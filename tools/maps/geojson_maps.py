@@ -17,12 +17,11 @@ from .whole_maps import FARTHEST, MapFault, ReadMap, Ring, Told, WholeMap, and_o
 NAMED_MAX = 10  # SRIDs that a refusal names
 
 
-def shapes_of(source: Source) -> tuple[list[Shape], str | None]:
-    """All shapes of a file and the name of its coordinates: degrees where GeoJSON names none."""
+def shapes_of(source: Source) -> tuple[list[Shape], str | None, bool]:
+    """All shapes of a file, the name of its coordinates where it names some, and whether it is GeoJSON."""
     try:
         text = map_reading.content(source.name).decode("utf-8-sig")
-        shapes, crs = source.read(text)
-        return shapes, crs or (scales.CRS84 if map_reading.is_geojson(text) else None)
+        return *source.read(text), map_reading.is_geojson(text)
     except (OSError, ValueError, ArithmeticError, RecursionError, TypeError, AttributeError, wkt.WktFault) as fault:
         told = ending.told(source.name, fault)
         raise MapFault(f"{told}; a map is GeoJSON, or a file that GDAL reads") from fault
@@ -107,7 +106,7 @@ class Reading:
 def read(path: str, factor: Fraction, id_field: str | None, bend: bool) -> ReadMap:
     """A map of a file, features called by a property, or by their numbers in the file."""
     source = Source(1, path, "map", id_field)
-    shapes, crs = shapes_of(source)
+    shapes, crs, is_geojson = shapes_of(source)
     reading = Reading(source, factor, bend)
     faults = list[tuple[str, FeatureFault]]()
     for shapes_of_one in features_of(shapes):
@@ -123,7 +122,14 @@ def read(path: str, factor: Fraction, id_field: str | None, bend: bool) -> ReadM
     told.bent = reading.longest.count
     told.features, told.points = len(reading.whole), len(reading.whole.xs)
     told.moved = float(reading.moved)
-    return ReadMap(reading.whole, told, crs or own_crs(source))
+    usual = scales.CRS84 if is_geojson and is_in_degrees(reading.whole, factor) else None
+    return ReadMap(reading.whole, told, crs or own_crs(source) or usual)
+
+
+def is_in_degrees(whole: WholeMap, factor: Fraction) -> bool:
+    """Whether all numbers can be longitude and latitude, which GeoJSON has where it names nothing else. Older writers
+    leave the name out of other numbers too."""
+    return all(max(map(abs, axis), default=0) <= most * factor for axis, most in ((whole.xs, 360), (whole.ys, 90)))
 
 
 def own_crs(source: Source) -> str | None:

@@ -204,6 +204,16 @@ class Writing(InFolder):
             self.assertEqual(found[1][3], "MULTIPOLYGON (((20 0,30 0,30 10,20 10,20 0)))")
         self.assertEqual({one.name for one in self.folder.iterdir()}, {"pieces.gpkg", "pieces.fgb"})
 
+    def test_pieces_of_a_map_without_a_system_are_of_a_plane(self) -> None:
+        from osgeo import gdal
+
+        for name in ("pieces.gpkg", "pieces.fgb"):
+            path = str(self.folder / name)
+            gdal_writing.write(path, self.pieces(3), None)
+            file = gdal.OpenEx(path, gdal.OF_VECTOR)
+            self.assertTrue(file.GetLayer(0).GetSpatialRef().IsLocal())
+            self.assertIsNone(gdal_maps.read(path, Fraction(1), None, None, False).crs)
+
     def test_many_go_into_parts_that_open_as_one(self) -> None:
         for suffix in ("gpkg", "fgb"):
             for old in self.folder.iterdir():

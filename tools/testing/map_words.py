@@ -227,6 +227,15 @@ class Refusals(WithMaps):
         self.assertEqual(self.line(file), "good.geojson has coordinates of OGC:CRS84, b.geojson of EPSG:25832: bring "
                          "one to those of the other, as by ogr2ogr -t_srs")
 
+    def test_numbers_that_are_no_degrees_are_not_taken_for_them(self) -> None:
+        unnamed, utm = (self.map(name, {"Z": square(480000, 5400000, 1)}, crs)
+                        for name, crs in (("u", None), ("v", "urn:ogc:def:crs:EPSG::25832")))
+        for one, other in ((unnamed, utm), (utm, unnamed), (unnamed, unnamed)):
+            status, rows, errors = self.asked("pairs", one, other, "--factor", 1)
+            self.assertEqual((status, [row[2] for row in rows[1:]]), (0, ["1"]), errors)
+        degrees = self.map("w", {"Z": square(480000, 5400000, 1)}, "urn:ogc:def:crs:OGC:1.3:CRS84")
+        self.assertIn("w.geojson has coordinates of OGC:CRS84", self.refused("pairs", degrees, utm, "--factor", 1))
+
     def test_a_text_s_srid_is_its_system(self) -> None:
         text = "SRID={};POLYGON ((0 0, 1 0, 0 1, 0 0))\n"
         utm, parted, degrees, none = (self.file(f"{name}.wkt", "".join(map(text.format, numbers))) for name, numbers in (
