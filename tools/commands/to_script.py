@@ -7,9 +7,9 @@
 
 A coordinate x becomes the whole number nearest to (x - X) * FACTOR, the greater one of two that are as near. Standard
 error says what was rounded, by how much in the given unit, merged and refused, and of which feature or text of a file,
-counted from 1. Each file is a layer, or with --name-by each value of the property (features without it make one of the
-file's name). Names are cut to 32 bytes; letters lose their marks, ß becomes ss, other characters become `_`, and of names
-that are then the same the later ones get a number.
+counted from 1 (where nothing is written, of ten at most). Each file is a layer, or with --name-by each value of the
+property (features without it make one of the file's name). Names are cut to 32 bytes; letters lose their marks, ß becomes
+ss, other characters become `_`, and of names that are then the same the later ones get a number.
 
 Without --factor, --origin, --scale and --fit the factor is 1 where that fits: where rings collapse, or coordinates move
 by more than a 1000th of the extent, or are out of range, nothing is written, and the words to type are reported.
@@ -60,7 +60,7 @@ from ..scale import Scale
 
 
 DEGREES = (scales.CRS84, "EPSG:4326")
-NAMED_MAX = 10  # so many properties are reported
+NAMED_MAX = 10  # so many properties are reported, and refusals where nothing is written
 
 
 class Stopped(Exception):
@@ -506,10 +506,16 @@ def work(words: argparse.Namespace, output: TextIO, say: Callable[[str], None]) 
     if words.fit:
         moved = f"moved by at most {rounding.shown(reader.furthest())} {scale.unit}".removesuffix(" 1")
         say(f"{fitting.words(scale.factor, scale.origin)}; {moved if reader.furthest() else 'nothing is rounded'}")
-    for text in planner.told + reader.told + told + written:
+    for text in planner.told + (reader.told if stores else shortened(reader.told)) + told + written:
         say(text)
     overlap = overlaps(words, stores, scale, say) if words.check else 0
     return 1 if reader.refusals or not stores else overlap
+
+
+def shortened(told: list[str]) -> list[str]:
+    """The first few lines of what was refused of a map of which nothing is written, and how many more there are."""
+    more = [f"and {len(told) - NAMED_MAX} more"] if len(told) > NAMED_MAX else []
+    return told[:NAMED_MAX] + more
 
 
 def main(arguments: list[str], output: TextIO | None = None, errors: TextIO | None = None) -> int:
