@@ -181,6 +181,8 @@ class FeaturesApi:
             left, low, right, high = low, left, high, right
         if low > high:
             raise Problem(400, "bbox: the least y is above the greatest")
+        if self.systems.projection and system == CRS84 and (max(low, -high) > 90 or max(left, -right) > 360):
+            raise Problem(400, f"bbox: it is in degrees where bbox-crs names nothing else, as {self.systems.storage}")
         if left <= right:
             return [Box(left, low, right, high)]
         if system != CRS84:

@@ -94,6 +94,11 @@ class Projected(Case):
         ):
             self.assertEqual([one["id"] for one in self.items(f"?{words}")], wanted, words)
         self.assertEqual(self.client.ask(f"/collections/plan/items?bbox=5,5,4,4&bbox-crs={OWN}").status, 400)
+        self.assertEqual(len(self.items("?bbox=-540,-99,540,99")), 4)  # of a map that is drawn very small
+        for box in ("480000,5400000,480100,5400100", "400,30,500,31", "0,91,1,92", "0,-92,1,-91"):
+            told = self.client.ask(f"/collections/plan/items?bbox={box}")
+            self.assertEqual((told.status, told.value["description"]), (
+                400, f"bbox: it is in degrees where bbox-crs names nothing else, as {OWN}"))
 
     def test_what_is_put_is_in_the_system_that_is_said(self) -> None:
         body = feature("Polygon", [degrees(MOVED)], {"name": "East"})
