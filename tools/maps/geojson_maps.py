@@ -129,7 +129,8 @@ def read(path: str, factor: Fraction, id_field: str | None, bend: bool) -> ReadM
 def is_in_degrees(whole: WholeMap, factor: Fraction) -> bool:
     """Whether all numbers can be longitude and latitude, which GeoJSON has where it names nothing else. Older writers
     leave the name out of other numbers too."""
-    return all(max(map(abs, axis), default=0) <= most * factor for axis, most in ((whole.xs, 360), (whole.ys, 90)))
+    return all(max((abs(place) for place in axis), default=0) <= most * factor
+               for axis, most in ((whole.xs, 360), (whole.ys, 90)))
 
 
 def own_crs(source: Source) -> str | None:
