@@ -26,7 +26,7 @@ from decimal import Decimal
 from fractions import Fraction
 from typing import Any
 
-from . import limits
+from . import ending, limits
 
 CRS84 = "OGC:CRS84"
 CRS_NAME = re.compile(r"EPSG:[0-9]{1,9}|(?!EPSG:)[A-Za-z][\w-]*:[\w.-]+", re.ASCII)  # an authority and its code
@@ -187,10 +187,10 @@ def read(path: pathlib.Path) -> Scale:
     """The scale that a file says."""
     try:
         return of_value(json.loads(path.read_text(encoding="utf-8-sig"), parse_float=Decimal))
-    except (OSError, ValueError, RecursionError) as fault:
-        raise ScaleFault(f"{path}: {fault}") from fault
-    except ScaleFault as fault:
-        raise ScaleFault(f"{path}: {fault}") from fault
+    except OSError as fault:
+        raise ScaleFault(ending.told(path, fault)) from fault
+    except (ValueError, RecursionError, ScaleFault) as fault:
+        raise ScaleFault(f"{path}: no scale, as to_script.py writes it: {fault}") from fault
 
 
 def beside(path: pathlib.Path) -> pathlib.Path:

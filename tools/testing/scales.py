@@ -75,6 +75,13 @@ class Places(InFolder):
                 scales.read(self.file("none", text.encode("latin-1")))
         with self.assertRaises(scales.ScaleFault):
             scales.read(self.folder / "absent")
+        absent = self.folder / "absent.scale.json"
+        for path, told in ((self.file("half.scale.json", '{"factor"'), "no scale, as to_script.py writes it: Expecting"),
+                           (self.file("list.scale.json", "[]"), "no scale, as to_script.py writes it: no object"),
+                           (absent, "No such file or directory")):
+            with self.assertRaises(scales.ScaleFault) as fault:
+                scales.read(path)
+            self.assertTrue(str(fault.exception).startswith(f"{path}: {told}"), fault.exception)
 
     def test_the_scale_beside_a_store_and_beside_its_parts(self) -> None:
         shared = self.file("ny.scale.json", "{}")
