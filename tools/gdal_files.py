@@ -36,6 +36,7 @@ OWN = re.compile(rb"(?:\xef\xbb\xbf)?[\s\x1e]*"
                  rb"(?:\{|SRID=|[A-Z]*(?:POINT|LINESTRING|POLYGON|COLLECTION)[ A-Z]*\()", re.I)
 BEGIN = 4096
 WRITTEN = {".gpkg": "GPKG", ".fgb": "FlatGeobuf"}
+UNAIDED = (".geojson", ".json")  # written without GDAL
 PACKAGE = "apt-get install gdal-bin"
 COLUMNS = "WKT,wkt,geom,geometry,the_geom,wkb_geometry"
 PLANE = ('ENGCRS["A plane",EDATUM["Unknown"],CS[Cartesian,2],AXIS["x",unspecified],AXIS["y",unspecified],'
@@ -204,7 +205,7 @@ def coordinates_of(path: pathlib.Path) -> str | None:
 def check_target(path: pathlib.Path) -> None:
     """Refuses a file that cannot be written, before there is anything to write."""
     if path.suffix.lower() not in WRITTEN:
-        raise GdalFault(f"{path}: written are .geojson, {', '.join(WRITTEN)}")
+        raise GdalFault(f"{path}: written are {', '.join((*UNAIDED, *WRITTEN))}")
     if reason := writing.in_hand(path):
         raise GdalFault(f"{path}: {reason}")
     if not shutil.which("ogr2ogr"):

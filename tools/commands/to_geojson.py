@@ -16,7 +16,8 @@ script NAME.*: each with its own properties, its id, its outline whole, also whe
 and with its area, which is called `area_` where the source has an `area`. An outline that crosses or touches itself is
 written as the boundary of its even-odd inside.
 
---output writes the file whole or not at all; a GeoPackage (.gpkg) or a FlatGeobuf (.fgb) where gdal-bin is installed.
+--output writes the file whole or not at all: GeoJSON by the names .geojson and .json, or without an end, a GeoPackage
+(.gpkg) or a FlatGeobuf (.fgb) where gdal-bin is installed; a name with another end is refused.
 Whole numbers are the ids of features in a GeoPackage too; other ids, and those of a FlatGeobuf, are a column `id` of it, or
 `id_` where the source has an `id`. What is read, and NAME.scale.json, NAME.features.json and NAME.names.csv of a store or a
 script, are not written over.
@@ -152,7 +153,8 @@ def put(text: str, scale: scales.Scale, words: argparse.Namespace, output: TextI
 
 
 def is_gdals(path: pathlib.Path) -> bool:
-    return path.suffix.lower() in gdal_files.FORMS
+    """Whether GDAL is to write a file: one whose name does not say GeoJSON, nor nothing."""
+    return path.suffix.lower() not in ("", *gdal_files.UNAIDED)
 
 
 def check_output(words: argparse.Namespace, parser: argparse.ArgumentParser) -> None:

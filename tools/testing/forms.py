@@ -1,6 +1,7 @@
 """Tests of maps of other forms than GeoJSON and Well-Known Text, which GDAL reads and writes where it is installed."""
 
 import contextlib
+import io
 import json
 import os
 import pathlib
@@ -194,10 +195,12 @@ class WithoutGdal(InFolder):
 
     def test_outputs_that_are_refused(self) -> None:
         script = self.file("plan.txt", f"PUT A {SQUARE}\n")
-        for name in ("a.shp", "a.csv", "."):
-            with self.assertRaises(SystemExit) as ended, unittest.mock.patch("sys.stderr"):
+        ends = ": written are .geojson, .json, .gpkg, .fgb"
+        for name, told in (("a.shp", ends), ("a.csv", ends), ("a.xyz", ends), ("a.json.dxf", ends), ("a.geojson.gz", ends),
+                           (".", "is a folder")):
+            with self.assertRaises(SystemExit) as ended, contextlib.redirect_stderr(io.StringIO()) as errors:
                 to_geojson.main([str(script), "--output", name])
-            self.assertEqual(ended.exception.code, 2)
+            self.assertEqual((ended.exception.code, told in errors.getvalue()), (2, True), errors.getvalue())
 
     def test_a_map_of_a_pipe_is_read_from_its_begin(self) -> None:
         text = b"".join(b"POLYGON ((%d 0, %d 0, %d 1, %d 0))" % (at, at + 1, at, at) + b"\n" for at in range(1000))
@@ -223,6 +226,9 @@ class WithoutGdal(InFolder):
         text = outcome(to_geojson, script, "--program", self.model())[1]
         self.assertEqual(outcome(to_geojson, script, "--program", self.model(), "--output", output)[:2], (0, ""))
         self.assertEqual(output.read_text(), text)
+        for name in ("plain", "out.json", "OUT.GeoJSON", ".hidden"):
+            told = outcome(to_geojson, script, "--program", self.model(), "--output", self.folder / name)
+            self.assertEqual((told[:2], (self.folder / name).read_text()), ((0, ""), text))
         told = outcome(to_geojson, script, "--program", self.model(), "--output", self.folder / "absent" / "a.json")
         self.assertEqual((told[0], told[2]), (1, f"{self.folder / 'absent' / 'a.json'}: No such file or directory\n"))
 
