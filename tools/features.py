@@ -37,6 +37,7 @@ from .rounding import Polygon, Ring
 from .writing import write_durably as write_durably
 
 ID = re.compile(r"[A-Za-z0-9_.-]{1,64}")
+DOTS = (".", "..")  # who asks for a path takes these parts out of it first (RFC 3986, section 5.2.4)
 ID_MAX = 2**53
 NESTED_MAX = 64
 TEXTS = {"name": str, "kind": str}
@@ -295,7 +296,7 @@ def feature_of(value: Any) -> Feature:
 
 
 def is_id(given: Any) -> bool:
-    """Whether something can be the id of a feature: a whole number that a double holds, or a short plain word."""
+    """Whether something can be the id of a feature in a file: a whole number that a double holds, or a short plain word."""
     if isinstance(given, int) and not isinstance(given, bool):
         return 0 <= given < ID_MAX
     return isinstance(given, str) and bool(ID.fullmatch(given))
@@ -399,6 +400,8 @@ def why_places(given: Sequence[Any]) -> str | None:
             return "a feature has none"
         if not is_id(one):
             return f"{str(one)[:40]!r} is none, as a whole number below 2^53 is, or a word of letters, digits, _ . and -"
+        if one in DOTS:
+            return f"{one!r} is none, as no address of the web ends with it"
         if counts[str(one)] > 1:
             return f"several features have {one}"
     return None

@@ -99,13 +99,21 @@ class Files(InFolder):
     def test_ids_are_the_sources_where_each_feature_has_one(self) -> None:
         for given, told in ((("a.1", 7), None), ((7, 7), "several features have 7"), ((7, None), "a feature has none"),
                             ((7, "7"), "several features have 7"), ((True, 3), "'True' is none"), ((-1, 3), "'-1' is none"),
-                            ((None, None), None), ((3, "a/b"), "'a/b' is none, as a whole number below 2^53 is, or a word")):
+                            ((None, None), None), ((3, "a/b"), "'a/b' is none, as a whole number below 2^53 is, or a word"),
+                            (("..a", "..."), None), ((3, "."), "'.' is none, as no address of the web ends with it"),
+                            (("..", 3), "'..' is none, as no address of the web ends with it")):
             made = self.file("plan.geojson", collection(*(feature([ring], {}, one) for ring, one in zip((WEST, EAST), given))))
             status, _, errors = outcome(to_script, made, "--factor", 1, "--output", self.folder / "plan.txt", "--coded")
             found = [one.id for one in features.read(self.folder / "plan.features.json").features]
             self.assertEqual((status, found), (0, [1, 2] if told or given[0] is None else [*given]), errors)
             note = "the source's ids are not kept, and features are numbered by their places: "
             self.assertEqual((note in errors, f"{note}{told}" in errors), (bool(told), bool(told)), errors)
+
+    def test_a_file_whose_ids_are_dots_is_still_read(self) -> None:
+        self.table(collection(feature([WEST], {}), feature([EAST], {})))
+        path = self.folder / "plan.features.json"
+        path.write_text(path.read_text().replace('"id": 1,', '"id": ".",').replace('"id": 2,', '"id": "..",'))
+        self.assertEqual([one.id for one in features.read(path).features], [".", ".."])
 
     def test_features_of_one_name_have_one_number_and_stay_apart(self) -> None:
         text = collection(feature([WEST], {"n": 1, "a": 1}), feature([ISLE], {"n": 1, "a": 2}), feature([EAST], {"n": 2}))
