@@ -7,7 +7,7 @@ import re
 import threading
 import traceback
 import urllib.parse
-from collections.abc import Callable, Iterable, Mapping
+from collections.abc import Callable, Iterable, Mapping, Sequence
 from http import HTTPStatus
 from typing import Any, NamedTuple
 
@@ -156,9 +156,7 @@ class Front:
             if route.method == method:
                 self._check(request, route)
                 return self._run(request, route, match.groups())
-        raise Problem(
-            405, f"{request.method} is not for this page", Allow=", ".join(route.method for _, route in fitting)
-        )
+        raise Problem(405, f"{request.method} is not for this page", Allow=allowed(request, fitting))
 
     def _check(self, request: Request, route: Route) -> None:
         """Refuses what another site's page asks, a change where none may be made, and words that the page has not."""
@@ -201,6 +199,13 @@ class Front:
 
     def leaflet_file(self, _: Request, name: str) -> Answer:
         return file_answer(self.leaflet / name, {"Cache-Control": "max-age=86400"})
+
+
+def allowed(request: Request, fitting: Sequence[tuple[re.Match[str], Route]]) -> str:
+    """The methods of a page, as its OPTIONS tells them where it has that; a page that answers GET answers HEAD."""
+    told = (route.answer(request, *match.groups()) for match, route in fitting if route.method == "OPTIONS")
+    methods = ("GET, HEAD" if route.method == "GET" else route.method for _, route in fitting)
+    return next((answer.headers["Allow"] for answer in told), ", ".join(methods))
 
 
 def absent(path: str) -> str:

@@ -23,6 +23,7 @@ from .web_request import GEOJSON, Answer, Problem, Request, json_answer, link
 
 EDITING = ("http://www.opengis.net/spec/ogcapi-features-4/1.0/conf/create-replace-delete",
            "http://www.opengis.net/spec/ogcapi-features-4/1.0/conf/optimistic-locking")
+READING = ("GET", "HEAD", "OPTIONS")
 
 
 class MapItem:
@@ -135,7 +136,7 @@ class MapFeatures(FeaturesApi):
         """What may be done with items, for OPTIONS."""
         own = ("POST",) if identity is None else ("PUT", "DELETE")
         may = own if name == self.maps.name and self.store.writable else ()
-        return Answer(204, GEOJSON, b"", {"Allow": ", ".join(("GET", "HEAD", "OPTIONS", *may))})
+        return Answer(204, GEOJSON, b"", {"Allow": ", ".join((*READING, *may))})
 
     def create(self, request: Request, name: str) -> Answer:
         """A new feature, and where it is."""
@@ -174,7 +175,8 @@ class MapFeatures(FeaturesApi):
 
     def _must_be_map(self, name: str) -> None:
         if name != self.maps.name:
-            raise Problem(405, f"items of {name} are parts of a layer, and not changed one by one", Allow="GET, HEAD")
+            raise Problem(405, f"items of {name} are parts of a layer, and not changed one by one",
+                          Allow=", ".join(READING))
 
     def _must_match(self, request: Request, revision: str) -> None:
         """Refuses (412) a change whose If-Match names another revision than the present one."""

@@ -329,6 +329,9 @@ class Editing(Case):
                              ("/collections/b0/items", "GET, HEAD, OPTIONS")):
             told = self.client.ask(path, "OPTIONS")
             self.assertEqual((told.status, told.headers["Allow"]), (204, wanted))
+            for method in ("PATCH", *(("POST", "PUT") if path == "/collections/b0/items" else ())):
+                refused = self.client.ask(path, method, MAP[0])
+                self.assertEqual((refused.status, refused.headers["Allow"]), (405, wanted), method)
 
     def test_another_sites_page_changes_nothing(self) -> None:
         before = self.items(), self.layer_texts()
@@ -390,7 +393,9 @@ class Reading(Case):
         with opened(self.store, writable=False) as (client, _, _):
             self.assertEqual(client.ask("/collections/plan/items/1", "PUT", MAP[0]).status, 403)
             self.assertEqual(len(client.get("/collections/plan/items")["features"]), 4)
-            self.assertEqual(client.ask("/collections/plan/items", "OPTIONS").headers["Allow"], "GET, HEAD, OPTIONS")
+            for method, status in (("OPTIONS", 204), ("PATCH", 405)):
+                told = client.ask("/collections/plan/items", method)
+                self.assertEqual((told.status, told.headers["Allow"]), (status, "GET, HEAD, OPTIONS"))
         self.assertEqual(features.read(path).pending, pending)
         with opened(self.store) as (client, _, _):
             self.assertIsNone(features.read(path).pending)

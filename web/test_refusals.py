@@ -177,8 +177,9 @@ class Refusals(RefusalCase):
             refused = self.refused(404, f"/collections/{name}", "PUT", {"definition": "A"})
             self.assertEqual("a name is 1 to 32 bytes" in refused.value["description"], told, name)
         for path, method, allowed in (
-            ("/status", "POST", "GET"), ("/collections", "DELETE", "GET"), ("/batch", "GET", "POST"),
-            ("/collections/A", "PATCH", "GET, PUT, DELETE"), ("/", "OPTIONS", "GET"), ("/status", "get", "GET"),
+            ("/status", "POST", "GET, HEAD"), ("/collections", "DELETE", "GET, HEAD"), ("/batch", "GET", "POST"),
+            ("/collections/A", "PATCH", "GET, HEAD, PUT, DELETE"), ("/", "OPTIONS", "GET, HEAD"),
+            ("/status", "get", "GET, HEAD"), ("/collections/A/items", "POST", "GET, HEAD"),
         ):
             self.assertEqual(self.refused(405, path, method).headers["Allow"], allowed)
 
