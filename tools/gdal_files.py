@@ -34,6 +34,7 @@ MAGIC = {
 # How texts begin that need no GDAL, whatever the file is called.
 OWN = re.compile(rb"(?:\xef\xbb\xbf)?[\s\x1e]*"
                  rb"(?:\{|SRID=|[A-Z]*(?:POINT|LINESTRING|POLYGON|COLLECTION)[ A-Z]*\()", re.I)
+GZIP = b"\x1f\x8b"
 BEGIN = 4096
 WRITTEN = {".gpkg": "GPKG", ".fgb": "FlatGeobuf"}
 UNAIDED = (".geojson", ".json")  # written without GDAL
@@ -51,10 +52,17 @@ class GdalFault(ValueError):
 def form_of(path: pathlib.Path, begin: bytes) -> str | None:
     """What a file is where GDAL is to read it, by how it begins, and by its name alone where that says nothing; None of
     GeoJSON and Well-Known Text."""
+    check_unpacked(begin)
     if OWN.match(begin):
         return None
     by_begin = next((form for magic, form in MAGIC.items() if begin.startswith(magic)), None)
     return by_begin or (TABLE if is_table(begin) else FORMS.get(path.suffix.lower()))
+
+
+def check_unpacked(begin: bytes) -> None:
+    """Refuses what gzip has made, by how it begins: a map within it is not looked for."""
+    if begin.startswith(GZIP):
+        raise GdalFault("it is compressed by gzip: unpack it first (gunzip)")
 
 
 def is_table(begin: bytes) -> bool:

@@ -204,4 +204,6 @@ def content(name: str, layer: str | None = None) -> bytes:
         raise gdal_files.GdalFault("GeoJSON and Well-Known Text have no layers; --source-layer is for other files")
     if form:
         return gdal_files.as_geojson(path, layer).encode()
-    return path.read_bytes() if given is None else given
+    data = path.read_bytes() if given is None else given
+    gdal_files.check_unpacked(data)  # a pipe shows its begin only here
+    return data

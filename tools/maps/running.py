@@ -49,7 +49,7 @@ def form_of(path: str) -> str | None:
         raise MapFault("a map is named by a word without a letter; say a file")
     try:
         return gdal_files.form_of(pathlib.Path(path), gdal_files.begin_of(pathlib.Path(path)))
-    except OSError as fault:
+    except (OSError, gdal_files.GdalFault) as fault:
         raise MapFault(ending.told(path, fault)) from fault
 
 

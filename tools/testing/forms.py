@@ -1,10 +1,12 @@
 """Tests of maps of other forms than GeoJSON and Well-Known Text, which GDAL reads and writes where it is installed."""
 
 import contextlib
+import gzip
 import io
 import json
 import os
 import pathlib
+import re
 import shutil
 import sqlite3
 import subprocess
@@ -13,6 +15,8 @@ from fractions import Fraction
 
 from .. import gdal_files, map_reading, writing
 from ..commands import to_geojson, to_script
+from ..maps import geojson_maps, running
+from ..maps.whole_maps import MapFault
 from .common import SECONDS, SQUARE, InFolder, on_file, outcome
 from .maps import COUNTIES, area_of_script
 
@@ -202,13 +206,17 @@ class WithoutGdal(InFolder):
                 to_geojson.main([str(script), "--output", name])
             self.assertEqual((ended.exception.code, told in errors.getvalue()), (2, True), errors.getvalue())
 
-    def test_a_map_of_a_pipe_is_read_from_its_begin(self) -> None:
-        text = b"".join(b"POLYGON ((%d 0, %d 0, %d 1, %d 0))" % (at, at + 1, at, at) + b"\n" for at in range(1000))
+    def piped(self, data: bytes) -> str:
+        """The name of a pipe with these bytes in it."""
         end, begin = os.pipe()
         self.addCleanup(os.close, end)
         with os.fdopen(begin, "wb") as given:
-            given.write(text)
-        status, _, errors = outcome(to_script, f"/dev/fd/{end}", "--split", "--output", self.folder / "piped.txt")
+            given.write(data)
+        return f"/dev/fd/{end}"
+
+    def test_a_map_of_a_pipe_is_read_from_its_begin(self) -> None:
+        text = b"".join(b"POLYGON ((%d 0, %d 0, %d 1, %d 0))" % (at, at + 1, at, at) + b"\n" for at in range(1000))
+        status, _, errors = outcome(to_script, self.piped(text), "--split", "--output", self.folder / "piped.txt")
         self.assertEqual((status, "polygons 1000," in errors), (0, True), errors)
 
     def test_a_geopackage_that_a_program_has_in_hand_is_not_replaced(self) -> None:
@@ -236,6 +244,22 @@ class WithoutGdal(InFolder):
         for name, text in (("a.csv", SQUARE), ("b.csv", f" \nSRID=4326;{SQUARE.lower()}"), ("c.gml", "\ufeff" + FIRST),
                            ("d.zip", "MULTIPOLYGON Z (((0 0 1, 9 0 1, 0 9 1, 0 0 1)))")):
             self.assertEqual(outcome(to_script, self.file(name, text), "--factor", 2)[0], 0, name)
+
+    def test_what_gzip_compressed_is_called_so_whatever_its_name(self) -> None:
+        told = "it is compressed by gzip: unpack it first (gunzip)"
+        for name, text in (("a.geojson.gz", FIRST), ("b.json", SECOND), ("c.gpkg", "SQLite format 3"), ("d.wkt.gz", SQUARE)):
+            file = self.file(name, gzip.compress(text.encode()))
+            for words in ((), ("--source-layer", "one")):
+                self.assertEqual(outcome(to_script, file, *words), (2, "", f"{file}: not read: {told}\n"))
+            with self.assertRaisesRegex(MapFault, f"{name}: {re.escape(told)}$"):
+                running.form_of(str(file))
+        with unittest.mock.patch("sys.stdin") as given:
+            given.buffer.read.return_value = gzip.compress(FIRST.encode())
+            self.assertEqual(outcome(to_script, "-"), (2, "", f"-: not read: {told}\n"))
+        pipe = self.piped(gzip.compress(FIRST.encode()))
+        self.assertEqual(outcome(to_script, pipe), (2, "", f"{pipe}: not read: {told}\n"))
+        with self.assertRaisesRegex(MapFault, re.escape(told)):
+            geojson_maps.read(self.piped(gzip.compress(FIRST.encode())), Fraction(1), None, False)
 
     def test_sequences_of_features(self) -> None:
         whole = f'{{"type": "FeatureCollection", "features": [{FIRST}, {SECOND}]}}'
