@@ -38,6 +38,7 @@ from collections.abc import Iterable, Mapping
 from typing import TextIO
 
 from . import asking, ending, scale as scales, sessions
+from .parsing import Parser
 from .commands import to_script
 from .describing import Described
 
@@ -57,7 +58,7 @@ class Unmade(Exception):
 
 
 def words_of(arguments: list[str]) -> argparse.Namespace:
-    parser = argparse.ArgumentParser(description=__doc__, formatter_class=argparse.RawDescriptionHelpFormatter)
+    parser = Parser(description=__doc__, formatter_class=argparse.RawDescriptionHelpFormatter)
     parser.add_argument("map", metavar="MAP", type=pathlib.Path, help="GeoJSON, Well-Known Text, or what GDAL reads")
     parser.add_argument("--with", metavar="MAP", dest="others", type=pathlib.Path, action="append", default=[],
                         help="a further map on the same scale; may be given several times")

@@ -27,14 +27,16 @@ from .stressing import asked
 
 
 def started(*words: str | pathlib.Path) -> subprocess.Popen[str]:
-    """A front with a free port. Waitress is hidden from it, as the tests need no package; an interrupt reaches it as from
-    a terminal, also where the tests run behind a shell that ignores interrupts."""
+    """A front, with a free port unless words name one. Waitress is hidden from it, as the tests need no package; an interrupt
+    reaches it as from a terminal, also where the tests run behind a shell that ignores interrupts."""
     code = (
         "import signal, sys; signal.signal(signal.SIGINT, signal.default_int_handler); "
         "sys.modules['waitress'] = None; sys.argv[0] = 'overlay_web.py'; "
         "from web.commands import overlay_web; sys.exit(overlay_web.main(sys.argv[1:]))"
     )
-    given = [sys.executable, "-c", code, "--program", testing.PROGRAM, "--port", "0", *map(str, words)]
+    usual = {"--program": testing.PROGRAM, "--port": "0"}
+    missing = [word for option, value in usual.items() if option not in words for word in (option, value)]
+    given = [sys.executable, "-c", code, *missing, *map(str, words)]
     return subprocess.Popen(given, cwd=testing.TOP, stdout=subprocess.PIPE, stderr=subprocess.PIPE, text=True, start_new_session=True)
 
 

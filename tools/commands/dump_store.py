@@ -21,6 +21,7 @@ from dataclasses import replace
 from typing import TextIO
 
 from .. import asking, ending, features, keeping, scale as scales, sessions, writing
+from ..parsing import Parser
 
 
 def lines(program: str, store: pathlib.Path) -> list[str]:
@@ -74,7 +75,7 @@ def is_one_of(path: pathlib.Path, others: list[pathlib.Path]) -> bool:
 
 
 def main(arguments: list[str], output: TextIO | None = None, errors: TextIO | None = None) -> int:
-    parser = argparse.ArgumentParser(description=__doc__, formatter_class=argparse.RawDescriptionHelpFormatter)
+    parser = Parser(description=__doc__, formatter_class=argparse.RawDescriptionHelpFormatter)
     parser.add_argument("store", metavar="STORE", type=pathlib.Path, help="the store's file")
     parser.add_argument("--output", metavar="NAME.txt", type=pathlib.Path,
                         help="in the place of standard output, with the scale and the features beside it")

@@ -33,11 +33,12 @@ from ..maps import doing, map_checks, overlays, questions, running, work
 from ..maps.engines import TasksLeft
 from ..maps.rounds import ProgramEnded, ProgramRefused
 from ..maps.whole_maps import MapFault
+from ..parsing import Parser
 from ..sessions import Unusable
 
 
 def parser_of() -> argparse.ArgumentParser:
-    parser = argparse.ArgumentParser(description=__doc__, formatter_class=argparse.RawDescriptionHelpFormatter)
+    parser = Parser(description=__doc__, formatter_class=argparse.RawDescriptionHelpFormatter)
     questions_of = parser.add_subparsers(dest="question", required=True, metavar="QUESTION")
     for name, text in (("pairs", "which features of two maps overlap or touch, and by how much"),
                        ("overlay", "all pieces of two maps, common ones and those of one map alone"),

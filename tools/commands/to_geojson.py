@@ -37,6 +37,7 @@ from .. import areas, asking, ending, feature_texts, gdal_files, keeping, progre
 from ..areas import Ring
 from ..asking import Map
 from ..features import FeaturesFault, beside, held_rings, read, resolved
+from ..parsing import Parser
 from . import to_rings
 
 
@@ -92,7 +93,7 @@ def text_of(found: Map, words: argparse.Namespace) -> str:
 
 
 def parser_of() -> argparse.ArgumentParser:
-    parser = argparse.ArgumentParser(description=__doc__, formatter_class=argparse.RawDescriptionHelpFormatter)
+    parser = Parser(description=__doc__, formatter_class=argparse.RawDescriptionHelpFormatter)
     asking.add_words(parser, many=True)
     parser.add_argument("--top", action="store_true", help="only layers that no definition names")
     form = parser.add_mutually_exclusive_group()

@@ -31,6 +31,7 @@ from typing import Any, TextIO
 from .. import areas, asking, sessions, wkt
 from ..areas import Ring
 from ..asking import Map
+from ..parsing import Parser
 from ..scale import Scale, decimals, spelled_exactly
 from ..sessions import Corner, Piece, Session
 from ..sweeping import Boundary, grouped, swept, turn, uncollected
@@ -227,7 +228,7 @@ def text_lines(polygons: list[list[Ring]], found: Map, _words: argparse.Namespac
 
 
 def parser_of() -> argparse.ArgumentParser:
-    parser = argparse.ArgumentParser(description=__doc__, formatter_class=argparse.RawDescriptionHelpFormatter)
+    parser = Parser(description=__doc__, formatter_class=argparse.RawDescriptionHelpFormatter)
     asking.add_words(parser)
     parser.add_argument("--exact", action="store_true",
                         help="fractions in place of Well-Known Text; with --areas each of them, however long")

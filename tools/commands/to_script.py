@@ -56,6 +56,7 @@ from .. import (
 from ..describing import Described, counted
 from ..layering import Group, Layout, Store
 from ..map_reading import Refused, Shape
+from ..parsing import Parser
 from ..scale import Scale
 
 
@@ -445,7 +446,7 @@ def told_area(area: Fraction) -> str:
 
 
 def words_of(arguments: list[str]) -> argparse.Namespace:
-    parser = argparse.ArgumentParser(description=__doc__, formatter_class=argparse.RawDescriptionHelpFormatter)
+    parser = Parser(description=__doc__, formatter_class=argparse.RawDescriptionHelpFormatter)
     parser.add_argument("files", metavar="FILE", nargs="+",
                         help="GeoJSON or Well-Known Text; where gdal-bin is installed a GeoPackage, a Shapefile, a "
                         "FlatGeobuf, GML, or CSV with Well-Known Text too; - is standard input")

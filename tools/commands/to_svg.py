@@ -22,6 +22,7 @@ from typing import Any, TextIO
 from .. import asking, limits, scale as scales, sessions
 from ..areas import Ring
 from ..asking import Map
+from ..parsing import Parser
 from ..sessions import Corner, Grid, Piece, Session
 from . import to_rings
 
@@ -203,7 +204,7 @@ def grid_for(session: Session, count: int) -> tuple[int, ...] | None:
 
 
 def parser_of() -> argparse.ArgumentParser:
-    parser = argparse.ArgumentParser(description=__doc__, formatter_class=argparse.RawDescriptionHelpFormatter)
+    parser = Parser(description=__doc__, formatter_class=argparse.RawDescriptionHelpFormatter)
     asking.add_words(parser)
     parser.add_argument("--grid", type=int, metavar="N",
                         help=f"ask for a GRID of about N points across (1 to {limits.GRID_MAX}), and draw it")

@@ -33,6 +33,7 @@ from typing import TextIO
 
 from .. import asking, ending, features, limits, scale as scales, sessions
 from ..features import FeaturesFault, Outline, Table
+from ..parsing import Parser
 from ..scale import Scale
 from ..sessions import Corner, Session, Unusable
 
@@ -239,7 +240,7 @@ def texts(points: list[Point], corners: list[Corner | None], answers: Iterator[A
 
 
 def parser_of() -> argparse.ArgumentParser:
-    parser = argparse.ArgumentParser(description=__doc__, formatter_class=argparse.RawDescriptionHelpFormatter)
+    parser = Parser(description=__doc__, formatter_class=argparse.RawDescriptionHelpFormatter)
     parser.add_argument("numbers", metavar="X Y", nargs="*", help="a point")
     parser.add_argument("--store", metavar="FILE", type=pathlib.Path, action="append", required=True,
                         help="a store; it is not changed")

@@ -9,6 +9,7 @@ import sys
 import tempfile
 import unittest
 
+from ..parsing import Parser
 from .common import COMMANDS, SECONDS, TOOLS, TOP
 
 
@@ -21,6 +22,28 @@ class Helps(unittest.TestCase):
             self.assertEqual((done.returncode, done.stderr), (0, ""), file.name)
             self.assertTrue(done.stdout.startswith("usage: "), file.name)
             self.assertGreater(len(done.stdout.split()), 20, file.name)
+
+    def test_an_option_of_one_value_that_is_given_twice_is_refused(self) -> None:
+        for name, *words in (
+            ("overlay", "m.json", "--folder"), ("tools/dump_store.py", "m.db", "--output"),
+            ("tools/overlay_maps.py", "pairs", "a.json", "b.json", "--factor"), ("tools/overlay_maps.py", "task", "--program"),
+            ("tools/to_geojson.py", "--store"), ("tools/to_rings.py", "--scale"), ("tools/to_script.py", "m.json", "--factor"),
+            ("tools/to_svg.py", "--store"), ("tools/which.py", "--scale"), ("web/overlay_web.py", "--store"),
+        ):
+            done = subprocess.run([sys.executable, TOP / name, *words, "1", *words[-1:], "1"], capture_output=True, text=True,
+                                  check=False, timeout=SECONDS)
+            told = f" error: argument {words[-1]}: given twice\n"
+            self.assertEqual((done.returncode, done.stdout, done.stderr.endswith(told)), (2, "", True), done.stderr)
+
+    def test_what_may_be_given_several_times_is_taken_so(self) -> None:
+        parser = Parser()
+        parser.add_argument("--name", action="append")
+        parser.add_argument("--origin", nargs=2)
+        parser.add_argument("--exact", action="store_true")
+        parser.add_argument("files", nargs="*")
+        given = ["a", "--name", "b", "--name", "b", "--exact", "--exact", "--origin", "1", "1"]
+        for _ in range(2):  # what is parsed anew is given anew
+            self.assertEqual(vars(parser.parse_args(given)), {"name": ["b", "b"], "origin": ["1", "1"], "exact": True, "files": ["a"]})
 
     def test_each_file_is_told_once(self) -> None:
         page = (TOOLS / "README.md").read_text()

@@ -30,6 +30,7 @@ from collections.abc import Iterator, Sequence
 
 from tools import asking, ending as endings, features, scale as scales, sessions
 from tools.overlay_client import MOST_SESSIONS, Ended, Refused, Server
+from tools.parsing import Parser
 from ..feature_store import FeatureStore, Unlike
 from ..front import LEAFLET, LOOPBACK, Front
 from ..layer_store import JOINING, LayerStore, number_in_file
@@ -59,7 +60,7 @@ def is_address(text: str) -> bool:
 
 
 def words_of(arguments: Sequence[str]) -> argparse.Namespace:
-    parser = argparse.ArgumentParser(description=__doc__, formatter_class=argparse.RawDescriptionHelpFormatter)
+    parser = Parser(description=__doc__, formatter_class=argparse.RawDescriptionHelpFormatter)
     parser.add_argument(
         "--store", metavar="FILE", type=pathlib.Path, help="the store; without it all is lost at the end"
     )
