@@ -78,7 +78,9 @@ class MapApi:
         x, y = *request.numbers("x", 1), *request.numbers("y", 1)
         question = self.scale.scale.question(x, y)
         if max(abs(question[0]), abs(question[1])) > limits.COORDINATE_MAX * question[2]:
-            raise Refused(OUT_OF_RANGE, "point out of range: it is out of the plane")
+            system = self.systems.storage or self.scale.scale.crs
+            told = f"; x and y, in this order, are those of {system}" if system else ""
+            raise Refused(OUT_OF_RANGE, f"point out of range: it is out of the plane{told}")
         point = self.scale.scale.world(question)
         return question, {"asked": question, "point": [self.scale.number(n) for n in point], "exact": point == (x, y)}
 

@@ -100,6 +100,13 @@ class Projected(Case):
             self.assertEqual((told.status, told.value["description"]), (
                 400, f"bbox: it is in degrees where bbox-crs names nothing else, as {OWN}"))
 
+    def test_a_point_is_of_the_stores_own_system_and_one_out_of_the_plane_is_told_so(self) -> None:
+        self.assertEqual(self.client.get("/locate?x=33&y=3")["point"], [33, 3])
+        for page in ("/locate", "/collections/plan/locate"):
+            told = self.client.ask(f"{page}?x=139.7&y=3e7")
+            self.assertEqual((told.status, told.value["code"], told.value["description"]), (
+                400, "20", f"error 20 point out of range: it is out of the plane; x and y, in this order, are those of {OWN}"))
+
     def test_what_is_put_is_in_the_system_that_is_said(self) -> None:
         body = feature("Polygon", [degrees(MOVED)], {"name": "East"})
         told = self.client.ask("/collections/plan/items/2", "PUT", body)
@@ -146,6 +153,15 @@ class Unchanged(FrontCase):
         self.assertEqual(self.client.get("/conformance"), {"conformsTo": []})
         told = self.client.ask(f"/collections/A/items?crs={CRS84}")
         self.assertEqual((told.status, "nothing is transformed" in told.value["description"]), (400, True))
+
+
+class OfAnotherAuthority(FrontCase):
+    lines = ("PUT A POLYGON ((0 0, 4 0, 4 2, 0 0))",)
+    scale = {"factor": 1, "crs": "ESRI:102003"}
+
+    def test_a_point_out_of_the_plane_is_told_the_system(self) -> None:
+        told = self.client.ask("/locate?x=3e7&y=0")
+        self.assertTrue(told.value["description"].endswith("are those of ESRI:102003"), told.value)
 
 
 class ByPyproj(unittest.TestCase):
