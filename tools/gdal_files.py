@@ -14,7 +14,7 @@ import shutil
 import subprocess
 import tempfile
 from collections.abc import Container, Iterator
-from typing import NamedTuple
+from typing import Any, NamedTuple
 
 from . import ending, scale as scales, writing
 
@@ -221,13 +221,28 @@ def check_target(path: pathlib.Path) -> None:
         raise missing(f"{path}: {FORMS[path.suffix.lower()]}", line)
 
 
-def with_ids(path: pathlib.Path, geojson: str) -> tuple[str, list[str]]:
-    """A collection, and words for ogr2ogr, so that the file has the ids and all properties of its features: a GeoPackage
-    has whole numbers as its own ids; other ids, and those of a FlatGeobuf, are a property more."""
-    value = json.loads(geojson)
-    found = value["features"]
+def told_apart(found: list[Any]) -> dict[str, str]:
+    """Calls properties of features otherwise whose names differ from others in case alone, which no columns of GDAL do; gives
+    what they are called then."""
+    names = dict.fromkeys(name for one in found for name in one["properties"])
+    taken, seen, renamed = {name.casefold() for name in names}, set[bytes](), dict[str, str]()
+    for name in names:
+        key = name.encode("utf-8", "surrogatepass").lower()  # of bytes it is the case of ASCII, as GDAL goes by
+        if key in seen:
+            renamed[name] = free_name(name, taken)
+            taken.add(renamed[name].casefold())
+        seen.add(key)
+    if renamed:
+        for one in found:
+            one["properties"] = {renamed.get(name, name): value for name, value in one["properties"].items()}
+    return renamed
+
+
+def with_ids(path: pathlib.Path, found: list[Any]) -> list[str]:
+    """Makes features of a collection, and gives words for ogr2ogr, so that the file has the ids and all properties of theirs:
+    a GeoPackage has whole numbers as its own ids; other ids, and those of a FlatGeobuf, are a property more."""
     if not found or not all("id" in one for one in found):
-        return geojson, []
+        return []
     taken = {name.casefold() for one in found for name in one["properties"]}
     is_package, whole = path.suffix.lower() == ".gpkg", all(isinstance(one["id"], int) for one in found)
     if not is_package or not whole:
@@ -236,23 +251,27 @@ def with_ids(path: pathlib.Path, geojson: str) -> tuple[str, list[str]]:
             kept = one["id"] if whole else str(one["id"])
             one["id"], one["properties"] = place, {name: kept, **one["properties"]}
     words = ["-preserve_fid", "-lco", f"FID={free_name('fid', taken)}", "-lco", f"GEOMETRY_NAME={free_name('geom', taken)}"]
-    return json.dumps(value), words if is_package else []
+    return words if is_package else []
 
 
 def free_name(name: str, taken: Container[str]) -> str:
-    """The name of a further column, with so many `_` after it that no property has it."""
-    while name in taken:
+    """The name of a further column, with so many `_` after it that no property has it, in whatever case."""
+    while name.casefold() in taken:
         name += "_"
     return name
 
 
-def write(path: pathlib.Path, geojson: str, has_crs: bool) -> None:
-    """Makes a file of GeoJSON, whole or not at all; without a coordinate system it is of a plane."""
+def write(path: pathlib.Path, geojson: str, has_crs: bool) -> dict[str, str]:
+    """Makes a file of GeoJSON, whole or not at all; without a coordinate system it is of a plane. Gives the columns that are
+    not called as the property is."""
     check_target(path)
-    text, own = with_ids(path, geojson)
+    value = json.loads(geojson)
+    renamed = told_apart(value["features"])
+    own = with_ids(path, value["features"])
     words = [str(shutil.which("ogr2ogr")), "-f", WRITTEN[path.suffix.lower()], "-nln", path.stem, *own]
     words += [] if has_crs else ["-a_srs", PLANE]
     with tempfile.TemporaryDirectory() as folder:
         made = pathlib.Path(folder, path.name)
-        ran([*words, str(made), "/vsistdin/"], text.encode())
+        ran([*words, str(made), "/vsistdin/"], json.dumps(value).encode())
         writing.write_all({path: made.read_bytes()})
+    return renamed

@@ -19,8 +19,9 @@ written as the boundary of its even-odd inside.
 --output writes the file whole or not at all: GeoJSON by the names .geojson and .json, or without an end, a GeoPackage
 (.gpkg) or a FlatGeobuf (.fgb) where gdal-bin is installed; a name with another end is refused.
 Whole numbers are the ids of features in a GeoPackage too; other ids, and those of a FlatGeobuf, are a column `id` of it, or
-`id_` where the source has an `id`. What is read, and NAME.scale.json, NAME.features.json and NAME.names.csv of a store or a
-script, are not written over.
+`id_` where the source has an `id`. A property whose name differs from another one's in case alone, as no two columns do, is
+a column with `_` after its name, and a line on standard error says so. What is read, and NAME.scale.json, NAME.features.json
+and NAME.names.csv of a store or a script, are not written over.
 
 Status 0: all layers or features are written; 1: a line of the script was refused (each is reported), a layer has no rings
 to give, or the output cannot be written; 2: a word is refused.
@@ -129,20 +130,21 @@ def feature_collection(words: argparse.Namespace, parser: argparse.ArgumentParse
             f'{crs_member(scale.crs)}"features": [\n{body}\n]}}\n'), scale
 
 
-def write(found: Map, words: argparse.Namespace, output: TextIO, _errors: TextIO) -> int:
+def write(found: Map, words: argparse.Namespace, output: TextIO, errors: TextIO) -> int:
     if words.top:
         found.layers = [name for name in found.layers if name in found.session.unnamed()]
-    put(text_of(found, words), found.scale, words, output)
+    put(text_of(found, words), found.scale, words, output, errors)
     return 0
 
 
-def put(text: str, scale: scales.Scale, words: argparse.Namespace, output: TextIO) -> None:
-    """Writes the collection to where it goes."""
+def put(text: str, scale: scales.Scale, words: argparse.Namespace, output: TextIO, errors: TextIO) -> None:
+    """Writes the collection to where it goes, and tells what is called otherwise there."""
     try:
         if words.output is None:
             output.write(text)
         elif is_gdals(words.output):
-            gdal_files.write(words.output, text, scale.crs is not None)
+            for name, column in gdal_files.write(words.output, text, scale.crs is not None).items():
+                print(f"{words.output}: the property {name} is its column {column}, as another differs in case alone", file=errors)
         else:
             writing.write_all({words.output: text.encode()})
     except gdal_files.GdalFault as fault:
@@ -189,7 +191,7 @@ def main(arguments: list[str], output: TextIO | None = None, errors: TextIO | No
         return asking.run(parser, arguments, write, output, errors, many=True)
     try:
         text, scale = feature_collection(words, parser, errors or sys.stderr)
-        put(text, scale, words, output or sys.stdout)
+        put(text, scale, words, output or sys.stdout, errors or sys.stderr)
     except sessions.Unusable as fault:
         print(fault, file=errors or sys.stderr)
         return 1

@@ -154,6 +154,8 @@ class FilesOfGdal(WithGdal):
             ({"Z-2": {"id": 5}, 1: {"id": 6}}, ".gpkg", ["fid 1 id_ Z-2 id 5", "fid 2 id_ 1 id 6"]),
             ({7: {"n": "a"}, 3: {"n": "b"}}, ".fgb", ["id 3 n b", "id 7 n a"]),
             ({"w": {"ID": "a"}}, ".fgb", ["id_ w ID a"]),
+            ({1: {"n": 5, "N": 6, "n_": 7, "Ä": 8, "ä": 9}}, ".gpkg", ["fid 1 n 5 N__ 6 n_ 7 Ä 8 ä 9"]),
+            ({1: {"n": 5}, 2: {"N": 6, "id": 3}}, ".fgb", ["id_ 1 n 5", "id_ 2 N_ 6 id 3"]),
         ]
         for given, form, wanted in cases:
             file = self.folder / f"ids{form}"
@@ -161,6 +163,18 @@ class FilesOfGdal(WithGdal):
             gdal_files.write(file, json.dumps({"type": "FeatureCollection", "features": found}), True)
             with self.subTest(wanted):
                 self.assertEqual(sorted(self.rows_of(file)), wanted)
+
+    def test_a_column_that_is_not_called_as_its_property_is_told(self) -> None:
+        plan = self.file("plan.geojson", FIRST.replace('"n": "a"', '"n": "a", "N": "b", "m": 1, "M": 2'))
+        script = self.folder / "plan.txt"
+        self.assertEqual(outcome(to_script, plan, "--factor", 2, "--output", script)[0], 0)
+        for name in ("out.gpkg", "out.fgb"):
+            file = self.folder / name
+            words = [script, "--program", self.model(), "--features", "--output", file]
+            with contextlib.redirect_stderr(io.StringIO()) as errors:
+                self.assertEqual(to_geojson.main([str(word) for word in words]), 0)
+            told = [f"{file}: the property {name} is its column {name}_, as another differs in case alone" for name in "NM"]
+            self.assertEqual(errors.getvalue().splitlines()[1:], told)
 
     def rows_of(self, file: pathlib.Path) -> list[str]:
         """The columns of each feature that have a value, geometry left out; of a GeoPackage its own ids among them."""
