@@ -138,7 +138,7 @@ def write(found: Map, words: argparse.Namespace, output: TextIO, errors: TextIO)
 
 
 def put(text: str, scale: scales.Scale, words: argparse.Namespace, output: TextIO, errors: TextIO) -> None:
-    """Writes the collection to where it goes, and tells what is called otherwise there."""
+    """Writes the collection to where it goes, and says which properties have another name there."""
     try:
         if words.output is None:
             output.write(text)
