@@ -1,30 +1,53 @@
-"""Edits of a crate's texts: wrong bodies, in must-fail/ and wrong-bodies/, and what stands beside them under their names,
-which must not be refused: controls, in controls/, and refutations, in refutations/.
+"""Edits of a crate's texts: wrong bodies, which the prover has to refuse, and what stands beside them, which it must not.
 
-A control changes the same function as its wrong body, and leaves what it means as it was, in a shape like that of the
-wrong body: one that falls at a proof that was written for the text as it is may fall by its shape alone, and its control
-shows it. A refutation has all the pairs of its wrong body, and changes the clause at which that one falls into what it
-does instead, which contradicts the clause: the wrong body is proved to be wrong. An edit names a file of its crate, and
-pairs of lines: the old one stands once in what the earlier pairs have made.
+Those of must-fail/ the gate tries; each is a file there, NAME.edit, in the form of `rt must-fail`. The others stand in the
+crate's file wrong-bodies.edits, and so does what stands beside any wrong body. An empty line ends each of its entries:
 
-The file TRIED of wrong-bodies/ has the commit at which the edits of that folder were tried last, all of them.
+    tried 0d5e..                        the digest of what was tried last, all wrong bodies of this file (`digest`)
+
+    == fraction_cut_off                 a wrong body: its name, and its pairs of lines
+    src/number.rt                       a file of the crate
+    -     if !are_zeros(fraction) {     a line that stands once in what the earlier pairs have made
+    +     if !are_zeros(&[]) {          the line in its place; `+` alone takes it away
+    control                             another edit: the same function, changed so that it means what it meant
+    src/number.rt
+    -     if !are_zeros(fraction) {
+    +     let digits = fraction; if !are_zeros(digits) {
+    refutation                          the wrong body again, with these pairs after its own
+    src/number.rt
+    -         ensures { result ≡ value_of digits }
+    +         ensures { result ≡ 0 }
+
+    beside must-fail/job_dropped.edit   what stands beside a wrong body of must-fail/: a control, a refutation, or both
+    control
+    ..
+
+A control leaves what its function means as it was, in a shape like that of the wrong body: one that falls at a proof that
+was written for the text as it is may fall by its shape alone, and its control shows it. A refutation changes the clause at
+which its wrong body falls into what that does instead, which contradicts the clause: the wrong body is proved to be wrong.
 """
 
 from __future__ import annotations
 
 import dataclasses
+import hashlib
+import json
 import os
 import pathlib
 import re
-import subprocess
+from typing import NamedTuple
 
-TIERS = ("must-fail", "wrong-bodies")
-CONTROLS, REFUTATIONS = "controls", "refutations"
-BESIDE = (CONTROLS, REFUTATIONS)
-TRIED = "TRIED"
+MUST_FAIL, WRONG_BODIES = TIERS = ("must-fail", "wrong-bodies")
+CONTROL, REFUTATION = BESIDE = ("control", "refutation")
+FILE = "wrong-bodies.edits"
 PARTS = ("src", "specs", "proofs")
-NAME = re.compile(r"[A-Za-z0-9_-][A-Za-z0-9_.-]*\.edit")
-COMMIT = re.compile(r"[0-9a-f]{40}")
+NAME = r"[A-Za-z0-9_-][A-Za-z0-9_.-]*"
+PAIRS = rf"(?:(?:{'|'.join(PARTS)})/\S+\n(?:- .+\n\+(?: .+)?\n)+)+"
+ENTRY = re.compile(
+    rf"(?:== (?P<name>{NAME})\n(?P<body>{PAIRS})|beside must-fail/(?P<gate>{NAME})\.edit\n(?!\Z))"
+    rf"(?:control\n(?P<control>{PAIRS}))?(?:refutation\n(?P<refutation>{PAIRS}))?"
+)
+DIGEST = re.compile(r"tried (?P<digest>[0-9a-f]{64})")
 # The wrong bodies that were asked for, as the last words of an edit's name.
 ASKED = (
     "expression_ignored", "doubled_edge_kept_twice", "overlap_dropped_before_its_parity", "crossing_rounded",
@@ -43,8 +66,11 @@ class Misfit(Exception):
     """An edit that does not fit the sources."""
 
 
-@dataclasses.dataclass(frozen=True)
-class Pair:
+class Misread(SystemExit):
+    """An entry that is none of the form."""
+
+
+class Pair(NamedTuple):
     """A line of a file that stands once, and the one in its place."""
 
     path: str
@@ -63,7 +89,7 @@ class Pair:
 
 @dataclasses.dataclass(frozen=True)
 class Edit:
-    """A wrong body, or what stands beside one, in a folder of its own: its crate, its name, and its pairs of lines."""
+    """A wrong body, or what stands beside one, as a control or a refutation: its crate, its name, and its pairs of lines."""
 
     crate: str
     name: str
@@ -85,6 +111,14 @@ class Edit:
         return texts
 
 
+class Entry(NamedTuple):
+    """What a crate's file has under a name: the pairs of the wrong body, none where must-fail/ has it, and those beside it."""
+
+    name: str
+    body: tuple[Pair, ...]
+    beside: dict[str, tuple[Pair, ...]]
+
+
 def read_edit(file: pathlib.Path) -> Edit:
     """Reads an edit, as `rt must-fail` does; a line that has none in its place makes a pair that fits nowhere."""
     pairs: list[Pair] = []
@@ -99,34 +133,79 @@ def read_edit(file: pathlib.Path) -> Edit:
             old = ""
     if old:
         pairs.append(Pair("", old, ""))
-    folder = file.parent.name
-    return Edit(file.parent.parent.name, file.stem, tuple(pairs), folder if folder in BESIDE else "")
+    return Edit(file.parent.parent.name, file.stem, tuple(pairs))
+
+
+def pairs_of(said: str | None) -> tuple[Pair, ...]:
+    """The pairs of lines of a part of an entry."""
+    pairs: list[Pair] = []
+    path = old = ""
+    for line in (said or "").removesuffix("\n").split("\n"):
+        if line.startswith("- "):
+            old = line[2:]
+        elif line.startswith("+"):
+            pairs.append(Pair(path, old, line[2:]))
+        else:
+            path = line
+    return tuple(pairs)
+
+
+def read(home: pathlib.Path) -> tuple[str, list[Entry]]:
+    """What the file of a crate has: the digest of what was tried last, if there is one, and the entries in their order."""
+    file = home / FILE
+    if not file.exists():
+        return "", []
+    head, *rest = blocks = file.read_text().removesuffix("\n").split("\n\n")
+    tried = DIGEST.fullmatch(head)
+    entries: list[Entry] = []
+    for block in rest if tried else blocks:
+        found = ENTRY.fullmatch(f"{block}\n")
+        if not found:
+            raise Misread(f"{file}: an entry that is none of the form: {block.lstrip().partition(chr(10))[0]}")
+        beside = {kind: pairs_of(found[kind]) for kind in BESIDE if found[kind]}
+        entries.append(Entry(found["name"] or found["gate"], pairs_of(found["body"]), beside))
+    return tried["digest"] if tried else "", entries
 
 
 def edits(top: pathlib.Path, names: list[str], tiers: tuple[str, ...]) -> list[Edit]:
-    """The edits of some crates, in the order of their names."""
-    files = [file for name in names for tier in tiers for file in sorted((top / "crates" / name / tier).glob("*.edit"))]
-    return [read_edit(file) for file in files]
+    """The wrong bodies of some crates, those of must-fail/ first."""
+    found: list[Edit] = []
+    for name in names:
+        home = top / "crates" / name
+        found += [read_edit(file) for file in sorted((home / MUST_FAIL).glob("*.edit")) if MUST_FAIL in tiers]
+        found += [Edit(name, one.name, one.body) for one in read(home)[1] if one.body and WRONG_BODIES in tiers]
+    return found
 
 
-def beside(top: pathlib.Path, given: list[Edit], folder: str) -> list[Edit]:
-    """What stands beside some edits in a folder, in their order."""
-    files = [top / "crates" / one.crate / folder / f"{one.name}.edit" for one in given]
-    return [read_edit(file) for file in files if file.exists()]
+def beside(top: pathlib.Path, given: list[Edit], kind: str) -> list[Edit]:
+    """The controls or the refutations of some wrong bodies, in their order."""
+    crates = {one.crate for one in given}
+    entries = {(crate, one.name): one for crate in crates for one in read(top / "crates" / crate)[1]}
+    found: list[Edit] = []
+    for one in given:
+        entry = entries.get((one.crate, one.name))
+        if entry and kind in entry.beside:
+            own = one.pairs if kind == REFUTATION else ()
+            found.append(Edit(one.crate, one.name, (*own, *entry.beside[kind]), kind))
+    return found
 
 
-def strangers(top: pathlib.Path, names: list[str]) -> list[pathlib.Path]:
-    """What stands in the folders of edits and is none to `rt must-fail`; edits in other folders; those beside nothing."""
-    homes = [top / "crates" / name for name in names]
-    found = [file for home in homes for file in home.glob("*/*.edit") if file.parent.name not in (*TIERS, *BESIDE)]
-    for folder in [home / name for home in homes for name in (*TIERS, *BESIDE)]:
-        for file in folder.glob("*"):
-            is_edit = bool(NAME.fullmatch(file.name))
-            if folder.name in BESIDE:
-                is_edit = is_edit and any((folder.parent / tier / file.name).exists() for tier in TIERS)
-            is_tried = folder.name == TIERS[1] and file.name == TRIED
-            if not file.is_file() or not (is_edit or is_tried or file.suffix == ".md"):
-                found.append(file)
+def strangers(top: pathlib.Path, names: list[str]) -> list[str]:
+    """What stands in must-fail/ and is none to `rt must-fail`; edits elsewhere; names that stand twice, and in must-fail/
+    too; those beside nothing.
+    """
+    found: list[str] = []
+    for home in (top / "crates" / name for name in names):
+        files = [*home.glob("*/*.edit"), *home.glob("*/*.edits"), *home.glob("*.edits"), *(home / MUST_FAIL).glob("*")]
+        for file in sorted(set(files) - {home / FILE}):
+            is_edit = re.fullmatch(rf"{NAME}\.edit", file.name) or file.suffix == ".md"
+            if file.parent.name != MUST_FAIL or not is_edit or not file.is_file():
+                found.append(f"{file}: it is no edit")
+        entries = read(home)[1]
+        known = [one.name for one in entries]
+        for one in entries:
+            if known.count(one.name) > 1 or (home / MUST_FAIL / f"{one.name}.edit").exists() == bool(one.body):
+                found.append(f"{home / FILE}: {one.name}: it stands twice, or beside nothing")
     return found
 
 
@@ -136,38 +215,25 @@ def texts_of(home: pathlib.Path) -> dict[str, str]:
     return {file.relative_to(home).as_posix(): file.read_text() for file in files}
 
 
-def git(top: pathlib.Path, *words: str) -> str | None:
-    """What git prints of a tree, if it knows it."""
-    ran = subprocess.run(["git", "-C", str(top), *words], stdout=subprocess.PIPE, stderr=subprocess.DEVNULL, text=True)
-    return None if ran.returncode else ran.stdout.strip()
+def digest(home: pathlib.Path) -> str:
+    """The SHA-256 of a crate's texts and the wrong bodies of its file."""
+    bodies = sorted((one.name, one.body) for one in read(home)[1] if one.body)
+    return hashlib.sha256(json.dumps([texts_of(home), bodies], sort_keys=True).encode()).hexdigest()
 
 
 def age(top: pathlib.Path, crate: str) -> str:
-    """What is to be reported of when a crate's edits of wrong-bodies/ were tried last: nothing where it has none, or where
-    neither they nor its sources have changed since.
+    """What is to be reported of when the wrong bodies of a crate's file were tried last: nothing where it has none, or where
+    neither they nor its texts have changed since.
     """
     home = top / "crates" / crate
-    if not any((home / TIERS[1]).glob("*.edit")):
+    tried, entries = read(home)
+    if not any(one.body for one in entries) or tried == digest(home):
         return ""
-    file = home / TIERS[1] / TRIED
-    said = file.read_text().strip() if file.is_file() else ""
-    if not COMMIT.fullmatch(said):
-        return "no commit is told"
-    folders = [str(home / part) for part in (*PARTS, TIERS[1])]
-    changed = git(top, "diff", "--name-only", said, "--", *folders)
-    if changed is None:
-        return f"{said[:8]} is not in this clone"
-    files = [line for line in changed.splitlines() if pathlib.PurePath(line).name != TRIED]
-    return f"{len(files)} files changed since {said[:8]}" if files else ""
+    return "changed since they were tried" if tried else "never tried all together"
 
 
-def write_tried(top: pathlib.Path, crate: str) -> bool:
-    """Writes down that a crate's edits of wrong-bodies/ were tried, if its files are those of the newest commit."""
-    home = top / "crates" / crate
-    commit = git(top, "rev-parse", "HEAD")
-    changed = git(top, "status", "--porcelain", "--", *[str(home / part) for part in (*PARTS, TIERS[1])])
-    files = [line for line in (changed or "").splitlines() if pathlib.PurePath(line).name != TRIED]
-    if commit is None or changed is None or files:
-        return False
-    (home / TIERS[1] / TRIED).write_text(f"{commit}\n")
-    return True
+def write_tried(top: pathlib.Path, crate: str, tried: str) -> None:
+    """Writes down the digest of what was tried, at the head of a crate's file."""
+    file = top / "crates" / crate / FILE
+    head, _, rest = (text := file.read_text()).partition("\n\n")
+    file.write_text(f"tried {tried}\n\n{rest if DIGEST.fullmatch(head) else text}")
