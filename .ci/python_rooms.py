@@ -6,16 +6,14 @@ import ast
 import pathlib
 import re
 
-PAGE = pathlib.Path("docs/ROOMS-PYTHON.md")
+MARK = "\n### "  # before each file of a page
 FOLDERS = ("tools", "web", "release", "bench", ".ci")
 HEAD = """# Rooms of Python
 
-Each file of Python by the sentence at its head, its named numbers and its functions by the first sentence of each: look
-here, as in [ROOMS](ROOMS.md), for where a thing is done, and by a short value for where a number stands. `.ci/rooms` writes
-the page from the sources, and the gate compares it with them. A method is `Type.name`; at the end of a file stand numbers,
-then functions, without a sentence. Of files of tests all but the first sentence is left out. What is written in JavaScript
-is told of in [web/README](../web/README.md), what is written in C and in Rattle for trials in
-[bench/trials/README](../bench/trials/README.md).
+Each file of Python by the sentence at its head, its named numbers and its functions by the first sentence of each. A
+method is `Type.name`; at the end of a file stand numbers, then functions, without a sentence. Of files of tests all but
+the first sentence is left out. What is written in JavaScript is told of in web/README.md, what is written in C and in
+Rattle for trials in bench/trials/README.md.
 """
 TESTS = re.compile(r"(?:^|/)(?:testing/|test_|tests\.py|testing\.py|[\w-]+-tests$)")
 
@@ -111,7 +109,7 @@ def part(path: pathlib.Path, top: pathlib.Path) -> list[str]:
     said = sentence(ast.get_docstring(tree))
     if not said:
         raise SystemExit(f"rooms: {name} has no sentence at its head")
-    lines = [f"### [{name}](../{name})", "", said]
+    lines = [f"### {name}", "", said]
     if TESTS.search(name):
         return [*lines, ""]
     told = [*numbers(tree, source.splitlines()), *((f"`{one}`", what) for one, what in functions(tree))]
@@ -120,6 +118,11 @@ def part(path: pathlib.Path, top: pathlib.Path) -> list[str]:
     return [*lines, *(["", f"Also {', '.join(rest)}."] if rest else []), ""]
 
 
+def of_folder(top: pathlib.Path, folder: str) -> str:
+    """The part of a folder."""
+    return "\n".join(line for path in files(top) if path.is_relative_to(top / folder) for line in part(path, top))
+
+
 def page(top: pathlib.Path) -> str:
-    """The whole page."""
+    """All of Python."""
     return "\n".join([HEAD, *(line for path in files(top) for line in part(path, top))])

@@ -12,8 +12,13 @@ A module for make; it is no tool of its own.
 
 from __future__ import annotations
 
+import os
 import pathlib
 import re
+import shutil
+import subprocess
+import sys
+import tempfile
 from collections.abc import Iterator
 
 from . import packing
@@ -38,6 +43,8 @@ SOURCES = ("overlay", "tools/*.py", "tools/maps/*.py", "tools/commands/*.py", "w
            "web/client/*")
 TEXTS = ("README.md", "docs/*.md", "docs/*.png", "docs/*.svg", "tools/README.md", "tools/maps/README.md",
          "tools/data/*", "web/README.md", "examples/**/*")
+# What is read where pages are printed of the sources.
+READ = (".ci/**", "bench/**", "crates/**", "release/**", "tools/**", "web/**")
 FIRST_LINE = re.compile(rb"\A#!/usr/bin/env python3\n")
 NAMES = {pathlib.PurePath(path).stem: name for name, path in COMMANDS.items() if path.endswith(".py")}
 # A tool as it is called from a clone; where its name alone is in quotes, that is a file's name in code.
@@ -97,6 +104,26 @@ def documents(top: pathlib.Path = TOP) -> Iterator[Entry]:
     yield Entry(f"{DOCUMENTS}/INSTALLED.md", installed())
     yield Entry(f"{DOCUMENTS}/copyright", (PARTS / "copyright").read_bytes())
     yield Entry(f"lib/systemd/system/{UNIT}", (PARTS / UNIT).read_bytes())
+
+
+def printed(top: pathlib.Path = TOP) -> Iterator[Entry]:
+    """What a clone prints of its sources: each file of code, and texts of the definitions that are to be believed."""
+    if not shutil.which("rt"):
+        raise Unmade("rt is not on the path, by which the kit's definitions are found that a page prints")
+    yield Entry(f"{DOCUMENTS}/docs/ROOMS.md", told_by(top / ".ci/rooms"))
+    with tempfile.TemporaryDirectory() as made:
+        told_by(top / ".ci/believe", "--texts", made)
+        for path in sorted(pathlib.Path(made).iterdir()):
+            yield Entry(f"{DOCUMENTS}/docs/believe/{path.name}", path.read_bytes())
+
+
+def told_by(command: pathlib.Path, *words: str) -> bytes:
+    """What a command of the clone prints, as UTF-8."""
+    told = {**os.environ, "PYTHONUTF8": "1"}
+    done = subprocess.run([sys.executable, str(command), *words], env=told, capture_output=True, check=False)
+    if done.returncode:
+        raise Unmade(f"{command.name}: {done.stderr.decode().strip().rpartition(chr(10))[2]}")
+    return done.stdout
 
 
 def installed() -> bytes:

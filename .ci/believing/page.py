@@ -272,6 +272,6 @@ def with_numbers(readme: str, page_text: str) -> str:
     return TOLD.sub(counted, readme, count=5)
 
 
-def compare(files: dict[pathlib.Path, str]) -> list[pathlib.Path]:
-    """The files that are not what would be written."""
-    return [path for path, said in files.items() if not path.is_file() or path.read_text() != said]
+def is_written(file: pathlib.Path, said: str) -> bool:
+    """Whether a file is what would be written."""
+    return file.is_file() and file.read_text() == said

@@ -8,9 +8,9 @@ import tempfile
 
 from believing import rust
 from believing.house import Call, House, Key, Link, Pin
-from believing.page import Law, Row, Tables, Told, Word, compare, page, quoted, with_numbers
+from believing.page import Law, Row, Tables, Told, Word, is_written, page, quoted, with_numbers
 from believing.sources import fields_of, read_module, without
-from believing.texts import alike, meanings, names_of, path_of, text, twice
+from believing.texts import alike, file_of, meanings, names_of, text, twice
 
 LOW = """-- numbers
 use Rattle.std.specs.Prelude.{ℕ, ◌≡◌, twofold}
@@ -337,7 +337,7 @@ def names(top: pathlib.Path) -> int:
 
 
 def compares(top: pathlib.Path) -> int:
-    """The numbers of README.md, and what is not as it would be written."""
+    """The numbers of README.md, and what is as it would be written."""
     rows = ("| `locate` | 4 | 1,009 | 2 |\n| the sentence in bold | 5 | 8 | 2 |\n| a crash of a run, and its opening | 5 | 9 | 2 |\n"
             "| all without what stands beside | 5 | 3 | 2 |\n| all together | 6 | 7 | 2 |\n")
     readme = ("| Line | Reply | Meaning |\n|---|---|---|\n| a line of 1 | 2 | lines |\n\n| To read | Definitions | Lines |\n|---|---|---|\n"
@@ -347,7 +347,7 @@ def compares(top: pathlib.Path) -> int:
                                                          "| all | 6 | 7 |\n"), told
     kept, other = top / "kept.md", top / "other.md"
     kept.write_text("kept")
-    assert compare({kept: "kept"}) == [] and compare({kept: "more", other: "none"}) == [kept, other]
+    assert is_written(kept, "kept") and not is_written(kept, "more") and not is_written(other, "none")
     return 2
 
 
@@ -360,7 +360,7 @@ def reads() -> int:
     assert module.definitions["inner"].lines == 3 and module.constructors["down"] == "Way"
     assert rust.leaves("a::{b::C as D, e::{F, G}}") == [("D", ("a", "b", "C")), ("F", ("a", "e", "F")), ("G", ("a", "e", "G"))]
     assert twice({("low", "A", "same"), ("high", "B", "same"), ("low", "A", "code_of"), ("high", "B", "code_of")}) == ["same: high B, low A"]
-    assert path_of("a crash of a run, and its opening").name == "a-crash-of-a-run-and-its-opening.txt"
+    assert file_of("a crash of a run, and its opening") == "a-crash-of-a-run-and-its-opening.txt"
     shown = ["-- a claim", "pub record P : Type 0 where", "  pub a : A", "  -- of b", "  pub b : B", "    → C", "  -- of c", "  pub c : C"]
     assert fields_of(shown) == {"a", "b", "c"} and without(shown, set()) == shown
     assert without(shown, {"b"}) == [*shown[:3], *shown[6:], "  -- fields left out, of which the sentence may speak: b"], without(shown, {"b"})

@@ -2,7 +2,6 @@
 
 from __future__ import annotations
 
-import pathlib
 import re
 import textwrap
 
@@ -11,15 +10,14 @@ from believing.beside import Beside, besides
 from believing.house import Cut, File, House, Key
 from believing.page import Told, quoted
 
-FOLDER = pathlib.Path("docs/believe")
 FIRM = "\u00a0"  # a space at which no line ends
 # Every table of faults has these two.
 OF_FAULTS = ("code_of", "text_of")
 
 
-def path_of(title: str) -> pathlib.Path:
-    """The file that keeps the text of a row."""
-    return FOLDER / f"{'-'.join(re.findall(r'[a-z]+', title.lower()))}.txt"
+def file_of(title: str) -> str:
+    """The name of the file of a row's text."""
+    return f"{'-'.join(re.findall(r'[a-z]+', title.lower()))}.txt"
 
 
 def text(told: Told, title: str) -> str:

@@ -5,9 +5,9 @@
 
 The version is the one that overlay_live prints (crates/overlay_live/src/texts.rt). A program that prints another is built
 of other sources, and is refused. The time of all files is SOURCE_DATE_EPOCH, else that of the commit, and then the tree has
-to be as it was committed, with no further file among those that are packed. So one commit, with the same programs and
-the same Python, gives the same bytes. Python and git are all that is needed. Beside both are their SHA-256 sums, in
-SHA256SUMS.
+to be as it was committed, with no further file among those that are packed or printed. So one commit, with the same
+programs and the same Python, gives the same bytes. Python, git and the kit's `rt` are needed. Beside both are their
+SHA-256 sums, in SHA256SUMS.
 
 Status 0: both are made; 1: not so, and none of them is written; 2: wrong words.
 """
@@ -63,7 +63,7 @@ def time_of(environment: os._Environ[str] | dict[str, str]) -> int:
     committed = git("log", "-1", "--format=%ct")
     if not committed:
         raise Unmade(f"{TOP}: no commit gives the time of a release; say SOURCE_DATE_EPOCH")
-    packed = [f":(glob){pattern}" for pattern in (*contents.SOURCES, *contents.TEXTS)]
+    packed = [f":(glob){pattern}" for pattern in (*contents.SOURCES, *contents.TEXTS, *contents.READ)]
     changed = (git("status", "--porcelain", "--untracked-files=no")
                or git("status", "--porcelain", "--untracked-files=all", "--", *packed))
     if changed:
@@ -81,7 +81,7 @@ def release_files(programs: pathlib.Path | None, seconds: int) -> tuple[list[Ent
         contents.written(found, folder)
         check_program(folder / "bin/overlay_live", line)
         helps = pages.helps_of(folder)
-    found += pages.manual_pages(TOP, helps, version, seconds)
+    found += [*pages.manual_pages(TOP, helps, version, seconds), *contents.printed()]
     return [*found, *pages.completions(TOP, helps)], version
 
 

@@ -2,9 +2,10 @@
 
     python3 release/tests.py FOLDER_OR_PROGRAM [LIVE WINDOW]
 
-FOLDER has the built overlayd, overlay_live and overlay_window; or these three are named one by one. Python alone is
-needed; what dpkg-deb, groff, systemd-analyze and bash say of a release is looked at where they are, and else reported as
-left out. The package in a clean root is tried by bench/trials/clean_root.py. The last line is 'N passed, M failed'.
+FOLDER has the built overlayd, overlay_live and overlay_window; or these three are named one by one. Python and the kit's
+`rt` are needed; what dpkg-deb, groff, systemd-analyze and bash say of a release is looked at where they are, and else
+reported as left out. The package in a clean root is tried by bench/trials/clean_root.py. The last line is 'N passed, M
+failed'.
 """
 
 from __future__ import annotations
@@ -181,6 +182,8 @@ class Versions(unittest.TestCase):
         done = made_by(Built.programs, none, SOURCE_DATE_EPOCH="soon")
         self.assertEqual((done.returncode, done.stderr),
                          (1, "release/make: SOURCE_DATE_EPOCH=soon: no number of seconds\n"))
+        done = made_by(Built.programs, none, PATH="/usr/bin:/bin")
+        self.assertEqual((done.returncode, done.stderr.partition(",")[0]), (1, "release/make: rt is not on the path"))
         self.assertFalse(none.exists())
 
 
@@ -198,6 +201,12 @@ class Commits(unittest.TestCase):
             with self.assertRaisesRegex(contents.Unmade, "docs/OTHER.md: not as it was committed"):
                 make.time_of({})
             other.unlink()
+            source = pathlib.Path(made, "crates/one/src/other.rt")
+            source.parent.mkdir(parents=True)
+            source.write_text("//! Of which a page would tell.\n")
+            with self.assertRaisesRegex(contents.Unmade, "crates/one/src/other.rt: not as it was committed"):
+                make.time_of({})
+            source.unlink()
             page.write_text("another page\n")
             with self.assertRaisesRegex(contents.Unmade, "README.md: not as it was committed"):
                 make.time_of({})
@@ -278,6 +287,16 @@ class Texts(unittest.TestCase):
             self.skipTest("systemd-analyze takes no --root")
         self.assertLess(float(level[1]), 2.0)
         self.assertNotRegex(done.stderr, "Unknown|Failed to parse|Invalid")
+
+    def test_pages_are_those_that_a_clone_prints(self) -> None:
+        folder = Built.folder / "printed"
+        subprocess.run([contents.TOP / ".ci/believe", "--texts", folder], check=True)
+        done = subprocess.run([contents.TOP / ".ci/rooms"], capture_output=True, check=True)
+        wanted = {"ROOMS.md": done.stdout, **{f"believe/{path.name}": path.read_bytes() for path in folder.iterdir()}}
+        self.assertEqual(len(wanted), 4)
+        for prefix in (Built.prefix, Built.package):
+            docs = prefix / contents.DOCUMENTS / "docs"
+            self.assertEqual({name: (docs / name).read_bytes() for name in wanted}, wanted)
 
     def test_no_licence_is_given(self) -> None:
         self.assertIn("No licence is given yet", (Built.package / contents.DOCUMENTS / "copyright").read_text())
