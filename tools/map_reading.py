@@ -15,7 +15,7 @@ from decimal import Decimal
 from fractions import Fraction
 from typing import Any
 
-from . import gdal_files, scale as scales, wkt
+from . import gdal_files, grid, scale as scales, wkt
 
 COLLECTIONS = ("FeatureCollection", "GeometryCollection")
 MARK = "\x1e"  # before each object of a text sequence, where they are not parted by lines
@@ -171,13 +171,13 @@ def crs_of(value: dict[str, Any]) -> str | None:
 
 
 def number_of(given: Any) -> Fraction:
-    """A coordinate, exactly."""
+    """The number that a coordinate stands for, as grid.py says."""
     if isinstance(given, bool) or not isinstance(given, (int, Decimal)):
         raise Refused(f"a coordinate that is no number: {given!r}"[:80])
     _, _, exponent = Decimal(given).as_tuple()
     if not isinstance(exponent, int) or exponent < -BEYOND or Decimal(given).adjusted() > BEYOND:
         raise Refused("a coordinate that is beyond all bounds")
-    return Fraction(given)
+    return grid.decimal_stands_for(given)
 
 
 def positions_of(shape: Shape) -> Iterator[tuple[Fraction, Fraction]]:

@@ -8,7 +8,7 @@ from dataclasses import dataclass
 from fractions import Fraction
 from typing import Any
 
-from . import limits
+from . import grid, limits
 from .map_reading import Refused, number_of
 from .scale import Scale
 
@@ -21,10 +21,12 @@ OUT_OF_RANGE = "out of range after scaling"
 
 @dataclass
 class Tally:
-    """What rounding has done to some coordinates; the largest move is in the given unit."""
+    """What rounding has done to some coordinates; the largest move is in the given unit. Longer ones had more digits than
+    a double."""
 
     coordinates: int = 0
     rounded: int = 0
+    longer: int = 0
     furthest: Fraction = Fraction(0)
     merged: int = 0
     heights: int = 0
@@ -32,6 +34,7 @@ class Tally:
     def add(self, other: "Tally") -> None:
         self.coordinates += other.coordinates
         self.rounded += other.rounded
+        self.longer += other.longer
         self.furthest = max(self.furthest, other.furthest)
         self.merged += other.merged
         self.heights += other.heights
@@ -39,7 +42,12 @@ class Tally:
     def text(self) -> str:
         heights = f", further numbers of {self.heights} points dropped" if self.heights else ""
         return (f"{self.rounded} of {self.coordinates} coordinates rounded, largest move "
-                f"{shown(self.furthest)}, {self.merged} equal points merged{heights}")
+                f"{shown(self.furthest)}, {self.merged} equal points merged{heights}{told_longer(self.longer)}")
+
+
+def told_longer(count: int) -> str:
+    """What is said at the end of a line of so many coordinates of which a double does not have all digits."""
+    return f", {count} coordinates of more digits than a double has, each taken for the nearest one" if count else ""
 
 
 def shown(number: Fraction | float, digits: int = 3) -> str:
@@ -55,10 +63,14 @@ class Rounding:
         self.factors = scale.factor, scale.factor_y
 
     def whole(self, axis: int, given: Any) -> int:
-        """The nearest whole number of a scaled coordinate, the greater one of two that are as near."""
+        """The whole number of a coordinate, as grid.py rounds it. Where it has more digits than a double, all of them count
+        for how far it moves."""
         scaled = (number_of(given) - self.scale.origin[axis]) * self.factors[axis]
-        nearest = (scaled + Fraction(1, 2)).__floor__()
+        nearest = grid.nearest(scaled)
         self.tally.coordinates += 1
+        if grid.is_longer(given):
+            self.tally.longer += 1
+            scaled = (Fraction(given) - self.scale.origin[axis]) * self.factors[axis]
         if nearest != scaled:
             self.tally.rounded += 1
             self.tally.furthest = max(self.tally.furthest, abs(nearest - scaled) / self.factors[axis])

@@ -26,7 +26,7 @@ from decimal import Decimal
 from fractions import Fraction
 from typing import Any
 
-from . import ending, limits
+from . import ending, grid, limits
 
 CRS84 = "OGC:CRS84"
 CRS_NAME = re.compile(r"EPSG:[0-9]{1,9}|(?!EPSG:)[A-Za-z][\w-]*:[\w.-]+", re.ASCII)  # an authority and its code
@@ -137,12 +137,18 @@ class Scale:
         """The stored place of a point of the world."""
         return (x - self.origin[0]) * self.factor, (y - self.origin[1]) * self.factor_y
 
+    def nearest(self, x: Fraction, y: Fraction) -> tuple[int, int]:
+        """The whole place that a point of the world becomes, its numbers being those that grid.py says."""
+        x, y = self.stored(grid.stands_for(x), grid.stands_for(y))
+        return grid.nearest(x), grid.nearest(y)
+
     def question(self, x: Fraction, y: Fraction) -> tuple[int, int, int]:
-        """The numbers of LOCATE for a point of the world: the point itself, or the nearest that can be asked."""
-        x, y = self.stored(x, y)
+        """The numbers of LOCATE for a point of the world: the point that its numbers stand for, as those of a map do, or
+        the nearest that can be asked."""
+        x, y = self.stored(grid.stands_for(x), grid.stands_for(y))
         both = math.lcm(x.denominator, y.denominator)
         w = both if both <= limits.WEIGHT_MAX else limits.WEIGHT_MAX
-        return round(x * w), round(y * w), w
+        return grid.nearest(x * w), grid.nearest(y * w), w
 
     def area(self, stored: Fraction) -> Fraction:
         """An area in the world of one in whole numbers."""

@@ -73,11 +73,6 @@ class MapScale:
         *places, w = corner
         return [rounded(n * a + w * b, w * c, self.digits) for n, (a, b, c) in zip(places, self._whole)]
 
-    def nearest(self, x: Fraction, y: Fraction) -> tuple[int, int]:
-        """The whole place in the store that is nearest to a point of the world."""
-        near = [round(place) for place in self.scale.stored(x, y)]
-        return near[0], near[1]
-
     def limits(self) -> list[int | float]:
         """The box of the world that a store has room for: least x and y, greatest x and y."""
         edge = limits.COORDINATE_MAX

@@ -137,7 +137,7 @@ class Rounding:
         if not isinstance(given, list) or len(given) < 2:
             raise ValueError("a position is a list of two numbers")
         x, y = exact(given[0]), exact(given[1])
-        near = self.scale.nearest(x, y)
+        near = self.scale.scale.nearest(x, y)
         there = self.scale.scale.world((*near, 1))
         self.moved = max(self.moved, abs(there[0] - x), abs(there[1] - y))
         return f"{near[0]} {near[1]}"

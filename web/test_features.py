@@ -56,8 +56,8 @@ def made(place: pathlib.Path, found: list[dict[str, Any]], *words: str) -> pathl
     """A store of a map with the file of its features, by to_script.py and the program."""
     source, script, store = place / "plan.geojson", place / "plan.txt", place / "plan.db"
     source.write_text(json.dumps({"type": "FeatureCollection", "features": found}))
-    told = io.StringIO()
-    status = to_script.main([str(source), "--factor", "1", *words, "--output", str(script)], told, told)
+    told, factor = io.StringIO(), [] if "--factor" in words else ["--factor", "1"]
+    status = to_script.main([str(source), *factor, *words, "--output", str(script)], told, told)
     if status:
         raise AssertionError(told.getvalue())
     with Server(store, create=True, program=testing.PROGRAM, timeout=60) as server, server.session() as one:

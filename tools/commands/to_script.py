@@ -5,8 +5,9 @@
     tools/to_script.py counties.geojson --fit --coded --name-by NAME --output nc.txt
     tools/to_script.py plan.wkt --factor 100 --origin 500000 4600000 > plan.txt
 
-A coordinate x becomes the whole number nearest to (x - X) * FACTOR, the greater one of two that are as near. Standard
-error says what was rounded, by how much in the given unit, merged and refused, and of which feature or text of a file,
+A coordinate x becomes the whole number nearest to (x - X) * FACTOR, the greater one of two that are as near. Of more
+digits than a double has x is the nearest double, as other programs read it, and that is reported. Standard error says
+what was rounded, by how much in the given unit, merged and refused, and of which feature or text of a file,
 counted from 1 (where nothing is written, of ten at most). Each file is a layer, or with --name-by each value of the
 property (features without it make one of the file's name). Names are cut to 32 bytes; letters lose their marks, ß becomes
 ss, other characters become `_`, and of names that are then the same the later ones get a number.

@@ -8,8 +8,9 @@ Where NAME.features.json lies beside a store NAME.* of coded layers, the answers
 names of its features, also where features overlap; it must be of the store. With --names they spell the number of the
 feature in the table that to_script.py --coded wrote. Else, and with --layers, the layers are those that no definition
 names, and each that has the point is named. --store may be given once for each store of a map, in their order. The
-point is in coordinates of the world where a scale is there, x (longitude) first. Where it cannot be asked exactly, the
-nearest one that can is asked, and reported. A store is read and not changed.
+point is in coordinates of the world where a scale is there, x (longitude) first, and its numbers are read as those of a
+map are: of more digits than a double has the nearest double. Where it cannot be asked exactly, the nearest one that can
+is asked, and reported. A store is read and not changed.
 
 A file of points has one on each line, two numbers apart by blanks, a comma or a semicolon; blank lines and those that
 begin with # are passed over.
@@ -212,7 +213,8 @@ def question(x: Fraction, y: Fraction, scale: Scale, say: Callable[[str], None])
     near = scale.world(corner)
     if near != (x, y):
         shown = " ".join(scales.decimals(number, scale.digits + 4) for number in near)
-        say(f"asked at {shown}, which is nearest to {scales.decimals(x, 12)} {scales.decimals(y, 12)}")
+        typed = " ".join(scales.decimals(number, max(12, scales.decimal_digits(number) or 0)) for number in (x, y))
+        say(f"asked at {shown}, which is nearest to {typed}")
     return corner
 
 

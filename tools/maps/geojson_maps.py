@@ -1,5 +1,4 @@
-"""Reads a map of GeoJSON or Well-Known Text into whole numbers, each coordinate as the exact number that its text
-spells.
+"""Reads a map of GeoJSON or Well-Known Text into whole numbers, as grid.py says.
 
 It needs Python alone. gdal_maps.py reads other files.
 """
@@ -90,6 +89,7 @@ class Reading:
         for number, positions in enumerate(polygon):
             closed = self.rounding.ring(positions)
             self.moved = max(self.moved, self.rounding.tally.furthest)
+            self.told.longer += self.rounding.tally.longer
             ring = closed[:-1]
             if len(ring) < 3 or rounding.is_flat(ring):
                 self.told.collapsed.append(label)

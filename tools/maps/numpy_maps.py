@@ -1,5 +1,4 @@
-"""Brings a map of doubles into whole numbers by numpy: each the whole number nearest to the double times the factor,
-exactly, the greater one of two that are as near, as geojson_maps.py does it with what a text spells."""
+"""Brings a map of doubles into whole numbers by numpy, as grid.py says, and so as geojson_maps.py does it with a text."""
 
 from __future__ import annotations
 
@@ -9,43 +8,20 @@ from fractions import Fraction
 
 import numpy as np
 
-from .. import rounding
+from .. import grid, rounding
 from .bending import EDGE_MAX, Longest, way_points
 from .numpy_arrays import Numbers
 from .whole_maps import FARTHEST, MapFault, Told, WholeMap, numbers
 
-SPLIT = float(2**27 + 1)
 NEAR = 2**30  # rings that are no wider have areas of 64 bits
 
 
-def halves(number: Numbers) -> tuple[Numbers, Numbers]:
-    """A double as the sum of two of half as many digits."""
-    far = number * SPLIT
-    high = far - (far - number)
-    return high, number - high
-
-
-def product_rest(a: Numbers, b: float, product: Numbers) -> Numbers:
-    """What a product of doubles lacks of the exact one, itself a double."""
-    (a_high, a_low), (b_high, b_low) = halves(a), halves(np.asarray(np.float64(b)))
-    return ((a_high * b_high - product) + a_high * b_low + a_low * b_high) + a_low * b_low
-
-
-def nearest(given: Numbers, factor: Fraction) -> tuple[Numbers, float]:
-    """The whole numbers nearest to doubles times a factor, and how far the farthest of them is off, in units."""
+def farthest_move(given: Numbers, whole: Numbers, factor: Fraction) -> float:
+    """How far the farthest of some doubles is off its whole number, in units; 0 where doubles cannot say so."""
     scaled = given * float(factor)
-    low = np.floor(scaled)
-    over = (scaled - low) - 0.5
-    whole = low + (over >= 0)
-    if Fraction(float(factor)) == factor:
-        # Two whole numbers are as near to the double; the exact product says which is nearer.
-        whole -= (over == 0) & (product_rest(given, float(factor), scaled) < 0)
-    else:
-        close = np.abs(over) <= 4 * np.spacing(np.abs(scaled))
-        exact = [(Fraction(one) * factor + Fraction(1, 2)).__floor__() for one in given[close].tolist()]
-        whole[close] = exact
-    farthest = float(np.abs(scaled - whole).max()) if len(whole) else 0.0
-    return whole.astype(np.int64), farthest
+    moves = np.abs(scaled - whole)
+    moves[moves <= grid.SPACINGS * np.spacing(np.abs(scaled))] = 0
+    return float(moves.max(initial=0))
 
 
 def offsets(counts: Numbers) -> Numbers:
@@ -134,8 +110,8 @@ def whole_of_doubles(name: str, ids: Sequence[str], xs: Numbers, ys: Numbers, ri
         return f"{name}, feature {ids[feature]}"
 
     check_range(xs, ys, ring_sizes, rings_of_feature, factor, called)
-    whole_xs, moved_x = nearest(xs, factor)
-    whole_ys, moved_y = nearest(ys, factor)
+    whole_xs, whole_ys = grid.nearest_array(xs, factor), grid.nearest_array(ys, factor)
+    moved = max(farthest_move(xs, whole_xs, factor), farthest_move(ys, whole_ys, factor))
     rings = Rings(whole_xs, whole_ys, ring_sizes, is_outer, rings_of_feature)
     rings.merge()
     twice = rings.twice_areas()
@@ -145,7 +121,7 @@ def whole_of_doubles(name: str, ids: Sequence[str], xs: Numbers, ys: Numbers, ri
     rings.keep(~np.isin(rings.ring, gone))
     bend_long(rings, factor, bend, told, called)
     told.features, told.points = len(ids), len(rings.xs)
-    told.moved = max(moved_x, moved_y) / float(factor)
+    told.moved = moved / float(factor)
     sizes = rings.sizes()
     live = sizes > 0
     per_feature = np.bincount(rings.feature[live], minlength=len(ids))

@@ -9,7 +9,7 @@ from collections.abc import Callable, Iterable, Iterator
 from typing import TextIO
 
 from .. import asking, ending, gdal_files, scale as scales, writing
-from ..rounding import shown
+from ..rounding import shown, told_longer
 from ..sessions import Unusable
 from . import doing, gdal_maps, geojson_maps
 from .task_form import Found, Task
@@ -55,7 +55,7 @@ def form_of(path: str) -> str | None:
 
 def told_lines(path: str, told: Told) -> Iterator[str]:
     moved = f"largest move {shown(told.moved)}" if told.moved else "nothing is rounded"
-    yield f"{path}: {told.features} features, {told.points} points, {moved}"
+    yield f"{path}: {told.features} features, {told.points} points, {moved}{told_longer(told.longer)}"
     if told.bent:
         yield f"{path}: {told.bent} long edges bent at whole points"
     if told.skipped:

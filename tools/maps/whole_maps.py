@@ -1,6 +1,6 @@
 """Maps of whole points: features with ids, and their rings in flat arrays of 64-bit numbers.
 
-Coordinates of the world become whole numbers once, here: the whole number nearest to x * factor. All after it is exact.
+Coordinates of the world become whole numbers once, here: the nearest to x * factor (../grid.py). All after it is exact.
 A ring does not repeat its first point, has at least three points, and no two equal ones next to each other. The outer
 ring of each polygon runs counter-clockwise and its holes clockwise, so that where no rings cross, the area of a feature
 is the sum of those of its rings with their signs.
@@ -95,12 +95,13 @@ class WholeMap:
 
 @dataclass
 class Told:
-    """What reading has done to a map, to be reported: how far the farthest coordinate moved, in the map's unit, and the
-    names of what was left out or changed."""
+    """What reading has done to a map, to be reported: how far the farthest coordinate moved, in the map's unit, how many had
+    more digits than a double, and the names of what was left out or changed."""
 
     features: int = 0
     points: int = 0
     moved: float = 0.0
+    longer: int = 0
     skipped: list[str] = field(default_factory=list)
     collapsed: list[str] = field(default_factory=list)
     bent: int = 0

@@ -11,6 +11,7 @@ from fractions import Fraction
 
 import numpy as np
 
+from .. import grid
 from ..maps import (box_pairs, drawing_in, geojson_maps, jobs, numpy_drawing, numpy_maps, numpy_pairs, numpy_planning,
                   numpy_windows, planning, rounds, windows)
 from ..maps.drawing_in import Plain
@@ -19,6 +20,7 @@ from ..maps.whole_maps import MapFault, ReadMap, Told
 from .common import InFolder, Programs
 from .map_steps import sees
 from .random_maps import Maps, random_maps
+from .scales import halves
 
 MANY = 30
 
@@ -110,13 +112,28 @@ class Forms(unittest.TestCase):
 
 
 class Rounding(InFolder):
-    def test_the_nearest_whole_number_of_the_exact_product(self) -> None:
+    def test_the_nearest_whole_number_of_what_a_double_stands_for(self) -> None:
         source = random.Random(6)
         near = [source.randint(-10**9, 10**9) * 10**-4 for _ in range(4000)]
-        given = np.array([*near, *(source.uniform(-1e7, 1e7) for _ in range(2000)), 0.0005, 0.0015, -0.0005, 2.5, -2.5])
-        for factor in (Fraction(1000), Fraction(1), Fraction(1, 3), Fraction(10**7), Fraction("0.1")):
-            wanted = [(Fraction(one) * factor + Fraction(1, 2)).__floor__() for one in given.tolist()]
-            self.assertEqual(numpy_maps.nearest(given, factor)[0].tolist(), wanted, factor)
+        given = np.array([*near, *(source.uniform(-1e7, 1e7) for _ in range(2000)), 0.0005, 0.0015, -0.0005, 2.5, -2.5,
+                          0.285, 2.0**44 + 0.5, -(2.0**44) - 0.5, 1e-320, 0.0])
+        for factor in (Fraction(1000), Fraction(1), Fraction(1, 3), Fraction(100), Fraction("0.1")):
+            wanted = [(Fraction(repr(one)) * factor + Fraction(1, 2)).__floor__() for one in given.tolist()]
+            self.assertEqual(grid.nearest_array(given, factor).tolist(), wanted, factor)
+
+    def test_halves_are_those_of_their_texts(self) -> None:
+        texts = halves(100_000)
+        for digits in range(2, 10):
+            own = [text for text in texts if len(text.partition(".")[2]) == digits]
+            factor = Fraction(10 ** (digits - 1))
+            wanted = [(int(text.replace(".", "")) + 5) // 10 for text in own]
+            self.assertEqual(grid.nearest_array(np.array(list(map(float, own))), factor).tolist(), wanted, digits)
+            self.assertGreater(len(own), 10_000)
+
+    def test_a_move_that_is_none_is_none(self) -> None:
+        given = np.array([source.randint(-10**9, 10**9) / 1000 for source in [random.Random(1)] for _ in range(10_000)])
+        for factor, right in ((Fraction(1000), 0), (Fraction(100), 0.5)):
+            self.assertEqual(round(numpy_maps.farthest_move(given, grid.nearest_array(given, factor), factor), 6), right)
 
     def test_a_map_of_doubles_is_that_of_the_same_numbers_as_text(self) -> None:
         source = random.Random(8)
@@ -130,14 +147,13 @@ class Rounding(InFolder):
         found = []
         for _ in range(source.randint(1, 2)):
             size = source.choice([0.0008, 0.01, 1, 700 if source.random() < 0.05 else 2])
-            # Of an even last digit, as of half a unit the text may have another one than the double.
             ring = [[self.number(source, size), self.number(source, size)]
                     for _ in range(source.randint(3, 6))]
             found.append([*ring, ring[0]])
         return found
 
     def number(self, source: random.Random, size: float) -> float:
-        return 2 * source.randint(-round(5000 * size), round(5000 * size)) / 10000
+        return source.randint(-round(10000 * size), round(10000 * size)) / 10000
 
     def by_text(self, features: list[list[list[list[list[float]]]]], bend: bool) -> object:
         begin = '{"type": "Feature", "geometry": {"type": "MultiPolygon", "coordinates": '

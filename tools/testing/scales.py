@@ -1,12 +1,49 @@
 """Tests of scale.py: numbers as a file has them, and places of the world and of the store."""
 
 import json
+import random
 import unittest
+from decimal import Decimal
 from fractions import Fraction
 
-from .. import scale as scales
+from .. import grid, scale as scales
+from ..rounding import Rounding
 from ..scale import Scale
 from .common import InFolder
+
+
+def halves(count: int) -> list[str]:
+    """Decimals of at most 15 digits, two to nine of them after the point, the last a 5: times a power of ten they are halves."""
+    source = random.Random(count)
+    return [f"{source.choice(['', '-'])}{source.randrange(10**source.randint(1, 6))}"
+            f".{source.randrange(10**(digits - 1)):0{digits - 1}}5" for digits in (source.randint(2, 9) for _ in range(count))]
+
+
+class Coordinates(unittest.TestCase):
+    def test_a_half_is_one_number_as_a_text_as_a_double_and_with_more_digits(self) -> None:
+        readers = {digits: Rounding(Scale(*[Fraction(10 ** (digits - 1))] * 2)) for digits in range(2, 10)}
+        for place, text in enumerate(halves(100_000)):
+            digits = len(text.partition(".")[2])
+            reader, right = readers[digits], (int(text.replace(".", "")) + 5) // 10
+            found = [reader.whole(0, Decimal(text)), reader.scale.nearest(Fraction(float(text)), Fraction(0))[0]]
+            if place % 10 == 0:
+                long = text + "0" * 17 + "1"
+                found += [reader.whole(1, Decimal(long)), reader.scale.nearest(Fraction(0), Fraction(long))[1]]
+            self.assertEqual(found, [right] * len(found), text)
+        tallies = [reader.tally for reader in readers.values()]
+        self.assertEqual([sum(one.longer for one in tallies), sum(one.rounded for one in tallies)], [10_000, 110_000])
+
+    def test_digits_that_a_double_has_are_none_too_many(self) -> None:
+        for text, is_longer in (("0.28499999999999998", False), ("0.1000000000000000000000", False), ("3", False),
+                                ("0.28499999999999999998", True), ("100000000000000000000", False), ("123456789012345678", True),
+                                ("-0.1000000000000000055511151231257827", True)):
+            self.assertEqual(grid.is_longer(Decimal(text)), is_longer, text)
+
+    def test_what_no_decimal_spells_is_itself(self) -> None:
+        for number in (Fraction(5, 3), Fraction(-1, 7), Fraction(10) ** 400):
+            self.assertEqual(grid.stands_for(number), number)
+        self.assertEqual(grid.stands_for(Fraction("0.28499999999999999998")), Fraction("0.285"))
+        self.assertEqual(Scale(Fraction(3), Fraction(3)).question(Fraction(5, 3), Fraction("1.66666666666666666667")), (5120, 5120, 1024))
 
 
 class Numbers(unittest.TestCase):

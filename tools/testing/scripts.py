@@ -29,9 +29,12 @@ class ToScript(unittest.TestCase):
         self.assertIn("((-1 -2, 2 0, 3 9, -1 -2))", output)
         self.assertIn("6 of 8 coordinates rounded, largest move 0.5,", errors)
 
-    def test_exact_beyond_doubles(self) -> None:
+    def test_digits_beyond_a_double_are_reported(self) -> None:
         text = "POLYGON ((0.49999999999999999999 0, 9 0, 9 9, 0.49999999999999999999 0))"
-        self.assertIn("((0 0, 9 0, 9 9, 0 0))", on_file(to_script, text, "--factor", 1)[1])
+        _, output, errors = on_file(to_script, text, "--factor", 1)
+        self.assertIn("((1 0, 9 0, 9 9, 1 0))", output)
+        self.assertIn("2 of 8 coordinates rounded, largest move 0.5, 0 equal points merged, 2 coordinates of more digits than a "
+                      "double has, each taken for the nearest one", errors)
 
     def test_equal_points_are_merged(self) -> None:
         text = "POLYGON ((0 0, 0.2 0.1, 10 0, 10 10, 10.3 9.8, 0.4 0.4, 0 0))"

@@ -13,13 +13,13 @@ import unittest
 
 from tools.testing.common import status_of
 from .. import (
-    test_client, test_features, test_front, test_openapi, test_process, test_refusals, test_rescue, test_serving,
-    test_shapes, test_stress, test_systems, testing,
+    test_client, test_features, test_front, test_openapi, test_process, test_refusals, test_rescue, test_rounding,
+    test_serving, test_shapes, test_stress, test_systems, testing,
 )
 
 MODULES = (
-    test_shapes, test_client, test_front, test_refusals, test_features, test_openapi, test_systems, test_stress, test_rescue,
-    test_serving, test_process,
+    test_shapes, test_client, test_front, test_refusals, test_features, test_openapi, test_systems, test_rounding, test_stress,
+    test_rescue, test_serving, test_process,
 )
 
 
