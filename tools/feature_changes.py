@@ -32,6 +32,10 @@ class GeometryFault(ChangeFault):
     """A geometry that is none, or cannot be kept."""
 
 
+class Unfit(GeometryFault):
+    """A geometry that can be read and that no feature has: it is empty, or more than a check takes."""
+
+
 @dataclass(frozen=True)
 class Plan:
     """A change of a table, and the lines of a batch that make it in the store; none where no layer changes."""
@@ -64,10 +68,12 @@ def rounded(geometry: Any, scale: Scale) -> Rounded:
     given = geometry.get("coordinates") if isinstance(geometry, dict) else None
     if kind not in features.KINDS or not isinstance(given, (list, tuple)):
         raise GeometryFault("geometry: a Polygon or a MultiPolygon with coordinates is wanted")
+    if is_empty(given, 1 if kind == "Polygon" else 2):
+        raise Unfit("geometry: a list is empty: a feature has a polygon at least, a polygon a ring, a ring four points")
     rounding_by, faults = rounding.Rounding(scale), list[str]()
     found, moved = [], Fraction(0)
     try:
-        for polygon in [given] if kind == "Polygon" and given else given:
+        for polygon in [given] if kind == "Polygon" else given:
             rings, tally = rounding_by.polygon(polygon, faults.append)
             found.append(rings)
             moved = max(moved, tally.furthest)
@@ -75,9 +81,13 @@ def rounded(geometry: Any, scale: Scale) -> Rounded:
         faults.append(str(fault) if isinstance(fault, Refused) else "coordinates of another form")
     if faults:
         raise GeometryFault(f"geometry: {faults[0]}")
-    if not found:
-        raise GeometryFault("geometry: a feature has at least one polygon")
     return Rounded(kind, found, moved)
+
+
+def is_empty(given: Any, depth: int) -> bool:
+    """Whether a list is empty, or one of those in it down to a depth."""
+    return isinstance(given, (list, tuple)) and (
+        not given or (depth > 0 and any(is_empty(one, depth - 1) for one in given)))
 
 
 def read(text: bytes) -> Any:

@@ -290,6 +290,8 @@ def feature_of(value: Any) -> Feature:
         raise FeaturesFault(f"feature {value['id']}: {value['kind'][:40]} is neither Polygon nor MultiPolygon")
     rings = tuple(tuple(tuple(checked(ring, str).split("+")) for ring in checked(polygon, list))
                   for polygon in checked(value["rings"], list))
+    if not rings or not all(rings):
+        raise FeaturesFault(f"feature {value['id']} has a polygon without a ring, or none: take its line out")
     layers = tuple(checked(name, str) for name in checked(value["layers"], list))
     return Feature(value["id"], value["number"], value["name"], value["kind"], layers, rings,
                    checked(value["properties"], dict))

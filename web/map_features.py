@@ -9,7 +9,7 @@ from fractions import Fraction
 from typing import Any
 
 from tools import feature_changes, features
-from tools.feature_changes import ChangeFault, GeometryFault, Given, Plan
+from tools.feature_changes import ChangeFault, GeometryFault, Given, Plan, Unfit
 from tools.features import FeaturesFault, Outline
 from .feature_store import Drawn, FeatureStore, State
 from .features_api import FeaturesApi
@@ -189,7 +189,7 @@ class MapFeatures(FeaturesApi):
         try:
             done = self.maps.change(plan)
         except GeometryFault as fault:
-            raise Problem(400, str(fault)) from fault
+            raise Problem(422 if isinstance(fault, Unfit) else 400, str(fault)) from fault
         except ChangeFault as fault:
             raise Problem(409, str(fault)) from fault
         told: dict[str, object] = {"version": done.version, "durable": self.store.durable if self.store.kept else None}

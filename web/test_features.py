@@ -298,7 +298,7 @@ class Editing(Case):
     def test_what_is_no_feature_is_refused(self) -> None:
         before = (self.layer_texts(), features.beside(self.store).read_bytes())
         flat, far, small = [[0, 0], [1, 1], [2, 2], [0, 0]], [[0, 0], [2e6, 0], [0, 9], [0, 0]], [[0, 0], [0.1, 0], [0, 0.1], [0, 0]]
-        for body in (feature("Point", [1, 2], {}), feature("Polygon", [], {}), feature("Polygon", [flat], {}),
+        for body in (feature("Point", [1, 2], {}), feature("Polygon", [flat], {}),
                      feature("Polygon", [far], {}), feature("Polygon", [small], {}), feature("Polygon", [WEST[:-1]], {}),
                      feature("Polygon", [WEST], "x"), feature("Polygon", [[["0", 0], [9, 0], [9, 9], [0, 0]]], {}),
                      feature("Polygon", "x", {}), feature("Polygon", [[1, 2, 3, 1]], {}), {"type": "Feature"},
@@ -378,6 +378,27 @@ class LargeIds(unittest.TestCase):
                 with opened(store, writable=False) as (client, _, _):
                     found = client.get("/collections/plan/items")["features"]
                 self.assertEqual([one["id"] for one in found], [*given, wanted])
+
+
+class Empty(unittest.TestCase):
+    def test_a_geometry_without_points_is_refused_before_anything_is_written(self) -> None:
+        """The items are answered after it, and the map opens again."""
+        store = made(self.enterContext(folder()), MAP, *Case.words)
+        files = store, features.beside(store)
+        with opened(store) as (client, _, _):
+            before = [file.read_bytes() for file in files]
+            for kind, coordinates in (("MultiPolygon", [[]]), ("MultiPolygon", []), ("MultiPolygon", [[[]]]), ("Polygon", []),
+                                      ("Polygon", [[]]), ("MultiPolygon", [[EAST], []]), ("Polygon", [WEST, []])):
+                for path, method in (("/collections/plan/items", "POST"), ("/collections/plan/items/1", "PUT")):
+                    told = client.ask(path, method, feature(kind, coordinates, {}))
+                    self.assertEqual((told.status, "is empty" in told.value["description"]), (422, True), coordinates)
+            self.assertEqual([file.read_bytes() for file in files], before)
+            self.assertEqual(len(client.get("/collections/plan/items")["features"]), 4)
+        with opened(store) as (client, _, _):
+            self.assertEqual(len(client.get("/collections/plan/items")["features"]), 4)
+        files[1].write_text(files[1].read_text().replace('"rings": [["', '"rings": [[], ["', 1))
+        with self.assertRaisesRegex(features.FeaturesFault, "feature 1 has a polygon without a ring"):
+            features.read(files[1])
 
 
 class Reading(Case):
