@@ -154,6 +154,7 @@ class FeatureStore:
     def change(self, plan: Callable[[State, Sequence[str]], Plan]) -> Done:
         """Makes the change that is planned for what there is, and has it durable, as docs/FEATURES.md says."""
         with self._changing:
+            self.store.must_be_written()  # what is not durable by now is lost, so no file may go on from it
             with self.store.view() as view:
                 state, names = self.state(view), list(view.layers)
             if self._table.pending:  # whether the one before is durable nobody knows

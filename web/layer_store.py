@@ -22,7 +22,7 @@ from .kept_values import Kept
 from .map_scale import MapScale
 from .rescue import NotWritten, Rescue
 from .scratch import Scratch
-from .views import Hold, Listed, View, listed
+from .views import Busy, Hold, Listed, View, listed
 
 PIECES_MOST = 200_000
 KEPT_MOST = 500_000
@@ -92,7 +92,7 @@ class LayerStore:
         self._joined: Kept[str, Joined] = Kept(KEPT_MOST, Joined.weight)
         self._extents: Kept[str, list[shapes.Box]] = Kept(REVISIONS_MOST, lambda _: 1)
         self._too_large: Kept[str, tuple[float, str]] = Kept(REVISIONS_MOST, lambda _: 1)
-        self._joiners, self._reminding = Joiners(JOINING), threading.Lock()
+        self._joiners, self._reminding, self._noting = Joiners(JOINING), threading.Lock(), threading.Lock()
         self._refusal: Callable[[str], str | None] = lambda _: None
 
     def close(self) -> None:
@@ -222,7 +222,13 @@ class LayerStore:
         """Has all that was accepted durable, where there is a file."""
         if self.kept:
             with self._server.session(slow=True, timeout=TURN) as one:
+                one.layers()  # SYNC waits for what its session has seen
                 self._sync(one, self.version)
+
+    def must_be_written(self) -> None:
+        """Refuses a change where the store is not written any more."""
+        if self._rescue and self._rescue.told:
+            raise NotWritten(f"nothing is changed: {self._rescue.told}")
 
     def change(self, lines: Sequence[str], *, own: bool = False) -> int:
         """Accepts commands as one version, whose number it gives. With a file, it is durable before this returns.
@@ -233,8 +239,7 @@ class LayerStore:
             reason = self._refusal(line.split(" ", 2)[1])
             if reason:
                 raise Protected(reason)
-        if self._rescue and self._rescue.told:
-            raise NotWritten(f"nothing is changed: {self._rescue.told}")
+        self.must_be_written()
         with self._server.session(slow=True, timeout=TURN) as one:
             with self._hold.alone(TURN):
                 version = self.version = self._accepted(one, lines)
@@ -254,11 +259,15 @@ class LayerStore:
 
     def _sync(self, one: Session, version: int) -> None:
         try:
-            self.durable = max(self.durable, one.sync())
+            durable = one.sync()
         except (Refused, TimeoutError) as fault:
             if self._rescue and isinstance(fault, Refused):
                 self._rescue.begin(fault)
             raise NotDurable(version, fault) from fault
+        with self._noting:  # replies come in any order
+            self.durable = max(self.durable, durable)
+        if durable < version:
+            raise NotDurable(version, Busy(f"version {durable} is"))
 
     # ---- what is lost
 

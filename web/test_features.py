@@ -10,9 +10,11 @@ import itertools
 import json
 import os
 import pathlib
+import resource
 import shutil
 import subprocess
 import sys
+import threading
 import unittest
 import unittest.mock
 from collections.abc import Iterator
@@ -21,11 +23,12 @@ from typing import Any
 
 from tools import feature_changes, features, scale as scales
 from tools.commands import to_script
-from tools.overlay_client import Server
-from . import map_scale, testing
+from tools.overlay_client import Server, Session
+from . import map_scale, rescue, testing
 from .feature_store import FeatureStore, Unlike
 from .front import Front
 from .layer_store import LayerStore
+from .rescue import Rescue
 from .scratch import Scratch
 from .systems import Projection, Systems
 from .testing import Client, folder
@@ -68,15 +71,16 @@ def made(place: pathlib.Path, found: list[dict[str, Any]], *words: str) -> pathl
 
 @contextlib.contextmanager
 def opened(
-    store: pathlib.Path, writable: bool = True, parts: bool = False, projection: Projection | None = None
+    store: pathlib.Path, writable: bool = True, parts: bool = False, projection: Projection | None = None,
+    program: str | None = None, rescued_by: Rescue | None = None,
 ) -> Iterator[tuple[Client, Server, LayerStore]]:
     """A front over a store and its features."""
     with contextlib.ExitStack() as open_ones:
-        words = {"read_only": not writable, "sessions": 4, "program": testing.PROGRAM, "timeout": 60}
+        words = {"read_only": not writable, "sessions": 4, "program": program or testing.PROGRAM, "timeout": 60}
         server = open_ones.enter_context(Server(store, **words))
         scratch = open_ones.enter_context(Scratch(testing.PROGRAM, 60))
         scale = map_scale.MapScale(scales.read(scales.beside(store)))
-        layers = LayerStore(server, scratch, scale, version=1, kept=True, writable=writable)
+        layers = LayerStore(server, scratch, scale, version=1, kept=True, writable=writable, rescue=rescued_by)
         open_ones.callback(layers.close)
         maps = FeatureStore(layers, features.beside(store), parts=parts)
         yield Client(Front(layers, maps=maps, systems=Systems(scale, projection))), server, layers
@@ -399,6 +403,58 @@ class Empty(unittest.TestCase):
         files[1].write_text(files[1].read_text().replace('"rings": [["', '"rings": [[], ["', 1))
         with self.assertRaisesRegex(features.FeaturesFault, "feature 1 has a polygon without a ring"):
             features.read(files[1])
+
+
+class Unwritten(unittest.TestCase):
+    """A front whose store is not written any more, as there is no room, while there is room for the file of features."""
+
+    def setUp(self) -> None:
+        place = self.enterContext(folder())
+        self.store = made(place, MAP, *Case.words)
+        self.program = str(testing.program_that_ignores_a_full_file(place))
+        self.enterContext(unittest.mock.patch.object(rescue, "AGAIN", 0.01))
+
+    def test_no_properties_are_changed_after_a_failed_write_and_the_map_opens_again(self) -> None:
+        """Also where the change that failed was of the same feature, or of a layer that is none of the map's."""
+        renamed = [feature("Polygon", [EAST], {"name": "Anew"}), feature("Polygon", [MOVED], {"name": "Anew"})]
+        for path, body in (("/collections/plan/items/2", feature("Polygon", [MOVED], {"name": "East"})),
+                           ("/collections/plan/items", feature("Polygon", [MOVED], {"name": "New"})),
+                           ("/collections/land", {"definition": "b0"})):
+            with self.without_room() as client:
+                told = client.ask(path, "POST" if path.endswith("items") else "PUT", body)
+                self.assertEqual((told.status, "not durable" in told.value["description"]), (503, True), told.value)
+                file = features.beside(self.store).read_bytes()
+                for number in range(4):
+                    for again in renamed:
+                        told = client.ask("/collections/plan/items/2", "PUT", again)
+                        self.assertEqual((told.status, told.headers.get("Retry-After")), (503, "5"), told.value)
+                self.assertEqual(features.beside(self.store).read_bytes(), file)
+            with opened(self.store) as (client, _, _):
+                found = client.get("/collections/plan/items")["features"]
+                self.assertEqual([one["properties"]["name"] for one in found], ["West", "East", "Isles", "Bow"])
+
+    @contextlib.contextmanager
+    def without_room(self) -> Iterator[Client]:
+        """A front without room for its store until the end of the block, after which a copy is in the store's place."""
+        ended = threading.Event()
+        rescued_by = Rescue(self.store, testing.PROGRAM, lambda _: ended.set())
+        with opened(self.store, program=self.program, rescued_by=rescued_by) as (client, server, _):
+            resource.prlimit(server.process.pid, resource.RLIMIT_FSIZE, (0, resource.RLIM_INFINITY))
+            with unittest.mock.patch("shutil.disk_usage", return_value=unittest.mock.Mock(free=0)):
+                yield client
+            self.assertTrue(ended.wait(60))
+
+    def test_a_change_that_is_not_durable_yet_is_waited_for(self) -> None:
+        """After a change whose reply was late another session says what is durable, and not only what it has seen."""
+        with opened(self.store) as (client, _, layers):
+            with unittest.mock.patch.object(Session, "sync", side_effect=TimeoutError("late")):
+                told = client.ask("/collections/plan/items/2", "PUT", feature("Polygon", [MOVED], {"name": "East"}))
+                self.assertEqual(told.status, 503)
+            with unittest.mock.patch.object(Session, "sync", return_value=1):
+                body = feature("Polygon", [MOVED], {"name": "Anew"})
+                self.assertEqual(client.ask("/collections/plan/items/2", "PUT", body).status, 503)
+                self.assertIsNotNone(features.read(features.beside(self.store)).pending)
+            self.assertEqual(client.change("/collections/plan/items/2", "PUT", body)["durable"], layers.version)
 
 
 class Reading(Case):

@@ -8,7 +8,7 @@ import threading
 import unittest
 import unittest.mock
 
-from tools.overlay_client import Refused, Server
+from tools.overlay_client import Refused, Server, Session
 from . import rescue, testing
 from .front import Front
 from .layer_store import LayerStore
@@ -107,6 +107,25 @@ class Rescues(unittest.TestCase):
             self.assertEqual(server.sessions[0].sync(), 1)
             server.sessions[0].put("B", SQUARE)
             self.assertEqual(server.sessions[0].sync(), 2)
+
+    def test_what_is_durable_never_becomes_less(self) -> None:
+        """The reply to the first of two changes comes last: it says less than what is known by then."""
+        second, sync = threading.Event(), Session.sync
+
+        def late(one: Session) -> int:
+            durable = sync(one)
+            if durable == 2:
+                second.wait(60)
+            return durable
+
+        self.enterContext(unittest.mock.patch.object(Session, "sync", late))
+        first = threading.Thread(target=self.client.change, args=("/collections/D", "PUT", {"definition": "A"}))
+        first.start()
+        testing.wait_until(lambda: bool(self.client.get("/status")["version"] == 2))
+        self.assertEqual(self.client.change("/collections/E", "PUT", {"definition": "A"})["durable"], 3)
+        second.set()
+        first.join(60)
+        self.assertEqual(self.client.get("/status")["durable"], 3)
 
     def test_a_store_that_is_written_again_with_the_next_command_is_left(self) -> None:
         for number in (31, 36, 40, 46):
