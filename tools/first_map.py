@@ -8,11 +8,12 @@ The features of one map are numbered over few layers and served with their names
 `name`, or by the first that tells them apart; --name-by says another. --with adds further maps on the same scale: each
 is a layer of its file's name then, and `both` is what all of them have in common.
 
-It writes CITY.txt, CITY.db and what goes with them in --folder (default: where it is called). A store that is there
-is served as it is; --again makes it anew, unless a program has it open, as a running front. A store of another map of
-the same name, or one without the CITY.txt that it was made of, is refused and left as it is. Where one store does not
-suffice each has a front of its own. A browser is opened where there is a screen, but for --no-browser. Ctrl-C ends the
-front.
+It works in a folder of its own, CITY.overlay in --folder (default: where it is called), and writes nothing elsewhere:
+CITY.txt, CITY.db and what goes with them lie there. A folder of that name with files in it that overlay did not make
+is refused and left as it is. A store that is there is served as it is; --again makes it anew, unless a program has it
+open, as a running front. A store of another map of the same name, or one without the CITY.txt that it was made of, is
+refused and left as it is. Where one store does not suffice each has a front of its own. A browser is opened where there
+is a screen, but for --no-browser. Ctrl-C ends the front.
 
 Status 0: ended by Ctrl-C or SIGTERM, or all of it made by --only-make; 1: a feature was refused, which is reported, and
 the rest made by --only-make, a line was refused, a program is not there, another has the store, or a front ended by a
@@ -37,7 +38,7 @@ import webbrowser
 from collections.abc import Iterable, Mapping
 from typing import TextIO
 
-from . import asking, ending, scale as scales, sessions
+from . import asking, ending, scale as scales, sessions, writing
 from .parsing import Parser
 from .commands import to_script
 from .describing import Described
@@ -46,6 +47,10 @@ FRONT = asking.TOP / "web" / "overlay_web.py"
 NAMED = "both"
 DEVICE = "error 30"  # that a file could not be read or written
 MADE_OF = "# overlay made this of "  # at the head of a script, before the paths of its maps
+MARK = "made-by-overlay"  # the file by which a folder is known as its own
+# Where a run makes a folder, which a kill leaves behind; and what a front leaves in one.
+UNFINISHED = re.compile(r"\..+\.overlay\.[0-9a-f]{32}\.new")
+LEFT_OVER = re.compile(r"\..+\.[0-9a-f]{32}\.[0-9]+\.[0-9]+\.new|.+\.db\.[^.]+\.copy")
 ENDING = 60.0  # seconds that a front has to end
 
 
@@ -65,7 +70,7 @@ def words_of(arguments: list[str]) -> argparse.Namespace:
     parser.add_argument("--name-by", metavar="PROPERTY", help="what the features are called by")
     parser.add_argument("--crs", type=scales.crs, help="the name of the coordinates, where the files do not say it")
     parser.add_argument("--source-layer", metavar="NAME", help="the layer of files that have several, as GeoPackages")
-    parser.add_argument("--folder", type=pathlib.Path, default=pathlib.Path(), help="where the store is made")
+    parser.add_argument("--folder", type=pathlib.Path, default=pathlib.Path(), help="where the folder of the store is made")
     parser.add_argument("--again", action="store_true",
                         help="make a store anew though it is there; what was changed in it since is lost")
     parser.add_argument("--writable", action="store_true", help="let the page and HTTP change the map")
@@ -163,10 +168,12 @@ def make_store(script: pathlib.Path, program: str) -> None:
 
 
 def stores_for(words: argparse.Namespace, program: str, errors: TextIO) -> tuple[list[pathlib.Path], int]:
-    """The stores of a map, and the status of making them. They are made in a folder of their own, so that none is
-    half made."""
+    """The stores of a map, and the status of making them."""
     stem = "_and_".join(re.sub(r"[^A-Za-z0-9]+", "_", path.stem).strip("_") or "map" for path in (words.map, *words.others))
-    there = stores_of(words.folder / f"{stem}.txt")
+    own = words.folder / f"{stem}.overlay"
+    check_own(own)
+    clear_left_over(words.folder, own)
+    there = stores_of(script_in(own))
     if there:
         check_maps(words, there)
     if there and not words.again:
@@ -174,25 +181,90 @@ def stores_for(words: argparse.Namespace, program: str, errors: TextIO) -> tuple
         age = ", older than its map" if older else ""
         print(f"{', '.join(map(str, there))}: made before{age}, and served as it is; --again makes it anew", file=errors)
         return there, 0
-    if not os.access(words.folder, os.W_OK | os.X_OK):
-        raise Unmade(1, f"{words.folder}: nothing can be written in it; say another --folder")
+    place = own if is_own(own) else words.folder
+    if not os.access(place, os.W_OK | os.X_OK):
+        raise Unmade(1, f"{place}: nothing can be written in it; say another --folder")
     with contextlib.ExitStack() as held:
-        hold(words, stem, held)
-        folder = held.enter_context(tempfile.TemporaryDirectory(prefix=".overlay-", dir=words.folder))
-        output = pathlib.Path(folder, f"{stem}.txt")
-        scripts, status = made_scripts(words, output, errors)
+        hold(words, own, held)
+        folder = unfinished(place, own, held)
+        scripts, status = made_scripts(words, folder / script_in(own).name, errors)
         for script in scripts:
             make_store(script, program)
-        made = sorted(pathlib.Path(folder).iterdir(), key=lambda path: path.suffix == ".db")
-        if late := [store for store in stores_of(words.folder / f"{stem}.txt") if store not in there]:
-            raise Unmade(1, f"{late[0]}: another run has made it meanwhile, and may serve it; say the same again")
-        before = [path.with_suffix(".txt") for path in there]
-        check_targets(words, [*before, *(words.folder / path.name for path in made)])
-        for path in (*there, *before):
-            path.unlink()
-        for path in made:
-            path.replace(words.folder / path.name)
-    return stores_of(words.folder / f"{stem}.txt"), status
+        put(words, folder, own, there)
+    return stores_of(script_in(own)), status
+
+
+def script_in(own: pathlib.Path) -> pathlib.Path:
+    """The script of the folder CITY.overlay, by which its others are called."""
+    return own / f"{own.stem}.txt"
+
+
+def is_own(folder: pathlib.Path) -> bool:
+    return (folder / MARK).is_file()
+
+
+def check_own(own: pathlib.Path) -> None:
+    """Refuses a folder with files in it that this did not make, and what is no folder."""
+    if os.path.lexists(own) and not is_own(own) and (not own.is_dir() or any(own.iterdir())):
+        raise Unmade(2, f"{own}: it is there, and overlay did not make it (no {MARK} is in it); say another --folder, "
+                        "or move it away")
+
+
+def unfinished(place: pathlib.Path, own: pathlib.Path, held: contextlib.ExitStack) -> pathlib.Path:
+    """A new folder that a map is made in, so that none is half made. While this runs it is locked, and so no other run
+    takes it for left over; at the end it goes."""
+    made = place / f".{own.name}.{writing.OWN}.new"
+    made.mkdir()
+    held.callback(shutil.rmtree, made, ignore_errors=True)
+    descriptor = os.open(made, os.O_RDONLY | os.O_DIRECTORY)
+    held.callback(os.close, descriptor)
+    fcntl.flock(descriptor, fcntl.LOCK_EX)
+    (made / MARK).write_text("overlay made this folder, and writes what lies in it anew\n")
+    return made
+
+
+def clear_left_over(place: pathlib.Path, own: pathlib.Path) -> None:
+    """Takes away what killed runs have left of this map, where no program has it in hand."""
+    for folder in (place, own) if is_own(own) else (place,):
+        for path in folder.glob(f".{own.name}.*.new"):
+            if UNFINISHED.fullmatch(path.name) and is_free(path):
+                shutil.rmtree(path, ignore_errors=True)
+    if is_own(own) and all(map(is_free, own.glob("*.db"))):
+        for path in own.iterdir():
+            if LEFT_OVER.fullmatch(path.name) and path.is_file():
+                with contextlib.suppress(OSError):
+                    path.unlink()
+
+
+def is_free(path: pathlib.Path) -> bool:
+    """Whether no program has a lock on a file or a folder."""
+    with contextlib.suppress(OSError):
+        descriptor = os.open(path, os.O_RDONLY)
+        try:
+            fcntl.flock(descriptor, fcntl.LOCK_EX | fcntl.LOCK_NB)
+            return True
+        finally:
+            os.close(descriptor)
+    return False
+
+
+def put(words: argparse.Namespace, folder: pathlib.Path, own: pathlib.Path, there: list[pathlib.Path]) -> None:
+    """Has what was made take its place: the folder whole where there is none, else the files in it, stores last."""
+    if not is_own(own):
+        try:
+            folder.rename(own)
+        except OSError as fault:
+            raise Unmade(1, f"{ending.told(own, fault)}: another run has made it meanwhile; say the same again") from fault
+        return
+    made = sorted(folder.iterdir(), key=lambda path: path.suffix == ".db")
+    if late := [store for store in stores_of(script_in(own)) if store not in there]:
+        raise Unmade(1, f"{late[0]}: another run has made it meanwhile, and may serve it; say the same again")
+    before = [path.with_suffix(".txt") for path in there]
+    check_targets(words, [*before, *(own / path.name for path in made)])
+    for path in (*there, *before):
+        path.unlink()
+    for path in made:
+        path.replace(own / path.name)
 
 
 def check_maps(words: argparse.Namespace, there: list[pathlib.Path]) -> None:
@@ -216,10 +288,10 @@ def maps_of(script: pathlib.Path) -> list[pathlib.Path]:
         return []
 
 
-def hold(words: argparse.Namespace, stem: str, held: contextlib.ExitStack) -> None:
+def hold(words: argparse.Namespace, own: pathlib.Path, held: contextlib.ExitStack) -> None:
     """Locks the stores that are to be replaced. One that this did not make, or that a program has, is refused."""
-    for path in sorted(words.folder.iterdir()):
-        if not re.fullmatch(rf"{re.escape(stem)}(\.[0-9]+)?\.db", path.name):
+    for path in sorted(own.iterdir()) if own.is_dir() else ():
+        if not re.fullmatch(rf"{re.escape(own.stem)}(\.[0-9]+)?\.db", path.name):
             continue
         if not path.with_suffix(".txt").is_file():
             raise Unmade(2, f"{path}: the {path.stem}.txt that it was made of is not there; say another --folder, "

@@ -484,7 +484,7 @@ def visit_features(browser: Browser, words: argparse.Namespace, folder: pathlib.
     """Looks at a front over North Carolina, as wide as on a desk and as narrow as on a telephone."""
     web_front.first_map(TOP / "tools/data/north_carolina.geojson", folder, words.program)
     pictures, running = words.pictures or folder, {"program": words.program, "python": words.python}
-    with web_front.front("--store", folder / "north_carolina.db", **running) as address:
+    with web_front.front("--store", folder / "north_carolina.overlay/north_carolina.db", **running) as address:
         features(browser, address, pictures / "features.png", SIZE, tries)
         features(browser, address, pictures / "features-narrow.png", NARROW, tries)
         browser.leave()

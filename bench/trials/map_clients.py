@@ -242,8 +242,9 @@ def made_stores(source: Source, path: pathlib.Path, folder: pathlib.Path,
                 program: str) -> tuple[list[pathlib.Path], Rounding]:
     """The stores of a map by `./overlay`, and its rounding as that told it."""
     told = web_front.first_map(path, folder, program, "--name-by", source.key, *source.words)
-    stores = sorted(folder.glob("*.db"), key=lambda store: [*map(int, re.findall(r"\.(\d+)\.db", store.name))])
-    (scale,) = folder.glob("*.scale.json")
+    (made,) = folder.glob("*.overlay")
+    stores = sorted(made.glob("*.db"), key=lambda store: [*map(int, re.findall(r"\.(\d+)\.db", store.name))])
+    (scale,) = made.glob("*.scale.json")
     found = MOVED.search(told)
     return stores, Rounding(float(found[1]) if found else 0.0, json.loads(scale.read_text())["digits"])
 

@@ -98,7 +98,7 @@ def killed_amid(front: subprocess.Popen[str], changes: Changes, address: str, na
 
 def try_changes(tries: Tries, folder: pathlib.Path, program: str, chance: random.Random, count: int) -> None:
     web_front.first_map(SOURCE, folder, program)
-    store, changes, done, kills = folder / f"{SOURCE.stem}.db", None, 0, 0
+    store, changes, done, kills = folder / f"{SOURCE.stem}.overlay/{SOURCE.stem}.db", None, 0, 0
     while done < count:
         words = [sys.executable, TOP / "web/overlay_web.py", "--store", store, "--writable", "--port", "0", "--program", program]
         with subprocess.Popen([str(word) for word in words], stdout=subprocess.PIPE, text=True) as front:

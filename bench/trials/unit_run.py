@@ -135,7 +135,7 @@ def with_systemd(root: pathlib.Path) -> pathlib.Path:
 def made_map(folder: pathlib.Path, programs: pathlib.Path | None) -> list[pathlib.Path]:
     """North Carolina in a store, with what lies beside it."""
     first_map(TOP / "tools/data/north_carolina.geojson", folder, programs and programs / "overlay_live")
-    return [folder / f"north_carolina.{end}" for end in ("db", "scale.json", "features.json")]
+    return [folder / f"north_carolina.overlay/north_carolina.{end}" for end in ("db", "scale.json", "features.json")]
 
 
 def put(files: list[pathlib.Path], root: pathlib.Path, name: str) -> None:

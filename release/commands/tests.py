@@ -362,8 +362,8 @@ class Uses(unittest.TestCase):
         shutil.copy(MAP, self.folder / "nc.geojson")
         done = ran("overlay", "nc.geojson", "--only-make", cwd=self.folder)
         self.assertEqual(done.returncode, 0, done.stderr)
-        self.assertEqual(ran("overlay-which", "--store", "nc.db", *RALEIGH, cwd=self.folder).stdout.strip(), "Wake")
-        done = ran("overlay-to-geojson", "--store", "nc.db", "--features", cwd=self.folder)
+        self.assertEqual(ran("overlay-which", "--store", "nc.overlay/nc.db", *RALEIGH, cwd=self.folder).stdout.strip(), "Wake")
+        done = ran("overlay-to-geojson", "--store", "nc.overlay/nc.db", "--features", cwd=self.folder)
         self.assertEqual(len(json.loads(done.stdout)["features"]), 100)
         done = ran("overlay-maps", "check", "nc.geojson", "--factor", "100000", "--out", "o.csv", cwd=self.folder)
         self.assertEqual(done.returncode, 0, done.stderr)
@@ -371,7 +371,7 @@ class Uses(unittest.TestCase):
     def test_the_front_serves_it_and_ends_in_order(self) -> None:
         shutil.copy(MAP, self.folder / "nc.geojson")
         self.assertEqual(ran("overlay", "nc.geojson", "--only-make", cwd=self.folder).returncode, 0)
-        words = [Built.prefix / "bin/overlay-web", "--store", "nc.db", "--port", "0"]
+        words = [Built.prefix / "bin/overlay-web", "--store", "nc.overlay/nc.db", "--port", "0"]
         path = f"{pathlib.Path(sys.executable).parent}:/usr/bin:/bin"
         with subprocess.Popen([str(word) for word in words], cwd=self.folder, stdout=subprocess.PIPE, text=True,
                               env={"PATH": path, "PYTHONDONTWRITEBYTECODE": "1"}) as front:
