@@ -16,7 +16,7 @@ from waitress.channel import HTTPChannel
 from waitress.task import ErrorTask
 
 from .front import HEADERS, Front, refusal
-from .serving import ANSWER_SECONDS, CONNECTIONS_MOST, LINE_MOST, QUIET_SECONDS, REQUEST_SECONDS, THREADS
+from .serving import ANSWER_SECONDS, LINE_MOST, QUIET_SECONDS, REQUEST_SECONDS, THREADS, connections_most
 from .web_request import BODY_MOST
 
 
@@ -74,7 +74,8 @@ def server_of(front: Front, host: str, port: int, make_ends: Callable[[Any], End
         host=host,
         port=port,
         threads=THREADS,
-        connection_limit=CONNECTIONS_MOST,
+        connection_limit=connections_most(),
+        asyncore_use_poll=True,  # select takes no file whose number is above 1023
         max_request_body_size=BODY_MOST,
         max_request_header_size=LINE_MOST,
         channel_timeout=QUIET_SECONDS,

@@ -9,6 +9,7 @@ from __future__ import annotations
 import contextlib
 import errno
 import io
+import resource
 import socket
 import socketserver
 import threading
@@ -21,8 +22,10 @@ from .front import CHANGES_MOST, HEADERS, SLOW_MOST, Front, refusal
 from .web_request import BODY_MOST, Answer
 
 THREADS = SLOW_MOST + CHANGES_MOST + 4
-CONNECTIONS_MOST = 200
+CONNECTIONS_MOST = 1000
 """How many connections are open at once; the next one waits until one of them ends."""
+FILES_MOST, FILES_OWN = 3 * CONNECTIONS_MOST + 200, 200
+"""How many files the front may need: of each connection a body and an answer may be files too, and some are its own."""
 REQUEST_SECONDS, ANSWER_SECONDS = 60.0, 300.0
 """How long a request may take to come, and an answer to go."""
 QUIET_SECONDS = 30
@@ -49,6 +52,15 @@ def told_of(reason: object) -> str:
 
 def told(host: str, port: int) -> None:
     print(f"http://{f'[{host}]' if ':' in host else host}:{port}/", flush=True)
+
+
+def connections_most() -> int:
+    """How many connections the system has files for. It is asked for as many as all of them may need."""
+    allowed, most = resource.getrlimit(resource.RLIMIT_NOFILE)
+    if allowed != resource.RLIM_INFINITY and allowed < FILES_MOST:
+        allowed = FILES_MOST if most == resource.RLIM_INFINITY else min(FILES_MOST, most)
+        resource.setrlimit(resource.RLIMIT_NOFILE, (allowed, most))
+    return CONNECTIONS_MOST if allowed >= FILES_MOST or allowed < 0 else max(1, (allowed - FILES_OWN) // 3)
 
 
 def serve(front: Front, host: str, port: int) -> None:
@@ -106,7 +118,8 @@ class Threaded(socketserver.ThreadingMixIn, simple_server.WSGIServer):
     request_queue_size = 64
 
     def __init__(self, *given: Any) -> None:
-        self._free = threading.BoundedSemaphore(CONNECTIONS_MOST)
+        self.most = connections_most()
+        self._free = threading.BoundedSemaphore(self.most)
         self.answering = threading.BoundedSemaphore(THREADS)
         super().__init__(*given)
 

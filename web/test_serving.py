@@ -50,9 +50,9 @@ class ServerCase(FrontCase):
         """How many connections the server has."""
         raise NotImplementedError
 
-    def many(self, sent: bytes) -> list[socket.socket]:
-        """More connections than there are threads, by each of which so much is sent."""
-        links = [self.connected() for _ in range(serving.THREADS + 4)]
+    def many(self, sent: bytes, count: int = serving.THREADS + 4) -> list[socket.socket]:
+        """So many connections, more than there are threads, by each of which so much is sent."""
+        links = [self.connected() for _ in range(count)]
         for link in links:
             link.sendall(sent)
         return links
@@ -102,6 +102,12 @@ class ServerCase(FrontCase):
 
     def test_slow_heads(self) -> None:
         self.slow(HEAD + b"X: ")
+
+    def test_many_slow_clients(self) -> None:
+        """Beside 250 who do not send their request to its end others are answered (bench/trials/slow_clients.py has 900)."""
+        self.begin(600, 600)
+        with self.trickling(self.many(HEAD + b"X: ", 250)):
+            self.assertEqual([self.status() for _ in range(10)], [200] * 10)
 
     def test_slow_bodies(self) -> None:
         head = HEAD.replace(b"GET /status", b"PUT /collections/N")
@@ -155,10 +161,10 @@ class ByThreads(ServerCase):
         server = self.enterContext(make("127.0.0.1", 0, self.front, serving.Threaded, serving.Handler))
         threading.Thread(target=server.serve_forever, args=(0.01,), daemon=True).start()
         self.addCleanup(server.shutdown)
-        self.port, self.server_free = server.server_port, server._free
+        self.port, self.server_free, self.most = server.server_port, server._free, server.most
 
     def open_ones(self) -> int:
-        return serving.CONNECTIONS_MOST - self.server_free._value
+        return self.most - self.server_free._value
 
     def test_a_request_that_does_not_come_is_told(self) -> None:
         self.begin(0.2, 60)
