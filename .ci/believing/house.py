@@ -281,6 +281,15 @@ class House:
         gone = {clause for title, clause in cut.clauses if title == name}
         return [line for line in lines if not (found := re.match(r" *ensures (\w+) ", line)) or found[1] not in gone]
 
+    def fields_said(self, calls: list[Call], keys: set[Key], cut: Cut = NOTHING) -> set[str]:
+        """The names after a point in some contracts and definitions: the fields that these see."""
+        said = [*(self.head(call)[1] for call in calls), *("\n".join(self.shown(key, cut)) for key in keys if key[0])]
+        return set(re.findall(r"\.(\w+)", "\n".join(said)))
+
+    def plain_types(self, keys: set[Key]) -> set[Key]:
+        """Those that are types of the sources without a model, which are seen as they are declared."""
+        return {key for key in keys if not key[0] and not self.model(key[1], key[2])}
+
     def type_of(self, text: str, crate: str, word: str) -> Key | None:
         """The type that a word of a source is, also where another crate passes it on."""
         path = rust.used(text).get(word)

@@ -10,11 +10,13 @@ import re
 
 from believing.house import NOTHING, Call, Cut, House, Key, Reach
 
+# The row of all calls.
+ALL = "all together"
 # The rows of which README.md has the numbers.
-OF_README = r"(?:`locate`|the sentence in bold|a crash of a run, and its opening|all without what stands beside|all together)"
-ROW = re.compile(rf"^\| {OF_README} \| (\d+) \| ([\d,]+) \|", re.M)
-# Those rows of README.md: their cells of definitions and of lines.
-TOLD = re.compile(r"^(\| [^|\n]+ \| )\d+( \| )[\d,]+( \|)$", re.M)
+OF_README = rf"(?:`locate`|the sentence in bold|a crash of a run, and its opening|all without what stands beside|{ALL})"
+ROW = re.compile(rf"^\| {OF_README} \| (\d+) \| ([\d,]+) \|(?:[^|\n]*\|){{2}} ([\d,]+) \|", re.M)
+# Those rows of README.md: their cells of definitions, of lines and of lines in all.
+TOLD = re.compile(r"^(\| [^|\n]+ \| )\d+( \| )[\d,]+( \| )[\d,]+( \|)$", re.M)
 
 
 @dataclasses.dataclass(frozen=True)
@@ -86,7 +88,8 @@ class Told:
 
     def row_of(self, title: str) -> Row:
         """The row of a title: of several calls, or of one."""
-        return next((row for row in self.tables.together if row.title == title), Row(title, (title,), ""))
+        calls = tuple(call.title for call in self.tables.calls) if title == ALL else (title,)
+        return next((row for row in self.tables.together if row.title == title), Row(title, calls, ""))
 
     def cut(self, title: str) -> Cut:
         """What a row leaves out."""
@@ -101,6 +104,16 @@ class Told:
         return f"{len(mine)} | {self.house.lines(mine, cut):,} | {files} | {of_kit}"
 
 
+    def needed(self, title: str) -> int:
+        """The lines of all that a reader of a row needs: definitions, those of the kit, contracts, and types."""
+        house, cut = self.house, self.cut(title)
+        calls, reach = self.row(title)
+        fields = house.fields_said(calls, reach.keys, cut)
+        types = sum(len(house.declared(kind[1], kind[2], fields, cut)) for kind in house.plain_types(reach.keys))
+        contracts = sum(len(quoted(house, call)) for call in calls)
+        return house.lines(house.mine(reach.keys), cut) + house.lines(house.of_kit(reach.keys)) + contracts + types
+
+
 def page(house: House, tables: Tables) -> str:
     """The whole page."""
     told = Told(house, tables)
@@ -112,15 +125,15 @@ def page(house: House, tables: Tables) -> str:
         _, reach = told.row(call.title)
         fresh = reach.keys - met
         listed.update({key: call.title for key in house.mine(fresh)})
-        rows.append(f"| `{call.title}` | {told.counted(reach.keys)} | {call.says} |")
+        rows.append(f"| `{call.title}` | {told.counted(reach.keys)} | {told.needed(call.title):,} | {call.says} |")
         parts.append(section(told, call, reach, fresh))
         met |= reach.keys
-    for row in tables.together:
+    for row in [*tables.together, Row(ALL, (), "")]:
         _, reach = told.row(row.title)
-        rows.append(f"| {row.title} | {told.counted(reach.keys, told.cut(row.title))} | {row.says} |")
-    rows.append(f"| all together | {told.counted(met)} | |")
+        counts = f"{told.counted(reach.keys, told.cut(row.title))} | {told.needed(row.title):,}"
+        rows.append(f"| {row.title} | {counts} | {row.says} |")
     every = sum(len(module.definitions) for (crate, _), module in house.modules.items() if crate in house.crates)
-    table = ["| Call | Definitions | Lines | Files | Of the kit (lines) | What it is |", f"|{'---|' * 6}", *rows]
+    table = ["| Call | Definitions | Lines | Files | Of the kit (lines) | Lines in all | What it is |", f"|{'---|' * 7}", *rows]
     head = tables.head.replace("@CONTRACT@", "\n".join(f"    {line}" for line in quoted(house, tables.calls[0])))
     head = head.replace("@LINKS@", links(told)).replace("@WITHOUT@", left_out(told)).replace("@PINS@", pinned(house))
     tail = f"\nOf {every:,} definitions in `crates/*/specs`.\n"
@@ -239,9 +252,10 @@ def laws(told: Told, call: Call, fresh: set[Key]) -> list[str]:
 def types(house: House, keys: set[Key]) -> str:
     """The types of the sources that contracts and definitions name."""
     lines = ["## Types of the sources", "",
-             "Not counted above. A value of a type with a model is seen as the model's value; of any other its fields are",
-             "seen, and of an enum its cases. What each value of a type with a model keeps to, the texts of rows say. A trait",
-             "has clauses of its own: what a disk has to keep, a crash's premise, is in `Disk`.", "",
+             "Counted above in lines in all alone, and there those without a model. A value of a type with a model is seen as",
+             "the model's value; of any other its fields are seen, and of an enum its cases. What each value of a type with a",
+             "model keeps to, the texts of rows say. A trait has clauses of its own: what a disk has to keep, a crash's premise,",
+             "is in `Disk`.", "",
              "| File | Types, and what they are seen as |", "|---|---|"]
     files: dict[tuple[int, str], list[str]] = {}
     for crate, name in sorted({key[1:] for key in keys if not key[0]}):
@@ -266,8 +280,8 @@ def with_numbers(readme: str, page_text: str) -> str:
     numbers = iter(ROW.findall(page_text))
 
     def counted(found: re.Match[str]) -> str:
-        definitions, lines = next(numbers)
-        return f"{found[1]}{definitions}{found[2]}{lines}{found[3]}"
+        definitions, lines, in_all = next(numbers)
+        return f"{found[1]}{definitions}{found[2]}{lines}{found[3]}{in_all}{found[4]}"
 
     return TOLD.sub(counted, readme, count=5)
 

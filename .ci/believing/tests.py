@@ -265,14 +265,14 @@ def writes(top: pathlib.Path) -> int:
     house = House(top, top / "kit", LINKS)
     tables = small_tables()
     said = page(house, tables)
-    for line in ["| `go` | 3 | 10 | 2 | 1 (3) | A call. |", "| `give` | 1 | 2 | 1 |  | A call. |", "| both | 4 | 12 | 2 | 1 (3) | Two. |",
+    for line in ["| `go` | 3 | 10 | 2 | 1 (3) | 16 | A call. |", "| `give` | 1 | 2 | 1 |  | 5 | A call. |", "| both | 4 | 12 | 2 | 1 (3) | 21 | Two. |",
                  "| [`Handed`](../crates/high/specs/Calls.antt) | `give` | `take` |", "Link words: `Handed`.",
                  "Of the kit: core Numbers `twofold`.", "    pub fn go(thing: &Thing) -> usize",
                  "- [`goes_law`](../crates/high/src/calling.rt): What goes, goes on.",
                  "`Goes`](../crates/high/specs/Calls.antt) | 3 | 10 | 2 | 1 (3) | A word. | `go` 3 |"]:
         assert line in said, (line, said)
     assert said.index("low Numbers") < said.index("high Calls") and "`Thing` as `Pair`" in said
-    assert "| few | 2 | 6 | 2 |  | Less. |" in said and "- `few` leaves out `Goes`, `go: first`." in said, said
+    assert "| few | 2 | 6 | 2 |  | 12 | Less. |" in said and "- `few` leaves out `Goes`, `go: first`." in said, said
     assert "- `part` has `Handed.rest`." in said
     for wrong, fault in [(Law("give", "high/src/calling.rt", "goes_law"), "speaks of nothing"), (Law("go", "high/src/calling.rt", "go"), "no law")]:
         try:
@@ -307,6 +307,8 @@ def prints(top: pathlib.Path) -> int:
     assert text(Told(house, cut), "less").index("A type of low: Store") < text(Told(house, cut), "less").index("pub record Pair")
     assert "    go: first" in text(Told(house, tables), "few") and "{ Goes thing.now result }  // left out" in text(Told(house, tables), "few")
     assert "    Handed.rest" in text(Told(house, tables), "part")
+    every = text(Told(house, tables), "all together")
+    assert all(f"==== {call.title}: A call." in every for call in tables.calls) and "; 26 lines with contracts, types and these" in every, every
     assert "  -- fields left out, of which the sentence may speak: few" in text(Told(house, tables), "part") and "pub few" not in text(Told(house, tables), "part")
     return 9
 
@@ -338,13 +340,13 @@ def names(top: pathlib.Path) -> int:
 
 def compares(top: pathlib.Path) -> int:
     """The numbers of README.md, and what is as it would be written."""
-    rows = ("| `locate` | 4 | 1,009 | 2 |\n| the sentence in bold | 5 | 8 | 2 |\n| a crash of a run, and its opening | 5 | 9 | 2 |\n"
-            "| all without what stands beside | 5 | 3 | 2 |\n| all together | 6 | 7 | 2 |\n")
-    readme = ("| Line | Reply | Meaning |\n|---|---|---|\n| a line of 1 | 2 | lines |\n\n| To read | Definitions | Lines |\n|---|---|---|\n"
-              "| LOCATE | 1 | 2 |\n| new files | 3 | 4 |\n| a crash | 3 | 4 |\n| most | 3 | 4 |\n| all | 5 | 1,006 |\n")
+    rows = ("| `locate` | 4 | 1,009 | 2 |  | 1,010 |\n| the sentence in bold | 5 | 8 | 2 | 3 (4) | 21 |\n| a crash of a run, and its opening | 5 | 9 "
+            "| 2 |  | 22 |\n| all without what stands beside | 5 | 3 | 2 |  | 23 |\n| all together | 6 | 7 | 2 |  | 24 |\n")
+    readme = ("| Line | Reply | Meaning |\n|---|---|---|\n| a line of 1 | 2 | lines |\n\n| To read | Definitions | Lines | In all |\n|---|---|---|---|\n"
+              "| LOCATE | 1 | 2 | 1 |\n| new files | 3 | 4 | 1 |\n| a crash | 3 | 4 | 1 |\n| most | 3 | 4 | 1 |\n| all | 5 | 1,006 | 9 |\n")
     told = with_numbers(readme, rows)
-    assert told == readme[: readme.index("| LOCATE")] + ("| LOCATE | 4 | 1,009 |\n| new files | 5 | 8 |\n| a crash | 5 | 9 |\n| most | 5 | 3 |\n"
-                                                         "| all | 6 | 7 |\n"), told
+    assert told == readme[: readme.index("| LOCATE")] + ("| LOCATE | 4 | 1,009 | 1,010 |\n| new files | 5 | 8 | 21 |\n| a crash | 5 | 9 | 22 |\n"
+                                                         "| most | 5 | 3 | 23 |\n| all | 6 | 7 | 24 |\n"), told
     kept, other = top / "kept.md", top / "other.md"
     kept.write_text("kept")
     assert is_written(kept, "kept") and not is_written(kept, "more") and not is_written(other, "none")

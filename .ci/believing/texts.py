@@ -39,7 +39,8 @@ def head(told: Told, title: str, body: Body) -> list[str]:
     house = told.house
     row, reach = told.row_of(title), told.row(title)[1]
     mine, kit = house.mine(reach.keys), house.of_kit(reach.keys)
-    count = f"({len(mine)} definitions, {house.lines(mine, told.cut(title)):,} lines), over {len(kit)} of the kit ({house.lines(kit):,} lines)"
+    count = (f"({len(mine)} definitions, {house.lines(mine, told.cut(title)):,} lines), over {len(kit)} of the kit ({house.lines(kit):,} "
+             f"lines); {told.needed(title):,} lines with contracts, types and these")
     lines = [f"What to believe of: {title} {count}", "",
              "`.ci/believe --text` wrote this from the sources. docs/BELIEVE.md says how to read it. First the contracts,",
              "then the definitions on which they rest, lowest first: each comes after those that it rests on, or beside them",
@@ -78,9 +79,8 @@ class Body:
         self.mine = self.house.mine(reach.keys)
         self.waiting = besides(told, reach.keys, self.cut)
         self.keys = reach.keys.union(*(one.keys for one in self.waiting))
-        said = [*(self.house.head(call)[1] for call in calls), *("\n".join(self.house.shown(key, self.cut)) for key in self.keys if key[0])]
-        self.fields = set(re.findall(r"\.(\w+)", "\n".join(said)))
-        self.kinds = {key for key in self.keys if not key[0] and not self.house.model(key[1], key[2])}
+        self.fields = self.house.fields_said(calls, self.keys, self.cut)
+        self.kinds = self.house.plain_types(self.keys)
         self.done: set[Key] = set()
 
     def lines(self) -> list[str]:
