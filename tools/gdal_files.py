@@ -16,7 +16,7 @@ import tempfile
 from collections.abc import Container, Iterator
 from typing import Any, NamedTuple
 
-from . import ending, scale as scales, writing
+from . import coordinate_systems, ending, scale as scales, writing
 
 TABLE = "a table with a column of Well-Known Text"
 # By the end of a name: what the form is called, where it does not begin as one of MAGIC.
@@ -40,8 +40,6 @@ WRITTEN = {".gpkg": "GPKG", ".fgb": "FlatGeobuf"}
 UNAIDED = (".geojson", ".json")  # written without GDAL
 PACKAGE = "apt-get install gdal-bin"
 COLUMNS = "WKT,wkt,geom,geometry,the_geom,wkb_geometry"
-PLANE = ('ENGCRS["A plane",EDATUM["Unknown"],CS[Cartesian,2],AXIS["x",unspecified],AXIS["y",unspecified],'
-         'LENGTHUNIT["unknown",1]]')
 REASON_MAX = 200
 
 
@@ -178,15 +176,15 @@ def as_geojson(path: pathlib.Path, layer: str | None = None) -> str:
     words = [ogr2ogr, "-f", "GeoJSON", "-lco", "SIGNIFICANT_FIGURES=17", "-nlt", "CONVERT_TO_LINEAR"]
     words += ["-preserve_fid"] if begin_of(path).startswith(SQLITE) else []
     with under_fitting_name(path) as named:
-        opened = opened_as(named)
-        written = ran([*words, *words_of(opened), "/vsistdout/", opened.name, layer_of(named, layer)])
+        opened, name = opened_as(named), layer_of(named, layer)
+        written = ran([*words, *words_of(opened), "/vsistdout/", opened.name, name])
         try:
             value = json.loads(written)
         except UnicodeDecodeError as fault:
             raise GdalFault(not_utf8(path)) from fault
-        name = None if "crs" in value else coordinates_of(named)
-    if name:
-        value["crs"] = {"type": "name", "properties": {"name": name}}
+        system = coordinates_of(named, name)
+    if system:
+        value["crs"] = {"type": "name", "properties": {"name": system}}
     return json.dumps(value)
 
 
@@ -197,17 +195,21 @@ def not_utf8(path: pathlib.Path) -> str:
     return f"its texts are no UTF-8; {ending.UTF8}"
 
 
-def coordinates_of(path: pathlib.Path) -> str | None:
-    """The name of a file's coordinate system where ogr2ogr leaves it out: of degrees, and where it has no number."""
-    program = shutil.which("gdalsrsinfo")
-    if not program or form_of(path, begin_of(path)) == TABLE:
+def coordinates_of(path: pathlib.Path, layer: str) -> str | None:
+    """What the coordinate system of a layer is called, by coordinate_systems.py; None of a table, which has no place for
+    one."""
+    if form_of(path, begin_of(path)) == TABLE:
         return None
+    gdal, _ = coordinate_systems.modules()
+    opened = opened_as(path)
+    gdal.PushErrorHandler("CPLQuietErrorHandler")  # ogr2ogr has read it, and said what there is to say
     try:
-        with linked(path, path.name) if GML in begin_of(path) else contextlib.nullcontext(path) as named:  # see opened_as
-            found = re.search(r"EPSG:[1-9][0-9]*", ran([program, "-o", "epsg", source_of(named)]).decode())
-    except GdalFault:
-        return None
-    return found[0].replace("EPSG:4326", scales.CRS84) if found else None
+        file = gdal.OpenEx(opened.name, gdal.OF_VECTOR, open_options=opened.options, allowed_drivers=opened.drivers)
+        return coordinate_systems.of_layer(file, file.GetLayerByName(layer))
+    except RuntimeError as fault:
+        raise GdalFault(" ".join(str(fault).split())[:REASON_MAX]) from fault
+    finally:
+        gdal.PopErrorHandler()
 
 
 def check_target(path: pathlib.Path) -> None:
@@ -261,15 +263,15 @@ def free_name(name: str, taken: Container[str]) -> str:
     return name
 
 
-def write(path: pathlib.Path, geojson: str, has_crs: bool) -> dict[str, str]:
-    """Makes a file of GeoJSON, whole or not at all; without a coordinate system it is of a plane. Gives the columns that are
-    not called as the property is."""
+def write(path: pathlib.Path, geojson: str, crs: str | None) -> dict[str, str]:
+    """Makes a file of GeoJSON in a coordinate system, or of a plane of its own, whole or not at all. Gives the columns that
+    are not called as the property is."""
     check_target(path)
     value = json.loads(geojson)
     renamed = told_apart(value["features"])
     own = with_ids(path, value["features"])
     words = [str(shutil.which("ogr2ogr")), "-f", WRITTEN[path.suffix.lower()], "-nln", path.stem, *own]
-    words += [] if has_crs else ["-a_srs", PLANE]
+    words += [] if crs == scales.CRS84 else ["-a_srs", crs or coordinate_systems.UNKNOWN]
     with tempfile.TemporaryDirectory() as folder:
         made = pathlib.Path(folder, path.name)
         ran([*words, str(made), "/vsistdin/"], json.dumps(value).encode())

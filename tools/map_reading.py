@@ -15,7 +15,7 @@ from decimal import Decimal
 from fractions import Fraction
 from typing import Any
 
-from . import gdal_files, grid, scale as scales, wkt
+from . import coordinate_systems, gdal_files, grid, wkt
 
 COLLECTIONS = ("FeatureCollection", "GeometryCollection")
 MARK = "\x1e"  # before each object of a text sequence, where they are not parted by lines
@@ -167,7 +167,7 @@ def crs_of(value: dict[str, Any]) -> str | None:
     member = value.get("crs")
     properties = member.get("properties") if isinstance(member, dict) else None
     name = properties.get("name") if isinstance(properties, dict) else None
-    return (scales.crs_called(name) or name) if isinstance(name, str) else None
+    return coordinate_systems.called_by(name) if isinstance(name, str) else None
 
 
 def number_of(given: Any) -> Fraction:

@@ -7,8 +7,9 @@ Where to_script.py wrote it, `layers` has of each store's base layers a digest, 
 it has other ones.
 
 world = stored / factor + origin, for x and for y; `digits` is how many stand after the point where a number of the
-world is written. Numbers are exact: one that a double cannot hold is written as a text. Without `crs` (null) the
-numbers are those of a plane that is nowhere on the earth.
+world is written. Numbers are exact: one that a double cannot hold is written as a text. `crs` is an authority and its
+code, or Well-Known Text where no authority has the system (coordinate_systems.py). Without it (null) the numbers are
+those of a plane that is nowhere on the earth.
 
 A module for the tools; it is no tool of its own.
 """

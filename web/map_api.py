@@ -5,7 +5,7 @@ from __future__ import annotations
 import re
 from typing import cast
 
-from tools import limits
+from tools import coordinate_systems, limits
 from tools.overlay_client import LARGEST_BATCH, NAME, OUT_OF_RANGE, Piece, Point, Refused, Session
 from .feature_store import FeatureStore, State
 from .layer_store import LayerStore
@@ -37,7 +37,7 @@ class MapApi:
                 "lost": store.lost(), "writable": store.writable, "layers": count,
                 "map": state.table.collection if state else None, "map_revision": state.revision if state else None,
                 "name_by": state.table.name_by if state else None, "columns": self.scale.columns(),
-                "crs": self.scale.crs, "storage": self.systems.storage,
+                "crs": self.scale.scale.crs, "storage": self.systems.storage,
                 "y_first": bool(self.systems.projection and self.systems.projection.y_first), "unit": self.scale.unit,
                 "geographic": self.scale.is_geographic(), "limits": self.scale.limits(),
             }
@@ -78,8 +78,8 @@ class MapApi:
         x, y = *request.numbers("x", 1), *request.numbers("y", 1)
         question = self.scale.scale.question(x, y)
         if max(abs(question[0]), abs(question[1])) > limits.COORDINATE_MAX * question[2]:
-            system = self.systems.storage or self.scale.scale.crs
-            told = f"; x and y, in this order, are those of {system}" if system else ""
+            system = self.systems.storage or coordinate_systems.shown(self.scale.scale.crs)
+            told = f"; x and y, in this order, are those of {system}" if self.scale.scale.crs else ""
             raise Refused(OUT_OF_RANGE, f"point out of range: it is out of the plane{told}")
         point = self.scale.scale.world(question)
         return question, {"asked": question, "point": [self.scale.number(n) for n in point], "exact": point == (x, y)}

@@ -8,7 +8,7 @@ from __future__ import annotations
 import re
 from fractions import Fraction
 
-from tools import limits, scale as scales
+from tools import coordinate_systems, limits, scale as scales
 from tools.overlay_client import Point
 
 CRS84 = "http://www.opengis.net/def/crs/OGC/1.3/CRS84"
@@ -39,9 +39,10 @@ class MapScale:
     """A scale as the web needs it: places as GeoJSON has them, and the names of coordinate systems as OGC API has them."""
 
     def __init__(self, scale: scales.Scale) -> None:
-        if scale.crs is not None and not scales.CRS_NAME.fullmatch(scale.crs):
-            raise scales.ScaleFault(f"crs is an authority and its code, as EPSG:25832, and not {scale.crs[:40]}")
-        # Coordinates of another authority have no name here: they are served as they are.
+        if scale.crs is not None and not scales.CRS_NAME.fullmatch(scale.crs) and not coordinate_systems.is_text(scale.crs):
+            raise scales.ScaleFault("crs is an authority and its code, as EPSG:25832, or Well-Known Text, and not "
+                                    f"{scale.crs[:40]}")
+        # Coordinates of another authority, or of none, have no name here: they are served as they are.
         is_named = scale.crs is not None and re.fullmatch(r"OGC:CRS84|EPSG:[0-9]{1,9}", scale.crs)
         self.scale, self.crs, self.digits = scale, scale.crs if is_named else None, scale.digits
         self.title, self.unit = scale.title or "Layers", "" if scale.unit == "1" else scale.unit

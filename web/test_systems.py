@@ -36,13 +36,19 @@ def swapped(ring: list[list[int]]) -> list[list[int]]:
     return [[y, x] for x, y in ring]
 
 
+CITY = """PROJCRS["A city's own",BASEGEOGCRS["unknown",DATUM["Unknown based on Airy 1830 ellipsoid",ELLIPSOID["Airy 1830",\
+6377563.396,299.3249646]]],CONVERSION["unknown",METHOD["Transverse Mercator"],PARAMETER["Latitude of natural origin",51.5],\
+PARAMETER["Longitude of natural origin",-0.1],PARAMETER["Scale factor at natural origin",1],PARAMETER["False easting",50000],\
+PARAMETER["False northing",50000]],CS[Cartesian,2],AXIS["(E)",east],AXIS["(N)",north],LENGTHUNIT["metre",1]]"""
+
+
 class Names(unittest.TestCase):
     def test_coordinates_of_another_authority_are_served_as_they_are(self) -> None:
         self.assertEqual(MapScale(scales.Scale(crs="EPSG:25832")).crs, "EPSG:25832")
         other = MapScale(scales.Scale(crs="ESRI:102003"))
         self.assertEqual((other.crs, other.uri(), other.is_geographic()), (None, None, False))
         for name in ("nonsense", "EPSG:", "a b:1"):
-            with self.assertRaisesRegex(scales.ScaleFault, f"an authority and its code, as EPSG:25832, and not {name}"):
+            with self.assertRaisesRegex(scales.ScaleFault, f"an authority and its code, as EPSG:25832, or Well-Known Text, and not {name}"):
                 MapScale(scales.Scale(crs=name))
 
 
@@ -162,6 +168,27 @@ class OfAnotherAuthority(FrontCase):
     def test_a_point_out_of_the_plane_is_told_the_system(self) -> None:
         told = self.client.ask("/locate?x=3e7&y=0")
         self.assertTrue(told.value["description"].endswith("are those of ESRI:102003"), told.value)
+        self.assertEqual(self.client.get("/status")["crs"], "ESRI:102003")
+
+
+class OfNoAuthority(FrontCase):
+    lines = ("PUT A POLYGON ((0 0, 4 0, 4 2, 0 0))",)
+    scale = {"factor": 1, "crs": CITY}
+
+    def test_its_text_is_told_and_coordinates_are_as_they_are(self) -> None:
+        self.assertEqual(self.client.get("/status")["crs"], CITY)
+        told = self.client.ask("/collections/A/items")
+        self.assertEqual(told.value["features"][0]["geometry"]["coordinates"], [[[0, 0], [4, 0], [4, 2], [0, 0]]])
+        told = self.client.ask("/locate?x=3e7&y=0")
+        self.assertTrue(told.value["description"].endswith('are those of "A city\'s own"'), told.value)
+
+
+class OfAnUnknownSystem(FrontCase):
+    lines = ("PUT A POLYGON ((0 0, 4 0, 4 2, 0 0))",)
+    scale = {"factor": 1, "crs": None}
+
+    def test_nothing_is_told_of_it(self) -> None:
+        self.assertEqual((self.client.get("/status")["crs"], self.client.get("/status")["geographic"]), (None, False))
 
 
 class ByPyproj(unittest.TestCase):

@@ -34,7 +34,7 @@ import sys
 from collections.abc import Iterator
 from typing import TextIO
 
-from .. import areas, asking, ending, feature_texts, gdal_files, keeping, progress, scale as scales, sessions, writing
+from .. import areas, asking, coordinate_systems, ending, feature_texts, gdal_files, keeping, progress, scale as scales, sessions, writing
 from ..areas import Ring
 from ..asking import Map
 from ..features import FeaturesFault, beside, held_rings, read, resolved
@@ -43,9 +43,11 @@ from . import to_rings
 
 
 def crs_member(crs: str | None) -> str:
-    """The member that names the coordinates, where they are not GeoJSON's own; GDAL and QGIS read it."""
-    if crs is None or crs == scales.CRS84:
+    """The member that names the coordinates, where they are not GeoJSON's own; GDAL and QGIS read it. A system that nobody
+    named is a plane of its own, as without the member numbers are degrees."""
+    if crs == scales.CRS84:
         return ""
+    crs = crs or coordinate_systems.UNKNOWN
     name = crs.replace("EPSG:", "urn:ogc:def:crs:EPSG::", 1) if crs.startswith("EPSG:") else crs
     return f'"crs": {{"type": "name", "properties": {{"name": {json.dumps(name)}}}}},\n'
 
@@ -143,7 +145,7 @@ def put(text: str, scale: scales.Scale, words: argparse.Namespace, output: TextI
         if words.output is None:
             output.write(text)
         elif is_gdals(words.output):
-            for name, column in gdal_files.write(words.output, text, scale.crs is not None).items():
+            for name, column in gdal_files.write(words.output, text, scale.crs).items():
                 print(f"{words.output}: the property {name} is its column {column}, as another differs in case alone", file=errors)
         else:
             writing.write_all({words.output: text.encode()})

@@ -51,9 +51,10 @@ from fractions import Fraction
 from typing import TextIO
 
 from .. import (
-    asking, checking, describing, ending, features, fitting, keeping, layering, limits, map_reading, progress,
+    asking, checking, coordinate_systems, describing, ending, features, fitting, keeping, layering, limits, map_reading, progress,
     rounding, scale as scales, sessions, wkt, writing,
 )
+from ..coordinate_systems import DEGREES
 from ..describing import Described, counted
 from ..layering import Group, Layout, Store
 from ..map_reading import Refused, Shape
@@ -61,7 +62,6 @@ from ..parsing import Parser
 from ..scale import Scale
 
 
-DEGREES = (scales.CRS84, "EPSG:4326")
 NAMED_MAX = 10  # so many properties are reported, and refusals where nothing is written
 
 
@@ -151,7 +151,7 @@ def read_shapes(words: argparse.Namespace) -> tuple[list[Shape], set[str | None]
 
 def degrees_beside(shapes: list[Shape], systems: dict[int, str | None]) -> set[str | None]:
     """The name of degrees, where a file that names no coordinates may have them, and those of others that do cannot."""
-    named = {number for number, crs in systems.items() if crs}
+    named = {number for number, crs in systems.items() if crs not in (None, coordinate_systems.UNKNOWN)}
     if not named or named == systems.keys():
         return set()
     boxes = [fitting.box_of(shape for shape in shapes if (shape.file in named) == which) for which in (True, False)]
@@ -167,13 +167,15 @@ def listed(properties: list[str]) -> str:
 
 def crs_for(words: argparse.Namespace, names: set[str | None], box: fitting.Box | None) -> str | None:
     """The name of the coordinates: the one given, else that of the files, else degrees where they may be."""
-    given = {words.crs} if words.crs else {name for name in names if name}
+    given = [words.crs] if words.crs else coordinate_systems.distinct(sorted(name for name in names if name))
     if len(given) > 1:
-        raise Stopped(f"files of different coordinates: {', '.join(sorted(given))}; bring them to one, as by ogr2ogr -t_srs, "
+        systems = ", ".join(map(coordinate_systems.shown, given))
+        raise Stopped(f"files of different coordinates: {systems}; bring them to one, as by ogr2ogr -t_srs, "
                       "or say by --crs which one all of them have")
     if not given:
-        return scales.CRS84 if box and box.is_within_degrees() else None
-    crs = str(given.pop())
+        may_be_degrees = coordinate_systems.UNKNOWN not in names and box and box.is_within_degrees()
+        return scales.CRS84 if may_be_degrees else None
+    crs = str(given[0])
     if crs in DEGREES and box and not box.is_round_the_earth():
         x, y = (fitting.shown(number) for number in box.greatest)
         raise Stopped(f"{crs} is longitude and latitude, and {x} {y} is none: are x and y exchanged? Else say by --crs what it is, as EPSG:25832")
@@ -187,8 +189,9 @@ def scale_for(words: argparse.Namespace, box: fitting.Box | None, crs: str | Non
             scale = scales.read(words.scale)
         except scales.ScaleFault as fault:
             raise Stopped(str(fault)) from fault
-        if crs and scale.crs and crs != scale.crs:
-            raise Stopped(f"the files are in {crs}, {words.scale} in {scale.crs}")
+        if len(coordinate_systems.distinct((crs, scale.crs))) > 1:
+            files, stands = map(coordinate_systems.shown, (crs, scale.crs))
+            raise Stopped(f"the files are in {files}, {words.scale} in {stands}")
         return scale
     factor, origin = words.factor, words.origin
     if words.fit and box:
@@ -449,7 +452,7 @@ def told_area(area: Fraction) -> str:
 def words_of(arguments: list[str]) -> argparse.Namespace:
     parser = Parser(description=__doc__, formatter_class=argparse.RawDescriptionHelpFormatter)
     parser.add_argument("files", metavar="FILE", nargs="+",
-                        help="GeoJSON or Well-Known Text; where gdal-bin is installed a GeoPackage, a Shapefile, a "
+                        help="GeoJSON or Well-Known Text; with gdal-bin and python3-gdal a GeoPackage, a Shapefile, a "
                         "FlatGeobuf, GML, or CSV with Well-Known Text too; - is standard input")
     parser.add_argument("--source-layer", metavar="NAME", help="the layer of files that have several, as GeoPackages")
     parser.add_argument("--factor", type=scales.number, help="default 1")
@@ -490,6 +493,8 @@ def work(words: argparse.Namespace, output: TextIO, say: Callable[[str], None]) 
     shapes, names, described = read_shapes(words)
     box = fitting.box_of(shapes)
     scale = scale_for(words, box, crs_for(words, names, box))
+    if scale.crs is None and coordinate_systems.UNKNOWN in names:
+        say("the coordinate system is unknown, as the file does not say it: --crs names it, as EPSG:25832")
     reader = Reader(scale, words.fit)
     for shape in progress.over(shapes, "rounding features", len(shapes)):
         reader.take(shape, words.coded)

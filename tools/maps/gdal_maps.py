@@ -13,7 +13,7 @@ from dataclasses import dataclass, field
 from fractions import Fraction
 from typing import Any
 
-from .. import ending, gdal_files, map_reading
+from .. import coordinate_systems, ending, gdal_files, map_reading
 from .spooled import Gathered, Spool
 from .whole_maps import MapFault, ReadMap, Told, and_others
 
@@ -115,6 +115,7 @@ class Source:
         except RuntimeError as fault:
             raise MapFault(f"{self.path}: {fault}") from None
         self.table = self._table()
+        self.system = coordinate_systems.of_layer(self.file, self.table)
         self.place = -1 if self.id_field is None else self.table.GetLayerDefn().GetFieldIndex(self.id_field)
         if self.id_field is not None and self.place < 0:
             raise MapFault(f"{self.path}: no property {self.id_field}; say one of: {self._properties()}")
@@ -133,12 +134,8 @@ class Source:
         return named([definition.GetFieldDefn(k).GetName() for k in range(definition.GetFieldCount())])
 
     def crs(self) -> str | None:
-        """As EPSG:25832 where it has such a number, else as Well-Known Text; None of a plane that says no more."""
-        system = self.table.GetSpatialRef()
-        if system is None or system.IsLocal():
-            return None
-        name, code = system.GetAuthorityName(None), system.GetAuthorityCode(None)
-        return f"{name}:{code}" if name and code else str(system.ExportToWkt())
+        """What its system is called, as coordinate_systems.py does; None where the file does not say it."""
+        return None if self.system == coordinate_systems.UNKNOWN else self.system
 
     def batches(self) -> Iterator[Flat]:
         """The polygons of the layer, so many features at once; others are left out, and reported."""

@@ -14,7 +14,7 @@ from pathlib import Path
 from typing import Any
 from xml.sax.saxutils import escape, quoteattr, unescape
 
-from .. import ending, gdal_files, writing
+from .. import coordinate_systems, ending, writing
 from ..sessions import Unusable
 from .gdal_maps import modules
 from .whole_maps import MapFault
@@ -107,7 +107,7 @@ class Writing:
 
         osr.UseExceptions()
         system = osr.SpatialReference()
-        system.SetFromUserInput(self.crs or gdal_files.PLANE)
+        system.SetFromUserInput(self.crs or coordinate_systems.UNKNOWN)
         system.SetAxisMappingStrategy(osr.OAMS_TRADITIONAL_GIS_ORDER)
         return system
 

@@ -9,6 +9,7 @@ from fractions import Fraction
 from typing import Any
 
 from .. import ending, map_reading, rounding, scale as scales, wkt
+from ..coordinate_systems import UNKNOWN
 from ..map_reading import Refused, Shape, Source
 from .bending import Longest, bent
 from .whole_maps import FARTHEST, MapFault, ReadMap, Ring, Told, WholeMap, and_others
@@ -123,7 +124,8 @@ def read(path: str, factor: Fraction, id_field: str | None, bend: bool) -> ReadM
     told.features, told.points = len(reading.whole), len(reading.whole.xs)
     told.moved = float(reading.moved)
     usual = scales.CRS84 if is_geojson and is_in_degrees(reading.whole, factor) else None
-    return ReadMap(reading.whole, told, crs or own_crs(source) or usual)
+    system = crs or own_crs(source) or usual
+    return ReadMap(reading.whole, told, None if system == UNKNOWN else system)
 
 
 def is_in_degrees(whole: WholeMap, factor: Fraction) -> bool:

@@ -8,6 +8,7 @@ from fractions import Fraction
 from itertools import combinations
 from typing import TextIO
 
+from .. import coordinate_systems
 from . import auditing, box_pairs, exact_area, pieces, planning, quickest, tables
 from .planning import Question
 from .running import Say, check_crs, found_of, read_map, some, written
@@ -66,7 +67,8 @@ def overlay(words: argparse.Namespace, output: TextIO, say: Say) -> int:
     made = Overlay(first.whole, second.whole, words.factor)
     found = made.take(found_of(made.tasks(words.pieces is not None), words))
     if words.pieces:
-        say(f"{pieces.write(words.pieces, found, first.crs or second.crs)} pieces in {words.pieces}")
+        system = next(iter(coordinate_systems.distinct((first.crs, second.crs))), None)
+        say(f"{pieces.write(words.pieces, found, system)} pieces in {words.pieces}")
     else:
         collections.deque(found, maxlen=0)
     with written(words.out, output) as file:

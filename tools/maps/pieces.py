@@ -10,7 +10,7 @@ from collections.abc import Iterable, Iterator, Mapping
 from pathlib import Path
 from typing import Any
 
-from .. import ending, scale as scales, writing
+from .. import ending, writing
 from ..commands import to_geojson
 from ..sessions import Unusable
 from . import gdal_writing
@@ -52,7 +52,7 @@ def feature_text(properties: Mapping[str, Any], wkb: bytes) -> str:
 
 def texts(pieces: Iterable[Piece], crs: str | None) -> Iterator[str]:
     """A GeoJSON text, a feature a line."""
-    yield f'{{"type": "FeatureCollection",\n{to_geojson.crs_member(crs or scales.CRS84)}"features": [\n'
+    yield f'{{"type": "FeatureCollection",\n{to_geojson.crs_member(crs)}"features": [\n'
     before = ""
     for properties, wkb in pieces:
         yield before + feature_text(properties, wkb)

@@ -8,7 +8,7 @@ import pathlib
 from collections.abc import Callable, Iterable, Iterator
 from typing import TextIO
 
-from .. import asking, ending, gdal_files, scale as scales, writing
+from .. import asking, coordinate_systems, ending, gdal_files, writing
 from ..rounding import shown, told_longer
 from ..sessions import Unusable
 from . import doing, gdal_maps, geojson_maps
@@ -16,7 +16,6 @@ from .task_form import Found, Task
 from .whole_maps import MapFault, ReadMap, Told
 
 Say = Callable[[str], None]
-DEGREES = {"EPSG:4326": scales.CRS84}
 NAMED_MAX = 10  # so many features are named where something is reported of them
 
 
@@ -33,6 +32,8 @@ def read_map(path: str, id_field: str | None, words: argparse.Namespace, say: Sa
         raise MapFault(f"{path}: no polygon in it" + (f"; left out, {len(skipped)}: {some(skipped)}" if skipped else ""))
     for line in told_lines(path, read.told):
         say(line)
+    if read.crs is None and form_of(path):
+        say(f"{path}: its coordinate system is unknown, as the file does not say it")
     if id_field is not None and isinstance(read.whole.ids, list) and (several := called_alike(read.whole.ids)):
         say(f"{path}: the same {id_field} several times, {len(several)}: {some(several)}")
     return read
@@ -71,10 +72,10 @@ def some(names: list[str]) -> str:
 
 
 def check_crs(first: ReadMap, second: ReadMap, words: argparse.Namespace) -> None:
-    """Refuses maps that name different coordinate systems. Files of EPSG:4326 have longitudes first, as CRS84 says."""
-    named = {DEGREES.get(read.crs, read.crs) for read in (first, second) if read.crs}
-    if len(named) > 1:
-        raise MapFault(f"{words.first} has coordinates of {first.crs}, {words.second} of {second.crs}: bring one to "
+    """Refuses maps that name different coordinate systems."""
+    if len(coordinate_systems.distinct((first.crs, second.crs))) > 1:
+        systems = [coordinate_systems.shown(read.crs) for read in (first, second)]
+        raise MapFault(f"{words.first} has coordinates of {systems[0]}, {words.second} of {systems[1]}: bring one to "
                        "those of the other, as by ogr2ogr -t_srs")
 
 

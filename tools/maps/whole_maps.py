@@ -109,8 +109,8 @@ class Told:
 
 @dataclass(frozen=True)
 class ReadMap:
-    """A map in whole numbers, what reading did to it, and the name of its coordinate system, where one is named: as
-    EPSG:25832 where it has such a number, else Well-Known Text or whatever the file says."""
+    """A map in whole numbers, what reading did to it, and what coordinate_systems.py calls its system: None where that is
+    unknown."""
 
     whole: WholeMap
     told: Told

@@ -29,6 +29,14 @@ class ByDebiansPython(unittest.TestCase):
         run = subprocess.run(words, cwd=TOP, capture_output=True, text=True, timeout=120)
         self.assertEqual(run.returncode, 0, run.stderr)
 
+    @unittest.skipIf(importlib.util.find_spec("osgeo"), "this Python runs the tests of coordinate systems itself")
+    def test_coordinate_systems(self) -> None:
+        if not debians_python_has_gdal():
+            self.skipTest(f"{DEBIANS} has no python3-gdal and python3-numpy")
+        words = [DEBIANS, "-m", "tools.testing.coordinate_systems", *([Programs.live] if Programs.live else [])]
+        run = subprocess.run(words, cwd=TOP, capture_output=True, text=True, timeout=600)
+        self.assertEqual(run.returncode, 0, run.stderr)
+
     @unittest.skipIf(importlib.util.find_spec("osgeo"), "GDAL is there")
     def test_without_gdal_the_refusal_has_the_line_to_type(self) -> None:
         with self.assertRaisesRegex(MapFault, r"a\.gpkg: .*apt-get install python3-gdal python3-numpy, and run this by"):

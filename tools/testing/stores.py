@@ -131,7 +131,7 @@ class OverScripts(InFolder):
         whole, none = (one["geometry"]["coordinates"] for one in value["features"])
         self.assertEqual([len(polygon) for polygon in whole], [2, 1])
         self.assertEqual((none, value["features"][1]["properties"]["area_exact"]), ([], "0"))
-        self.assertNotIn("crs", value)
+        self.assertEqual(value["crs"]["properties"]["name"][:6], "ENGCRS")  # nowhere on the earth
 
     def test_words_that_go_not_together(self) -> None:
         for words in ([], ["a.txt", "--store", "b"], ["--store", "b", "--replies", "c"], ["a.txt", "--digits", "101"],

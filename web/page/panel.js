@@ -12,9 +12,17 @@ export function showStatus(state) {
     : make("span", `durable ${state.durable}`, state.durable === state.version ? "chip good" : "chip warn");
   at("status").replaceChildren(
     make("span", `version ${state.version}`, "chip"), kept, make("span", state.writable ? "writable" : "read only", "chip"),
-    make("span", state.crs || `a plane${state.unit ? `, ${state.unit}` : ""}`, "chip"),
+    systemChip(state),
     ...state.lost.map(text => make("span", text, "chip bad")));
   at("defining").hidden = !state.writable;
+}
+
+// The coordinate system: by its name, which Well-Known Text has at its begin, and all of it where the mouse rests.
+function systemChip(state) {
+  const named = state.crs && (/^\s*[A-Z_]+\s*[[(]\s*"([^"]*)"/.exec(state.crs) || [null, state.crs])[1];
+  const made = make("span", named || `coordinate system unknown${state.unit ? `, ${state.unit}` : ""}`, "chip");
+  made.title = state.crs || "";
+  return made;
 }
 
 function button(text, title, action) {
