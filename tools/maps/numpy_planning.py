@@ -115,10 +115,9 @@ def gap_jobs(whole: WholeMap, boxes: Numbers) -> Iterator[Job]:
     stack = [(frame_of(boxes), np.flatnonzero((boxes[:, :2] <= boxes[:, 2:]).all(axis=1)))]
     while stack:
         core, near = stack.pop()
-        halves = halved(core)
-        if int(points[near].sum()) <= CELL_POINTS or not halves:
+        total, own = int(points[near].sum()), boxes[near]
+        parts = [(half, near[meets(own, half)]) for half in halved(core)]
+        if total <= CELL_POINTS or not planning.is_less(total, [int(points[part].sum()) for _, part in parts]):
             yield Job(core, NOBODY, tuple(near.tolist()))
-            continue
-        own = boxes[near]
-        for left, under, right, over in halves[::-1]:
-            stack.append(((left, under, right, over), near[meets(own, (left, under, right, over))]))
+        else:
+            stack += parts[::-1]

@@ -112,12 +112,19 @@ def gap_jobs(whole: WholeMap, boxes: Sequence[Box]) -> Iterator[Job]:
     stack = [(frame_of(boxes), live)]
     while stack:
         core, near = stack.pop()
-        halves = halved(core)
-        if sum(points[feature] for feature in near) <= CELL_POINTS or not halves:
+        total = sum(points[feature] for feature in near)
+        parts = [(half, [f for f in near if box_pairs.has_points(box_pairs.common(boxes[f], half))])
+                 for half in halved(core)]
+        if total <= CELL_POINTS or not is_less(total, [sum(points[f] for f in part) for _, part in parts]):
             yield Job(core, NOBODY, tuple(near))
-            continue
-        for half in halves[::-1]:
-            stack.append((half, [f for f in near if box_pairs.has_points(box_pairs.common(boxes[f], half))]))
+        else:
+            stack += parts[::-1]
+
+
+def is_less(total: int, halves: Sequence[int]) -> bool:
+    """Whether a cell is worth halving by boxes: one half at least has a tenth less. Within a feature's box no half has less,
+    down to a unit square; what is drawn in for the job has, and is halved by that."""
+    return any(10 * half <= 9 * total for half in halves)
 
 
 def tasks_of(question: Question, jobs: Iterable[Job]) -> Iterator[Task]:
