@@ -92,7 +92,7 @@ def main(arguments: list[str], output: TextIO | None = None, errors: TextIO | No
     words = parser_of().parse_args(arguments)
     target, told = output or sys.stdout, errors or sys.stderr
     say: Callable[[str], None] = lambda text: print(text, file=told)
-    words.say = say
+    words.say, words.unanswered = say, []
     try:
         running.check_outputs(words)
         doing.find_programs(words)

@@ -11,6 +11,9 @@ from .task_form import Row
 from .touching import Step, meet
 from .whole_maps import Ring, WholeMap
 
+DEEP_STEPS_MAX = 2_000  # of features that lie on each other, of which it is looked for what they have in three and more
+DEEP_SLABS_MAX = 4_000_000  # steps, times the slabs between the x at which they end or meet
+HEIGHT_BITS = 200  # after the point, by which heights at one x are put in order
 STEPS_MAX = 10_000  # of a feature that crosses itself; the area of one with more is not looked for
 
 
@@ -59,6 +62,49 @@ def slab_area(passing: Iterable[Step], left: Fraction, right: Fraction) -> Fract
     middle = (left + right) / 2
     heights = sorted(height(step, middle) for step in passing)
     return sum((high - low for low, high in zip(heights[::2], heights[1::2])), Fraction(0)) * (right - left)
+
+
+def deeper_area(whole: WholeMap, features: Iterable[int]) -> Fraction | None:
+    """What some features have in three of them, less what in four, and so on, by slabs of their own points: a place in d of
+    them counts (d - 1)(d - 2) / 2 times. Nothing where there are too many slabs, or steps."""
+    if sum(end - begin for begin, end in map(whole.span, features)) > DEEP_STEPS_MAX:
+        return None
+    owned = sorted((step, feature) for feature in features for step in steps_of(whole.rings(feature))
+                   if step[0][0] != step[1][0])
+    steps = [step for step, _ in owned]
+    borders = sorted({Fraction(x) for step in steps for x, _ in step} | set(crossings(steps)))
+    if len(borders) * len(owned) > DEEP_SLABS_MAX:
+        return None
+    standing, found, begun, passing = dict[int, tuple[int, Fraction]](), list[Fraction](), 0, list[int]()
+    for left, right in zip(borders, [*borders[1:], borders[-1]]):
+        passing = [at for at in passing if steps[at][1][0] > left]
+        while begun < len(steps) and steps[begun][0][0] <= left:
+            passing.append(begun)
+            begun += 1
+        counts = counts_over(owned, passing, (left + right) / 2) if left < right else {}
+        for at in [at for at, (count, _) in standing.items() if counts.get(at) != count]:
+            count, begin = standing.pop(at)
+            found.append(count * (left - begin) * height(steps[at], (begin + left) / 2))
+        for at, count in counts.items():
+            standing.setdefault(at, (count, left))
+    return added(found)
+
+
+def counts_over(owned: Sequence[tuple[Step, int]], passing: Iterable[int], x: Fraction) -> dict[int, int]:
+    """How many times less a place over a step counts than one under it, at an x, of steps where this is not 0."""
+    top, bottom = x.numerator, x.denominator
+    high = list[tuple[int, int]]()
+    for at in passing:  # heights differ by more than 2^-HEIGHT_BITS, or are one
+        (ax, ay), (bx, by) = owned[at][0]
+        high.append(((ay * (bx - ax) * bottom + (top - ax * bottom) * (by - ay) << HEIGHT_BITS) // ((bx - ax) * bottom), at))
+    within, before, found = set[int](), 0, dict[int, int]()
+    for _, at in sorted(high):
+        within ^= {owned[at][1]}
+        now = (len(within) - 1) * (len(within) - 2) // 2 if within else 0
+        if now != before:
+            found[at] = before - now
+        before = now
+    return found
 
 
 def height(step: Step, x: Fraction) -> Fraction:
@@ -116,7 +162,11 @@ def sum_of(rows: Sequence[tuple[int, Row]]) -> Fraction:
     """The sum of areas, each times a sign. What is near is added first: parts that meet at a crossing have its divisor,
     which goes where they are added, so that no number grows beyond what the border of a region needs."""
     order = places([(row.x, row.y, row.x, row.y) for _, row in rows])
-    left = [rows[at][0] * rows[at][1].area for at in sorted(range(len(rows)), key=order.__getitem__)]
+    return added([rows[at][0] * rows[at][1].area for at in sorted(range(len(rows)), key=order.__getitem__)])
+
+
+def added(left: list[Fraction]) -> Fraction:
+    """The sum of fractions, added in pairs of neighbours."""
     while len(left) > 1:
         left = [a + b for a, b in zip(left[::2], left[1::2])] + left[len(left) - len(left) % 2 :]
     return left[0] if left else Fraction(0)

@@ -1,16 +1,20 @@
 """A job as it fits slots: whole where it does, else in cells, each half of a larger one.
 
-A cell that no edge meets has one answer, which is known without the program: nothing, or the whole cell.
+A cell that no edge meets has one answer, which is known without the program: nothing, or the whole cell. Where more
+features lie on each other than a slot has room for, those are left out without which a cell has the same answer; what
+is too many even in a unit square is not answered, and reported.
 """
 
-from collections.abc import Iterable, Iterator
+import math
+from collections import Counter
+from collections.abc import Iterable, Iterator, Sequence
 from dataclasses import dataclass
-from fractions import Fraction
+from typing import NamedTuple
 
 from .. import limits
 from ..sessions import Piece
 from . import box_pairs
-from .drawing_in import Drawn, Plain, Wanted, is_inside
+from .drawing_in import Drawn, Plain, Wanted, is_inside, off
 from .slots import CORE_MAX, Laid, ring_of, steps_of
 from .task_form import ALONE, COMMON, GAPS
 from .whole_maps import NOWHERE, Box, Ring
@@ -18,20 +22,7 @@ from .whole_maps import NOWHERE, Box, Ring
 MANY = 100  # of more boxes the pairs are found by grids
 HALVES_AT_ONCE = 4096
 LAYERS_OF_JOB = limits.LAYERS_MAX // 2 - 2  # two sets of layers, each with the cores and the definition
-
-
-class TooDense(Exception):
-    """More features, or more of their edges, meet a unit square than a slot has room for."""
-
-    def __init__(self, core: Box) -> None:
-        super().__init__(core)
-        self.core = core
-
-    def told(self, factor: Fraction) -> str:
-        """Where it is, in the world's coordinates, and what to do."""
-        x, y = (float(Fraction(one) / factor) for one in self.core[:2])
-        return (f"at {x!r} {y!r} more than {LAYERS_OF_JOB} features that lie on each other, or {limits.STEPS_MAX} "
-                "edges, meet a square of one unit; say a greater --factor, or take features out there")
+DENSE_MAX = 1000  # after so many squares of a job that are not answered, no cell of it is halved
 
 
 @dataclass(frozen=True)
@@ -90,17 +81,55 @@ def in_layers(features: list[list[Ring]], core: Box) -> list[list[Ring]]:
 
 
 def united(features: list[list[Ring]], core: Box) -> list[list[Ring]]:
-    """Layers whose union is that of the features. Where they are too many, features that occur twice are taken once."""
+    """Layers whose union within a core is that of the features. Where they are too many, one that covers the core is
+    enough, and features that are the same within it are taken once."""
     live = [rings for rings in features if rings]
     layers = in_layers(live, core)
-    return layers if len(layers) < LAYERS_OF_JOB else in_layers(without_repeats(live), core)
+    if len(layers) < LAYERS_OF_JOB:
+        return layers
+    seen = {seen_within(rings, core): rings for rings in live}
+    if WHOLE in seen:
+        return [seen[WHOLE]]
+    return in_layers([rings for what, rings in seen.items() if what != NOTHING] or live[:1], core)
 
 
-def without_repeats(features: list[list[Ring]]) -> list[list[Ring]]:
-    """One of those features that have the same steps, wherever their rings begin and whichever way they run."""
-    kept = {tuple(sorted((min(a, b), max(a, b)) for ring in rings for a, b in zip(ring, ring[1:] + ring[:1]))): rings
-            for rings in features}
-    return list(kept.values())
+def in_common(features: list[list[Ring]], core: Box) -> list[list[Ring]]:
+    """Layers whose common part within a core is that of the features, or none where that is nothing. Where they are too
+    many, those that cover the core are left out, and features that are the same within it are taken once."""
+    if len(features) <= LAYERS_OF_JOB:
+        return features
+    seen = {seen_within(rings, core): rings for rings in features}
+    return [] if NOTHING in seen else [rings for what, rings in seen.items() if what != WHOLE] or features[:1]
+
+
+class Seen(NamedTuple):
+    """What a core sees of a feature: of each step that meets it the line, and the ends that lie in the core; and whether the
+    core's low corner lies inside. Features of which it sees the same are the same within it."""
+
+    steps: frozenset[object]
+    is_inside: bool
+
+
+NOTHING, WHOLE = Seen(frozenset(), False), Seen(frozenset(), True)
+
+
+def seen_within(rings: Sequence[Ring], core: Box) -> Seen:
+    """A step that lies in no half-plane off the core, and whose line meets it, has all of the core that the line has, as far
+    as its ends are off it."""
+    left, under, right, over = core
+    steps = Counter[object]()
+    for ring in rings:
+        marks = [off(*point, core) for point in ring]
+        for at, mark in enumerate(marks):
+            if mark & marks[at - 1] or ring[at] == ring[at - 1]:
+                continue
+            (a, first), (b, last) = sorted(((ring[at - 1], marks[at - 1]), (ring[at], mark)))
+            common = math.gcd(b[0] - a[0], b[1] - a[1])
+            dx, dy = (b[0] - a[0]) // common, (b[1] - a[1]) // common
+            high, low = dx * a[1] - dy * a[0], [dx * y - dy * x for x in (left, right) for y in (under, over)]
+            if min(low) <= high <= max(low):
+                steps[dx, dy, high, None if first else a, None if last else b] += 1
+    return Seen(frozenset(steps.items()), is_inside(rings, left, under))
 
 
 def has_answer(kind: str, near: Drawn) -> bool:
@@ -118,7 +147,7 @@ def layers_of(kind: str, near: Drawn) -> list[list[Ring]]:
     """What lies in each layer. Where it is one of the answer's sides that has nothing near the core: no layer at
     all."""
     if kind == COMMON:
-        return near.features if all(near.features) else []
+        return in_common(near.features, near.core) if all(near.features) else []
     if kind == ALONE:
         own, *others = near.features
         return [own, *united(others, near.core)] if own else []
@@ -131,26 +160,19 @@ def fits(near: Drawn, layers: list[list[Ring]]) -> bool:
             and all(steps_of(rings) <= limits.STEPS_MAX for rings in layers))
 
 
-def halves_of(kind: str, near: Drawn) -> list[Wanted]:
-    """Both halves of a core, each with the features that may be near it."""
-    features = [rings for number, rings in enumerate(near.features) if rings or number == 0 or kind == COMMON]
-    return [Wanted(half, features) for half in halves_or_none(near.core)]
-
-
-def halves_or_none(core: Box) -> list[Box]:
-    halves = halved(core)
-    if not halves:
-        raise TooDense(core)
-    return halves
+def near_features(kind: str, near: Drawn) -> list[list[Ring]]:
+    """The features that may be near a half of a core."""
+    return [rings for number, rings in enumerate(near.features) if rings or number == 0 or kind == COMMON]
 
 
 class Parting:
     """Jobs as they are asked: laid out for slots, whole or in cells, and cells that lie in the answer as a whole.
 
-    What is too large for a slot waits until many halves can be drawn in at once."""
+    What is too large for a slot waits until many halves can be drawn in at once. `dense` takes the cells of each job that
+    have no answer."""
 
-    def __init__(self, kind: str, drawing: Plain) -> None:
-        self.kind, self.drawing = kind, drawing
+    def __init__(self, kind: str, drawing: Plain, dense: dict[int, list[Box]]) -> None:
+        self.kind, self.drawing, self.dense = kind, drawing, dense
         self._waiting: list[tuple[int, Wanted]] = []
 
     def jobs(self, near: Iterable[tuple[int, Drawn]]) -> Iterator[Laid | Cell]:
@@ -163,8 +185,16 @@ class Parting:
 
     def again(self, laid: Laid) -> Iterator[Laid | Cell]:
         """The halves of what was laid out, where the program has no room for its boundary."""
-        self._waiting += [(laid.job, Wanted(half, laid.layers)) for half in halves_or_none(laid.core)]
+        self._wait(laid.job, laid.core, laid.layers)
         yield from self._halved()
+
+    def _wait(self, job: int, core: Box, features: list[list[Ring]]) -> None:
+        """Has the halves of a core wait. A unit square has none, and has no answer."""
+        dense = self.dense.get(job, [])
+        halves = halved(core) if len(dense) < DENSE_MAX else []
+        self._waiting += [(job, Wanted(half, features)) for half in halves]
+        if not halves:
+            self.dense[job] = [*dense, core]
 
     def _parts(self, job: int, near: Drawn, is_cut: bool) -> Iterator[Laid | Cell]:
         """A job laid out where it fits a slot; else its halves wait."""
@@ -175,7 +205,7 @@ class Parting:
         elif layers and fits(near, layers):
             yield Laid(job, near.core, near.frame, layers, is_cut)
         elif layers:
-            self._waiting += [(job, half) for half in halves_of(self.kind, near)]
+            self._wait(job, near.core, near_features(self.kind, near))
 
     def _halved(self) -> Iterator[Laid | Cell]:
         """What comes of all that waits, the last first."""

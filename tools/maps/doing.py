@@ -27,7 +27,7 @@ from .work import ByProgram
 
 INPUTS = ("first", "second")  # the words that name maps
 # What no task knows of.
-ELSEWHERE = ("jobs", "dask", "work", "program", "window", "no_window", "out", "exact", "a_id", "b_id", "stage", "say")
+ELSEWHERE = ("jobs", "dask", "work", "program", "window", "no_window", "out", "exact", "a_id", "b_id", "stage", "say", "unanswered")
 RELEASED_AFTER = 100  # tasks
 OUTPUTS = ("pieces", "gaps")  # of these tasks know whether they are wanted
 

@@ -7,18 +7,19 @@ from dataclasses import dataclass, field
 from fractions import Fraction
 from itertools import islice
 
-from ..sessions import Corner, Piece, Unusable
+from ..sessions import Corner, Piece
 from . import boundaries, box_pairs, exact_area, touching
 from .boundaries import Loop, Outline, Polygon
-from .cells import Cell, Parting, TooDense
-from .drawing_in import Drawn, Plain
+from .cells import Cell, Parting
+from .drawing_in import Drawn, Plain, drawn
 from .rounds import Program, Round
 from .sewing import sewn
 from .slots import Laid, Slots, packed, round_of
-from .task_form import ALONE_TOLD, COMMON, GAP, GAPS, NOBODY, OVERLAPS, TOUCHES, Found, Row, ShapeOf, Task
+from .task_form import ALONE_TOLD, COMMON, GAP, GAPS, NOBODY, OVERLAPS, TOUCHES, Found, Row, ShapeOf, Task, Unanswered
 from .whole_maps import Box
 
 AT_ONCE = 4096  # jobs and cells that are laid out before the next are
+CELLS_NAMED = 100  # of a job's cells without an answer: the features of so many are named
 MULTIPOLYGON, POLYGON = 6, 3
 HEAD = struct.Struct("<BII")
 
@@ -33,6 +34,7 @@ class Answers:
     outlines: dict[int, list[list[Outline]]] = field(default_factory=dict)  # by job: its connected parts
     pieces: dict[int, list[Piece]] = field(default_factory=dict)
     near: dict[int, Drawn] = field(default_factory=dict)  # jobs that may have found nothing but a touch
+    dense: dict[int, list[Box]] = field(default_factory=dict)  # by job: cells that have no answer
     rounds: int = 0
     cells: int = 0
 
@@ -73,7 +75,7 @@ class Answers:
             for some in (slots.laid[:half], slots.laid[half:]):
                 self._ask_rounds(packed(some))
         else:
-            self.ask(Parting(self.task.kind, self.drawing).again(slots.laid[0]))
+            self.ask(Parting(self.task.kind, self.drawing, self.dense).again(slots.laid[0]))
 
     def _take(self, slots: Slots, pieces: list[Piece]) -> None:
         """Takes in the boundary of a round, each connected part moved back to where its job is."""
@@ -116,10 +118,7 @@ def drawn_jobs(task: Task, answers: Answers) -> Iterator[tuple[int, Drawn]]:
 def run(task: Task, program: Program, drawing: Plain | None = None) -> Found:
     """What a task finds, in the order of its jobs."""
     answers = Answers(task, program, drawing or Plain())
-    try:
-        answers.ask(Parting(task.kind, answers.drawing).jobs(drawn_jobs(task, answers)))
-    except TooDense as fault:
-        raise Unusable(fault.told(task.factor)) from fault
+    answers.ask(Parting(task.kind, answers.drawing, answers.dense).jobs(drawn_jobs(task, answers)))
     found = Found(task.label, jobs=len(task), rounds=answers.rounds, cells=answers.cells, drawn=answers.drawing.told)
     for job in range(len(task)):
         add_found(found, task, job, answers)
@@ -127,7 +126,12 @@ def run(task: Task, program: Program, drawing: Plain | None = None) -> Found:
 
 
 def add_found(found: Found, task: Task, job: int, answers: Answers) -> None:
-    """Adds what one job has found."""
+    """Adds what one job has found. Of one with cells that have no answer that is nothing; but gaps are those of the other
+    cells."""
+    if job in answers.dense:
+        found.unanswered.append(unanswered(task, job, answers.dense[job]))
+        if task.kind != GAPS:
+            return
     outlines = answers.outlines_of(job)
     if task.kind == GAPS:
         for polygon in boundaries.polygons_of(outlines):
@@ -137,6 +141,15 @@ def add_found(found: Found, task: Task, job: int, answers: Answers) -> None:
     elif task.touches and touching.touch(answers.near[job]):
         left, under, _, _ = task.core(job)
         found.rows.append(Row(*numbers_of(task, job), Fraction(0), 0.0, left, under, TOUCHES))
+
+
+def unanswered(task: Task, job: int, cells: list[Box]) -> Unanswered:
+    """The features of a job that lie in its cells without an answer."""
+    there = {other for core in cells[:CELLS_NAMED] for other in task.others_of(job)
+             if any(drawn(core, [task.other_map.rings(other)]).features)}
+    own = NOBODY if task.kind == GAPS else task.own_numbers[task.own[job]]
+    x, y = cells[0][:2]
+    return Unanswered(own, tuple(task.other_numbers[other] for other in sorted(there)), x, y, len(cells))
 
 
 def add_row(found: Found, task: Task, row: Row, polygons: Callable[[], list[Polygon]]) -> None:

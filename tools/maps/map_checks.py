@@ -5,17 +5,19 @@ import collections
 from collections.abc import Iterable, Iterator
 from dataclasses import dataclass, field
 from fractions import Fraction
+from itertools import islice
 from typing import TextIO
 
-from . import auditing, boundaries, exact_area, jobs, pieces, planning, quickest, tables
+from . import auditing, boundaries, exact_area, jobs, leaving_out, pieces, planning, quickest, tables
 from .planning import Question
 from .questions import named
 from .running import Say, found_of, read_map, some, written
 from .sewing import sewn
-from .task_form import COMMON, GAPS, Found, Row, Task
+from .task_form import COMMON, GAPS, NOBODY, Found, Row, Task
 from .whole_maps import Box, WholeMap
 
 OVERLAPS_OF, GAPS_OF = "overlaps", "gaps"  # what tasks are for
+MANY_SETS = 1_000  # of more sets of features that may lie on each other the audit looks at the features' own points
 DEEPEST = 1_000_000  # so many sets of features that may lie on each other are looked at by the audit
 
 
@@ -84,7 +86,17 @@ def check(words: argparse.Namespace, output: TextIO, say: Say) -> int:
         rows = named(made.overlaps, read.whole.ids, read.whole.ids)
         tables.write(rows, tables.Units(words.factor), words.exact, file)
     tell(made, with_gaps, say)
-    return 0 if words.no_audit else audit(made, words, say)
+    left_out = leaving_out.told(words, sides_of(made, words))
+    if left_out and not words.no_audit:
+        say("audit: left out, since not all overlaps and gaps are known")
+    return left_out if left_out or words.no_audit else audit(made, words, say)
+
+
+def sides_of(made: Check, words: argparse.Namespace) -> dict[str, leaving_out.Side]:
+    """What is left out where a job of a label has no answer."""
+    maps = (words.first, made.whole, words.first, made.whole)
+    return {OVERLAPS_OF: leaving_out.Side(*maps, "what they have in common is left out"),
+            GAPS_OF: leaving_out.Side(*maps, "no gap is looked for there")}
 
 
 def tell(made: Check, with_gaps: bool, say: Say) -> None:
@@ -132,6 +144,12 @@ def deeper_parts(made: Check, words: argparse.Namespace, say: Say) -> list[tuple
     after: dict[int, set[int]] = {}
     for row in rows:
         after.setdefault(row.own, set()).add(row.others[0])
+    for group in piles(after):
+        area = auditing.deeper_area(made.whole, group)
+        if area is not None:  # known without what three of them have in common, four, and so on
+            found += [(-1, row) for row in rows if row.own in group]
+            found.append((1, Row(NOBODY, (), area)))
+            rows = [row for row in rows if row.own not in group]
     while rows:
         found += [(sign, row) for row in rows]
         groups = [(row.own, *row.others) for row in rows]
@@ -141,7 +159,40 @@ def deeper_parts(made: Check, words: argparse.Namespace, say: Say) -> list[tuple
             say(f"audit: left out, since more than {DEEPEST} sets of features may lie on each other")
             return None
         rows, sign = common_rows(made, larger, words), -sign
+        if words.unanswered:
+            say("audit: left out, since what some features have in common is not known")
+            return None
     return found
+
+
+def piles(after: dict[int, set[int]]) -> Iterator[set[int]]:
+    """Features that overlap, directly or by others, where more than MANY_SETS sets that begin with one of them may lie on
+    each other."""
+    deep = [feature for feature in after
+            if sum(1 for _ in islice(larger_sets(after, feature), MANY_SETS + 1)) > MANY_SETS]
+    near: dict[int, set[int]] = {}
+    for own, others in after.items() if deep else ():
+        for other in others:
+            near.setdefault(own, set()).add(other)
+            near.setdefault(other, set()).add(own)
+    for feature in deep:
+        group, waiting = set[int](), [feature] * (feature in near)
+        while waiting:
+            one = waiting.pop()
+            if one not in group:
+                group.add(one)
+                waiting += near.pop(one)
+        if group:
+            yield group
+
+
+def larger_sets(after: dict[int, set[int]], feature: int) -> Iterator[set[int]]:
+    """What overlaps each feature of a set, of sets that begin with this one and each two of which overlap."""
+    waiting = [after.get(feature, set())]
+    while waiting:
+        larger = waiting.pop()
+        yield larger
+        waiting += [larger & after.get(other, set()) for other in larger]
 
 
 def common_rows(made: Check, groups: Iterable[tuple[int, ...]], words: argparse.Namespace) -> list[Row]:

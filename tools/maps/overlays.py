@@ -9,7 +9,7 @@ from itertools import combinations
 from typing import TextIO
 
 from .. import coordinate_systems
-from . import auditing, box_pairs, exact_area, pieces, planning, quickest, tables
+from . import auditing, box_pairs, exact_area, leaving_out, pieces, planning, quickest, tables
 from .planning import Question
 from .running import Say, check_crs, found_of, read_map, some, written
 from .task_form import ALONE, COMMON, Found, Row, Task
@@ -74,7 +74,18 @@ def overlay(words: argparse.Namespace, output: TextIO, say: Say) -> int:
     with written(words.out, output) as file:
         tables.write(made.named(), tables.Units(words.factor), words.exact, file)
     tell(made, say)
-    return 0 if words.no_audit else audit(made, words, say)
+    left_out = leaving_out.told(words, sides_of(made, words))
+    if left_out and not words.no_audit:
+        say("audit: left out, since not all pieces are there")
+    return left_out if left_out or words.no_audit else audit(made, words, say)
+
+
+def sides_of(made: Overlay, words: argparse.Namespace) -> dict[str, leaving_out.Side]:
+    """What is left out where a job of a label has no answer."""
+    first, second = (words.first, made.first), (words.second, made.second)
+    common, alone = "what they have in common is left out", "what the first of them has alone is left out"
+    return {BOTH: leaving_out.Side(*first, *second, common), FIRST: leaving_out.Side(*first, *second, alone),
+            SECOND: leaving_out.Side(*second, *first, alone)}
 
 
 def tell(made: Overlay, say: Say) -> None:
@@ -169,7 +180,7 @@ def counted_twice(side: Side, features: set[int], factor: Fraction, words: argpa
     while groups:
         many = collections.Counter(group[0] for group in groups)
         crowded |= {feature for feature, count in many.items() if count > SETS_MAX}
-        rows = part_rows(side, [group for group in groups if group[0] not in crowded], factor, words)
+        rows = part_rows(side, [group for group in groups if group[0] not in crowded], factor, words, crowded)
         found += [(sign, row) for row in rows]
         groups, sign = larger(rows), -sign
     held: dict[int, list[tuple[int, Row]]] = {}
@@ -196,8 +207,14 @@ def larger(rows: list[Row]) -> list[tuple[int, ...]]:
             if not first or (own, (*first[1:], i, j)) in had]
 
 
-def part_rows(side: Side, groups: Iterable[tuple[int, ...]], factor: Fraction, words: argparse.Namespace) -> list[Row]:
-    """What a feature and some of the other map have in common, of each group that has anything."""
+def part_rows(side: Side, groups: Iterable[tuple[int, ...]], factor: Fraction, words: argparse.Namespace, crowded: set[int]
+              ) -> list[Row]:
+    """What a feature and some of the other map have in common, of each group that has anything; crowded takes the
+    features of those that are not answered."""
     asked = planning.common_parts(side.own, side.other, groups)
     question = Question("audit", COMMON, side.own, side.other, factor)
-    return [row for found in found_of(planning.tasks_of(question, asked), words) for row in found.rows]
+    rows = list[Row]()
+    for found in found_of(planning.tasks_of(question, asked), words):
+        rows += found.rows
+        crowded |= {one.own for one in found.unanswered}
+    return rows

@@ -5,7 +5,7 @@ from collections.abc import Iterable, Iterator, Sequence
 from dataclasses import dataclass
 from typing import TextIO
 
-from . import planning, quickest, tables
+from . import leaving_out, planning, quickest, tables
 from .planning import Question
 from .running import Say, check_crs, found_of, read_map, written
 from .task_form import COMMON, OVERLAPS, Row
@@ -24,7 +24,8 @@ def pairs(words: argparse.Namespace, output: TextIO, say: Say) -> int:
     with written(words.out, output) as file:
         tables.write(named(rows, first.whole.ids, second.whole.ids), counted.units, words.exact, file)
     say(counted.told())
-    return 0
+    side = leaving_out.Side(words.first, first.whole, words.second, second.whole, "what they have in common is left out")
+    return leaving_out.told(words, {question.label: side})
 
 
 def named(rows: Iterable[Row], first: Sequence[str], second: Sequence[str]) -> Iterator[tuple[str, str, Row]]:

@@ -80,9 +80,11 @@ def check_crs(first: ReadMap, second: ReadMap, words: argparse.Namespace) -> Non
 
 
 def found_of(tasks: Iterable[Task], words: argparse.Namespace) -> Iterator[Found]:
-    """What tasks find, in their order; each call is a further stage of the question."""
+    """What tasks find, in their order; each call is a further stage of the question. What is not answered is kept."""
     words.stage = getattr(words, "stage", 0) + 1
-    yield from doing.found_of(str(words.stage), tasks, words)
+    for found in doing.found_of(str(words.stage), tasks, words):
+        words.unanswered += [(found.label, one) for one in found.unanswered]
+        yield found
 
 
 @contextlib.contextmanager

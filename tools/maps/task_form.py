@@ -13,7 +13,7 @@ import struct
 import sys
 from array import array
 from collections.abc import Iterable, Iterator, Sequence
-from dataclasses import dataclass, field
+from dataclasses import astuple, dataclass, field
 from fractions import Fraction
 
 from .whole_maps import Box, WholeMap, numbers
@@ -149,6 +149,18 @@ class ShapeOf:
     wkb: bytes
 
 
+@dataclass(frozen=True)
+class Unanswered:
+    """A job with cells in which more features lie on each other than the program takes: the numbers in whole maps of its own
+    feature (or NOBODY) and of the others there, the low corner of the first cell, and how many cells there are."""
+
+    own: int
+    others: tuple[int, ...]
+    x: int
+    y: int
+    cells: int
+
+
 @dataclass
 class Found:
     """What a task found. Of kind gaps, open_pieces are boundary pieces of gaps that reach the border of their cell, to
@@ -162,10 +174,12 @@ class Found:
     rounds: int = 0
     cells: int = 0
     drawn: str = ""  # by what its jobs were drawn in
+    unanswered: list[Unanswered] = field(default_factory=list)
 
     def to_bytes(self) -> bytes:
         head = {"label": self.label, "rows": len(self.rows), "shapes": len(self.shapes), "open": len(self.open_pieces),
-                "jobs": self.jobs, "rounds": self.rounds, "cells": self.cells, "drawn": self.drawn}
+                "jobs": self.jobs, "rounds": self.rounds, "cells": self.cells, "drawn": self.drawn,
+                "unanswered": [astuple(one) for one in self.unanswered]}
         rows = "".join(row.line() for row in self.rows)
         pieces = "".join(" ".join(map(str, piece)) + "\n" for piece in self.open_pieces)
         return (json.dumps(head) + "\n" + rows + pieces).encode() + records(self.shapes)
@@ -177,6 +191,7 @@ class Found:
         lines = rest.split(b"\n", told["rows"] + told["open"])
         texts = [line.decode() for line in lines[:-1]]
         found = Found(told["label"], jobs=told["jobs"], rounds=told["rounds"], cells=told["cells"], drawn=told["drawn"])
+        found.unanswered = [Unanswered(own, tuple(others), *place) for own, others, *place in told["unanswered"]]
         found.rows = [Row.of_line(line) for line in texts[: told["rows"]]]
         found.open_pieces = [tuple(map(int, line.split())) for line in texts[told["rows"] :]]
         found.shapes = list(shapes_of(lines[-1]))

@@ -320,24 +320,23 @@ class TooMany(WithLive):
         comb = [*ring, (4 * count - 2, 0)]
         return [comb, [(y, x) for x, y in comb]]
 
-    def area(self, count: int) -> Fraction:
+    def found(self, count: int) -> list[Found]:
         wholes = [WholeMap(), WholeMap()]
         for whole, ring in zip(wholes, self.combs(count)):
             whole.add("comb", [ring])
         question = planning.Question("", COMMON, *wholes, Fraction(1))
         planned = planning.common_jobs(*map(planning.boxes_of, wholes))
-        return sum((row.area for task in planning.tasks_of(question, planned)
-                    for row in jobs.run(task, self.program).rows), Fraction(0))
+        return [jobs.run(task, self.program) for task in planning.tasks_of(question, planned)]
 
     def test_a_round_with_more_pieces_than_are_told_is_asked_in_halves(self) -> None:
         for most in (300, 60, 24):
             with mock.patch.object(rounds.Program, "boundaries", told_up_to(most)):
-                self.assertEqual(self.area(7), 4 * 49 + 4 * 7 - 4)
+                self.assertEqual([row.area for found in self.found(7) for row in found.rows], [4 * 49 + 4 * 7 - 4])
 
     def test_a_place_that_no_slot_has_room_for_is_told(self) -> None:
         with mock.patch.object(rounds.Program, "boundaries", told_up_to(0)):
-            with self.assertRaisesRegex(Unusable, "at .* say a greater --factor"):
-                self.area(3)
+            found = self.found(3)
+        self.assertEqual([(one.rows, one.unanswered[0].own, one.unanswered[0].others) for one in found], [([], 0, (0,))])
 
 
 class Audits(unittest.TestCase):
