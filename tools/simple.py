@@ -5,6 +5,7 @@ Of plain polygons the area is that of their rings, and what GIS programs take fo
 A module for the tools and for web/; it is no tool of its own.
 """
 
+import itertools
 from collections.abc import Iterator
 from math import isqrt
 from typing import NamedTuple
@@ -12,6 +13,15 @@ from typing import NamedTuple
 from .rounding import Point, Polygon, Ring
 
 Cell = tuple[int, int]
+Box = tuple[int, int, int, int]
+
+
+PAIRS_MOST, MEETINGS_MOST = 2_000_000, 1_000
+"""How many pairs of edges that lie in one cell a check looks at, and how many of these may meet."""
+
+
+class Crowded(ValueError):
+    """Why polygons are more than a check takes."""
 
 
 class Edge(NamedTuple):
@@ -27,10 +37,17 @@ class Edge(NamedTuple):
         return self.ring == other.ring and self.place == (other.place + 1) % self.edges
 
 
+def check(polygons: list[Polygon]) -> None:
+    """Refuses polygons whose edges lie so close together, or meet so often, that what is inside takes long to find."""
+    found = sum(1 for _ in itertools.islice(meetings(polygons, PAIRS_MOST), MEETINGS_MOST + 1))
+    if found > MEETINGS_MOST:
+        raise Crowded(f"its edges meet each other more than {MEETINGS_MOST} times")
+
+
 def is_plain(polygons: list[Polygon]) -> bool:
     """Whether all rings are apart from each other and from themselves, outer ones outside, holes in theirs."""
     points = [point for polygon in polygons for ring in polygon for point in ring[1:]]
-    if len(set(points)) < len(points) or meets_itself(polygons):
+    if len(set(points)) < len(points) or any(True for _ in meetings(polygons)):
         return False
     rings = [ring for polygon in polygons for ring in polygon]
     boxes = [box_of(ring) for ring in rings]
@@ -46,12 +63,12 @@ def is_nested(polygon: Polygon, depths: list[int]) -> bool:
         depth == depths[0] + 1 and holds(polygon[0], box, hole[0]) for hole, depth in zip(polygon[1:], depths[1:]))
 
 
-def box_of(ring: Ring) -> tuple[int, int, int, int]:
+def box_of(ring: Ring) -> Box:
     xs, ys = zip(*ring)
     return min(xs), min(ys), max(xs), max(ys)
 
 
-def holds(ring: Ring, box: tuple[int, int, int, int], point: Point) -> bool:
+def holds(ring: Ring, box: Box, point: Point) -> bool:
     """Whether a point that is on no edge of a ring is inside."""
     x, y = point
     if not (box[0] < x < box[2] and box[1] < y < box[3]):
@@ -96,11 +113,10 @@ def meet_wrongly(one: Edge, other: Edge) -> bool:
     return have_common_point(one, other)
 
 
-def cells_of(edge: Edge, size: int) -> Iterator[Cell]:
-    """The cells of a grid that the box of an edge touches."""
-    (ax, ay), (bx, by) = edge.a, edge.b
-    for column in range(min(ax, bx) // size, max(ax, bx) // size + 1):
-        for row in range(min(ay, by) // size, max(ay, by) // size + 1):
+def cells_of(box: Box, size: Cell) -> Iterator[Cell]:
+    """The cells of a grid that a box touches, from its least corner on. size: how wide and how high they are."""
+    for column in range(box[0] // size[0], box[2] // size[0] + 1):
+        for row in range(box[1] // size[1], box[3] // size[1] + 1):
             yield column, row
 
 
@@ -111,24 +127,33 @@ def edges_of(polygons: list[Polygon]) -> list[Edge]:
             for number, ring in enumerate(rings) for place, (a, b) in enumerate(zip(ring, ring[1:]))]
 
 
-def meets_itself(polygons: list[Polygon]) -> bool:
-    """Whether two edges of polygons have a common point that is no corner between neighbours.
+def meetings(polygons: list[Polygon], most: int | None = None) -> Iterator[tuple[Edge, Edge]]:
+    """The pairs of edges that have a common point which is no corner between neighbours, each pair once.
 
-    Only edges whose boxes touch one cell of a grid are looked at, as others have none.
+    Only edges whose boxes touch one cell of a grid are looked at, as others have none; where these are more pairs than
+    `most` it ends by Crowded.
     """
     edges = edges_of(polygons)
-    size = max(1, max(max(abs(one.b[0] - one.a[0]), abs(one.b[1] - one.a[1])) for one in edges) // 4, spread(edges))
-    grid: dict[Cell, list[Edge]] = {}
+    size, looked = size_of_cells(edges), 0
+    grid: dict[Cell, list[tuple[Box, Edge]]] = {}
     for edge in edges:
-        for cell in cells_of(edge, size):
+        box = left, low, right, high = box_of([edge.a, edge.b])
+        for cell in cells_of(box, size):
             there = grid.setdefault(cell, [])
-            if any(meet_wrongly(edge, other) for other in there):
-                return True
-            there.append(edge)
-    return False
+            looked += 1 + len(there)
+            if most is not None and looked > most:
+                raise Crowded(f"its edges lie too close together: more than {most} pairs of them would be looked at")
+            for (its_left, its_low, its_right, its_high), other in there:
+                if left <= its_right and its_left <= right and low <= its_high and its_low <= high and cell == (
+                        max(left, its_left) // size[0], max(low, its_low) // size[1]) and meet_wrongly(edge, other):
+                    yield edge, other
+            there.append((box, edge))
 
 
-def spread(edges: list[Edge]) -> int:
-    """The width of a cell with which a grid over all edges has about as many cells as there are edges."""
-    left, low, right, high = box_of([edge.a for edge in edges])
-    return max(right - left, high - low) // (isqrt(len(edges)) + 1)
+def size_of_cells(edges: list[Edge]) -> Cell:
+    """How wide and how high the cells of a grid are of which most edges touch few, and each about one edge."""
+    least_x, least_y, most_x, most_y = box_of([edge.a for edge in edges])
+    across = sum(abs(edge.b[0] - edge.a[0]) for edge in edges) // len(edges)
+    up = sum(abs(edge.b[1] - edge.a[1]) for edge in edges) // len(edges)
+    count = isqrt(len(edges)) + 1
+    return max(1, across, (most_x - least_x) // count), max(1, up, (most_y - least_y) // count)

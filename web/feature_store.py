@@ -6,10 +6,11 @@ not of the layers answers nothing.
 
 from __future__ import annotations
 
+import contextlib
 import hashlib
 import pathlib
 import threading
-from collections.abc import Callable, Mapping, Sequence
+from collections.abc import Callable, Iterator, Mapping, Sequence
 from dataclasses import dataclass
 from typing import NamedTuple
 
@@ -19,10 +20,10 @@ from tools.features import Feature, Held, Outline, Table
 from tools.overlay_client import Point, Refused
 from tools.rounding import Polygon
 from .kept_values import Kept
-from .layer_store import KEPT_MOST, PATIENCE, LayerStore
+from .layer_store import KEPT_MOST, PATIENCE, TURN, LayerStore
 from .rescue import NotWritten
 from .shapes import Feature as Shape, area_of
-from .views import Busy, View
+from .views import Busy, Places, View
 
 
 NOT_ACCEPTED = (Refused, NotWritten, Busy)
@@ -126,9 +127,9 @@ class FeatureStore:
 
     # ---- outlines
 
-    def drawn(self, outline: Outline) -> Drawn:
-        """The polygons of a feature, made once."""
-        return self._drawn.made(outline.feature.rings, lambda: self._draw(outline.polygons), PATIENCE)
+    def drawn(self, outline: Outline, places: Places | None = None) -> Drawn:
+        """The polygons of a feature, made once. places: those who ask, and change nothing, wait in one of them."""
+        return self._drawn.made(outline.feature.rings, lambda: self._draw(outline.polygons), PATIENCE, places)
 
     def _draw(self, polygons: list[Polygon]) -> Drawn:
         scale = self.store.scale
@@ -152,11 +153,14 @@ class FeatureStore:
         return None
 
     def change(self, plan: Callable[[State, Sequence[str]], Plan]) -> Done:
-        """Makes the change that is planned for what there is, and has it durable, as docs/FEATURES.md says."""
-        with self._changing:
+        """Makes the change that is planned for what there is, and has it durable, as docs/FEATURES.md says.
+
+        It is planned once before its turn: what takes long is kept then, and holds up no other change.
+        """
+        plan(*self._present())
+        with self._turn():
             self.store.must_be_written()  # what is not durable by now is lost, so no file may go on from it
-            with self.store.view() as view:
-                state, names = self.state(view), list(view.layers)
+            state, names = self._present()
             if self._table.pending:  # whether the one before is durable nobody knows
                 self.store.settle()
                 put(self.path, state.table)
@@ -168,6 +172,20 @@ class FeatureStore:
 
             carried_out(self.path, state.table, made, accept, lambda: None, NOT_ACCEPTED, self._note)
             return Done(versions[-1], made.change.feature)
+
+    def _present(self) -> tuple[State, list[str]]:
+        """The features that there are, and the names of all layers."""
+        with self.store.view() as view:
+            return self.state(view), list(view.layers)
+
+    @contextlib.contextmanager
+    def _turn(self) -> Iterator[None]:
+        if not self._changing.acquire(timeout=TURN):
+            raise Busy("other changes have taken too long: ask again")
+        try:
+            yield
+        finally:
+            self._changing.release()
 
     def _note(self, table: Table) -> None:
         self._table = table

@@ -16,7 +16,7 @@ from tools.overlay_client import NAME, Ended, Refused
 from .feature_store import FeatureStore, Unlike
 from .features_api import ITEM_WORDS, FeaturesApi
 from .joining import TooLarge
-from .layer_store import Changed, LayerStore, NotDurable, Pending, Protected
+from .layer_store import WAITING_MOST, Changed, LayerStore, NotDurable, Pending, Protected
 from .map_api import MapApi
 from .map_features import MapFeatures
 from .rescue import AGAIN, NotWritten
@@ -27,8 +27,9 @@ from .web_request import Answer, Problem, Request, json_answer
 PAGE = pathlib.Path(__file__).resolve().parent / "page"
 LEAFLET = pathlib.Path("/usr/share/javascript/leaflet")
 LOOPBACK = frozenset(["127.0.0.1", "localhost", "[::1]"])
-SLOW_MOST, CHANGES_MOST = 12, 4
-"""How many questions that may wait, and how many changes, are answered at once; the front has more threads."""
+SLOW_MOST, CHANGES_MOST = WAITING_MOST + 4, 4
+"""How many questions that may wait, and how many changes, are answered at once; the front has more threads. Some of
+these questions have no polygons to wait for, and keep places of their own."""
 KINDS = {".html": "text/html; charset=utf-8", ".js": "text/javascript", ".css": "text/css", ".png": "image/png"}
 HEADERS = {
     "X-Content-Type-Options": "nosniff", "Referrer-Policy": "no-referrer",

@@ -2,10 +2,12 @@
 
 from __future__ import annotations
 
+import contextlib
 import threading
 from collections import OrderedDict
 from collections.abc import Callable, Hashable
 from concurrent.futures import Future
+from contextlib import AbstractContextManager
 from typing import Generic, TypeVar
 
 K = TypeVar("K", bound=Hashable)
@@ -39,11 +41,16 @@ class Kept(Generic[K, V]):
             while weight > self._most and len(self._made) > 1:
                 weight -= self._weigh(self._made.popitem(last=False)[1])
 
-    def made(self, key: K, make: Callable[[], V], timeout: float) -> V:
-        """The value, by make where it is not there; another thread that makes it is waited for."""
+    def made(self, key: K, make: Callable[[], V], timeout: float, places: AbstractContextManager[None] | None = None) -> V:
+        """The value, by make where it is not there; another thread that makes it is waited for. places: where it is made
+        or waited for."""
         found = self.get(key)
         if found is not None:
             return found
+        with places or contextlib.nullcontext():
+            return self._made_or_awaited(key, make, timeout)
+
+    def _made_or_awaited(self, key: K, make: Callable[[], V], timeout: float) -> V:
         with self._lock:
             coming = self._coming.get(key)
             own = coming is None

@@ -15,18 +15,20 @@ from collections.abc import Callable, Iterator, Mapping, Sequence
 from typing import NamedTuple, cast
 
 from tools import limits
-from tools.overlay_client import Ended, Piece, Refused, Server, Session, number_of
+from tools.overlay_client import OVERSIZE, Ended, Piece, Refused, Server, Session, number_of
 from . import shapes
 from .joining import Joiners, TooLarge
 from .kept_values import Kept
 from .map_scale import MapScale
 from .rescue import NotWritten, Rescue
 from .scratch import Scratch
-from .views import Busy, Hold, Listed, View, listed
+from .views import Busy, Hold, Listed, Places, View, listed
 
 PIECES_MOST = 200_000
 KEPT_MOST = 500_000
 REVISIONS_MOST = 1000
+WAITING_MOST = 12
+"""How many questions make polygons, or wait for them, at once."""
 PATIENCE = 120.0
 """How many seconds a question waits for polygons that are joined."""
 JOINING = 60.0
@@ -94,6 +96,7 @@ class LayerStore:
         self._too_large: Kept[str, tuple[float, str]] = Kept(REVISIONS_MOST, lambda _: 1)
         self._joiners, self._reminding, self._noting = Joiners(JOINING), threading.Lock(), threading.Lock()
         self._refusal: Callable[[str], str | None] = lambda _: None
+        self.places = Places(WAITING_MOST)
 
     def close(self) -> None:
         self._joiners.close()
@@ -130,27 +133,32 @@ class LayerStore:
             found = self.layer(name)
             if revision not in (None, found.revision):
                 raise Changed(f"{name} has changed since revision {revision}")
-            self._check_size(found)
+            self._check_size(found.revision)
             try:
-                held = self._joined.made(found.revision, functools.partial(self._join, found), PATIENCE)
+                held = self._joined.made(found.revision, functools.partial(self._join, found), PATIENCE, self.places)
             except Changed:
                 if time.monotonic() > end:
                     raise
         return held
 
-    def _check_size(self, found: Listed) -> None:
+    def _check_size(self, revision: str) -> None:
         """A revision that was too large is so again, for a while: a machine that was busy is not so for ever."""
-        known = self._too_large.get(found.revision)
+        known = self._too_large.get(revision)
         if known and time.monotonic() - known[0] < FORGOTTEN:
             raise TooLarge(known[1])
 
-    def _join(self, found: Listed) -> Joined:
+    @contextlib.contextmanager
+    def _noted_size(self, revision: str) -> Iterator[None]:
         try:
+            yield
+        except TooLarge as fault:
+            self._too_large.put(revision, (time.monotonic(), str(fault)))
+            raise
+
+    def _join(self, found: Listed) -> Joined:
+        with self._noted_size(found.revision):
             pieces = self._built_pieces(found) if found.layer.text is None else self._base_pieces(found.layer.text)
             return Joined(found.revision, self._features(found.layer.name, pieces))
-        except TooLarge as fault:
-            self._too_large.put(found.revision, (time.monotonic(), str(fault)))
-            raise
 
     def _features(self, name: str, pieces: list[Piece]) -> list[shapes.Feature]:
         most = f"up to {PIECES_MOST} pieces are joined, within {self._joiners.seconds:g} seconds: ask for its tiles"
@@ -168,6 +176,10 @@ class LayerStore:
             return self._scratch.pieces(texts, TURN)
         except TimeoutError:
             raise TooLarge(f"its rings take longer than the {seconds:g} seconds that they are given") from None
+        except Refused as fault:
+            if fault.number != OVERSIZE:
+                raise
+            raise TooLarge(f"its rings have more than {limits.PIECES_MAX} pieces in one column") from fault
 
     def _built_pieces(self, found: Listed) -> list[Piece]:
         """All pieces of a derived layer. Waits BUILDING seconds for it, by no session, as that could last for ever."""
@@ -212,7 +224,10 @@ class LayerStore:
 
     def inside_of(self, texts: Sequence[str]) -> list[shapes.Feature]:
         """The polygons of what an odd number of texts have."""
-        return self._features("a feature", self._base_pieces(*texts))
+        key = "".join(texts)
+        self._check_size(key)
+        with self._noted_size(key):
+            return self._features("a feature", self._base_pieces(*texts))
 
     def protect(self, refusal: Callable[[str], str | None]) -> None:
         """Has changes of layers refused that are parts of something else, by what says why."""

@@ -6,13 +6,14 @@ import json
 from collections.abc import Callable, Sequence
 from decimal import Decimal
 from fractions import Fraction
-from typing import Any
+from typing import Any, cast
 
-from tools import feature_changes, features
-from tools.feature_changes import ChangeFault, GeometryFault, Given, Plan, Unfit
+from tools import feature_changes, features, simple
+from tools.feature_changes import ChangeFault, GeometryFault, Given, Plan, Rounded, Unfit
 from tools.features import FeaturesFault, Outline
 from .feature_store import Drawn, FeatureStore, State
 from .features_api import FeaturesApi
+from .joining import TooLarge
 from .layer_store import Changed
 from .map_scale import MapScale
 from .openapi import Described
@@ -39,7 +40,7 @@ class MapItem:
         return any(one.meets(box) for one in self._drawn().polygons)
 
     def _drawn(self) -> Drawn:
-        return self._maps.drawn(self._outline)
+        return self._maps.drawn(self._outline, self._maps.store.places)
 
     def geojson(self) -> dict[str, object]:
         feature, drawn = self._outline.feature, self._drawn()
@@ -157,10 +158,17 @@ class MapFeatures(FeaturesApi):
         def plan(state: State, _: Sequence[str]) -> Plan:
             outline = self._known(state, identity)
             self._must_match(request, outline.feature.revision())
-            own = given.feature(state, self.scale, geometry_of(outline.feature.kind, self.maps.drawn(outline)))
+            own = given.feature(state, self.scale, self._served(outline))
             return feature_changes.replaced(state.table, state.held, outline.feature.id, own)
 
         return self._changed(request, plan, 200, given)
+
+    def _served(self, outline: Outline) -> dict[str, object] | None:
+        """The geometry of a feature as it is served; None where it is more than can be."""
+        try:
+            return geometry_of(outline.feature.kind, self.maps.drawn(outline))
+        except TooLarge:
+            return None
 
     def remove(self, request: Request, name: str, identity: str) -> Answer:
         """A feature goes."""
@@ -206,7 +214,7 @@ class Body:
 
     def __init__(self, geometry: dict[str, Any], properties: dict[str, Any], systems: Systems, uri: str | None) -> None:
         self.geometry, self.properties, self.moved = geometry, properties, Fraction(0)
-        self._systems, self._uri = systems, uri
+        self._systems, self._uri, self._rounded = systems, uri, cast("Rounded | None", None)
 
     @staticmethod
     def of(request: Request, systems: Systems) -> Body:
@@ -235,14 +243,23 @@ class Body:
         properties = {name: value for name, value in self.properties.items() if name != state.area_name}
         if served and features.plain(self.geometry) == self._systems.geometry(served, self._uri):
             return Given(str(self.geometry["type"]), None, properties)
+        found = self._rounded = self._rounded or self._checked(scale)
+        self.moved = found.moved
+        return Given(found.kind, found.polygons, properties)
+
+    def _checked(self, scale: MapScale) -> Rounded:
+        """The geometry in whole numbers, where what is inside can be found in seconds."""
         try:
             here = self._systems.back(self.geometry, self._uri)
         except Unplaced as fault:
             raise GeometryFault(f"geometry: {fault}, as coordinates of {self._uri}; Content-Crs may name "
                                 f"{' or '.join(self._systems.uris)}") from fault
         found = feature_changes.rounded(exactly(here), scale.scale)
-        self.moved = found.moved
-        return Given(found.kind, found.polygons, properties)
+        try:
+            simple.check(found.polygons)
+        except simple.Crowded as fault:
+            raise Unfit(f"geometry: {fault}; send fewer points, or several features") from fault
+        return found
 
 
 def exactly(given: Any) -> Any:

@@ -5,7 +5,7 @@ from __future__ import annotations
 from collections.abc import Iterable, Mapping
 from typing import Any
 
-from tools import limits
+from tools import limits, simple
 
 Value = dict[str, Any]
 NAME = "^[A-Za-z][A-Za-z0-9_]{0,31}$"
@@ -110,8 +110,11 @@ SCHEMAS: dict[str, Value] = {
     "feature": shaped("Feature", of()),
     "featureCollection": of(["type", "features", *LISTED], type={"type": "string", "enum": ["FeatureCollection"]},
                             features=array(ref("feature")), **LISTED),
-    "newFeature": of(["type", "geometry"], type={"type": "string", "enum": ["Feature"]}, geometry=GIVEN_GEOMETRY,
-                     properties={"type": "object", "nullable": True}),
+    "newFeature": {
+        **of(["type", "geometry"], type={"type": "string", "enum": ["Feature"]}, geometry=GIVEN_GEOMETRY,
+             properties={"type": "object", "nullable": True}),
+        "description": f"Refused (422) where a list of the geometry is empty, and where it is beyond a check: that looks at "
+        f"{simple.PAIRS_MOST} pairs of edges that lie close to each other, and {simple.MEETINGS_MOST} of them may meet."},
     "atPoint": every(id={"oneOf": [WHOLE, STRING]}, name=STRING, place=PLACE, properties=of()),
     "located": of(ASKED, **ASKED, place=PLACE, features=array(ref("atPoint"))),
     "locatedAll": of([*ASKED, "places"], **ASKED, places=by_name(PLACE), features=array(ref("atPoint"))),

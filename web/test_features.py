@@ -2,6 +2,7 @@
 
 from __future__ import annotations
 
+import concurrent.futures
 import contextlib
 import errno
 import importlib.util
@@ -15,6 +16,7 @@ import shutil
 import subprocess
 import sys
 import threading
+import time
 import unittest
 import unittest.mock
 from collections.abc import Iterator
@@ -403,6 +405,74 @@ class Empty(unittest.TestCase):
         files[1].write_text(files[1].read_text().replace('"rings": [["', '"rings": [[], ["', 1))
         with self.assertRaisesRegex(features.FeaturesFault, "feature 1 has a polygon without a ring"):
             features.read(files[1])
+
+
+def zigzag(count: int) -> list[list[int]]:
+    """A ring of so many steps, most of which cross most of the others."""
+    ring = [[7919 * place % 1009, 1000 * (place % 2)] for place in range(count)]
+    return ring + ring[:1]
+
+
+class Crowded(Case):
+    """A map with a feature that is more than can be drawn, as no check takes one."""
+
+    found = [*MAP, feature("Polygon", [zigzag(2000)], {"name": "Zigzag"})]
+
+    def test_what_is_beyond_a_check_is_refused_when_it_comes(self) -> None:
+        described = self.client.get("/api")["components"]["schemas"]["newFeature"]["description"]
+        self.assertRegex(described, "looks at 2000000 pairs of edges .* 1000 of them may meet")
+        before = self.layer_texts(), features.beside(self.store).read_bytes()
+        slanted = [[100 * x + 300_000 * (x % 2), 300_000 * (x % 2)] for x in range(1200)] + [[0, 300_009], [0, 0]]
+        for ring, reason in ((zigzag(400), "meet each other more than 1000 times"), (zigzag(2000), "more than 1000 times"),
+                             (slanted, "too close together")):
+            for path, method in (("/collections/plan/items", "POST"), ("/collections/plan/items/1", "PUT")):
+                told = self.client.ask(path, method, feature("Polygon", [ring], {}))
+                self.assertEqual((told.status, reason in told.value.get("description", "")), (422, True), told.value)
+        self.assertEqual((self.layer_texts(), features.beside(self.store).read_bytes()), before)
+        straight = [[100 * x, 300_000 * (x % 2)] for x in range(1200)] + [[0, 300_009], [0, 0]]
+        for ring in (zigzag(40), straight):
+            told = self.client.ask("/collections/plan/items", "POST", feature("Polygon", [ring], {}))
+            self.assertEqual(told.status, 201, told.value)
+
+    def test_a_feature_that_cannot_be_drawn_can_be_changed(self) -> None:
+        for _ in range(2):
+            told = self.client.ask("/collections/plan/items/5")
+            self.assertEqual((told.status, "65536 pieces in one column" in told.value["description"]), (413, True), told)
+        self.client.change("/collections/plan/items/5", "PUT", feature("Polygon", [MOVED], {"name": "Moved"}))
+        self.assertEqual(self.items()[4]["geometry"]["coordinates"], [MOVED])
+
+
+class Waiting(Case):
+    def test_who_waits_for_polygons_leaves_places_to_others(self) -> None:
+        """While polygons of a feature are worked out others read and change what needs none of these."""
+        go_on, draw, waiting = threading.Event(), FeatureStore._draw, threading.Semaphore(0)
+
+        def late(maps: FeatureStore, polygons: Any) -> Any:
+            self.assertTrue(polygons[0][0][0] != (50, 0) or go_on.wait(60))
+            return draw(maps, polygons)
+
+        def asked(*words: Any) -> testing.Told:
+            waiting.release()
+            return self.client.ask(bow, *words)
+
+        bow, read = "/collections/plan/items/4", ("/collections", "/collections/plan", "/collections/plan/items/1")
+        self.client.get(read[2])
+        self.enterContext(unittest.mock.patch.object(FeatureStore, "_draw", late))
+        with concurrent.futures.ThreadPoolExecutor(20) as pool:
+            late_ones = [pool.submit(asked) for _ in range(12)]
+            late_ones.append(pool.submit(asked, "PUT", feature("Polygon", [MOVED], {"name": "Bow"})))
+            try:
+                for _ in late_ones:
+                    waiting.acquire()
+                time.sleep(0.5)  # by now they wait
+                self.assertEqual([self.client.ask(path).status for path in read], [200, 200, 200])
+                changed = pool.submit(self.client.ask, "/collections/plan/items/2", "PUT", feature("Polygon", [MOVED], {}))
+                self.assertEqual(changed.result(30).status, 200)
+                told = self.client.ask(bow)
+                self.assertEqual((told.status, told.headers.get("Retry-After")), (503, "1"))
+            finally:
+                go_on.set()
+        self.assertEqual([one.result().status for one in late_ones], [200] * len(late_ones))
 
 
 class Unwritten(unittest.TestCase):

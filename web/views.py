@@ -21,6 +21,20 @@ class Busy(Exception):
     """The hold was not to be had in time: what is asked may be asked again."""
 
 
+class Places:
+    """So many may be here at once; who comes then is to ask again."""
+
+    def __init__(self, count: int) -> None:
+        self._free = threading.BoundedSemaphore(count)
+
+    def __enter__(self) -> None:
+        if not self._free.acquire(blocking=False):
+            raise Busy("others wait for polygons that are worked out: ask again")
+
+    def __exit__(self, *_: object) -> None:
+        self._free.release()
+
+
 class Hold:
     """Shared by those who ask and had alone by who changes, each in the order of coming."""
 
