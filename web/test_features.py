@@ -26,10 +26,11 @@ from typing import Any
 from tools import feature_changes, features, scale as scales
 from tools.commands import to_script
 from tools.overlay_client import Server, Session
-from . import map_scale, rescue, testing
+from . import feature_store, map_scale, rescue, testing
 from .feature_store import FeatureStore, Unlike
 from .front import Front
 from .layer_store import LayerStore
+from .map_features import MapFeatures
 from .rescue import Rescue
 from .scratch import Scratch
 from .systems import Projection, Systems
@@ -443,6 +444,15 @@ class Crowded(Case):
 
 
 class Waiting(Case):
+    def test_a_change_whose_turn_does_not_come_is_to_be_asked_again(self) -> None:
+        assert isinstance(self.client.front.features, MapFeatures)
+        turn, before = self.client.front.features.maps._turn, self.layer_texts()
+        with turn(), unittest.mock.patch.object(feature_store, "TURN", 0.05):
+            told = self.client.ask("/collections/plan/items/2", "DELETE")
+        self.assertEqual((told.status, told.headers.get("Retry-After")), (503, "1"))
+        self.assertEqual(self.layer_texts(), before)
+        self.client.change("/collections/plan/items/2", "DELETE")
+
     def test_who_waits_for_polygons_leaves_places_to_others(self) -> None:
         """While polygons of a feature are worked out others read and change what needs none of these."""
         go_on, draw, waiting = threading.Event(), FeatureStore._draw, threading.Semaphore(0)
