@@ -4,9 +4,12 @@ A module for the commands of tools/ and web/; it is no tool of its own.
 """
 
 import argparse
+import re
 from collections.abc import Sequence
 from typing import Any
 
+
+NEGATIVE = re.compile(r"-(?:\d+|\d*\.\d+|\d+/\d+)$")  # a word that is a number, and no option
 
 class Once(argparse.Action):
     """Keeps the value of an option, once among the words. An option that takes several says so by another action."""
@@ -26,6 +29,7 @@ class Parser(argparse.ArgumentParser):
     def __init__(self, **words: Any) -> None:
         super().__init__(**words)
         self.given = set[str]()
+        self._negative_number_matcher = NEGATIVE
         for name in (None, "store"):
             self.register("action", name, Once)
 

@@ -12,8 +12,8 @@ point is in coordinates of the world where a scale is there, x (longitude) first
 map are: of more digits than a double has the nearest double. Where it cannot be asked exactly, the nearest one that can
 is asked, and reported. A store is read and not changed.
 
-A file of points has one on each line, two numbers apart by blanks, a comma or a semicolon; blank lines and those that
-begin with # are passed over.
+A number is a decimal, or a fraction as 5/3. A file of points has one on each line, two numbers apart by blanks, a comma
+or a semicolon; blank lines and those that begin with # are passed over.
 
 Each point has a line: a name, several with tabs between, or nothing where no layer or feature has it. Where it lies on
 a segment the line is `edge`, a tab, and the names that it may belong to: of coded layers all whose numbers fit, the
@@ -183,14 +183,14 @@ def joined(answers: list[Answer]) -> Answer:
 
 
 def point_of(line: str) -> Point:
-    """The point that a line spells: two numbers apart by blanks, a comma or a semicolon."""
-    try:
-        x, y = (scales.exact(word) for word in line.replace(",", " ").replace(";", " ").split())
-    except ValueError:
+    """The point that a line spells: two numbers, decimals or fractions, apart by blanks, a comma or a semicolon."""
+    numbers = line.replace(",", " ").replace(";", " ").split()
+    if len(numbers) != 2:
         return Point(line, None, "two numbers are a point" + ("; 1,5 are two of them, 1.5 is one" if "," in line else ""))
-    except scales.ScaleFault as fault:
+    try:
+        return Point(line, (scales.number(numbers[0]), scales.number(numbers[1])))
+    except ValueError as fault:
         return Point(line, None, str(fault))
-    return Point(line, (x, y))
 
 
 def read_points(words: argparse.Namespace) -> list[Point]:

@@ -3,6 +3,8 @@
 import io
 import json
 import pathlib
+import subprocess
+import sys
 import unittest
 import unittest.mock
 from dataclasses import replace
@@ -11,7 +13,7 @@ from typing import Any
 from .. import asking, features, layering, sessions, simple
 from ..commands import dump_store, to_geojson, to_script, which
 from ..features import Change, FeaturesFault
-from .common import InFolder, WithProgram, outcome
+from .common import SECONDS, InFolder, WithProgram, outcome, path
 
 WEST = [[0, 0], [10, 0], [10, 10], [5, 10], [0, 10], [0, 0]]
 EAST = [[10, 0], [20, 0], [20, 10], [10, 10], [10, 0]]
@@ -211,6 +213,14 @@ class InStores(WithProgram):
             status, output, _ = outcome(which, "--store", store, "--program", program, "--points", points)
             self.assertEqual((status, output.splitlines()), (0, wanted))
         self.assertEqual(outcome(which, "--store", store, "--program", self.program, "--layers", 9, 3)[1], "b1\n")
+
+    def test_a_point_of_fractions(self) -> None:
+        store = self.store("plain.db", "PUT A POLYGON ((0 0, 9 0, 9 9, 0 9, 0 0))\n")
+        words = [sys.executable, path("which.py"), "--store", store, "--program", self.program]
+        for point, told in ((["5/3", "2/7"], "A\n"), (["-5/3", "1"], "\n"), (["27/3", "1/3"], "edge\tA\n"),
+                            (["1/0", "1"], "error\t1/0 1: no number, or one that is too long: 1/0\n")):
+            done = subprocess.run([*words, *point], capture_output=True, text=True, timeout=SECONDS, check=False)
+            self.assertEqual((done.stdout, done.returncode), (told, int(told.startswith("error"))), done.stderr)
 
     def test_a_point_has_one_line_whatever_its_names_are(self) -> None:
         text = collection(*(feature([ring], {"name": name}) for ring, name in
