@@ -10,9 +10,10 @@ from collections.abc import Iterable, Mapping
 from dataclasses import replace
 from decimal import Decimal
 
-from . import asking, scale as scales, sessions
+from . import asking, features, scale as scales, sessions
 
 
+NAMES_BEGIN = b"store,number,name,"
 ENDS = (".scale.json", ".features.json", ".names.csv")
 
 
@@ -62,8 +63,25 @@ def check_apart(output: pathlib.Path, given: Iterable[pathlib.Path] = ()) -> Non
                 raise StoreStands(f"{output} says what the numbers of {path} mean, and is not written over")
 
 
+def is_own(path: pathlib.Path) -> bool:
+    """Whether a file beside a script is of the form that the tools write there."""
+    try:
+        if path.name.endswith(".scale.json"):
+            return bool(scales.read(path)) and b'"factor"' in path.read_bytes()
+        if path.name.endswith(".features.json"):
+            return bool(features.read(path))
+        return path.read_bytes().startswith(NAMES_BEGIN)
+    except (scales.ScaleFault, features.FeaturesFault):
+        return False
+
+
 def check(output: pathlib.Path, beside: Mapping[pathlib.Path, bytes]) -> None:
-    """Refuses files beside a script that would say something else of a store that is there under its name."""
+    """Refuses to write over files beside a script that are not of the tools, or that would say something else of a store
+    that is there under its name."""
+    for path in beside:
+        if path.is_file() and not is_own(path):
+            raise StoreStands(f"{path} stands, and is no file of this tool's: it was not named, and is not written over; take "
+                              "another name, or move it away")
     stores = stores_of(output)
     for path, data in beside.items() if stores else ():
         stands = path.read_bytes() if path.is_file() else b""

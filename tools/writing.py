@@ -5,21 +5,57 @@ A module for the tools; it is no tool of its own.
 """
 
 import contextlib
+import hashlib
 import os
 import pathlib
+import re
 import shutil
+import socket
 import threading
 import uuid
 from collections.abc import Iterator, Mapping
 from typing import TextIO
 
 
-OWN = uuid.uuid4().hex  # of this process, among those of all machines that write in a folder
+def machine() -> str:
+    """What tells processes of one number apart: this machine, and where its processes are numbered."""
+    with contextlib.suppress(OSError):
+        return hashlib.sha256(f"{socket.gethostname()} {os.readlink('/proc/self/ns/pid')}".encode()).hexdigest()[:16]
+    return uuid.uuid4().hex[:16]
+
+
+MACHINE = machine()
+OWN = MACHINE + uuid.uuid4().hex[:16]  # of this process, among those of all machines that write in a folder
+LEFT = re.compile(rf"\..+\.{MACHINE}[0-9a-f]{{16}}\.([0-9]+)\.[0-9]+\.new[^/]*")
+looked_in = set[pathlib.Path]()
 
 
 def beside(path: pathlib.Path, end: str = "") -> pathlib.Path:
-    """Where a file is written first: the same name each time that this thread asks, and nobody else's."""
+    """Where a file is written first: the same name each time that this thread asks, and nobody else's. The first one of a
+    folder takes away what processes that are gone have left so there."""
+    if path.parent not in looked_in:
+        looked_in.add(path.parent)
+        take_away_left(path.parent)
     return path.with_name(f".{path.name}.{OWN}.{os.getpid()}.{threading.get_ident()}.new{end}")
+
+
+def take_away_left(folder: pathlib.Path) -> None:
+    """Takes away what processes of this machine were writing in a folder when they were killed."""
+    with contextlib.suppress(OSError):
+        for file in folder.iterdir():
+            if (found := LEFT.fullmatch(file.name)) and is_gone(int(found[1])):
+                file.unlink(missing_ok=True)
+
+
+def is_gone(process: int) -> bool:
+    """Whether no process of this machine has a number."""
+    try:
+        os.kill(process, 0)
+    except ProcessLookupError:
+        return True
+    except (OSError, OverflowError):
+        pass
+    return False
 
 
 def in_hand(path: pathlib.Path) -> str | None:

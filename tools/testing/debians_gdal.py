@@ -235,6 +235,15 @@ class Writing(InFolder):
         gdal_writing.write(path, self.pieces(2), None, 3)
         self.assertTrue(index.is_file() and (self.folder / "pieces-002.gpkg").is_file())
 
+    def test_parts_are_not_written_over_what_is_another_s(self) -> None:
+        for name in ("pieces-002.gpkg", "pieces.vrt"):
+            own = self.file(name, "mine")
+            with self.assertRaisesRegex(MapFault, f"{own} stands, and was not named"):
+                gdal_writing.write(str(self.folder / "pieces.gpkg"), self.pieces(7), None, 3)
+            self.assertEqual([one.name for one in self.folder.iterdir()], [name])
+            self.assertEqual(own.read_text(), "mine")
+            own.unlink()
+
     def test_exactly_one_part_is_one_file_and_none_is_one_without_features(self) -> None:
         for count in (0, 3):
             self.assertEqual(gdal_writing.write(str(self.folder / "pieces.gpkg"), self.pieces(count), None, 3), count)

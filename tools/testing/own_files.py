@@ -1,0 +1,46 @@
+"""Tests that tools write over no file that was not named to them, by the commands, and that a kill leaves nothing for good."""
+
+import pathlib
+import signal
+import subprocess
+import sys
+
+from .common import SECONDS, SQUARE, InFolder, path
+
+MINE = "mine\n"
+
+
+class OwnFiles(InFolder):
+    def ran(self, tool: str, *words: object) -> tuple[int, str]:
+        done = subprocess.run([sys.executable, path(tool), *map(str, words)], capture_output=True, text=True, timeout=SECONDS,
+                              check=False)
+        return done.returncode, done.stderr
+
+    def test_files_beside_an_output_that_are_the_users(self) -> None:
+        source = self.file("plan.wkt", SQUARE)
+        for end in (".scale.json", ".names.csv"):
+            mine = self.file(f"out{end}", MINE)
+            status, told = self.ran("to_script.py", source, "--coded", "--output", self.folder / "out.txt")
+            self.assertEqual((status, mine.read_text()), (2, MINE), told)
+            self.assertIn(f"--output: {mine} stands, and is no file of this tool's", told)
+            self.assertFalse((self.folder / "out.txt").exists())
+            mine.unlink()
+        for _ in range(2):  # what it has written itself it replaces
+            self.assertEqual(self.ran("to_script.py", source, "--coded", "--output", self.folder / "out.txt")[0], 0)
+
+    def test_what_a_kill_leaves_goes_at_the_next_start(self) -> None:
+        source = self.file("plan.wkt", SQUARE)
+        writer = ("import pathlib, sys, time\nfrom tools import writing\n"
+                  "with writing.whole(pathlib.Path(sys.argv[1])) as file:\n    file.write('half')\n    file.flush()\n"
+                  "    print('now', flush=True)\n    time.sleep(60)\n")
+        with subprocess.Popen([sys.executable, "-c", writer, self.folder / "out.txt"], cwd=pathlib.Path(path()).parent,
+                              stdout=subprocess.PIPE) as killed:
+            assert killed.stdout
+            killed.stdout.readline()
+            (left,) = self.folder.glob(".*.new")
+            self.assertEqual(self.ran("to_script.py", source, "--output", self.folder / "out.txt")[0], 0)
+            self.assertTrue(left.exists())  # of one that is at work
+            killed.send_signal(signal.SIGKILL)
+        others = self.file(f".out.txt.{'0' * 32}.{killed.pid}.1.new", MINE)  # of another machine
+        self.assertEqual(self.ran("to_script.py", source, "--output", self.folder / "out.txt")[0], 0)
+        self.assertEqual(list(self.folder.glob(".*.new")), [others])
