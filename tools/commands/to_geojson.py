@@ -9,7 +9,8 @@ Each layer is a feature with a MultiPolygon, or with --parts each of its polygon
 counter-clockwise, holes clockwise. Its properties are `layer`, `expression` (null for a base layer), `version`, and its
 area in the world's unit, rounded in `area` and, as a fraction, in `area_exact`: where it has at most 60 digits, or with
 --exact. Coordinates are rounded to the scale's digits, or to --digits; a place that is a whole number in the store
-comes back from them through to_script.py with the same scale.
+comes back from them through to_script.py with the same scale. Where no coordinate system is known, what is written says
+that it is of a plane of its own: GeoJSON that says nothing is of degrees.
 
 --features writes the features of the source in the place of layers, by NAME.features.json beside the store or the
 script NAME.*: each with its own properties, its id, its outline whole, also where it is in several layers or parts,
