@@ -81,14 +81,10 @@ def iceland(folder: pathlib.Path, program: str) -> pathlib.Path:
 
 
 @contextlib.contextmanager
-def front(*words: str | os.PathLike[str], program: str, python: str = DEBIAN_PYTHON, before: str = "") -> Iterator[str]:
-    """The address of a front that runs until the end of the block, and then has to end with 0.
-
-    before: lines of Python that are run first.
-    """
-    code = f"{before}import runpy, sys; sys.argv = sys.argv[1:]; runpy.run_path(sys.argv[0], run_name='__main__')"
+def front(*words: str | os.PathLike[str], program: str, python: str = DEBIAN_PYTHON) -> Iterator[str]:
+    """The address of a front that runs until the end of the block, and then has to end with 0."""
     given = ["--port", "0", "--program", program, *words]
-    run = subprocess.Popen([python, "-c", code, TOP / "web/overlay_web.py", *given], stdout=subprocess.PIPE, text=True)
+    run = subprocess.Popen([python, TOP / "web/overlay_web.py", *given], stdout=subprocess.PIPE, text=True)
     assert run.stdout
     try:
         address = run.stdout.readline().strip()

@@ -1,4 +1,4 @@
-"""The front by waitress, Debian's package python3-waitress: who has it not gets an ImportError.
+"""The server of the front: waitress, Debian's package python3-waitress. Who has it not gets an ImportError.
 
 Of waitress alone a connection lives as long as something comes or goes now and then, and its own refusals are plain
 text. Here a request and an answer have an end, and what waitress refuses is reported as the front says it.

@@ -1,10 +1,8 @@
-"""Tests of the front as a process: its words, the standard library's server, its end, and what it reads of a store."""
+"""Tests of the front as a process: its words, its end, and what it reads of a store."""
 
 from __future__ import annotations
 
-import concurrent.futures
 import contextlib
-import http.client
 import os
 import pathlib
 import resource
@@ -12,26 +10,22 @@ import signal
 import socket
 import subprocess
 import sys
-import threading
-import time
 import unittest
-import unittest.mock
 import urllib.parse
-from collections.abc import Callable, Iterator
-from wsgiref import simple_server
+from collections.abc import Iterator
 
 from tools.overlay_client import Server
-from . import serving, testing
+from . import testing
 from .commands import overlay_web
 from .stressing import asked
 
 
 def started(*words: str | pathlib.Path) -> subprocess.Popen[str]:
-    """A front, with a free port unless words name one. Waitress is hidden from it, as the tests need no package; an interrupt
-    reaches it as from a terminal, also where the tests run behind a shell that ignores interrupts."""
+    """A front, with a free port unless words name one. An interrupt reaches it as from a terminal, also where the tests run
+    in a shell that ignores interrupts."""
     code = (
         "import signal, sys; signal.signal(signal.SIGINT, signal.default_int_handler); "
-        "sys.modules['waitress'] = None; sys.argv[0] = 'overlay_web.py'; "
+        "sys.argv[0] = 'overlay_web.py'; "
         "from web.commands import overlay_web; sys.exit(overlay_web.main(sys.argv[1:]))"
     )
     usual = {"--program": testing.PROGRAM, "--port": "0"}
@@ -216,55 +210,3 @@ class Processes(unittest.TestCase):
             with socket.create_connection((parts.hostname, parts.port or 80)) as stuck:
                 stuck.sendall(b"GET /status HTTP/1.1\r\nHost:")
                 self.assertEqual(asked(address, "GET", "/status")[0], 200)
-
-
-class Waiting:
-    """An application whose questions wait until they may go on, and the most of them that waited at once."""
-
-    def __init__(self) -> None:
-        self.lock, self.go_on = threading.Lock(), threading.Event()
-        self.now = self.most = 0
-
-    def __call__(self, _: object, start: Callable[[str, list[tuple[str, str]]], object]) -> list[bytes]:
-        with self.lock:
-            self.now += 1
-            self.most = max(self.most, self.now)
-        self.go_on.wait(60)
-        with self.lock:
-            self.now -= 1
-        start("200 OK", [("Content-Length", "2")])
-        return [b"{}"]
-
-
-class Threads(unittest.TestCase):
-    """The standard library's server, in this process."""
-
-    def setUp(self) -> None:
-        self.waiting = Waiting()
-        make = simple_server.make_server
-        self.server = self.enterContext(make("127.0.0.1", 0, self.waiting, serving.Threaded, serving.Handler))
-        threading.Thread(target=self.server.serve_forever, args=(0.01,), daemon=True).start()
-        self.addCleanup(self.server.shutdown)
-        self.addCleanup(self.waiting.go_on.set)
-        self.address = f"http://127.0.0.1:{self.server.server_port}/"
-
-    def test_they_are_so_many_at_most_and_each_question_is_answered(self) -> None:
-        count = serving.THREADS + 8
-        with concurrent.futures.ThreadPoolExecutor(count) as pool:
-            answers = [pool.submit(asked, self.address, "GET", "/") for _ in range(count)]
-            end = time.monotonic() + 60
-            while self.waiting.now < serving.THREADS and time.monotonic() < end:
-                time.sleep(0.01)
-            time.sleep(0.5)  # more of them would have come by now
-            self.assertEqual(self.waiting.now, serving.THREADS)
-            self.waiting.go_on.set()
-            self.assertEqual([one.result() for one in answers], [(200, {})] * count)
-        self.assertEqual(self.waiting.most, serving.THREADS)
-
-    def test_a_thread_that_fails_gives_its_place_back(self) -> None:
-        self.waiting.go_on.set()
-        with unittest.mock.patch.object(self.server, "finish_request", side_effect=OSError):
-            with unittest.mock.patch.object(self.server, "handle_error"):
-                for _ in range(serving.THREADS + 2):
-                    self.assertRaises((OSError, http.client.HTTPException), asked, self.address, "GET", "/")
-        self.assertEqual(asked(self.address, "GET", "/"), (200, {}))

@@ -1,20 +1,17 @@
-"""Tests of the servers: slow clients hold up no other and come to an end, and what a server refuses is an object."""
+"""Tests of the server: slow clients hold up no other and come to an end, and what a server refuses is an object."""
 
 from __future__ import annotations
 
 import contextlib
 import functools
-import importlib.util
 import json
 import socket
 import threading
-import unittest
 import unittest.mock
 from collections.abc import Iterable, Iterator
 from typing import Any
-from wsgiref import simple_server
 
-from . import front, serving
+from . import by_waitress, front, serving
 from .testing import SQUARE, FrontCase, wait_until
 from .web_request import BODY_MOST
 
@@ -37,18 +34,24 @@ def parted(answer: bytes) -> tuple[int, dict[str, str], Any]:
     return int(lines[0].split()[1]), dict(line.split(": ", 1) for line in lines[1:]), json.loads(body)
 
 
-class ServerCase(FrontCase):
-    """What holds by either server."""
+class Serving(FrontCase):
+    """The server of the front, in this process."""
 
     lines = (f"PUT A {SQUARE}", "DEFINE I = A")
     port: int
 
     def begin(self, request_seconds: float, answer_seconds: float) -> None:
-        raise NotImplementedError
+        make_ends = functools.partial(by_waitress.Ends, seconds=(request_seconds, answer_seconds))
+        server = by_waitress.server_of(self.front, "127.0.0.1", 0, make_ends)
+        thread = threading.Thread(target=server.run, daemon=True)
+        thread.start()
+        self.port, self.channels = server.effective_port, server.active_channels
+        self.addCleanup(server.close)
+        self.addCleanup(thread.join, 60)
+        self.addCleanup(setattr, server, "maintenance", unittest.mock.Mock(side_effect=SystemExit))
 
     def open_ones(self) -> int:
-        """How many connections the server has."""
-        raise NotImplementedError
+        return len(self.channels)
 
     def many(self, sent: bytes, count: int = serving.THREADS + 4) -> list[socket.socket]:
         """So many connections, more than there are threads, by each of which so much is sent."""
@@ -144,61 +147,3 @@ class ServerCase(FrontCase):
             self.assertEqual((headers["Content-Type"], value["code"]), ("application/json", str(status)), sent[:60])
             self.assertIn("description", value)
         self.assertEqual(self.status(), 200)
-
-
-def load_tests(_: unittest.TestLoader, found: unittest.TestSuite, __: str | None) -> unittest.TestSuite:
-    """All tests but those of ServerCase itself, which each server's class has."""
-    return unittest.TestSuite(suite for suite in found if not any(type(case) is ServerCase for case in suite))
-
-
-class ByThreads(ServerCase):
-    """The standard library's server, in this process."""
-
-    def begin(self, request_seconds: float, answer_seconds: float) -> None:
-        self.enterContext(unittest.mock.patch.object(serving, "REQUEST_SECONDS", request_seconds))
-        self.enterContext(unittest.mock.patch.object(serving, "ANSWER_SECONDS", answer_seconds))
-        make = simple_server.make_server
-        server = self.enterContext(make("127.0.0.1", 0, self.front, serving.Threaded, serving.Handler))
-        threading.Thread(target=server.serve_forever, args=(0.01,), daemon=True).start()
-        self.addCleanup(server.shutdown)
-        self.port, self.server_free, self.most = server.server_port, server._free, server.most
-
-    def open_ones(self) -> int:
-        return self.most - self.server_free._value
-
-    def test_a_request_that_does_not_come_is_told(self) -> None:
-        self.begin(0.2, 60)
-        link = self.connected()
-        link.sendall(HEAD)
-        self.assertEqual(parted(read_all(link))[2]["code"], "408")
-
-
-class Signals(unittest.TestCase):
-    def test_a_signal_ends_the_server_also_where_a_thread_has_just_begun(self) -> None:
-        def begun(thread: threading.Thread) -> None:
-            thread.run()  # it is done, and has left its place
-            raise SystemExit(0)
-
-        with simple_server.make_server("127.0.0.1", 0, lambda *_: [], serving.Threaded, serving.Handler) as server:
-            with socket.create_connection(("127.0.0.1", server.server_port)) as link:
-                link.shutdown(socket.SHUT_WR)
-                with unittest.mock.patch.object(threading.Thread, "start", begun), self.assertRaises(SystemExit):
-                    server.handle_request()
-
-
-@unittest.skipUnless(importlib.util.find_spec("waitress"), "no waitress: apt-get install python3-waitress")
-class ByWaitress(ServerCase):
-    def begin(self, request_seconds: float, answer_seconds: float) -> None:
-        from . import by_waitress
-
-        make_ends = functools.partial(by_waitress.Ends, seconds=(request_seconds, answer_seconds))
-        server = by_waitress.server_of(self.front, "127.0.0.1", 0, make_ends)
-        thread = threading.Thread(target=server.run, daemon=True)
-        thread.start()
-        self.port, self.channels = server.effective_port, server.active_channels
-        self.addCleanup(server.close)
-        self.addCleanup(thread.join, 60)
-        self.addCleanup(setattr, server, "maintenance", unittest.mock.Mock(side_effect=SystemExit))
-
-    def open_ones(self) -> int:
-        return len(self.channels)

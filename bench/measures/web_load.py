@@ -4,7 +4,6 @@
 
 Each client is a process of its own with one connection, and each answer is checked. The kinds: LOCATE in one layer; in
 all layers; a page of items in a box; the same while another client puts a layer again and again, each time durable.
-Afterwards the whole once more by the standard library's server in the place of waitress.
 """
 
 from __future__ import annotations
@@ -24,7 +23,6 @@ from bench.counting import Words, counted
 
 Found = list[float]
 Ask = Callable[[http.client.HTTPConnection, int], bool]
-WITHOUT_WAITRESS = "import sys; sys.modules['waitress'] = None; "
 
 
 def get(link: http.client.HTTPConnection, path: str) -> tuple[int, bytes]:
@@ -76,7 +74,7 @@ def client(address: str, ask: Ask, end: float, place: int, told: multiprocessing
         told.put(f"{type(fault).__name__}: {fault}")
 
 
-def measured(address: str, label: str, asks: list[Ask], seconds: float) -> bool:
+def measured(address: str, asks: list[Ask], seconds: float) -> bool:
     """Runs a client for each of asks at once. Those that ask the first kind are counted."""
     told: multiprocessing.SimpleQueue[Found | str] = multiprocessing.SimpleQueue()
     other: multiprocessing.SimpleQueue[Found | str] = multiprocessing.SimpleQueue()
@@ -92,26 +90,26 @@ def measured(address: str, label: str, asks: list[Ask], seconds: float) -> bool:
         run.join()
     faults = [one for one in answers if isinstance(one, str)]
     if faults:
-        print(f"FAILED  {label}: {faults[0]}", flush=True)
+        print(f"FAILED  {faults[0]}", flush=True)
         return False
     for ask in dict.fromkeys(asks):
         times = sorted(
             took for kind, one in zip(asks, answers) if kind is ask and not isinstance(one, str) for took in one
         )
         print(
-            f"{label}, {asks.count(ask)} x {ask.__name__}: {len(times) / seconds:.0f} replies a second, "
+            f"{asks.count(ask)} x {ask.__name__}: {len(times) / seconds:.0f} replies a second, "
             + ", ".join(f"p{share} {1000 * times[len(times) * share // 100]:.1f} ms" for share in (50, 99))
             + f", most {1000 * times[-1]:.1f} ms", flush=True,
         )
     return True
 
 
-def measure(address: str, label: str, clients: int, seconds: float) -> int:
+def measure(address: str, clients: int, seconds: float) -> int:
     """How many of the loads fell."""
     loads: list[list[Ask]] = [
         [locate] * clients, [locate_all] * clients, [items] * clients, [*[locate] * (clients - 1), put],
     ]
-    return sum(not measured(address, label, asks, seconds) for asks in loads)
+    return sum(not measured(address, asks, seconds) for asks in loads)
 
 
 def main() -> int:
@@ -122,17 +120,13 @@ def main() -> int:
     parser.add_argument("--seconds", type=float, default=8, help="how long each load lasts (default 8)")
     words = parser.words()
     web_front.need("/usr/lib/python3/dist-packages/waitress", "python3-waitress")
-    fell = 0
     with tempfile.TemporaryDirectory() as place:
         store = web_front.iceland(pathlib.Path(place), words.program)
-        for label, before in (("waitress", ""), ("wsgiref", WITHOUT_WAITRESS)):
-            with web_front.front(
-                "--store", store, "--writable", program=words.program, python=words.python, before=before
-            ) as address:
-                for name in ("both", "one"):
-                    web_front.asked(f"{address}collections/{name}/items")
-                fell += measure(address, label, words.clients, words.seconds)
-    return counted(8 - fell, fell)
+        with web_front.front("--store", store, "--writable", program=words.program, python=words.python) as address:
+            for name in ("both", "one"):
+                web_front.asked(f"{address}collections/{name}/items")
+            fell = measure(address, words.clients, words.seconds)
+    return counted(4 - fell, fell)
 
 
 if __name__ == "__main__":
