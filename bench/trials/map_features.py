@@ -12,6 +12,7 @@ Status 0 and a last line `N passed, 0 failed`, or what fell.
 from __future__ import annotations
 
 import contextlib
+import http.client
 import json
 import pathlib
 import random
@@ -89,7 +90,7 @@ def killed_amid(front: subprocess.Popen[str], changes: Changes, address: str, na
     kill = ["sh", "-c", f"sleep {delay}; kill -9 {front.pid} $(cat /proc/{front.pid}/task/*/children)"]
     with subprocess.Popen(kill, stderr=subprocess.DEVNULL):
         done = 0
-        with contextlib.suppress(OSError, ValueError):
+        with contextlib.suppress(OSError, ValueError, http.client.HTTPException):
             while done < count:
                 assert changes.make(address, name) in (200, 201, 409, 412)
                 done += 1
