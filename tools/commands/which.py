@@ -188,9 +188,10 @@ def point_of(line: str) -> Point:
     if len(numbers) != 2:
         return Point(line, None, "two numbers are a point" + ("; 1,5 are two of them, 1.5 is one" if "," in line else ""))
     try:
-        return Point(line, (scales.number(numbers[0]), scales.number(numbers[1])))
-    except ValueError as fault:
+        x, y = (scales.number(word) if "/" in word else scales.exact(word) for word in numbers)
+    except (ValueError, scales.ScaleFault) as fault:
         return Point(line, None, str(fault))
+    return Point(line, (x, y))
 
 
 def read_points(words: argparse.Namespace) -> list[Point]:
