@@ -7,6 +7,7 @@ Systems are compared by Debian's python3-gdal. A module for the tools; it is no 
 """
 
 import contextlib
+import math
 import pathlib
 import re
 from collections.abc import Iterable
@@ -19,6 +20,9 @@ UNKNOWN = ('ENGCRS["A plane",EDATUM["Unknown"],CS[Cartesian,2],AXIS["x",unspecif
 # What planes are called that say no more.
 NAMELESS = ("A plane", "Undefined Cartesian SRS", "Nonearth", "unknown", "unnamed")
 DEGREES = ("EPSG:4326", scales.CRS84)  # of files, which have longitudes first by either name
+# How large units are, in radians and in metres: texts call one unit in many ways.
+ANGLES = {"degree": math.pi / 180}
+LENGTHS = {"metre": 1.0, "kilometre": 1000.0, "foot": 0.3048, "US survey foot": 1200 / 3937}
 EQUAL = 100  # by GDAL's measure of a match
 BUT_FOR_AXES = ["IGNORE_DATA_AXIS_TO_SRS_AXIS_MAPPING=YES", "CRITERION=EQUIVALENT_EXCEPT_AXIS_ORDER_GEOGCRS"]
 TEXT = re.compile(r'\s*[A-Z_]+\s*[\[(]\s*"([^"]*)"')
@@ -94,6 +98,24 @@ def is_known(name: str) -> bool:
         return parsed(name) is not None
     except SystemFault:
         return False
+
+
+def unit_of(name: str | None) -> str | None:
+    """The unit of a system's coordinates, as `metre` or `US survey foot`, also of one that has no name; None where it is not
+    known."""
+    if name is None or name == UNKNOWN:
+        return None
+    if name in DEGREES:
+        return "degree"
+    try:
+        system = parsed(name)
+    except SystemFault:
+        return None
+    is_angle = system.IsGeographic()
+    size = system.GetAngularUnits() if is_angle else system.GetLinearUnits()
+    own = str(system.GetAngularUnitsName() if is_angle else system.GetLinearUnitsName())
+    names = (name for name, known in (ANGLES if is_angle else LENGTHS).items() if math.isclose(size, known, rel_tol=1e-9))
+    return None if own in ("", "unknown") else next(names, own)
 
 
 def is_same(one: Any, other: Any) -> bool:

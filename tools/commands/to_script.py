@@ -201,7 +201,7 @@ def scale_for(words: argparse.Namespace, box: fitting.Box | None, crs: str | Non
     factor_y = words.factor_y or factor
     x, y = origin or (Fraction(0), Fraction(0))
     stem = words.output.stem if words.output else pathlib.Path(words.files[0]).stem
-    return Scale(factor, factor_y, (x, y), words.title or stem, words.unit or ("degree" if crs in DEGREES else "1"), crs,
+    return Scale(factor, factor_y, (x, y), words.title or stem, words.unit or coordinate_systems.unit_of(crs) or "1", crs,
                  scales.enough_digits(max(factor, factor_y)))
 
 
@@ -472,7 +472,7 @@ def words_of(arguments: list[str]) -> argparse.Namespace:
     parser.add_argument("--program", metavar="PATH", help="the program that --check asks (default: as the other tools)")
     parser.add_argument("--output", metavar="NAME.txt", type=pathlib.Path, help="in the place of standard output")
     parser.add_argument("--title", help="for the scale's file (default: the output's name)")
-    parser.add_argument("--unit", help="of the world's numbers (default: degree for degrees, else 1)")
+    parser.add_argument("--unit", help="of the world's numbers (default: that of the coordinate system, else 1)")
     parser.add_argument("--crs", type=scales.crs, help="the name of the world's coordinates, as EPSG:2263 (default: what the files say)")
     words = parser.parse_args(arguments)
     if any(factor is not None and factor <= 0 for factor in (words.factor, words.factor_y)):

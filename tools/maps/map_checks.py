@@ -11,7 +11,7 @@ from typing import TextIO
 from . import auditing, boundaries, exact_area, jobs, leaving_out, pieces, planning, quickest, tables
 from .planning import Question
 from .questions import named
-from .running import Say, found_of, read_map, some, written
+from .running import Say, found_of, read_map, some, tell_unit, written
 from .sewing import sewn
 from .task_form import COMMON, GAPS, NOBODY, Found, Row, Task
 from .whole_maps import Box, WholeMap
@@ -75,6 +75,7 @@ class Check:
 def check(words: argparse.Namespace, output: TextIO, say: Say) -> int:
     """Overlaps and gaps of one map, and the audit."""
     read = read_map(words.first, words.a_id, words, say, words.a_layer)
+    tell_unit(read.crs, say)
     made = Check(read.whole, words.factor)
     with_gaps = bool(words.gaps) or not words.no_audit
     found = made.take(found_of(made.tasks(with_gaps, bool(words.gaps)), words))

@@ -11,7 +11,7 @@ from typing import TextIO
 from .. import coordinate_systems
 from . import auditing, box_pairs, exact_area, leaving_out, pieces, planning, quickest, tables
 from .planning import Question
-from .running import Say, check_crs, found_of, read_map, some, written
+from .running import Say, check_crs, found_of, read_map, some, tell_unit, written
 from .task_form import ALONE, COMMON, Found, Row, Task
 from .whole_maps import WholeMap
 
@@ -64,10 +64,11 @@ def overlay(words: argparse.Namespace, output: TextIO, say: Say) -> int:
     first = read_map(words.first, words.a_id, words, say, words.a_layer)
     second = read_map(words.second, words.b_id, words, say, words.b_layer)
     check_crs(first, second, words)
+    system = next(iter(coordinate_systems.distinct((first.crs, second.crs))), None)
+    tell_unit(system, say)
     made = Overlay(first.whole, second.whole, words.factor)
     found = made.take(found_of(made.tasks(words.pieces is not None), words))
     if words.pieces:
-        system = next(iter(coordinate_systems.distinct((first.crs, second.crs))), None)
         say(f"{pieces.write(words.pieces, found, system)} pieces in {words.pieces}")
     else:
         collections.deque(found, maxlen=0)

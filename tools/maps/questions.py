@@ -5,9 +5,10 @@ from collections.abc import Iterable, Iterator, Sequence
 from dataclasses import dataclass
 from typing import TextIO
 
+from .. import coordinate_systems
 from . import leaving_out, planning, quickest, tables
 from .planning import Question
-from .running import Say, check_crs, found_of, read_map, written
+from .running import Say, check_crs, found_of, read_map, tell_unit, written
 from .task_form import COMMON, OVERLAPS, Row
 
 
@@ -16,6 +17,7 @@ def pairs(words: argparse.Namespace, output: TextIO, say: Say) -> int:
     first = read_map(words.first, words.a_id, words, say, words.a_layer)
     second = read_map(words.second, words.b_id, words, say, words.b_layer)
     check_crs(first, second, words)
+    tell_unit(next(iter(coordinate_systems.distinct((first.crs, second.crs))), None), say)
     question = Question("pairs", COMMON, first.whole, second.whole, words.factor, touches=True)
     a, b = (quickest.planning.boxes_of(read.whole) for read in (first, second))
     jobs = quickest.planning.common_jobs(a, b, touching=True)

@@ -71,6 +71,13 @@ def some(names: list[str]) -> str:
     return "; ".join(names[:NAMED_MAX]) + more
 
 
+def tell_unit(crs: str | None, say: Say) -> None:
+    """Reports in what areas and widths are, where the coordinate system says its unit."""
+    if unit := coordinate_systems.unit_of(crs):
+        several = unit.replace("foot", "feet") if "foot" in unit else f"{unit}s"
+        say(f"areas are in square {several}, widths in {several}")
+
+
 def check_crs(first: ReadMap, second: ReadMap, words: argparse.Namespace) -> None:
     """Refuses maps that name different coordinate systems."""
     if len(coordinate_systems.distinct((first.crs, second.crs))) > 1:

@@ -2,6 +2,7 @@
 
 import json
 import pathlib
+import subprocess
 import sys
 import unittest
 import unittest.mock
@@ -10,7 +11,7 @@ from typing import Any
 
 from .. import coordinate_systems
 from ..commands import overlay_maps, to_geojson, to_script
-from .common import Programs, outcome
+from .common import SECONDS, Programs, outcome, path
 from .forms import WithGdal
 
 SHAPE = "POLYGON ((1 1, 9.5 1, 9.5 9, 1 9, 1 1))"
@@ -33,12 +34,25 @@ NAMELESS = {
 }
 
 
+UNITS = {  # of a system with a name, and of one that no authority has
+    "degree": ("EPSG:4258", OLINDA), "metre": ("EPSG:25832", NAMELESS["a city"]),
+    "US survey foot": ("EPSG:2263", TRANSVERSE.replace("units=m", "units=us-ft").format(40, -74, 0.9999, 100000, 0, "+ellps=GRS80")),
+}
+
+
 def text_of(system: str, form: str = "WKT1_ESRI") -> str:
     """A system as programs write it."""
     return str(coordinate_systems.parsed(system).ExportToWkt([f"FORMAT={form}"]))
 
 
 class WithSystems(WithGdal):
+    def ran(self, tool: str, *words: object) -> str:
+        """What a command says on standard error."""
+        done = subprocess.run([sys.executable, path(tool), *map(str, words)], capture_output=True, text=True, timeout=SECONDS,
+                              check=False)
+        self.assertEqual(done.returncode, 0, done.stderr)
+        return done.stderr
+
     def shapefile(self, system: str | None, name: str = "map", end: str = ".prj") -> pathlib.Path:
         """A Shapefile with this text as its .prj, or without one."""
         path = self.folder / f"{name}.shp"
@@ -164,6 +178,21 @@ class Nameless(WithSystems):
         self.assertEqual((status, errors), (2, (
             'files of different coordinates: EPSG:4674, "GRS 1980(IUGG, 1980)"; bring them to one, as by ogr2ogr -t_srs, or '
             "say by --crs which one all of them have\n")))
+
+
+class Units(WithSystems):
+    def test_areas_have_the_unit_of_the_system(self) -> None:
+        for unit, systems in UNITS.items():
+            for system in systems:
+                file = self.shapefile(text_of(system))
+                self.ran("to_script.py", file, "--factor", 10, "--output", self.folder / "out.txt")
+                self.assertEqual(json.loads((self.folder / "out.scale.json").read_text())["unit"], unit, system)
+                if Programs.live:
+                    told = self.ran("overlay_maps.py", "check", file, "--factor", 10, "--program", Programs.live)
+                    several = {"US survey foot": "US survey feet"}.get(unit, f"{unit}s")
+                    self.assertIn(f"areas are in square {several}, widths in {several}\n", told, system)
+        self.ran("to_script.py", self.shapefile(None), "--factor", 10, "--output", self.folder / "out.txt")
+        self.assertEqual(json.loads((self.folder / "out.scale.json").read_text())["unit"], "1")
 
 
 class Unknown(WithSystems):
