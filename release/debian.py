@@ -18,9 +18,9 @@ Version: {version}
 Architecture: {architecture}
 Maintainer: {maintainer}
 Installed-Size: {room}
-Depends: libc6 (>= {library}), python3 (>= {python})
-Recommends: gdal-bin, libjs-leaflet, python3-gdal, python3-pyproj, python3-waitress
-Suggests: bash-completion, python3-numpy, python3-tqdm, qgis
+Depends: libc6 (>= {library}), python3 (>= {python}), python3-gdal, python3-numpy, python3-pyproj, python3-tqdm
+Recommends: gdal-bin, libjs-leaflet, python3-waitress
+Suggests: bash-completion, qgis
 Section: science
 Priority: optional
 Description: exact overlays of polygon layers, kept in one durable file

@@ -84,11 +84,11 @@ def has_long_step(group: Group) -> bool:
 def slotted(program: str, whole: WholeMap, boxes: list[Box], pairs: list[Pair]) -> Iterator[Overlap]:
     """What pairs of features have in common, many of them asked in one definition."""
     question = planning.Question("check", task_form.COMMON, whole, whole, Fraction(1))
-    with rounds.Program(program) as asked, progress.Progress("checking pairs", len(pairs)) as told:
+    with rounds.Program(program) as asked, progress.bar("checking pairs", len(pairs)) as told:
         for task in planning.tasks_of(question, planning.jobs_of_pairs(boxes, boxes, pairs)):
             for row in jobs.run(task, asked).rows:
                 yield Overlap(row.own, row.others[0], row.area)
-            told.step(len(task))
+            told.update(len(task))
 
 
 def step_of(one: Group, other: Group) -> Step:

@@ -20,6 +20,8 @@ INTERRUPTED = 130  # as shells tell it of a program that was stopped from the ke
 TEXT_MAX = 200
 
 
+# Modules that the tools stand on, and Debian's packages of them.
+PACKAGES = {"numpy": "python3-numpy", "osgeo": "python3-gdal", "pyproj": "python3-pyproj", "tqdm": "python3-tqdm"}
 UTF8 = "iconv -f ISO-8859-1 -t UTF-8 makes it of Latin-1"
 
 
@@ -38,7 +40,10 @@ def buffered(stream: TextIO) -> TextIO:
 
 
 def unforeseen(fault: Exception) -> str:
-    """One line on what a tool does not foresee, with the place in its text."""
+    """One line on what a tool does not foresee, with the place in its text; of a package that is missing, how to get it."""
+    if isinstance(fault, ModuleNotFoundError) and fault.name in PACKAGES:
+        package = PACKAGES[fault.name]
+        return f"{package} is missing: apt-get install {package}, and run this by /usr/bin/python3"
     place = traceback.extract_tb(fault.__traceback__)[-1]
     text = " ".join(str(fault).split())[:TEXT_MAX]
     at = f"{pathlib.Path(place.filename).name}, line {place.lineno}"

@@ -66,5 +66,5 @@ def text(one: Outline, area_name: str, scale: Scale, program: str) -> str:
 def texts(table: Table, held: features.Held, scale: Scale, program: str) -> Iterator[str]:
     """Each feature of a store."""
     outlines = features.outlines(table, held)
-    for one in progress.over(outlines, "writing features", len(outlines)):
+    for one in progress.bar("writing features", len(outlines), outlines):
         yield text(one, table.area_name(), scale, program)

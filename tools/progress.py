@@ -1,56 +1,33 @@
-"""Says how far long work is: by a bar of python3-tqdm on a terminal, else by plain lines.
+"""Says how far long work is: by a bar of python3-tqdm on a terminal.
 
-`Progress` says nothing where standard error is no terminal, nor of work that takes less than a second. `OfTasks`, of
-runs that may take hours, has lines for a file too.
+Elsewhere, and of work that takes less than a second, nothing is said; `OfTasks`, of runs that may take hours, has lines
+for a file too.
 
 A module for the tools; it is no tool of its own.
 """
 
-import sys
 import time
-from collections.abc import Callable, Iterable, Iterator
-from typing import Any, TextIO, TypeVar
+from collections.abc import Callable, Iterable
+from typing import Any
 
 
-BEGIN_SECONDS, SECONDS_BETWEEN = 1.0, 5.0
-SECONDS_BETWEEN_TASKS = 10  # two plain lines
-Item = TypeVar("Item")
+BEGIN_SECONDS = 1.0
+SECONDS_BETWEEN_TASKS = 10  # two lines of a file
 
 
-class Progress:
-    """Work in so many steps, while it is done."""
+def bar(what: str, total: int, items: Iterable[Any] | None = None, unit: str = "it") -> Any:
+    """A bar of so many steps, over items or by its `update`, which goes when the work is done."""
+    import tqdm
 
-    def __init__(self, what: str, total: int, terminal: TextIO | None = None,
-                 clock: Callable[[], float] = time.monotonic) -> None:
-        self.what, self.total, self.done, self.clock = what, total, 0, clock
-        self.terminal = terminal or sys.stderr
-        self.is_told = self.terminal.isatty()
-        self.bar: Any = bar(what, total, self.terminal) if self.is_told else None
-        self.next = clock() + BEGIN_SECONDS
-
-    def step(self, count: int = 1) -> None:
-        """So many more are done."""
-        self.done += count
-        if self.bar is not None:
-            self.bar.update(count)
-        elif self.is_told and self.clock() >= self.next:
-            self.next = self.clock() + SECONDS_BETWEEN
-            print(f"{self.what}: {self.done} of {self.total}", file=self.terminal, flush=True)
-
-    def __enter__(self) -> "Progress":
-        return self
-
-    def __exit__(self, *_: object) -> None:
-        if self.bar is not None:
-            self.bar.close()
+    tqdm.tqdm.monitor_interval = 0  # no thread of its own
+    return tqdm.tqdm(items, desc=what, total=total, unit=unit, delay=BEGIN_SECONDS, leave=False, disable=None)
 
 
 class OfTasks:
     """What is reported while tasks are done, those before that were done by an earlier run."""
 
-    def __init__(self, what: str, say: Callable[[str], None], terminal: TextIO | None = None,
-                 clock: Callable[[], float] = time.monotonic) -> None:
-        self.what, self.say, self.terminal, self.clock = what, say, terminal or sys.stderr, clock
+    def __init__(self, what: str, say: Callable[[str], None], clock: Callable[[], float] = time.monotonic) -> None:
+        self.what, self.say, self.clock = what, say, clock
         self.total = self.here = self.done = 0
         self.began = self.last = 0.0
         self.bar: Any = None
@@ -61,15 +38,13 @@ class OfTasks:
         self.began = self.last = self.clock()
         if left < total:
             self.say(f"{self.what}: {total - left} of {total} tasks were done before")
-        if left and self.terminal.isatty():
-            self.bar = bar(self.what, left, self.terminal, unit="task")
+        self.bar = bar(self.what, left, unit="task")
 
     def step(self) -> None:
         """One task is done."""
         self.done += 1
-        if self.bar is not None:
-            self.bar.update()
-        elif self.clock() - self.last >= SECONDS_BETWEEN_TASKS or self.done == self.here:
+        self.bar.update()
+        if self.bar.disable and (self.clock() - self.last >= SECONDS_BETWEEN_TASKS or self.done == self.here):
             self.last = self.clock()
             self.say(f"{self.what}: {self.line()}")
 
@@ -81,23 +56,4 @@ class OfTasks:
 
     def end(self) -> None:
         """No more is reported."""
-        if self.bar is not None:
-            self.bar.close()
-
-
-def bar(what: str, total: int, terminal: TextIO, unit: str = "it") -> Any:
-    """A bar, which goes when the work is done; None where python3-tqdm is not installed."""
-    try:
-        import tqdm
-    except ImportError:
-        return None
-    tqdm.tqdm.monitor_interval = 0  # no thread of its own
-    return tqdm.tqdm(total=total, desc=what, file=terminal, delay=BEGIN_SECONDS, leave=False, unit=unit)
-
-
-def over(items: Iterable[Item], what: str, total: int) -> Iterator[Item]:
-    """The items one by one, each of them a step."""
-    with Progress(what, total) as told:
-        for item in items:
-            yield item
-            told.step()
+        self.bar.close()

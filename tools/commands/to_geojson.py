@@ -78,7 +78,7 @@ def feature(found: Map, layer: str, kind: str, coordinates: str, rings: list[Rin
 
 def features(found: Map, words: argparse.Namespace) -> Iterator[str]:
     """A feature for each layer, or for each of its polygons; to_rings.py chains the pieces to rings."""
-    for layer in progress.over(found.layers, "joining layers", len(found.layers)):
+    for layer in progress.bar("joining layers", len(found.layers), found.layers):
         polygons = to_rings.layer_polygons(found.session, layer)
         texts = [polygon_text(polygon, found.scale) for polygon in polygons]
         if words.parts:

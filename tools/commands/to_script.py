@@ -272,11 +272,11 @@ class Planner:
             else:
                 more = "" if self.words.split else "; --split writes them exactly, over several layers"
                 self.refuse(group.wish, f"too many steps: {group.steps()}{more}")
-        with progress.Progress("laying out features", len(kept)) as told:
+        with progress.bar("laying out features", len(kept)) as told:
             stores = []
             for store in layering.coded(kept, self.words.split):
                 stores.append(store)
-                told.step(len(store.features))
+                told.update(len(store.features))
         for store in stores:
             self.tell_coded(store)
         return stores
@@ -496,7 +496,7 @@ def work(words: argparse.Namespace, output: TextIO, say: Callable[[str], None]) 
     if scale.crs is None and coordinate_systems.UNKNOWN in names:
         say("the coordinate system is unknown, as the file does not say it: --crs names it, as EPSG:25832")
     reader = Reader(scale, words.fit)
-    for shape in progress.over(shapes, "rounding features", len(shapes)):
+    for shape in progress.bar("rounding features", len(shapes), shapes):
         reader.take(shape, words.coded)
     given = words.fit or words.scale or words.factor or words.factor_y
     told = check_scale(reader, box, scale, bool(given))

@@ -485,18 +485,19 @@ class Addresses(unittest.TestCase):
 class Telling(unittest.TestCase):
     def test_plain_lines_have_tasks_pace_and_seconds_left(self) -> None:
         now, lines = 0.0, list[str]()
-        told = progress.OfTasks("pairs", lines.append, io.StringIO(), lambda: now)
-        told.begin(90, 69)
-        for now in range(1, 70):
-            told.step()
-        told.end()
+        with mock.patch("sys.stderr", io.StringIO()):
+            told = progress.OfTasks("pairs", lines.append, lambda: now)
+            told.begin(90, 69)
+            for now in range(1, 70):
+                told.step()
+            told.end()
         self.assertEqual(lines[0], "pairs: 21 of 90 tasks were done before")
         self.assertEqual(lines[1], "pairs: 31 of 90 tasks, 1 a second, 59 seconds left")
         self.assertEqual((len(lines), lines[-1]), (8, "pairs: 90 of 90 tasks, 1 a second, 0 seconds left"))
 
     def test_nothing_to_do_is_told_once(self) -> None:
         lines: list[str] = []
-        told = progress.OfTasks("pairs", lines.append, io.StringIO())
+        told = progress.OfTasks("pairs", lines.append)
         told.begin(4, 0)
         told.end()
         self.assertEqual(lines, ["pairs: 4 of 4 tasks were done before"])
