@@ -3,7 +3,7 @@
 A system that only resembles one of an authority has no name, and its Well-Known Text goes with the map into whatever is
 written of it. A map that says nothing of its system is of UNKNOWN, a plane of its own, which no reader takes for degrees.
 
-Systems are compared by Debian's python3-gdal. A module for the tools; it is no tool of its own.
+Systems are compared by GDAL. A module for the tools; it is no tool of its own.
 """
 
 import contextlib
@@ -27,7 +27,6 @@ EQUAL = 100  # by GDAL's measure of a match
 BUT_FOR_AXES = ["IGNORE_DATA_AXIS_TO_SRS_AXIS_MAPPING=YES", "CRITERION=EQUIVALENT_EXCEPT_AXIS_ORDER_GEOGCRS"]
 TEXT = re.compile(r'\s*[A-Z_]+\s*[\[(]\s*"([^"]*)"')
 IN_A_SHAPEFILE = ["FORMAT=WKT1_ESRI"]
-NEEDED = "apt-get install python3-gdal, and run this by /usr/bin/python3"
 SHAPEFILE = "ESRI Shapefile"
 
 
@@ -37,10 +36,8 @@ class SystemFault(ValueError):
 
 def modules() -> tuple[Any, Any]:
     """GDAL and its part for coordinate systems."""
-    try:
-        from osgeo import gdal, ogr, osr
-    except ImportError as fault:
-        raise SystemFault(f"python3-gdal is missing, by which coordinate systems are told apart: {NEEDED}") from fault
+    from osgeo import gdal, ogr, osr
+
     for one in (gdal, ogr, osr):
         one.UseExceptions()
     return gdal, osr

@@ -1,7 +1,7 @@
-"""Reads and writes maps of other forms than GeoJSON and Well-Known Text: by GDAL's ogr2ogr, where it is installed.
+"""Reads and writes maps of other forms than GeoJSON and Well-Known Text, by GDAL.
 
 `as_geojson` gives what a file has as GeoJSON whose numbers are the shortest ones that spell the file's doubles, and
-`write` makes a file of GeoJSON. Where ogr2ogr is missing the refusal names the package and the line to type.
+`write` makes a file of GeoJSON.
 
 A module for the tools; it is no tool of its own.
 """
@@ -10,9 +10,6 @@ import contextlib
 import json
 import pathlib
 import re
-import shutil
-import subprocess
-import tempfile
 from collections.abc import Container, Iterator
 from typing import Any, NamedTuple
 
@@ -38,8 +35,10 @@ GZIP = b"\x1f\x8b"
 BEGIN = 4096
 WRITTEN = {".gpkg": "GPKG", ".fgb": "FlatGeobuf"}
 UNAIDED = (".geojson", ".json")  # written without GDAL
-PACKAGE = "apt-get install gdal-bin"
+IN_MEMORY = f"/vsimem/{writing.OWN}"  # a folder of GDAL's for this process
 COLUMNS = "WKT,wkt,geom,geometry,the_geom,wkb_geometry"
+TABLES = ["CSV"]  # as GDAL calls its reader of them
+NO_GEOMETRY = 100  # as GDAL calls it
 REASON_MAX = 200
 
 
@@ -85,12 +84,7 @@ def opened_as(path: pathlib.Path) -> Opened:
         options = ["WRITE_GFS=NO"] if GML in begin else []  # else GDAL writes a file beside it
         return Opened(source_of(path), options, ["GPKG", "SQLite"] if begin.startswith(SQLITE) else [])
     prefix = "" if path.suffix.lower() == ".csv" else "CSV:"
-    return Opened(prefix + source_of(path), [f"GEOM_POSSIBLE_NAMES={COLUMNS}", "KEEP_GEOM_COLUMNS=NO"], ["CSV"])
-
-
-def words_of(opened: Opened) -> list[str]:
-    """The options as words of GDAL's programs."""
-    return [word for option in opened.options for word in ("-oo", option)]
+    return Opened(prefix + source_of(path), [f"GEOM_POSSIBLE_NAMES={COLUMNS}", "KEEP_GEOM_COLUMNS=NO"], TABLES)
 
 
 def begin_of(path: pathlib.Path) -> bytes:
@@ -101,88 +95,67 @@ def begin_of(path: pathlib.Path) -> bytes:
         return file.read(BEGIN)
 
 
-@contextlib.contextmanager
-def under_fitting_name(path: pathlib.Path) -> Iterator[pathlib.Path]:
-    """The file under a name by which GDAL's programs, which go by it too, take it for what it is: a link to a store of
-    SQLite that is called otherwise, and else the file itself."""
-    if path.suffix.lower() in (".gpkg", ".sqlite") or not begin_of(path).startswith(SQLITE):
-        yield path
-        return
-    with linked(path, f"{path.stem}.gpkg") as link:
-        yield link
-
-
-@contextlib.contextmanager
-def linked(path: pathlib.Path, name: str) -> Iterator[pathlib.Path]:
-    """A link of this name to a file, alone in a folder."""
-    with tempfile.TemporaryDirectory() as folder:
-        link = pathlib.Path(folder, name)
-        link.symlink_to(path.resolve())
-        yield link
-
-
-def missing(what: str, line: str) -> GdalFault:
-    return GdalFault(f"{what} needs GDAL's ogr2ogr, which is not installed: {PACKAGE}, and the same again; or "
-                     f"elsewhere: {line}")
-
-
-def ran(words: list[str], data: bytes | None = None) -> bytes:
-    """What a program of GDAL writes. A fault is its first line of words."""
-    try:
-        done = subprocess.run(words, input=data, capture_output=True, check=False)
-    except OSError as fault:
-        raise GdalFault(ending.told(words[0], fault)) from fault
-    if done.returncode:
-        text = done.stderr.decode("utf-8", "replace").replace("FAILURE:", " ").replace("ERROR 1:", " ")
-        lines = [" ".join(line.split()) for line in text.splitlines() if line.strip()]
-        raise GdalFault(f"{pathlib.Path(words[0]).name}: {lines[0][:REASON_MAX] if lines else done.returncode}")
-    return done.stdout
-
-
 def source_of(path: pathlib.Path) -> str:
     """The file as GDAL names it."""
     plain = str(path) if path.is_absolute() else f"./{path}"  # a name that begins with - is no option
     return f"/vsizip/{plain}" if path.suffix.lower() == ".zip" else plain
 
 
-def layers_of(path: pathlib.Path) -> list[str]:
-    """The names of a file's layers that have a geometry."""
-    ogrinfo = shutil.which("ogrinfo")
-    if not ogrinfo:
-        raise missing("this file", f"ogrinfo {path}")
-    opened = opened_as(path)
-    lines = ran([ogrinfo, "-q", "-ro", *words_of(opened), opened.name]).decode("utf-8", "replace").splitlines()
-    found = [re.fullmatch(r"[0-9]+: (.*?)( \(([^()]*)\))?", line) for line in lines]
-    return [match[1] for match in found if match and match[3] != "None"]
+@contextlib.contextmanager
+def by_gdal() -> Iterator[Any]:
+    """GDAL. What it warns of is not said, and its faults are GdalFaults."""
+    gdal, _ = coordinate_systems.modules()
+    gdal.PushErrorHandler("CPLQuietErrorHandler")
+    try:
+        yield gdal
+    except RuntimeError as fault:
+        raise GdalFault(" ".join(str(fault).split())[:REASON_MAX] or "GDAL cannot read it to its end") from fault
+    finally:
+        gdal.PopErrorHandler()
 
 
-def layer_of(path: pathlib.Path, wanted: str | None) -> str:
-    """The layer that is meant: the one that is named, or the only one."""
-    names = layers_of(path)
-    if wanted is not None and wanted not in names:
-        raise GdalFault(f"no layer {wanted}; it has {', '.join(names) or 'none'}")
-    if not names:
+def layer_of(file: Any, wanted: str | None) -> Any:
+    """The layer of an open file that is meant: the one that is named, or the only one that has a geometry."""
+    layers = (file.GetLayer(number) for number in range(file.GetLayerCount()))
+    found = {layer.GetName(): layer for layer in layers if layer.GetGeomType() != NO_GEOMETRY}
+    if wanted is not None and wanted not in found:
+        raise GdalFault(f"no layer {wanted}; it has {', '.join(found) or 'none'}")
+    if not found:
         raise GdalFault("it has no layer with a geometry")
-    if wanted is None and len(names) != 1:
-        raise GdalFault(f"it has {len(names)} layers; say one of them by --source-layer: {', '.join(names)}")
-    return names[0] if wanted is None else wanted
+    if wanted is None and len(found) != 1:
+        raise GdalFault(f"it has {len(found)} layers; say one of them by --source-layer: {', '.join(found)}")
+    return next(iter(found.values())) if wanted is None else found[wanted]
+
+
+def translated(gdal: Any, source: Any, name: str, words: list[str]) -> bytes:
+    """What GDAL makes of an open file by words of ogr2ogr, under a name in its memory."""
+    target = f"{IN_MEMORY}/{name}"
+    try:
+        gdal.VectorTranslate(target, source, options=words)
+        file = gdal.VSIFOpenL(target, "rb")
+        try:
+            return bytes(gdal.VSIFReadL(1, gdal.VSIStatL(target).size, file))
+        finally:
+            gdal.VSIFCloseL(file)
+    finally:
+        gdal.Unlink(target)
 
 
 def as_geojson(path: pathlib.Path, layer: str | None = None) -> str:
     """What a file has, as GeoJSON."""
-    ogr2ogr = shutil.which("ogr2ogr")
-    if not ogr2ogr:
-        raise missing(form_of(path, begin_of(path)) or "this file", f"ogr2ogr -f GeoJSON {path.stem}.geojson {path}")
-    words = [ogr2ogr, "-f", "GeoJSON", "-lco", "SIGNIFICANT_FIGURES=17", "-nlt", "CONVERT_TO_LINEAR"]
+    words = ["-f", "GeoJSON", "-lco", "SIGNIFICANT_FIGURES=17", "-nlt", "CONVERT_TO_LINEAR"]
     words += ["-preserve_fid"] if begin_of(path).startswith(SQLITE) else []
-    with under_fitting_name(path) as named:
-        opened, name = opened_as(named), layer_of(named, layer)
-        written = ran([*words, *words_of(opened), "/vsistdout/", opened.name, name])
-        try:
-            value = json.loads(written)
-        except UnicodeDecodeError as fault:
-            raise GdalFault(not_utf8(path)) from fault
-        system = coordinates_of(named, name)
+    name, options, drivers = opened_as(path)
+    with by_gdal() as gdal:
+        file = gdal.OpenEx(name, gdal.OF_VECTOR, open_options=options, allowed_drivers=drivers)
+        found = layer_of(file, layer)
+        written = translated(gdal, file, "map.geojson", [*words, found.GetName()])
+        # A table has no place for a system.
+        system = None if drivers == TABLES else coordinate_systems.of_layer(file, found)
+    try:
+        value = json.loads(written)
+    except UnicodeDecodeError as fault:
+        raise GdalFault(not_utf8(path)) from fault
     if system:
         value["crs"] = {"type": "name", "properties": {"name": system}}
     return json.dumps(value)
@@ -195,32 +168,12 @@ def not_utf8(path: pathlib.Path) -> str:
     return f"its texts are no UTF-8; {ending.UTF8}"
 
 
-def coordinates_of(path: pathlib.Path, layer: str) -> str | None:
-    """What the coordinate system of a layer is called, by coordinate_systems.py; None of a table, which has no place for
-    one."""
-    if form_of(path, begin_of(path)) == TABLE:
-        return None
-    gdal, _ = coordinate_systems.modules()
-    opened = opened_as(path)
-    gdal.PushErrorHandler("CPLQuietErrorHandler")  # ogr2ogr has read it, and said what there is to say
-    try:
-        file = gdal.OpenEx(opened.name, gdal.OF_VECTOR, open_options=opened.options, allowed_drivers=opened.drivers)
-        return coordinate_systems.of_layer(file, file.GetLayerByName(layer))
-    except RuntimeError as fault:
-        raise GdalFault(" ".join(str(fault).split())[:REASON_MAX]) from fault
-    finally:
-        gdal.PopErrorHandler()
-
-
 def check_target(path: pathlib.Path) -> None:
     """Refuses a file that cannot be written, before there is anything to write."""
     if path.suffix.lower() not in WRITTEN:
         raise GdalFault(f"{path}: written are {', '.join((*UNAIDED, *WRITTEN))}")
     if reason := writing.in_hand(path):
         raise GdalFault(f"{path}: {reason}")
-    if not shutil.which("ogr2ogr"):
-        line = f"ogr2ogr -f {WRITTEN[path.suffix.lower()]} {path} {path.stem}.geojson"
-        raise missing(f"{path}: {FORMS[path.suffix.lower()]}", line)
 
 
 def told_apart(found: list[Any]) -> dict[str, str]:
@@ -269,11 +222,14 @@ def write(path: pathlib.Path, geojson: str, crs: str | None) -> dict[str, str]:
     check_target(path)
     value = json.loads(geojson)
     renamed = told_apart(value["features"])
-    own = with_ids(path, value["features"])
-    words = [str(shutil.which("ogr2ogr")), "-f", WRITTEN[path.suffix.lower()], "-nln", path.stem, *own]
+    words = ["-f", WRITTEN[path.suffix.lower()], "-nln", path.stem, *with_ids(path, value["features"])]
     words += [] if crs == scales.CRS84 else ["-a_srs", crs or coordinate_systems.UNKNOWN]
-    with tempfile.TemporaryDirectory() as folder:
-        made = pathlib.Path(folder, path.name)
-        ran([*words, str(made), "/vsistdin/"], json.dumps(value).encode())
-        writing.write_all({path: made.read_bytes()})
+    source = f"{IN_MEMORY}/source.geojson"
+    with by_gdal() as gdal:
+        gdal.FileFromMemBuffer(source, json.dumps(value).encode())
+        try:
+            data = translated(gdal, gdal.OpenEx(source, gdal.OF_VECTOR), path.name, words)
+        finally:
+            gdal.Unlink(source)
+    writing.write_all({path: data})
     return renamed

@@ -18,7 +18,7 @@ and with its area, which is called `area_` where the source has an `area`. An ou
 written as the boundary of its even-odd inside.
 
 --output writes the file whole or not at all: GeoJSON by the names .geojson and .json, or without an end, a GeoPackage
-(.gpkg) or a FlatGeobuf (.fgb) where gdal-bin is installed; a name with another end is refused.
+(.gpkg) or a FlatGeobuf (.fgb); a name with another end is refused.
 Whole numbers are the ids of features in a GeoPackage too; other ids, and those of a FlatGeobuf, are a column `id` of it, or
 `id_` where the source has an `id`. A property whose name differs from another one's in case alone, as no two columns do, is
 a column with `_` after its name, and a line on standard error says so. What is read, and NAME.scale.json, NAME.features.json
@@ -105,7 +105,7 @@ def parser_of() -> argparse.ArgumentParser:
     form.add_argument("--features", action="store_true", help="the features of the source with all their properties")
     parser.add_argument("--exact", action="store_true", help="area_exact in each feature, however many digits it has")
     parser.add_argument("--output", metavar="FILE", type=pathlib.Path,
-                        help="in the place of standard output: .geojson, or with gdal-bin .gpkg or .fgb")
+                        help="in the place of standard output: .geojson, .gpkg or .fgb")
     asking.add_scale_words(parser)
     return parser
 

@@ -452,8 +452,8 @@ def told_area(area: Fraction) -> str:
 def words_of(arguments: list[str]) -> argparse.Namespace:
     parser = Parser(description=__doc__, formatter_class=argparse.RawDescriptionHelpFormatter)
     parser.add_argument("files", metavar="FILE", nargs="+",
-                        help="GeoJSON or Well-Known Text; with gdal-bin and python3-gdal a GeoPackage, a Shapefile, a "
-                        "FlatGeobuf, GML, or CSV with Well-Known Text too; - is standard input")
+                        help="GeoJSON, Well-Known Text, a GeoPackage, a Shapefile, a FlatGeobuf, GML, or CSV with Well-Known Text; "
+                        "- is standard input")
     parser.add_argument("--source-layer", metavar="NAME", help="the layer of files that have several, as GeoPackages")
     parser.add_argument("--factor", type=scales.number, help="default 1")
     parser.add_argument("--factor-y", type=scales.number, help="another factor for y (default: that of x)")

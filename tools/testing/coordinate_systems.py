@@ -5,7 +5,6 @@ import pathlib
 import subprocess
 import sys
 import unittest
-import unittest.mock
 import zipfile
 from typing import Any
 
@@ -237,13 +236,6 @@ class Unknown(WithSystems):
             crs = {"type": "name", "properties": {"name": name}}
             file = self.file("named.geojson", json.dumps({"type": "FeatureCollection", "crs": crs, "features": [value]}))
             self.assertEqual(self.script(file)[0], wanted, name)
-
-    def test_without_python3_gdal_the_line_to_type_is_told(self) -> None:
-        path = self.shapefile(OLINDA)
-        with unittest.mock.patch.dict(sys.modules, {"osgeo": None}):
-            told = "by which coordinate systems are told apart: apt-get install python3-gdal, and run this by /usr/bin/python3\n"
-            self.assertEqual(outcome(to_script, path, "--factor", 2),
-                             (2, "", f"{path}: not read: python3-gdal is missing, {told}"))
 
 
 if __name__ == "__main__":

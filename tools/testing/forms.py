@@ -1,16 +1,15 @@
-"""Tests of maps of other forms than GeoJSON and Well-Known Text, which GDAL reads and writes where it is installed."""
+"""Tests of maps of other forms than GeoJSON and Well-Known Text, which GDAL reads and writes."""
 
 import contextlib
 import gzip
-import importlib.util
 import io
 import json
 import os
 import pathlib
 import re
-import shutil
 import sqlite3
 import subprocess
+import sys
 import unittest.mock
 from fractions import Fraction
 
@@ -18,7 +17,7 @@ from .. import coordinate_systems, gdal_files, map_reading, writing
 from ..commands import to_geojson, to_script
 from ..maps import geojson_maps, running
 from ..maps.whole_maps import MapFault
-from .common import SECONDS, SQUARE, InFolder, on_file, outcome
+from .common import SECONDS, SQUARE, InFolder, on_file, outcome, path
 from .maps import COUNTIES, area_of_script
 
 FEATURE = '{{"type": "Feature", "properties": {{"n": "{}"}}, "geometry": {{"type": "Polygon", "coordinates": [{}]}}}}'
@@ -28,20 +27,13 @@ SECOND = FEATURE.format("b", "[[10, 0], [19, 0], [10, 9], [10, 0]]")
 
 
 class WithGdal(InFolder):
-    """A test of GDAL's programs, which is left out where they are not installed."""
-
-    def setUp(self) -> None:
-        super().setUp()
-        if not shutil.which("ogr2ogr"):
-            self.skipTest("ogr2ogr is not installed (apt-get install gdal-bin)")
-        if not importlib.util.find_spec("osgeo"):
-            self.skipTest("this Python has no python3-gdal (/usr/bin/python3 has it, by apt-get install python3-gdal)")
+    """A test of files that GDAL makes."""
 
     def made(self, name: str, source: str, *words: str) -> pathlib.Path:
-        """A file that GDAL makes of another one."""
+        """A file that GDAL makes of another one, by words of ogr2ogr."""
         file = self.folder / name
-        subprocess.run(["ogr2ogr", "-f", DRIVERS[file.suffix], str(file), source, *words], check=True,
-                       capture_output=True, timeout=SECONDS)
+        with gdal_files.by_gdal() as gdal:
+            gdal.VectorTranslate(str(file), source, options=["-f", DRIVERS[file.suffix], *words])
         return file
 
 
@@ -91,6 +83,12 @@ class FilesOfGdal(WithGdal):
             self.assertEqual(outcome(to_script, file, "--factor", 2)[0], 0)
             self.assertEqual(sorted(self.folder.iterdir()), before)
             file.unlink()
+
+    def test_no_program_of_gdal_is_needed(self) -> None:
+        file = self.made("a.gpkg", str(self.file("plan.geojson", FIRST)))
+        done = subprocess.run([sys.executable, path("to_script.py"), str(file), "--factor", "2"], env={"PATH": str(self.folder)},
+                              capture_output=True, text=True, check=False, timeout=SECONDS)
+        self.assertEqual((done.returncode, done.stdout), (0, "PUT a POLYGON ((0 0, 18 0, 0 19, 0 0))\n"), done.stderr)
 
     def test_several_layers(self) -> None:
         plan = str(self.file("plan.geojson", FIRST))
@@ -191,28 +189,8 @@ class FilesOfGdal(WithGdal):
                 for row in found]
 
 
-class WithoutGdal(InFolder):
-    """What is said where ogr2ogr is not installed, and what is read without it."""
-
-    def setUp(self) -> None:
-        super().setUp()
-        patch = unittest.mock.patch("tools.gdal_files.shutil.which", return_value=None)
-        patch.start()
-        self.addCleanup(patch.stop)
-
-    def test_the_package_and_the_line_to_type(self) -> None:
-        forms = {"a.gpkg": "a GeoPackage", "a.shp": "a Shapefile", "a.fgb": "a FlatGeobuf", "a.gml": "GML",
-                 "a.csv": "a table with a column of Well-Known Text"}
-        for name, form in forms.items():
-            file = self.file(name, "x")
-            told = (f"{file}: not read: {form} needs GDAL's ogr2ogr, which is not installed: apt-get install gdal-bin, "
-                    f"and the same again; or elsewhere: ogr2ogr -f GeoJSON a.geojson {file}\n")
-            self.assertEqual(outcome(to_script, file), (2, "", told))
-        script = self.file("plan.txt", f"PUT A {SQUARE}\n")
-        with self.assertRaises(SystemExit) as ended, unittest.mock.patch("sys.stderr") as errors:
-            to_geojson.main([str(script), "--output", "a.gpkg"])
-        self.assertEqual(ended.exception.code, 2)
-        self.assertIn("apt-get install gdal-bin", "".join(str(call) for call in errors.write.call_args_list))
+class OwnTexts(InFolder):
+    """What is read without GDAL, and which outputs are refused."""
 
     def test_outputs_that_are_refused(self) -> None:
         script = self.file("plan.txt", f"PUT A {SQUARE}\n")
