@@ -63,6 +63,7 @@ not_on_border segments k p z hp hz e low high on =
 pub column_found : (input : Input) (cap : ℕ) (listed : Bool) (rows : List Row) (names : List NodeName) (nodes : ℕ) (tests : List (Segment × Segment)) → IsInput input → HasStripFound (strip_of input) cap listed rows names nodes tests → HasFound input cap listed rows names nodes tests
 column_found input cap listed rows names nodes tests valid found = record {
   spans = found.spans;
+  sides = found.sides;
   numbered = found.numbered;
   tile = λ few. column_tile input (map (named_ends names) rows) (found.tile few);
   too_many = λ more. more_is_oversize input cap (map (named_ends names) rows) valid (column_some input (map (named_ends names) rows) found.are_some) (omega (arith, more, length-map rows (named_ends names)));

@@ -70,6 +70,7 @@ module _ (n : ℤ) (input : StripInput) (units : List Unit) (r : Point) (passed 
           on = on;
           last = λ h. absurd (both_ways (is_in_strip input.strip r) out h);
           over = λ h. absurd (both_ways (is_in_strip input.strip r) out h);
+          value = begun.value;
           differs = begun.differs (mask_bits under) (mask_bits m.over) (λ k few. refl) (λ k few. refl) ∙ ap (λ b. b && is_one_of (steps_value input.steps (mask_bits under)) (steps_value input.steps (mask_bits m.over))) out ∙ sym (ap (λ b. b && sides_differ n input (seg_of m) r) out);
         })
 
@@ -120,6 +121,7 @@ module _ (n : ℤ) (input : StripInput) (units : List Unit) (r : Point) (passed 
             on = on_r;
             last = λ within. last_node_is_new input m.unit.seg r nodal node within on_r;
             over = λ within. high;
+            value = begun.value;
             differs = begun.differs (under_unit n input m.unit.seg r) (up_to_unit n input m.unit.seg r) low high;
           })
 

@@ -18,7 +18,7 @@ use Rattle.std.proofs.Math.ListN.{length-append}
 use Rattle.std.specs.declared.cmp.Ordering.TheVariants.{Less}
 use Rattle.overlay_terms.specs.Plane.{Point, Segment, point_cmp, height_over, is_on}
 use Rattle.overlay_terms.specs.Column.{border}
-use Rattle.overlay_terms.specs.Trees.{Steps}
+use Rattle.overlay_terms.specs.Trees.{Steps, steps_value}
 use Rattle.overlay_terms.proofs.InputNumbers.{le_true, lt_true, true_le, true_lt, left_most, most_back, less_back, less_times, last_turned}
 use Rattle.overlay_terms.proofs.Lists.{contains_map, contains_rest}
 use Rattle.exact_point.specs.Crossing.{turn_of}
@@ -35,7 +35,7 @@ use Rattle.crossing_sweep.specs.Step.{IsSplitAt}
 use Rattle.crossing_sweep.specs.NextNode.{IsNextNode}
 use Rattle.crossing_sweep.specs.Ahead.{points_of}
 use Rattle.crossing_sweep.specs.Member.{seg_of, units_of, segs_of, member_cmp, member_total, ends_after}
-use Rattle.crossing_sweep.specs.Rows.{place_at, AreBegun, IsCarried, mask_over, rows_of, row_to, sides_differ}
+use Rattle.crossing_sweep.specs.Rows.{place_at, layer_bits, AreBegun, IsCarried, mask_over, rows_of, row_to, sides_differ}
 use Rattle.crossing_sweep.specs.Stepping.{segs_to_come, IsStepped}
 use Rattle.crossing_sweep.specs.Amid.{IsClosedAt, IsAmid, PassesUnder, begins_within}
 use Rattle.crossing_sweep.specs.Testing.{AreSeamsTested, seams_at}
@@ -166,27 +166,28 @@ turned_order ms =
 -- ---- members that begin at a node on the right border
 module _ (begin : ℕ) where
   abbrev member_of : Start → Member
-  member_of s = record { unit = s.unit; begin = begin; over = 0; differs = false; ahead = s.ahead }
+  member_of s = record { unit = s.unit; begin = begin; over = 0; value = false; differs = false; ahead = s.ahead }
 
   units_entered : (ss : List Start) → units_of (map member_of ss) ≡ map (λ (s : Start). s.unit) ss
   units_entered [] = refl
   units_entered (s ∷ ss) = ap (λ us. s.unit ∷ us) (units_entered ss)
 
-  abbrev relabel : ℕ → List Member → List Member
-  relabel mask [] = []
-  relabel mask (m ∷ ms) = (record { unit = m.unit; begin = begin; over = bit_xor mask m.unit.mask; differs = false; ahead = m.ahead }) ∷ relabel (bit_xor mask m.unit.mask) ms
+  abbrev relabel : Steps → ℕ → List Member → List Member
+  relabel steps mask [] = []
+  relabel steps mask (m ∷ ms) =
+      (record { unit = m.unit; begin = begin; over = bit_xor mask m.unit.mask; value = steps_value steps (layer_bits (bit_xor mask m.unit.mask)); differs = false; ahead = m.ahead }) ∷ relabel steps (bit_xor mask m.unit.mask) ms
 
-  relabel_units : (mask : ℕ) (ms : List Member) → units_of (relabel mask ms) ≡ units_of ms
-  relabel_units mask [] = refl
-  relabel_units mask (m ∷ ms) = ap (λ us. m.unit ∷ us) (relabel_units (bit_xor mask m.unit.mask) ms)
+  relabel_units : (steps : Steps) (mask : ℕ) (ms : List Member) → units_of (relabel steps mask ms) ≡ units_of ms
+  relabel_units steps mask [] = refl
+  relabel_units steps mask (m ∷ ms) = ap (λ us. m.unit ∷ us) (relabel_units steps (bit_xor mask m.unit.mask) ms)
 
-  relabel_begun : (steps : Steps) (mask : ℕ) (ms : List Member) → AreBegun steps mask begin false (relabel mask ms)
+  relabel_begun : (steps : Steps) (mask : ℕ) (ms : List Member) → AreBegun steps mask begin false (relabel steps mask ms)
   relabel_begun steps mask [] = tt
-  relabel_begun steps mask (m ∷ ms) = (record { begins = refl; over = refl; differs = λ low high h k. refl }, relabel_begun steps (bit_xor mask m.unit.mask) ms)
+  relabel_begun steps mask (m ∷ ms) = (record { begins = refl; over = refl; value = refl; differs = λ low high h k. refl }, relabel_begun steps (bit_xor mask m.unit.mask) ms)
 
-  relabel_number : (mask : ℕ) (ms : List Member) → All (λ m. m.begin ≡ begin) (relabel mask ms)
-  relabel_number mask [] = All-nil (λ (m : Member). m.begin ≡ begin)
-  relabel_number mask (m ∷ ms) = All-cons (λ (m : Member). m.begin ≡ begin) _ (relabel (bit_xor mask m.unit.mask) ms) refl (relabel_number (bit_xor mask m.unit.mask) ms)
+  relabel_number : (steps : Steps) (mask : ℕ) (ms : List Member) → All (λ m. m.begin ≡ begin) (relabel steps mask ms)
+  relabel_number steps mask [] = All-nil (λ (m : Member). m.begin ≡ begin)
+  relabel_number steps mask (m ∷ ms) = All-cons (λ (m : Member). m.begin ≡ begin) _ (relabel steps (bit_xor mask m.unit.mask) ms) refl (relabel_number steps (bit_xor mask m.unit.mask) ms)
 
 -- ---- the heights of the three parts
 module _ (r : Point) where
@@ -547,7 +548,7 @@ module _ (input : StripInput) (valid : IsStripInput input) (full status after : 
   staying = in_order turn_before (filter (λ m. ends_after (place at) m.unit.seg) together)
 
   abbrev stay : List Member
-  stay = relabel begin (mask_over 0 u) staying
+  stay = relabel begin input.steps (mask_over 0 u) staying
 
   abbrev full_after : List Member
   full_after = u ++ stay ++ o
@@ -567,7 +568,7 @@ module _ (input : StripInput) (valid : IsStripInput input) (full status after : 
   steps : IsStepped input at begin full full_after coming rest search search rows more_rows
   steps =
       stepped input at begin full full_after staying stay low_full high_full (length stay) entering_count coming search search rows more_rows (omega arith) (high_few (place at) full falls_full)
-      (λ fall. split_there (place at) full falls_full) refl moved turned (relabel_units begin (mask_over 0 u) staying)
+      (λ fall. split_there (place at) full falls_full) refl moved turned (relabel_units begin input.steps (mask_over 0 u) staying)
       (subst (λ t. AreBegun input.steps (mask_over 0 u) begin t stay) (sym out) (relabel_begun begin input.steps (mask_over 0 u) staying)) rows_same refl refl false (λ e. inl out) tested
 
   leaves_way : IsUnderWay input search.listed full_after rest search.ahead search.tests.items more_rows (names ++ name ∷ [])
@@ -587,7 +588,7 @@ module _ (input : StripInput) (valid : IsStripInput input) (full status after : 
   none_begins : filter (begins_within input (names ++ name ∷ [])) stay ≡ []
   none_begins =
       filter_none (begins_within input (names ++ name ∷ [])) stay
-      (λ i d l. ap (λ z. is_in_strip input.strip z) (named_last names name (get_or stay i d).begin (relabel_number begin (mask_over 0 u) staying i d l ∙ numbered) ∙ sym key.told) ∙ out)
+      (λ i d l. ap (λ z. is_in_strip input.strip z) (named_last names name (get_or stay i d).begin (relabel_number begin input.steps (mask_over 0 u) staying i d l ∙ numbered) ∙ sym key.told) ∙ out)
 
   low_alike : filter (begins_within input (names ++ name ∷ [])) u ≡ low_kept
   low_alike = alike u (all_first Carried u b (all_first Carried (u ++ b) o carried_parts))

@@ -38,6 +38,7 @@ pub mod StartLemmas
 pub mod UnitBits
 pub mod Labels
 pub mod Passed
+pub mod SideLemmas
 pub mod RowLemmas
 pub mod DealLemmas
 pub mod RowOrder

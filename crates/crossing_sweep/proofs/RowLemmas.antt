@@ -10,7 +10,7 @@ use Rattle.std.proofs.Math.IntN.{*ℤ-zero, *ℤ_comm}
 use Rattle.std.specs.declared.cmp.Ordering.TheVariants.{Less}
 use Rattle.overlay_terms.specs.Plane.{Point, Segment, whole, point_cmp, same_place, height_over, is_on}
 use Rattle.overlay_terms.specs.Column.{border}
-use Rattle.overlay_terms.specs.Tiles.{is_node, midpoint, below_bits, over_bits}
+use Rattle.overlay_terms.specs.Tiles.{is_node, midpoint, below_bits, over_bits, over_of}
 use Rattle.overlay_terms.specs.TileLaws.{IsProper}
 use Rattle.overlay_terms.specs.Trees.{steps_value}
 use Rattle.overlay_terms.proofs.InputNumbers.{le_true, left_most, most_times, last_turned}
@@ -43,6 +43,7 @@ use Rattle.crossing_sweep.specs.declared.row.Row.{Row}
 use Rattle.crossing_sweep.proofs.Lean.{lean_height, lean_turn}
 use Rattle.overlay_terms.proofs.Pairs.{all_first, all_second, pairs_first, pairs_second, all_pairs_append, pairs_map, pairs_from_map, all_from_map}
 use Rattle.overlay_terms.proofs.Whole.{less_none, more_none}
+use Rattle.crossing_sweep.proofs.SideLemmas.{known_few, bits_over}
 use Rattle.crossing_sweep.proofs.MaskLemmas.{masks_step_up}
 use Rattle.crossing_sweep.proofs.LastNodeLemmas.{last_node_stays}
 use Rattle.crossing_sweep.proofs.ClosedLemmas.{stretch_is_closed}
@@ -172,6 +173,7 @@ module _ (n : ℤ) (input : StripInput) (units : List Unit) (q r : Point) (under
           on = c.carried.on;
           last = λ within. last_node_stays input (seg_of m) (place_at passed m.begin) q r hq (c.carried.last within) next off;
           over = c.carried.over;
+          value = c.carried.value;
           differs = c.carried.differs;
         });
   }
@@ -293,6 +295,14 @@ module _ (n : ℤ) (input : StripInput) (units : List Unit) (q r : Point) (under
                 (sym (ap (steps_value input.steps) sides.0) ∙ e ∙ ap (steps_value input.steps) sides.1);
           }
 
+      -- its value is what the layer is over the piece
+      side_there : m.value ≡ over_of input.marked input.steps (place_at passed m.begin) r
+      side_there =
+          is.carried.carried.value
+          ∙ ap (steps_value input.steps)
+          (bits_over input.marked m.over (midpoint (place_at passed m.begin) r) (known_few input valid)
+          (λ k few. is.carried.carried.over within k few ∙ sym (ap (λ bits. bits k) sides.1)))
+
     -- one that differs becomes a row
     one_row : m.differs ≡ true → IsRow input (passed ++ r ∷ []) (row_to end m)
     one_row d =
@@ -307,6 +317,7 @@ module _ (n : ℤ) (input : StripInput) (units : List Unit) (q r : Point) (under
           from_on = subst Q (sym begins_at) is.carried.carried.on;
           to_on = subst Q (sym end_at) on_r;
           boundary = subst P (sym end_at) (subst R (sym begins_at) (piece_ends parts.0 parts.1));
+          side = side_there parts.0 ∙ ap (λ z. over_of input.marked input.steps z r) (sym begins_at) ∙ ap (λ z. over_of input.marked input.steps (place_at (passed ++ r ∷ []) m.begin) z) (sym end_at);
         }
 
   new_rows : All (IsRow input (passed ++ r ∷ [])) (rows_of end bundle)
@@ -321,6 +332,9 @@ module _ (n : ℤ) (input : StripInput) (units : List Unit) (q r : Point) (under
     from_on = subst On (sym (still_at passed r row.first is.from_known)) is.from_on;
     to_on = subst On (sym (still_at passed r row.last is.to_known)) is.to_on;
     boundary = subst From (sym (still_at passed r row.first is.from_known)) (subst To (sym (still_at passed r row.last is.to_known)) is.boundary);
+    side =
+        is.side ∙ ap (λ z. over_of input.marked input.steps z (place_at passed row.last)) (sym (still_at passed r row.first is.from_known))
+        ∙ ap (λ z. over_of input.marked input.steps (place_at (passed ++ r ∷ []) row.first) z) (sym (still_at passed r row.last is.to_known));
   }
     where
       On : Point → Type 0

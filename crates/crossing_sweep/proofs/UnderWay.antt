@@ -13,7 +13,7 @@ use Rattle.std.proofs.lemmas.List.Sorted.{All-permutation, length_permutation}
 use Rattle.std.proofs.Math.ListN.{length-append}
 use Rattle.overlay_terms.specs.Plane.{Point, Segment, whole, point_cmp, same_place, is_on}
 use Rattle.overlay_terms.specs.Column.{columns, border}
-use Rattle.overlay_terms.specs.Tiles.{is_end, is_on_border, is_vertical}
+use Rattle.overlay_terms.specs.Tiles.{is_end, is_on_border, is_vertical, over_of}
 use Rattle.overlay_terms.specs.TileLaws.{IsProper}
 use Rattle.overlay_terms.proofs.InputNumbers.{last_turned}
 use Rattle.overlay_terms.proofs.InputLists.{any_from_Contains}
@@ -43,7 +43,7 @@ use Rattle.crossing_sweep.specs.PassState.{nodes_max}
 use Rattle.crossing_sweep.specs.RowLaws.{AreAll}
 use Rattle.crossing_sweep.specs.Rows.{place_at, IsRow, row_ends, count_settled, AreSorted, BeginAt, Carries}
 use Rattle.crossing_sweep.specs.NodeNames.{no_name, name_at, IsNamed, named_ends, AreKept}
-use Rattle.crossing_sweep.specs.Crossed.{IsUnitPair, IsCrossingAmong, IsRowSpan}
+use Rattle.crossing_sweep.specs.Crossed.{IsUnitPair, IsCrossingAmong, IsRowSpan, HasSide}
 use Rattle.crossing_sweep.specs.StripCrossed.{IsInnerInStrip, AreStripNodes, HasStripFound}
 use Rattle.crossing_sweep.specs.UnderWay.{IsCaused, IsKey, IsUnderWay}
 use Rattle.crossing_sweep.specs.declared.node_name.NodeName.{NodeName}
@@ -365,6 +365,15 @@ module _ (input : StripInput) (valid : IsStripInput input) (listed : Bool) (stat
   spans : All (IsRowSpan kept) sorted
   spans = All-weaker IsNamedRow (IsRowSpan kept) is_span sorted all_named
 
+  has_side : (row : Row) → IsNamedRow row → HasSide input.marked input.steps kept row
+  has_side row both =
+      both.0.side
+      ∙ ap (λ p. over_of input.marked input.steps p (place_at (map place_of names) row.last)) (place_named names kept row.first are_kept.among both.1.0)
+      ∙ ap (λ r. over_of input.marked input.steps (place_of (name_at kept row.first)) r) (place_named names kept row.last are_kept.among both.1.1)
+
+  sides : All (HasSide input.marked input.steps kept) sorted
+  sides = All-weaker IsNamedRow (HasSide input.marked input.steps kept) has_side sorted all_named
+
   none_ahead : length sorted ≤ cap → ahead ≡ []
   none_ahead few = by ended
     where
@@ -410,6 +419,7 @@ module _ (input : StripInput) (valid : IsStripInput input) (listed : Bool) (stat
   pub ends_way : HasStripFound input cap listed sorted kept nodes tests
   ends_way = record {
     spans = spans;
+    sides = sides;
     numbered = are_kept.numbered;
     are_some = subst (λ (l : List (Point × Point)). AreStripSome input l) all_ends (rows_are_some way.n input way.q (map place_of names) status rows sorted way.carries are);
     tile = λ few. subst (λ (l : List (Point × Point)). IsStripTile input l) all_ends (at_end few).tile;

@@ -6,8 +6,9 @@ use Rattle.std.specs.declared.cmp.Ordering.TheVariants.{Less}
 use Rattle.overlay_terms.specs.Plane.{Point, Segment, point_cmp, is_on}
 use Rattle.overlay_terms.specs.Column.{border}
 use Rattle.overlay_terms.specs.Histories.{oversize, IsTileAt}
-use Rattle.overlay_terms.specs.Tiles.{Input, is_end, is_node, IsTileOf}
+use Rattle.overlay_terms.specs.Tiles.{Input, is_end, is_node, over_of, IsTileOf}
 use Rattle.overlay_terms.specs.Layers.{Marked}
+use Rattle.overlay_terms.specs.Trees.{Steps}
 use Rattle.exact_point.specs.Crossing.{IsCrossingOf}
 use Rattle.exact_point.specs.PlaceOf.{place_of}
 use Rattle.exact_point.specs.PointName.{HasPlace}
@@ -56,6 +57,11 @@ pub record IsRowSpan (names : List NodeName) (row : Row) : Type 0 where
   pub to_on : IsTrue (is_on row.support (place_of (name_at names row.last)))
   pub in_order : point_cmp (place_of (name_at names row.first)) (place_of (name_at names row.last)) ≡ Less
 
+-- a row says what the layer is just over its piece, or left of a vertical one
+abbrev pub HasSide : List Marked → Steps → List NodeName → Row → Type 0
+HasSide marked steps names row =
+    row.over ≡ over_of marked steps (place_of (name_at names row.first)) (place_of (name_at names row.last))
+
 -- nodes of the closed column in their order, each once, and all of them where a pass goes to the end
 pub record AreNodes (input : Input) (to_the_end : Type 0) (places : List Point) : Type 0 where
   pub ordered : AllPairs (λ a b. point_cmp a b ≡ Less) places
@@ -73,6 +79,7 @@ pub record AreCounted (input : Input) (to_the_end : Type 0) (count : ℕ) : Type
 pub record HasFound (input : Input) (cap : ℕ) (listed : Bool) (rows : List Row) (names : List NodeName) (nodes : ℕ)
     (tests : List (Segment × Segment)) : Type 0 where
   pub spans : All (IsRowSpan names) rows
+  pub sides : All (HasSide input.marked input.steps names) rows
   pub numbered : AreNumbered names
   pub tile : length rows ≤ cap → IsTileOf input.marked input.steps input.column (map (named_ends names) rows)
   pub too_many : cap < length rows → IsTileAt cap input oversize

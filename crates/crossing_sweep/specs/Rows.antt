@@ -12,7 +12,7 @@ use Rattle.overlay_terms.specs.Plane.{Point, Segment, point_cmp, same_place, is_
 use Rattle.overlay_terms.specs.Column.{border}
 use Rattle.overlay_terms.specs.Layers.{layers_max}
 use Rattle.overlay_terms.specs.Trees.{Steps, steps_value, mask_bits}
-use Rattle.overlay_terms.specs.Tiles.{is_node}
+use Rattle.overlay_terms.specs.Tiles.{is_node, over_of}
 use Rattle.arrange.specs.declared.unit.Unit as units
 use Rattle.tile_laws.specs.JustRight.{under_bits, up_to_bits}
 use Rattle.crossing_sweep.specs.StripInput.{StripInput, IsStripBoundary, is_in_strip, segments_in, Span}
@@ -49,6 +49,10 @@ is_one_of a b = if a then not b else b
 abbrev pub HasBits : ℕ → (ℕ → Bool) → Type 0
 HasBits mask bits = (k : ℕ) → k < layers_max → mask_bits mask k ≡ bits k
 
+-- the bits of a mask, of the base layers alone
+abbrev pub layer_bits : ℕ → ℕ → Bool
+layer_bits mask k = nat_lt k layers_max && mask_bits mask k
+
 -- what lies under a unit just after a place
 abbrev pub under_unit : ℤ → StripInput → Segment → Point → ℕ → Bool
 under_unit n input u p = under_bits (lean_marked n input.marked) (lean_segment n u) (lean n p)
@@ -64,11 +68,12 @@ sides_differ n input u p =
 
 -- what a member carries after a place q from the place p on its unit where it begins. In the strip, p is the last node
 -- on the unit, the mask is what lies up to it just after p, and it differs where the steps do there; on the strip's
--- right border it begins no piece of the strip
+-- right border it begins no piece of the strip. The value is what the steps are over the mask
 pub record IsCarriedFrom (n : ℤ) (input : StripInput) (p q : Point) (m : Member) : Type 0 where
   pub on : IsTrue (is_on (seg_of m) p)
   pub last : IsTrue (is_in_strip input.strip p) → IsLastOn input (seg_of m) p q
   pub over : IsTrue (is_in_strip input.strip p) → HasBits m.over (up_to_unit n input (seg_of m) p)
+  pub value : m.value ≡ steps_value input.steps (layer_bits m.over)
   pub differs : m.differs ≡ (is_in_strip input.strip p && sides_differ n input (seg_of m) p)
 
 -- so it is with a member that begins at one of the places passed
@@ -81,7 +86,8 @@ pub record IsCarried (n : ℤ) (input : StripInput) (passed : List Point) (q : P
 abbrev pub row_ends : List Point → Row → Point × Point
 row_ends passed row = (place_at passed row.first, place_at passed row.last)
 
--- a row is a piece of the boundary in the strip between two of the places passed, both on its support
+-- a row is a piece of the boundary in the strip between two of the places passed, both on its support, and says what the
+-- layer is just over it, or left of a vertical one
 pub record IsRow (input : StripInput) (passed : List Point) (row : Row) : Type 0 where
   pub from_known : row.first < length passed
   pub to_known : row.last < length passed
@@ -89,6 +95,7 @@ pub record IsRow (input : StripInput) (passed : List Point) (row : Row) : Type 0
   pub to_on : IsTrue (is_on row.support (place_at passed row.last))
   pub boundary : IsStripBoundary input.marked input.steps input.strip (place_at passed row.first)
       (place_at passed row.last)
+  pub side : row.over ≡ over_of input.marked input.steps (place_at passed row.first) (place_at passed row.last)
 
 -- the rows of a pass that has come to a place: the pieces of the boundary in the strip that
 -- end there or before it, each once
@@ -122,7 +129,7 @@ is_taken row = not (row.last == 0)
 -- ---- one step
 -- the row that a member makes where its piece ends, at the node with a number
 abbrev pub row_to : ℕ → Member → Row
-row_to end m = record { support = m.unit.seg; first = m.begin; last = end }
+row_to end m = record { support = m.unit.seg; first = m.begin; last = end; over = m.value }
 
 -- the rows of a bundle: of the members that differ
 abbrev pub rows_of : ℕ → List Member → List Row
@@ -138,10 +145,11 @@ abbrev pub HasValue : Steps → ℕ → Bool → Type 0
 HasValue steps mask value = (bits : ℕ → Bool) → HasBits mask bits → value ≡ steps_value steps bits
 
 -- a member begins at the node with a number, within the strip or not, over what a mask says: its own mask changes that,
--- and it differs where the steps do
+-- its value is what the steps are over the mask, and it differs where the steps do
 pub record IsBegun (steps : Steps) (under : ℕ) (begin : ℕ) (within : Bool) (m : Member) : Type 0 where
   pub begins : m.begin ≡ begin
   pub over : m.over ≡ bit_xor under m.unit.mask
+  pub value : m.value ≡ steps_value steps (layer_bits m.over)
   pub differs : (low high : ℕ → Bool) → HasBits under low → HasBits m.over high
       → m.differs ≡ (within && is_one_of (steps_value steps low) (steps_value steps high))
 

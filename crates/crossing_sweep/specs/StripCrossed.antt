@@ -12,7 +12,7 @@ use Rattle.crossing_sweep.specs.StripInput.{StripInput, segments_in, part, IsStr
 use Rattle.crossing_sweep.specs.Queue.{IsUpTo, IsQueued}
 use Rattle.crossing_sweep.specs.Rows.{count_settled}
 use Rattle.crossing_sweep.specs.NodeNames.{named_ends, IsNameAmong, AreNumbered}
-use Rattle.crossing_sweep.specs.Crossed.{IsCrossingAmong, IsUnitPair, IsRowSpan}
+use Rattle.crossing_sweep.specs.Crossed.{IsCrossingAmong, IsUnitPair, IsRowSpan, HasSide}
 use Rattle.crossing_sweep.specs.declared.node_name.NodeName.{NodeName}
 use Rattle.crossing_sweep.specs.declared.row.Row.{Row}
 use Rattle.crossing_sweep.specs.declared.pass.Crossed.{Crossed}
@@ -41,6 +41,7 @@ pub record AreStripNodes (input : StripInput) (to_the_end : Type 0) (places : Li
 pub record HasStripFound (input : StripInput) (cap : ℕ) (listed : Bool) (rows : List Row) (names : List NodeName)
     (nodes : ℕ) (tests : List (Segment × Segment)) : Type 0 where
   pub spans : All (IsRowSpan names) rows
+  pub sides : All (HasSide input.marked input.steps names) rows
   pub numbered : AreNumbered names
   pub are_some : AreStripSome input (map (named_ends names) rows)
   pub tile : length rows ≤ cap → IsStripTile input (map (named_ends names) rows)

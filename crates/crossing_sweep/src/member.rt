@@ -8,13 +8,14 @@ use exact_point::direction_cmp;
 use std::cmp::Ordering;
 
 /// A unit that goes on after the sweep's place, with the number of the last node on it, a bit for
-/// each base layer that holds just over it, and whether the piece that begins there is one of the
-/// boundary. The order is by direction, the vertical one last.
+/// each base layer that holds just over it, what the layer is there, and whether the piece that
+/// begins there is one of the boundary. The order is by direction, the vertical one last.
 #[derive(Clone, Copy, Debug)]
 pub(crate) struct Member {
     pub unit: Unit,
     pub begin: usize,
     pub over: u32,
+    pub value: bool,
     pub differs: bool,
     pub ghost ahead: { whole_cmp unit.seg.left unit.seg.right ≡ Less },
 }

@@ -92,6 +92,7 @@ fn enter(
                 unit: start.unit,
                 begin,
                 over: 0,
+                value: false,
                 differs: false,
             })?;
         }

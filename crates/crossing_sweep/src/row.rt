@@ -15,6 +15,8 @@ pub struct Row {
     pub support: Seg,
     pub first: usize,
     pub last: usize,
+    /// What the layer is just over the piece, or left of a vertical one. What it is on the other side differs.
+    pub over: bool,
 }
 
 /// Closes the pieces of a bundle: those of the boundary become rows.
@@ -37,6 +39,7 @@ fn row_to(member: &Member, end: usize) -> Row
         support: member.unit.seg,
         first: member.begin,
         last: end,
+        over: member.value,
     }
 }
 
@@ -118,6 +121,7 @@ fn begin_over(
     let next = value_over(input, values, over);
     member.begin = begin;
     member.over = over;
+    member.value = next;
     member.differs = value ^ next;
     next
 }
