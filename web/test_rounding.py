@@ -7,13 +7,13 @@ import json
 import pathlib
 import shutil
 import subprocess
+import sys
 from fractions import Fraction
 from typing import Any
 
 from tools.commands import to_script, which
 from tools.overlay_client import Server
 from tools.testing.common import TOP, outcome
-from tools.testing.gdal_maps import DEBIANS, debians_python_has_gdal
 from . import testing
 from .test_features import Case
 
@@ -76,11 +76,9 @@ class OnePolygon(Case):
                 self.assertEqual(f", {count} coordinates of more digits than a double has" in errors, count > 0, errors)
 
     def test_by_overlay_maps(self) -> None:
-        if not debians_python_has_gdal():
-            self.skipTest(f"{DEBIANS} has no python3-gdal and python3-numpy")
         for name, corners in GIVEN.items():
             text = self.file(f"{name}.geojson", feature(corners))
-            words = [DEBIANS, str(TOP / "tools/overlay_maps.py"), "overlay", str(text), str(self.package(text)), "--factor", "100",
+            words = [sys.executable, str(TOP / "tools/overlay_maps.py"), "overlay", str(text), str(self.package(text)), "--factor", "100",
                      "--exact", "--program", testing.PROGRAM]
             done = subprocess.run(words, capture_output=True, text=True, timeout=60, check=False)
             self.assertEqual(done.returncode, 0, done.stderr)

@@ -3,7 +3,7 @@
     tools/tests.py [PROGRAM [LIVE]]
 
 PROGRAM is the built overlayd, LIVE the built overlay_live. Without them the tests of the tools over a program and its
-stores are left out, and so are those of packages that are not installed; how many is reported. The last line is 'N passed,
+stores are left out, as are those of Dask where it is not installed; how many is reported. The last line is 'N passed,
 M failed'.
 """
 

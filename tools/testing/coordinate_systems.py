@@ -1,10 +1,9 @@
-"""Tests of what the coordinate systems of maps are called, by commands: testing.coordinate_systems LIVE."""
+"""Tests of what the coordinate systems of maps are called, by commands."""
 
 import json
 import pathlib
 import subprocess
 import sys
-import unittest
 import zipfile
 from typing import Any
 
@@ -236,8 +235,3 @@ class Unknown(WithSystems):
             crs = {"type": "name", "properties": {"name": name}}
             file = self.file("named.geojson", json.dumps({"type": "FeatureCollection", "crs": crs, "features": [value]}))
             self.assertEqual(self.script(file)[0], wanted, name)
-
-
-if __name__ == "__main__":
-    Programs.live = sys.argv[-1] if sys.argv[1:] else None
-    unittest.main(argv=sys.argv[:1])

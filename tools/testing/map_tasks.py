@@ -1,7 +1,6 @@
 """Tests of task folders and of what does their tasks, by Python alone: no map and no program is needed."""
 
 import errno
-import functools
 import importlib.util
 import io
 import json
@@ -24,7 +23,6 @@ from .map_works import Refusing, Reversing
 
 NAMES = [f"task {number}".encode() for number in range(12)]
 ENDS = [name[::-1] for name in NAMES]
-DEBIANS = "/usr/bin/python3"
 WAIT = 60  # seconds, for what comes at once where the machine is not busy
 
 
@@ -45,10 +43,9 @@ class InTasks(InFolder):
         self.work, self.marks = self.folder / "work", self.folder / "marks"
         self.marks.mkdir()
 
-    def words(self, seconds: str, engine: str = "processes", deaths: str = "0", python: str = sys.executable
-              ) -> list[str]:
+    def words(self, seconds: str, engine: str = "processes", deaths: str = "0") -> list[str]:
         """The call of a run in a process of its own."""
-        return [python, "-m", "tools.testing.map_works", str(self.work), str(self.marks), seconds, engine, deaths]
+        return [sys.executable, "-m", "tools.testing.map_works", str(self.work), str(self.marks), seconds, engine, deaths]
 
     def begun(self, names: list[bytes] = NAMES, **run: object) -> TaskFolder:
         return tasks.begin(self.work, {"asks": "names", **run}, names)
@@ -293,23 +290,17 @@ class Engines(WithProcesses):
         self.assertEqual((again.returncode, list(TaskFolder(self.work).results())), (0, ENDS))
 
 
+@unittest.skipUnless(importlib.util.find_spec("distributed"), "python3-distributed is not installed")
 class Dask(WithProcesses):
-    """By Debian's Python, where Dask is there."""
-
-    def setUp(self) -> None:
-        super().setUp()
-        if not has_dask():
-            self.skipTest(f"{DEBIANS} has no python3-distributed")
-
     def test_what_a_dead_worker_had_is_begun_again_and_no_process_is_left(self) -> None:
-        words = self.words("0", "dask", "1", DEBIANS)
+        words = self.words("0", "dask", "1")
         run = subprocess.run(words, cwd=TOP, capture_output=True, text=True, timeout=2 * WAIT)
         self.assertEqual((run.returncode, list(TaskFolder(self.work).results())), (0, ENDS), run.stderr)
         self.assertEqual(len(list(self.marks.glob("death *"))), 1)
         wait_for(lambda: not any(map(is_running, self.processes())))
 
     def test_workers_end_with_a_run_that_is_killed(self) -> None:
-        with subprocess.Popen(self.words("0.3", "dask", python=DEBIANS), cwd=TOP, stderr=subprocess.DEVNULL) as run:
+        with subprocess.Popen(self.words("0.3", "dask"), cwd=TOP, stderr=subprocess.DEVNULL) as run:
             self.addCleanup(run.kill)
             wait_for(lambda: len(list(self.work.glob("*.result"))) >= 3)
             os.kill(run.pid, signal.SIGKILL)
@@ -317,14 +308,6 @@ class Dask(WithProcesses):
         folder = TaskFolder(self.work)
         done = [number for number in range(12) if number not in folder.left()]
         self.assertEqual([folder.came_of(number) for number in done], [ENDS[number] for number in done])
-
-
-@functools.cache
-def has_dask() -> bool:
-    try:
-        return not subprocess.run([DEBIANS, "-c", "import distributed"], capture_output=True, check=False, timeout=SECONDS).returncode
-    except OSError:
-        return False
 
 
 class OverTool(InTasks):
@@ -376,10 +359,9 @@ class OverTool(InTasks):
         self.assertEqual((status, table), (1, ""))
         self.assertRegex(told, "task 0: ProgramRefused: .*never: status 3, 0 answers of [0-9]+")
 
+    @unittest.skipUnless(importlib.util.find_spec("distributed"), "python3-distributed is not installed")
     def test_dask_has_the_same_table(self) -> None:
-        if not has_dask():
-            self.skipTest(f"{DEBIANS} has no python3-distributed")
-        words = [DEBIANS, TOOLS / "overlay_maps.py", "pairs", self.folder / "a.geojson", self.folder / "b.geojson",
+        words = [sys.executable, TOOLS / "overlay_maps.py", "pairs", self.folder / "a.geojson", self.folder / "b.geojson",
                  "--factor", "1", "--program", Programs.live, "--jobs", "2", "--dask"]
         run = subprocess.run(words, capture_output=True, text=True, timeout=2 * WAIT, check=False)
         self.assertEqual((run.returncode, run.stdout), (0, self.table("--jobs", 1)[1]), run.stderr)

@@ -1,27 +1,178 @@
-"""What maps/ does by numpy: the tests of debians_numpy.py by Debian's Python, where it has numpy."""
+"""Tests of what maps/ does by numpy, beside the same steps in Python's whole numbers."""
 
-import functools
-import subprocess
+import random
 import unittest
+from collections.abc import Callable
+from fractions import Fraction
 
-from .common import SECONDS, TOP, Programs
+import numpy as np
 
-DEBIANS = "/usr/bin/python3"
+from .. import grid
+from ..maps import (box_pairs, drawing_in, geojson_maps, jobs, numpy_drawing, numpy_maps, numpy_pairs, numpy_planning,
+                  numpy_windows, planning, rounds, windows)
+from ..maps.drawing_in import Plain
+from ..maps.task_form import ALONE, COMMON, GAPS, Task
+from ..maps.whole_maps import MapFault, ReadMap, Told
+from .common import InFolder, Programs
+from .map_steps import sees
+from .random_maps import Maps, random_maps
+from .scales import halves
+
+MANY = 30
 
 
-@functools.cache
-def debians_python_has_numpy() -> bool:
-    try:
-        words = [DEBIANS, "-c", "import numpy; numpy.ndarray"]
-        return not subprocess.run(words, capture_output=True, check=False, timeout=SECONDS).returncode
-    except OSError:
-        return False
+def planned(kind: str, module: object, maps: Maps) -> list[planning.Job]:
+    """The jobs of a kind as one of both forms plans them."""
+    a, b = map(module.boxes_of, maps.wholes)  # type: ignore[attr-defined]
+    if kind == COMMON:
+        return list(module.common_jobs(a, b, True))  # type: ignore[attr-defined]
+    if kind == ALONE:
+        return list(module.alone_jobs(a, b))  # type: ignore[attr-defined]
+    return list(module.gap_jobs(maps.wholes[1], b))  # type: ignore[attr-defined]
 
 
-class ByDebiansPython(unittest.TestCase):
-    def test_the_same_answers_as_by_python_alone(self) -> None:
-        if not debians_python_has_numpy():
-            self.skipTest(f"{DEBIANS} has no python3-numpy")
-        words = [DEBIANS, "-m", "tools.testing.debians_numpy", Programs.live or ""]
-        run = subprocess.run(words, cwd=TOP, capture_output=True, text=True, timeout=120, check=False)
-        self.assertEqual(run.returncode, 0, run.stderr)
+def tasks_of(source: random.Random, kind: str) -> list[Task]:
+    maps = random_maps(source, 10, source.choice([12, 60]))
+    question = planning.Question("", kind, *maps.wholes, Fraction(1))
+    return [Task.of_bytes(task.to_bytes()) for task in planning.tasks_of(question, planned(kind, planning, maps))]
+
+
+class Forms(unittest.TestCase):
+    def test_pairs_of_boxes(self) -> None:
+        source = random.Random(2)
+        for _ in range(MANY):
+            a, b = ([self.box(source) for _ in range(25)] for _ in "ab")
+            for touching in (False, True):
+                found = numpy_pairs.pairs(np.array(a), np.array(b), touching)
+                self.assertEqual([tuple(pair) for pair in found.tolist()], box_pairs.pairs(a, b, touching))
+
+    def box(self, source: random.Random) -> tuple[int, int, int, int]:
+        x, y, size = source.randint(-50, 50), source.randint(-50, 50), source.choice([0, 1, 3, 20, 1000, 2**33])
+        return x, y, x + source.randint(-1, size), y + source.randint(0, size)
+
+    def test_jobs(self) -> None:
+        source = random.Random(5)
+        for _ in range(MANY):
+            maps = random_maps(source, 12, source.choice([12, 60, 2**30]))
+            for kind in (COMMON, ALONE, GAPS):
+                self.assertEqual(planned(kind, numpy_planning, maps), planned(kind, planning, maps))
+
+    def test_drawing_in(self) -> None:
+        """Frames are the same; rings may have more or fewer points, and each place of the core sees the same of
+        them."""
+        source = random.Random(3)
+        for task in (task for _ in range(MANY) for kind in (COMMON, ALONE, GAPS) for task in tasks_of(source, kind)):
+            plainly, quickly = (draw.of_task(task, range(len(task))) for draw in (Plain(), numpy_drawing.ByNumpy()))
+            for plain, quick in zip(plainly, quickly, strict=True):
+                self.assertEqual((plain.core, plain.frame, plain.is_plain), (quick.core, quick.frame, quick.is_plain))
+                for one, other in zip(plain.features, quick.features, strict=True):
+                    w = source.choice([1, 2, 3])
+                    left, under, right, over = (w * side for side in plain.core)
+                    place = Fraction(source.randint(left, right), w), Fraction(source.randint(under, over), w)
+                    self.assertEqual(sees(one, *place), sees(other, *place))
+
+    def test_windows(self) -> None:
+        """The bytes of parts and the layers of texts are those of Python alone."""
+        source = random.Random(9)
+        texts = b"MULTIPOLYGON EMPTY\nMULTIPOLYGON (((0 1, 2 3, 4 -5, 0 1), (1 1, 2 2, 2 2, 1 1)), ((7 7, 8 8, 9 7, 7 7)))\n"
+        origins = np.array([[5, 6], [10, -10]])
+        for given in (texts, texts[:19], texts[19:], b"", texts + b"error 6 too many steps\n"):
+            lines = [windows.Refused(line) if line[0] == "e" else line for line in given.decode().splitlines()]
+            own = origins[1:] if given == texts[19:] else np.concatenate([origins, [[0, 0]]])[: len(lines)]
+            self.assertEqual(list(numpy_windows.layers_of(given, own)),
+                             [windows.layer_of(line, tuple(origin)) for line, origin in zip(lines, own.tolist(), strict=True)])
+        for task in (task for _ in range(MANY) for kind in (COMMON, ALONE, GAPS) for task in tasks_of(source, kind)):
+            points = numpy_drawing.Points(numpy_drawing.Flat(task), range(len(task)))
+            frames, plain = points.frames(points.halves())
+            wanted = list(drawing_in.wanted_of(task, range(len(task))))
+            self.assertEqual(list(zip(map(tuple, frames.tolist()), plain.tolist())), list(map(drawing_in.framed, wanted)))
+            parts = np.flatnonzero(~plain[points.job_of_part])
+            asked = [windows.Part(one.core, tuple(frame), windows.middle_of(frame), windows.padded(rings))
+                     for one, frame, is_plain in zip(wanted, frames.tolist(), plain.tolist()) if not is_plain
+                     for rings in one.features]
+            self.assertEqual(numpy_windows.input_bytes(points, frames, parts), windows.input_bytes(asked))
+
+    def test_what_tasks_find(self) -> None:
+        if Programs.live is None:
+            self.skipTest("no program was given")
+        source = random.Random(7)
+        with rounds.Program(str(Programs.live)) as program:
+            for task in (task for _ in range(5) for kind in (COMMON, ALONE, GAPS) for task in tasks_of(source, kind)):
+                plain = jobs.run(task, program)
+                quick = jobs.run(task, program, numpy_drawing.ByNumpy())
+                key = [(row.own, row.others, row.area, row.relation) for row in plain.rows]
+                self.assertEqual([(row.own, row.others, row.area, row.relation) for row in quick.rows], key)
+                if (window := windows.found(str(Programs.live))) is not None:
+                    by_window = jobs.run(task, program, numpy_windows.ByNumpy(window))
+                    self.assertEqual([(row.own, row.others, row.area, row.relation) for row in by_window.rows], key)
+
+
+class Rounding(InFolder):
+    def test_the_nearest_whole_number_of_what_a_double_stands_for(self) -> None:
+        source = random.Random(6)
+        near = [source.randint(-10**9, 10**9) * 10**-4 for _ in range(4000)]
+        given = np.array([*near, *(source.uniform(-1e7, 1e7) for _ in range(2000)), 0.0005, 0.0015, -0.0005, 2.5, -2.5,
+                          0.285, 2.0**44 + 0.5, -(2.0**44) - 0.5, 1e-320, 0.0])
+        for factor in (Fraction(1000), Fraction(1), Fraction(1, 3), Fraction(100), Fraction("0.1")):
+            wanted = [(Fraction(repr(one)) * factor + Fraction(1, 2)).__floor__() for one in given.tolist()]
+            self.assertEqual(grid.nearest_array(given, factor).tolist(), wanted, factor)
+
+    def test_halves_are_those_of_their_texts(self) -> None:
+        texts = halves(100_000)
+        for digits in range(2, 10):
+            own = [text for text in texts if len(text.partition(".")[2]) == digits]
+            factor = Fraction(10 ** (digits - 1))
+            wanted = [(int(text.replace(".", "")) + 5) // 10 for text in own]
+            self.assertEqual(grid.nearest_array(np.array(list(map(float, own))), factor).tolist(), wanted, digits)
+            self.assertGreater(len(own), 10_000)
+
+    def test_a_move_that_is_none_is_none(self) -> None:
+        given = np.array([source.randint(-10**9, 10**9) / 1000 for source in [random.Random(1)] for _ in range(10_000)])
+        for factor, right in ((Fraction(1000), 0), (Fraction(100), 0.5)):
+            self.assertEqual(round(numpy_maps.farthest_move(given, grid.nearest_array(given, factor), factor), 6), right)
+
+    def test_a_map_of_doubles_is_that_of_the_same_numbers_as_text(self) -> None:
+        source = random.Random(8)
+        for number in range(MANY):
+            features = [[self.rings(source) for _ in range(source.randint(1, 2))] for _ in range(8)]
+            for bend in (False, True):
+                self.assertEqual(self.by_numpy(features, bend), self.by_text(features, bend), number)
+
+    def rings(self, source: random.Random) -> list[list[list[float]]]:
+        """A polygon of random rings, some of which collapse or have an edge that is too long."""
+        found = []
+        for _ in range(source.randint(1, 2)):
+            size = source.choice([0.0008, 0.01, 1, 700 if source.random() < 0.05 else 2])
+            ring = [[self.number(source, size), self.number(source, size)]
+                    for _ in range(source.randint(3, 6))]
+            found.append([*ring, ring[0]])
+        return found
+
+    def number(self, source: random.Random, size: float) -> float:
+        return source.randint(-round(10000 * size), round(10000 * size)) / 10000
+
+    def by_text(self, features: list[list[list[list[list[float]]]]], bend: bool) -> object:
+        begin = '{"type": "Feature", "geometry": {"type": "MultiPolygon", "coordinates": '
+        members = ",".join(begin + str(polygons) + "}}" for polygons in features)
+        file = self.file("map.geojson", '{"type": "FeatureCollection", "features": [' + members + "]}")
+        return self.told(lambda: geojson_maps.read(str(file), Fraction(1000), None, bend))
+
+    def by_numpy(self, features: list[list[list[list[list[float]]]]], bend: bool) -> object:
+        rings = [(ring, at == 0) for polygons in features for polygon in polygons for at, ring in enumerate(polygon)]
+        xy = np.array([point for ring, _ in rings for point in ring])
+        counts = np.array([sum(map(len, polygons)) for polygons in features])
+        told = Told()
+        ids = [str(number + 1) for number in range(len(features))]
+        return self.told(lambda: ReadMap(numpy_maps.whole_of_doubles(
+            "map", ids, xy[:, 0].copy(), xy[:, 1].copy(), np.array([len(ring) for ring, _ in rings]),
+            np.array([outer for _, outer in rings]), counts, Fraction(1000), bend, told), told, None))
+
+    def told(self, read: Callable[[], ReadMap]) -> object:
+        """The points and what was reported of them, or that the map is refused."""
+        try:
+            got = read()
+        except MapFault as fault:
+            return str(fault).split(": ", 1)[1]
+        whole, told = got.whole, got.told
+        arrays = [list(one) for one in (whole.xs, whole.ys, whole.ring_at, whole.feature_at)]
+        return arrays, whole.ids, told.features, told.points, len(told.collapsed), told.bent
