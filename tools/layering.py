@@ -11,7 +11,6 @@ from dataclasses import dataclass, field
 from fractions import Fraction
 
 from . import limits, rounding, wkt
-from .maps import box_pairs
 from .rounding import Polygon, Ring
 
 Box = tuple[int, int, int, int]
@@ -37,6 +36,8 @@ class Group:
 
     def overlaps(self) -> int:
         """How many pairs of polygons have boxes with a common part."""
+        from .maps import box_pairs  # takes numpy along, which few runs need
+
         return len(box_pairs.pairs_within([box_of(polygon) for polygon in self.polygons]))
 
 

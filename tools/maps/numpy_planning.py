@@ -4,7 +4,7 @@ from collections.abc import Iterator
 
 import numpy as np
 
-from . import numpy_pairs, planning, spooled
+from . import box_pairs, planning, spooled
 from .cells import halved
 from .numpy_arrays import Numbers, of_array
 from .planning import CELL_POINTS, Job
@@ -59,7 +59,7 @@ def by_parts(a: Numbers, b: Numbers, own_places: Numbers, touching: bool = False
     for at in range(0, len(order), FEATURES_AT_ONCE):
         part = order[at : at + FEATURES_AT_ONCE]
         own, near = np.sort(part), np.flatnonzero(meets(b, frame_of(a[part])))
-        pairs = numpy_pairs.pairs(a[own], b[near], touching)
+        pairs = box_pairs.pairs_of_arrays(a[own], b[near], touching)
         yield part, np.stack([own[pairs[:, 0]], near[pairs[:, 1]]], axis=1)
 
 

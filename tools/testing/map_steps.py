@@ -55,11 +55,14 @@ class Steps(unittest.TestCase):
             a, b = ([self.box(source) for _ in range(20)] for _ in "ab")
             for touching_too, is_pair in ((False, box_pairs.has_area), (True, box_pairs.has_points)):
                 wanted = [(i, j) for i in range(20) for j in range(20) if is_pair(box_pairs.common(a[i], b[j]))]
-                self.assertEqual(box_pairs.pairs(a, b, touching_too), wanted)
+                for few in (0, 400):  # by grids, and one by one
+                    with mock.patch.object(box_pairs, "FEW", few):
+                        self.assertEqual(box_pairs.pairs(a, b, touching_too), wanted)
+                        self.assertEqual(box_pairs.pairs([], b, touching_too), [])
 
     def box(self, source: random.Random) -> tuple[int, int, int, int]:
-        x, y, size = source.randint(-50, 50), source.randint(-50, 50), source.choice([0, 1, 3, 20, 100, 1000])
-        return x, y, x + source.randint(0, size), y + source.randint(0, size)
+        x, y, size = source.randint(-50, 50), source.randint(-50, 50), source.choice([0, 1, 3, 20, 100, 1000, 2**33, 2**53])
+        return x, y, x + source.randint(-1, size), y + source.randint(0, size)
 
     def test_steps_meet_where_they_have_a_common_point(self) -> None:
         for a, b, c, d, wanted in (((0, 0), (4, 4), (4, 0), (0, 4), True), ((0, 0), (4, 4), (4, 4), (9, 0), True),

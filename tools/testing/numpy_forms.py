@@ -8,7 +8,7 @@ from fractions import Fraction
 import numpy as np
 
 from .. import grid
-from ..maps import (box_pairs, drawing_in, geojson_maps, jobs, numpy_drawing, numpy_maps, numpy_pairs, numpy_planning,
+from ..maps import (drawing_in, geojson_maps, jobs, numpy_drawing, numpy_maps, numpy_planning,
                   numpy_windows, planning, rounds, windows)
 from ..maps.drawing_in import Plain
 from ..maps.task_form import ALONE, COMMON, GAPS, Task
@@ -38,18 +38,6 @@ def tasks_of(source: random.Random, kind: str) -> list[Task]:
 
 
 class Forms(unittest.TestCase):
-    def test_pairs_of_boxes(self) -> None:
-        source = random.Random(2)
-        for _ in range(MANY):
-            a, b = ([self.box(source) for _ in range(25)] for _ in "ab")
-            for touching in (False, True):
-                found = numpy_pairs.pairs(np.array(a), np.array(b), touching)
-                self.assertEqual([tuple(pair) for pair in found.tolist()], box_pairs.pairs(a, b, touching))
-
-    def box(self, source: random.Random) -> tuple[int, int, int, int]:
-        x, y, size = source.randint(-50, 50), source.randint(-50, 50), source.choice([0, 1, 3, 20, 1000, 2**33])
-        return x, y, x + source.randint(-1, size), y + source.randint(0, size)
-
     def test_jobs(self) -> None:
         source = random.Random(5)
         for _ in range(MANY):
