@@ -1,4 +1,4 @@
-"""The server of the front: waitress, Debian's package python3-waitress. Who has it not gets an ImportError.
+"""The server of the front: waitress.
 
 Of waitress alone a connection lives as long as something comes or goes now and then, and its own refusals are plain
 text. Here a request and an answer have an end, and what waitress refuses is reported as the front says it.
@@ -16,7 +16,9 @@ from waitress.channel import HTTPChannel
 from waitress.task import ErrorTask
 
 from .front import HEADERS, Front, refusal
-from .serving import ANSWER_SECONDS, LINE_MOST, QUIET_SECONDS, REQUEST_SECONDS, THREADS, connections_most
+from .serving import (
+    ANSWER_SECONDS, LINE_MOST, PORT_MOST, QUIET_SECONDS, REQUEST_SECONDS, THREADS, Unheard, connections_most, told,
+)
 from .web_request import BODY_MOST
 
 
@@ -25,12 +27,12 @@ class Refusal(ErrorTask):
 
     def execute(self) -> None:
         fault = self.request.error
-        told = refusal(fault.code, fault.code, f"{fault.reason}: {fault.body}")
+        answer = refusal(fault.code, fault.code, f"{fault.reason}: {fault.body}")
         self.status = f"{fault.code} {fault.reason}"
-        self.response_headers += [*HEADERS.items(), ("Content-Type", told.kind), ("Connection", "close")]
+        self.response_headers += [*HEADERS.items(), ("Content-Type", answer.kind), ("Connection", "close")]
         self.close_on_finish = True
-        self.content_length = len(told.body)
-        self.write(told.body)
+        self.content_length = len(answer.body)
+        self.write(answer.body)
 
 
 class Channel(HTTPChannel):
@@ -86,3 +88,16 @@ def server_of(front: Front, host: str, port: int, make_ends: Callable[[Any], End
     server.channel_class = Channel
     server.maintenance = make_ends(server)
     return server
+
+
+def serve(front: Front, host: str, port: int) -> None:
+    """Answers questions until it is ended by a signal. It prints its address on standard output when it listens."""
+    host = "127.0.0.1" if host == "localhost" else host
+    if not 0 <= port <= PORT_MOST:
+        raise Unheard(host, port, f"a port is 0 to {PORT_MOST}")
+    try:
+        server = server_of(front, host, port)
+    except (OSError, ValueError) as fault:  # a ValueError for a name that nobody has
+        raise Unheard(host, port, fault) from fault
+    told(host, server.effective_port)
+    server.run()

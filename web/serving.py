@@ -1,11 +1,11 @@
-"""Runs the front by waitress, and says where it listens. by_waitress.py makes the server."""
+"""What the server of the front is given: how many it may answer at once and for how long, and where it listens."""
 
 from __future__ import annotations
 
 import errno
 import resource
 
-from .front import CHANGES_MOST, SLOW_MOST, Front
+from .front import CHANGES_MOST, SLOW_MOST
 
 THREADS = SLOW_MOST + CHANGES_MOST + 4
 CONNECTIONS_MOST = 1000
@@ -45,20 +45,3 @@ def connections_most() -> int:
         allowed = FILES_MOST if most == resource.RLIM_INFINITY else min(FILES_MOST, most)
         resource.setrlimit(resource.RLIMIT_NOFILE, (allowed, most))
     return CONNECTIONS_MOST if allowed >= FILES_MOST or allowed < 0 else max(1, (allowed - FILES_OWN) // 3)
-
-
-def serve(front: Front, host: str, port: int) -> None:
-    """Answers questions until it is ended by a signal. It prints its address on standard output when it listens."""
-    host = "127.0.0.1" if host == "localhost" else host
-    if not 0 <= port <= PORT_MOST:
-        raise Unheard(host, port, f"a port is 0 to {PORT_MOST}")
-    try:
-        from . import by_waitress
-    except ImportError as fault:
-        raise Unheard(host, port, f"{fault}: apt-get install python3-waitress, and run this by /usr/bin/python3") from fault
-    try:
-        server = by_waitress.server_of(front, host, port)
-    except (OSError, ValueError) as fault:  # a ValueError for a name that nobody has
-        raise Unheard(host, port, fault) from fault
-    told(host, server.effective_port)
-    server.run()

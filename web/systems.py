@@ -1,7 +1,7 @@
 """The coordinate systems that the front answers in: longitude and latitude, and the one that a store is in.
 
 A store in a projected system is served as CRS84 where pyproj knows how, and in its own by `crs` and `bbox-crs` (OGC API
-- Features, part 2), its axes in the order that the system itself has. Without pyproj nothing is transformed.
+- Features, part 2), its axes in the order that the system itself has. One that has no name of EPSG is not transformed.
 """
 
 from __future__ import annotations
@@ -46,24 +46,22 @@ class Unplaced(ValueError):
     """A place that has none in another system."""
 
 
-def by_pyproj(crs: str) -> Projection | None:
-    """The projection of a system by pyproj; None where pyproj is not installed."""
-    try:
-        import pyproj  # type: ignore[import]
-    except ImportError:
-        return None
+def by_pyproj(crs: str) -> Projection:
+    """The projection of a system by pyproj."""
+    import pyproj
+
     try:
         transformer = pyproj.Transformer.from_crs(crs, WGS84, always_xy=True)
         axes = [axis.direction for axis in pyproj.CRS(crs).axis_info]
     except pyproj.exceptions.CRSError as fault:
-        raise Unprojected(f"{crs}: {fault}") from fault
+        raise Unprojected(f"{crs}: {fault}; --as-stored sends coordinates as they are") from fault
     back = pyproj.enums.TransformDirection.INVERSE
 
     def transform(xs: Places, ys: Places, **words: Any) -> tuple[Places, Places]:
-        found: tuple[Places, Places] = transformer.transform([*xs], [*ys], **words)
-        if not all(map(math.isfinite, (*found[0], *found[1]))):
+        there, up = transformer.transform([*xs], [*ys], **words)
+        if not all(map(math.isfinite, (*there, *up))):
             raise Unplaced("a place lies out of what the projection covers")
-        return found
+        return there, up
 
     def inverse(xs: Places, ys: Places) -> tuple[Places, Places]:
         """Some ways back lead a few millimetres off. So a place is moved until the way there leads where it came from."""

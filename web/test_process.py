@@ -20,13 +20,13 @@ from .commands import overlay_web
 from .stressing import asked
 
 
-def started(*words: str | pathlib.Path) -> subprocess.Popen[str]:
-    """A front, with a free port unless words name one. An interrupt reaches it as from a terminal, also where the tests run
-    in a shell that ignores interrupts."""
+def started(*words: str | pathlib.Path, lacking: str = "os.no_module") -> subprocess.Popen[str]:
+    """A front, with a free port unless words name one, in a Python that lacks a module. An interrupt reaches it as from a
+    terminal, also where the tests run in a shell that ignores interrupts."""
     code = (
         "import signal, sys; signal.signal(signal.SIGINT, signal.default_int_handler); "
-        "sys.argv[0] = 'overlay_web.py'; "
-        "from web.commands import overlay_web; sys.exit(overlay_web.main(sys.argv[1:]))"
+        f"sys.argv[0] = 'overlay_web.py'; sys.modules['{lacking}'] = None; "
+        "from tools import ending; ending.run_module('web.commands.overlay_web')"
     )
     usual = {"--program": testing.PROGRAM, "--port": "0"}
     missing = [word for option, value in usual.items() if option not in words for word in (option, value)]
@@ -167,6 +167,14 @@ class Processes(unittest.TestCase):
         for words in (["--store", self.store], ["--writable"]):
             with running(*words, "--program", absent) as (run, _):
                 self.assertEqual(self.ended(run), (1, f"{absent}: No such file or directory\n"))
+
+    def test_a_package_that_is_missing_is_named_with_the_line_to_type(self) -> None:
+        scale = self.folder / "projected.json"
+        scale.write_text('{"factor": 10, "crs": "EPSG:25832"}')
+        for module in ("waitress", "pyproj"):
+            told = f"python3-{module} is missing: apt-get install python3-{module}, and run this by /usr/bin/python3"
+            run = started("--store", self.store, "--scale", scale, lacking=module)
+            self.assertEqual(self.ended(run), (1, f"overlay_web.py: {told}\n"))
 
     def test_addresses_at_which_nobody_can_listen(self) -> None:
         with socket.create_server(("127.0.0.1", 0)) as other:

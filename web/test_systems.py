@@ -2,7 +2,6 @@
 
 from __future__ import annotations
 
-import importlib.util
 import unittest
 from typing import Any
 
@@ -192,10 +191,6 @@ class OfAnUnknownSystem(FrontCase):
 
 
 class ByPyproj(unittest.TestCase):
-    def setUp(self) -> None:
-        if importlib.util.find_spec("pyproj") is None:
-            self.skipTest("pyproj is not installed: apt-get install python3-pyproj")
-
     def test_places_are_those_of_gdal(self) -> None:
         """By GDAL 3.6.2: gdaltransform -s_srs .. -t_srs EPSG:4326, x and y of the system in the order east, north."""
         for crs, place, wanted in (
@@ -204,7 +199,6 @@ class ByPyproj(unittest.TestCase):
             ("EPSG:25832", (500000.0, 5500000.0), (9.0, 49.65254292355683)),
         ):
             projection = by_pyproj(crs)
-            assert projection is not None
             [x], [y] = projection.forward([place[0]], [place[1]])
             self.assertAlmostEqual(x, wanted[0], 9)
             self.assertAlmostEqual(y, wanted[1], 9)

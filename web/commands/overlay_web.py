@@ -37,7 +37,7 @@ from ..layer_store import JOINING, LayerStore, number_in_file
 from ..map_scale import MapScale
 from ..rescue import Rescue
 from ..scratch import Scratch
-from ..serving import Unheard, serve
+from ..serving import Unheard
 from ..systems import Systems, Unprojected, by_pyproj
 
 PATIENCE = 300.0
@@ -74,7 +74,7 @@ def words_of(arguments: Sequence[str]) -> argparse.Namespace:
         help="the features of the map that its layers hold (default: NAME.features.json beside the store, if it is there)",
     )
     parser.add_argument("--no-features", action="store_true", help="serve layers alone")
-    parser.add_argument("--as-stored", action="store_true", help="transform nothing, also where pyproj is installed")
+    parser.add_argument("--as-stored", action="store_true", help="transform nothing")
     parser.add_argument("--parts", action="store_true", help="show the layers that are parts of features as well")
     parser.add_argument("--writable", action="store_true", help="let the page and PUT, DELETE and POST change layers")
     parser.add_argument("--host", default="127.0.0.1", help="the address to listen on (default 127.0.0.1)")
@@ -112,7 +112,7 @@ def features_of(words: argparse.Namespace, store: LayerStore) -> FeatureStore | 
 
 
 def systems_of(words: argparse.Namespace, scale: MapScale) -> Systems:
-    """The systems that a store is served in: a projected one by pyproj as CRS84 too."""
+    """The systems that a store is served in: a projected one as CRS84 too."""
     projected = scale.crs is not None and not scale.is_geographic() and not words.as_stored
     return Systems(scale, by_pyproj(str(scale.crs)) if projected else None)
 
@@ -187,6 +187,8 @@ def watch_sessions(_: Server, __: Scratch, store: LayerStore, ending: Ending) ->
 
 def main(arguments: Sequence[str]) -> int:
     words, ending = words_of(arguments), Ending()
+    from ..by_waitress import serve
+
     for number in (signal.SIGTERM, signal.SIGALRM):
         signal.signal(number, ending.on_signal)
     try:
