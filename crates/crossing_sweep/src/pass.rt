@@ -17,7 +17,7 @@ use crate::row::Row;
 use crate::search::Search;
 use crate::sorting::sort;
 use crate::starts::starts;
-use crate::values::first_values;
+use crate::values::Values;
 use crate::wish::{Always, Wish, is_portion};
 use arrange::TileInput;
 use exact_point::PointName;
@@ -172,10 +172,10 @@ impl<'a> Pass<'a> {
             input,
             mut progress,
         } = self;
-        let values = first_values(alloc, input)?;
+        let mut values = Values::new(alloc, input)?;
         let mut stay = Vec::new(alloc);
         while is_under_way(&progress, cap) {
-            go_on(input, &values, &mut stay, &mut progress)?;
+            go_on(input, &mut values, &mut stay, &mut progress)?;
             if is_portion(progress.nodes) && !wish.is_wanted() {
                 return Ok(None);
             }
@@ -218,12 +218,13 @@ fn is_under_way(progress: &Progress, cap: usize) -> bool
 /// go on.
 fn go_on(
     input: &PassInput,
-    values: &[bool],
+    values: &mut Values,
     stay: &mut Vec<Member>,
     progress: &mut Progress,
 ) -> Result<(), AllocError>
     requires passing { IsPassing input.now progress.old }
-    requires known { AreValues input.now.steps values.now }
+    requires known { AreValues input.now.steps values.old }
+    ensures known { AreValues input.now.steps values.new }
     ensures passing { OnOk result (IsPassing input.now progress.new) }
     ensures listed { OnOk result (progress.new.search.listed ≡ progress.old.search.listed) }
     ensures more { OnOk result (¬ (length progress.old.search.ahead ≡ 0)

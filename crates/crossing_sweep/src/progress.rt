@@ -16,6 +16,7 @@ use crate::ranked_place::RankedPlace;
 use crate::row::{Row, close, go_through, label, mask_over};
 use crate::search::Search;
 use crate::start::Start;
+use crate::values::Values;
 use std::alloc::AllocError;
 
 /// What a pass over a strip has when it has come to some place.
@@ -41,13 +42,14 @@ impl Progress {
     pub(crate) fn step(
         &mut self,
         input: &PassInput,
-        values: &[bool],
+        values: &mut Values,
         stay: &mut Vec<Member>,
         node: &RankedPlace,
         begin: usize,
     ) -> Result<(), AllocError>
         requires few { self.old.entered ≤ length self.old.starts.items }
-        requires known { AreValues input.now.steps values.now }
+        requires known { AreValues input.now.steps values.old }
+        ensures known { AreValues input.now.steps values.new }
         ensures few { OnOk result (self.new.entered ≤ length self.new.starts.items) }
         ensures stepped { OnOk result (is_in_strip input.now.strip (place node.now.at) ≡ true →
             IsStepped input.now node.now.at begin self.old.status.items self.new.status.items

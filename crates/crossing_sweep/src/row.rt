@@ -5,7 +5,7 @@ ghost use Rattle.crossing_sweep.specs.Values.{AreValues};
 
 use crate::member::Member;
 use crate::pass_input::PassInput;
-use crate::values::value_over;
+use crate::values::Values;
 use plane_base::Seg;
 use std::alloc::AllocError;
 
@@ -56,17 +56,18 @@ pub(crate) fn mask_over(members: &[Member]) -> u32
 /// Begins the pieces of a bundle at a place: under each is what holds over the one below it.
 pub(crate) fn label(
     input: &PassInput,
-    values: &[bool],
+    values: &mut Values,
     stay: &mut [Member],
     under: u32,
     begin: usize,
 )
-    requires { AreValues input.now.steps values.now }
+    requires { AreValues input.now.steps values.old }
+    ensures known { AreValues input.now.steps values.new }
     ensures units { map (λ m. m.unit) stay.new ≡ map (λ m. m.unit) stay.old }
     ensures begun { AreBegun input.now.steps under begin true stay.new }
 {
     let mut mask = under;
-    let mut value = value_over(input, values, under);
+    let mut value = values.over(input, under);
     for member in stay.iter_mut() {
         value = begin_over(input, values, member, mask, value, begin);
         mask = member.over;
@@ -76,14 +77,15 @@ pub(crate) fn label(
 /// Begins anew the piece of a member that goes on alone, in its place, and lists it.
 pub(crate) fn go_through(
     input: &PassInput,
-    values: &[bool],
+    values: &mut Values,
     status: &mut Vec<Member>,
     low: usize,
     stay: &mut Vec<Member>,
     begin: usize,
 ) -> Result<(), AllocError>
-    requires known { AreValues input.now.steps values.now }
+    requires known { AreValues input.now.steps values.old }
     requires there { low < length status.old.items }
+    ensures known { AreValues input.now.steps values.new }
     ensures put { OnOk result
         (status.new.items ≡ take low status.old.items ++ stay.new.items ++ drop (low + 1) status.old.items) }
     ensures unit { OnOk result
@@ -92,7 +94,7 @@ pub(crate) fn go_through(
         (AreBegun input.now.steps (highest_mask 0 (take low status.old.items)) begin true stay.new.items) }
 {
     let under = mask_over(&status[..low]);
-    let value = value_over(input, values, under);
+    let value = values.over(input, under);
     let mut member = status[low];
     begin_over(input, values, &mut member, under, value, begin);
     status[low] = member;
@@ -105,20 +107,21 @@ pub(crate) fn go_through(
 /// says the value over the member.
 fn begin_over(
     input: &PassInput,
-    values: &[bool],
+    values: &mut Values,
     member: &mut Member,
     mask: u32,
     value: bool,
     begin: usize,
 ) -> bool
-    requires values { AreValues input.now.steps values.now }
+    requires values { AreValues input.now.steps values.old }
     requires known { HasValue input.now.steps mask value }
+    ensures known { AreValues input.now.steps values.new }
     ensures unit { member.new.unit ≡ member.old.unit }
     ensures begun { IsBegun input.now.steps mask begin true member.new }
     ensures value { HasValue input.now.steps member.new.over result }
 {
     let over = mask ^ member.unit.mask;
-    let next = value_over(input, values, over);
+    let next = values.over(input, over);
     member.begin = begin;
     member.over = over;
     member.value = next;

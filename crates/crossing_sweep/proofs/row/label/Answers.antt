@@ -22,4 +22,5 @@ loop-member-preserved c =
           (begun_more steps c.args.begin true c.args.under (take i s) new c.loop-member.invariant.begun one);
       mask = sym (ap (λ (ms : List Member). mask_over c.args.under ms) more ∙ mask_over_more c.args.under (take i s) new);
       value = c.begin_over-value.ensures.value;
+      known = c.begin_over-value.ensures.known;
     }

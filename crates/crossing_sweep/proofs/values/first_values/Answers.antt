@@ -2,7 +2,7 @@ use Rattle.std.proofs.Common.{◌≡◌, ℕ, ◌+◌, Bool, List, [], ◌∷◌
 use Rattle.std.proofs.lemmas.List.{length_push}
 use Rattle.overlay_terms.specs.Trees.{Steps}
 use Rattle.crossing_sweep.specs.Rows.{HasValue}
-use Rattle.crossing_sweep.specs.Values.{AreValues}
+use Rattle.crossing_sweep.specs.Values.{AreFirst}
 use Rattle.crossing_sweep.proofs.ValueLemmas.{one_more}
 use Rattle.crossing_sweep.proofs.values.first_values.Goals as goal
 
@@ -16,5 +16,5 @@ loop-mask-preserved c =
     let items : c.push.new.self.items ≡ old ++ next ∷ [] = c.in_ok-push.ensures.items in
     record {
       count = ap length items ∙ length_push old next ∙ ap (λ n. n + 1) c.loop-mask.invariant.count;
-      known = subst (AreValues steps) (sym items) (one_more steps old next c.loop-mask.invariant.known last);
+      known = subst (AreFirst steps) (sym items) (one_more steps old next c.loop-mask.invariant.known last);
     }

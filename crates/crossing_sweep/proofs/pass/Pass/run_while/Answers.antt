@@ -1,6 +1,5 @@
-use Rattle.std.proofs.Common.{◌≡◌, ◌+◌, ◌≤◌, length, sym, subst, ◌∙◌, rules, arith}
+use Rattle.std.proofs.Common.{◌≡◌, ◌+◌, ◌≤◌, length, ◌∙◌, rules, arith}
 use Rattle.crossing_sweep.specs.Rows.{count_settled}
-use Rattle.crossing_sweep.specs.Values.{AreValues}
 use Rattle.crossing_sweep.specs.declared.progress.Progress.{Progress}
 use Rattle.crossing_sweep.proofs.pass.Pass.run_while.Goals as goal
 
@@ -12,6 +11,7 @@ loop-values-preserved g c =
     let settled : count_settled after.nodes after.rows.items ≡ length before.rows.items = c.in_ok-go_on.ensures.settled way.0 in
     record {
       passing = c.in_ok-go_on.ensures.passing;
+      known = c.go_on.ensures.known;
       listed = c.in_ok-go_on.ensures.listed ∙ c.loop-values.invariant.listed;
       settled = λ _. omega (arith, settled, way.1);
     }
@@ -25,4 +25,4 @@ loop-values-smaller g c =
     omega (arith, more, c.in_ok-go_on.ensures.few)
 
 pub go_on-requires-clause-known : goal.go_on-requires-clause-known
-go_on-requires-clause-known g c = subst (AreValues c.self.inside.input.now.steps) (sym c.deref.ensures.value) c.in_ok-values.ensures
+go_on-requires-clause-known g c = c.loop-values.invariant.known
