@@ -1,0 +1,12 @@
+//! Directed pieces of a boundary put together to closed rings, by the numbers of their ends.
+#![tactic(auto)]
+
+mod fault;
+mod joining;
+mod piece;
+mod ring;
+
+pub use fault::JoinFault;
+pub use joining::join;
+pub use piece::NumberedPiece;
+pub use ring::PieceRing;

@@ -1,0 +1,9 @@
+//! A directed piece by the numbers of its ends.
+
+/// A piece from one numbered place to another. Whoever numbers places gives two the same number exactly where they are
+/// the same.
+#[derive(Clone, Copy, Debug)]
+pub struct NumberedPiece {
+    pub from: usize,
+    pub to: usize,
+}
