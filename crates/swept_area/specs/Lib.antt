@@ -1,0 +1,3 @@
+pub mod Swept
+pub mod SweptLaws
+pub mod Pieces
