@@ -11,7 +11,7 @@ from decimal import Decimal
 from typing import Any
 
 from . import limits, wkt
-from .replies import reply_length
+from .overlay_client import lines_after
 
 COLUMNS = limits.COLUMNS
 EXPONENT_MAX = 100  # a number with a greater one is no coordinate
@@ -93,7 +93,7 @@ def reply_lines(replies: list[str], at: int) -> list[str]:
     """The lines of the reply that begins at a line."""
     if at >= len(replies):
         raise Unusable("the script has more lines with a reply than there are replies")
-    end = at + reply_length(replies[at])
+    end = at + 1 + lines_after(replies[at])
     if end > len(replies):
         raise Unusable(f"the reply in line {at + 1} is cut off")
     return replies[at:end]

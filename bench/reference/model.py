@@ -28,7 +28,7 @@ from tools.limits import (
     BATCH_MAX, COLUMN_WIDTH, COLUMNS, COORDINATE_MAX, GRID_MAX, LAYERS_MAX, LINE_MAX, NAME_MAX, PIECES_MAX, STEP_MAX,
     STEPS_MAX, TOKENS_MAX, WEIGHT_MAX,
 )
-from tools.replies import reply_length
+from tools.overlay_client import lines_after
 
 TEXTS = {
     1: "wkt syntax at #", 2: "not whole at #", 3: "coordinate out of range at #", 4: "ring # open", 5: "ring # short",
@@ -829,7 +829,7 @@ def split_replies(lines: list[str]) -> list[list[str]]:
     replies: list[list[str]] = []
     at = 0
     while at < len(lines):
-        replies.append(lines[at : at + reply_length(lines[at])])
+        replies.append(lines[at : at + 1 + lines_after(lines[at])])
         at += len(replies[-1])
     return replies
 

@@ -30,7 +30,7 @@ from bench.counting import Kept, Words, counted
 from bench.reference import judging, model, read_store
 from bench.trials import stress
 from tools.limits import COLUMNS
-from tools.replies import reply_length
+from tools.overlay_client import lines_after
 
 SESSIONS = 4
 PATIENCE = 60
@@ -300,7 +300,7 @@ class Channel:
         lines = whole.decode().split("\n") if whole else []
         at = 0
         while at < len(lines):
-            end = at + reply_length(lines[at])
+            end = at + 1 + lines_after(lines[at])
             if end > len(lines):
                 break
             found.append(lines[at:end])
