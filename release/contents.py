@@ -34,9 +34,9 @@ UNIT = "overlay-web@.service"
 # Each command by what it runs.
 COMMANDS = {
     "overlay": "overlay", "overlay-dump-store": "tools/dump_store.py", "overlay-maps": "tools/overlay_maps.py",
-    "overlay-refused": "tools/refused.py", "overlay-to-geojson": "tools/to_geojson.py",
-    "overlay-to-rings": "tools/to_rings.py", "overlay-to-script": "tools/to_script.py",
-    "overlay-to-svg": "tools/to_svg.py", "overlay-web": "web/overlay_web.py", "overlay-which": "tools/which.py",
+    "overlay-to-geojson": "tools/to_geojson.py", "overlay-to-rings": "tools/to_rings.py",
+    "overlay-to-script": "tools/to_script.py", "overlay-to-svg": "tools/to_svg.py", "overlay-web": "web/overlay_web.py",
+    "overlay-which": "tools/which.py",
 }
 NOT_PACKED = re.compile(r"(?:tools|web)/(?:commands/)?tests\.py|web/(?:test_\w+|testing|stressing)\.py")
 SOURCES = ("overlay", "tools/*.py", "tools/maps/*.py", "tools/commands/*.py", "web/*.py", "web/commands/*.py", "web/page/*",

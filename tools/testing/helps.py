@@ -16,7 +16,7 @@ from .common import COMMANDS, SECONDS, TOOLS, TOP
 class Helps(unittest.TestCase):
     def test_each_command_says_what_it_does(self) -> None:
         commands = [TOP / "overlay", *COMMANDS]
-        self.assertEqual(len(commands), 10)
+        self.assertEqual(len(commands), 9)
         for file in commands:
             done = subprocess.run([sys.executable, file, "--help"], capture_output=True, text=True, check=False, timeout=SECONDS)
             self.assertEqual((done.returncode, done.stderr), (0, ""), file.name)

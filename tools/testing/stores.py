@@ -9,7 +9,7 @@ import xml.etree.ElementTree
 from types import ModuleType
 
 from .. import asking, sessions
-from ..commands import dump_store, refused, to_geojson, to_rings, to_script, to_svg, which
+from ..commands import dump_store, to_geojson, to_rings, to_script, to_svg, which
 from .common import SQUARE, InFolder, WithProgram, content, outcome
 
 # T without what is left of x = 1 is T in two thirds: 4/3 of an area, with corners at 1/3 and 5/3.
@@ -146,8 +146,6 @@ class OverScripts(InFolder):
     def test_a_file_that_is_not_there(self) -> None:
         script, absent = self.file("a.txt", TRIANGLE), self.folder / "absent"
         told = f"{absent}: No such file or directory\n"
-        for words in ([absent, script], [script, absent]):
-            self.assertEqual(outcome(refused, *words), (1, "", told))
         for words in ([absent], [script, "--replies", absent], [script, "--program", absent]):
             self.assertEqual(outcome(to_rings, *words), (1, "", told))
         self.assertEqual(outcome(to_script, absent), (2, "", told.replace(": No", ": not read: No")))
@@ -249,10 +247,6 @@ class OverStores(WithProgram):
         self.assertEqual(outcome(to_script, store),
                          (2, "", f"{store}: a store, and no map; its layers as a script: dump_store.py {store}, as "
                                  f"GeoJSON: to_geojson.py --store {store}\n"))
-        self.assertEqual(outcome(refused, store, script), (1, "", f"{store}: a store, and no script; its layers as a "
-                                                           f"script: dump_store.py {store}\n"))
-        self.assertEqual(outcome(refused, script, store),
-                         (1, "", f"{store}: a store, and no replies; say what the program wrote\n"))
         self.assertEqual(outcome(to_rings, script, "--replies", store),
                          (1, "", f"{store}: a store, and no replies; say --store {store}\n"))
 
