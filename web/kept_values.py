@@ -4,11 +4,12 @@ from __future__ import annotations
 
 import contextlib
 import threading
-from collections import OrderedDict
-from collections.abc import Callable, Hashable
+from collections.abc import Callable, Hashable, MutableMapping
 from concurrent.futures import Future
 from contextlib import AbstractContextManager
 from typing import Generic, TypeVar
+
+from cachetools import LRUCache
 
 K = TypeVar("K", bound=Hashable)
 V = TypeVar("V")
@@ -21,25 +22,19 @@ class Kept(Generic[K, V]):
     """
 
     def __init__(self, most: int, weigh: Callable[[V], int]) -> None:
-        self._most, self._weigh = most, weigh
         self._lock = threading.Lock()
-        self._made: OrderedDict[K, V] = OrderedDict()
+        # One that is heavier than most is kept alone.
+        self._made: MutableMapping[K, V] = LRUCache(most, lambda value: min(weigh(value), most))
         self._coming: dict[K, Future[V]] = {}
 
     def get(self, key: K) -> V | None:
         """The value if it is there."""
         with self._lock:
-            if key in self._made:
-                self._made.move_to_end(key)
             return self._made.get(key)
 
     def put(self, key: K, value: V) -> None:
         with self._lock:
             self._made[key] = value
-            self._made.move_to_end(key)
-            weight = sum(map(self._weigh, self._made.values()))
-            while weight > self._most and len(self._made) > 1:
-                weight -= self._weigh(self._made.popitem(last=False)[1])
 
     def made(self, key: K, make: Callable[[], V], timeout: float, places: AbstractContextManager[None] | None = None) -> V:
         """The value, by make where it is not there; another thread that makes it is waited for. places: where it is made

@@ -2,7 +2,7 @@
 
     python3 web/tests.py crates/overlay_live/out/overlay_live [NAME]..
 
-They need no package. A NAME is a test, or a class of them; the last line counts what passed.
+A NAME is a test, or a class of them; the last line counts what passed.
 """
 
 from __future__ import annotations
@@ -13,12 +13,12 @@ import unittest
 
 from tools.testing.common import status_of
 from .. import (
-    test_client, test_features, test_front, test_openapi, test_process, test_refusals, test_rescue, test_rounding,
+    test_client, test_features, test_front, test_kept_values, test_openapi, test_process, test_refusals, test_rescue, test_rounding,
     test_serving, test_shapes, test_stress, test_systems, testing,
 )
 
 MODULES = (
-    test_shapes, test_client, test_front, test_refusals, test_features, test_openapi, test_systems, test_rounding, test_stress,
+    test_shapes, test_kept_values, test_client, test_front, test_refusals, test_features, test_openapi, test_systems, test_rounding, test_stress,
     test_rescue, test_serving, test_process,
 )
 
