@@ -14,6 +14,7 @@ from . import asking, features, scale as scales, sessions
 
 
 NAMES_BEGIN = b"store,number,name,"
+SCRIPTS_BEGIN = b"PUT "
 ENDS = (".scale.json", ".features.json", ".names.csv")
 
 
@@ -70,15 +71,15 @@ def is_own(path: pathlib.Path) -> bool:
             return bool(scales.read(path)) and b'"factor"' in path.read_bytes()
         if path.name.endswith(".features.json"):
             return bool(features.read(path))
-        return path.read_bytes().startswith(NAMES_BEGIN)
+        return path.read_bytes().startswith(NAMES_BEGIN if path.name.endswith(".names.csv") else SCRIPTS_BEGIN)
     except (scales.ScaleFault, features.FeaturesFault):
         return False
 
 
-def check(output: pathlib.Path, beside: Mapping[pathlib.Path, bytes]) -> None:
-    """Refuses to write over files beside a script that are not of the tools, or that would say something else of a store
-    that is there under its name."""
-    for path in beside:
+def check(output: pathlib.Path, beside: Mapping[pathlib.Path, bytes], scripts: Iterable[pathlib.Path] = ()) -> None:
+    """Refuses to write over files beside an output that are not of the tools, or that would say something else of a store
+    that is there under its name. scripts: those of an output that needs several stores."""
+    for path in (*beside, *(script for script in scripts if script != output)):
         if path.is_file() and not is_own(path):
             raise StoreStands(f"{path} stands, and is no file of this tool's: it was not named, and is not written over; take "
                               "another name, or move it away")

@@ -406,7 +406,7 @@ def check_output(words: argparse.Namespace, scripts: list[pathlib.Path], files: 
     try:
         for script in scripts:
             keeping.check_apart(script)
-        keeping.check(words.output, files.texts)
+        keeping.check(words.output, files.texts, scripts)
     except keeping.StoreStands as fault:
         raise Stopped(f"--output: {fault}") from fault
 

@@ -28,6 +28,21 @@ class OwnFiles(InFolder):
         for _ in range(2):  # what it has written itself it replaces
             self.assertEqual(self.ran("to_script.py", source, "--coded", "--output", self.folder / "out.txt")[0], 0)
 
+    def test_scripts_of_several_stores_that_are_the_users(self) -> None:
+        """NAME.1.txt and so on are not named by --output NAME.txt."""
+        rings = (", ".join(f"{100 * at + x} {y}" for x, y in [*((x, x % 2) for x in range(41)), (20, 90), (0, 0)])
+                 for at in range(900))
+        source = self.file("many.wkt", "".join(f"POLYGON (({ring}))\n" for ring in rings))
+        words = "to_script.py", source, "--coded", "--split", "--factor", 1, "--output", self.folder / "out.txt"
+        mine = self.file("out.2.txt", MINE)
+        status, told = self.ran(*words)
+        self.assertEqual((status, mine.read_text(), len(list(self.folder.iterdir()))), (2, MINE, 2), told)
+        self.assertIn(f"--output: {mine} stands, and is no file of this tool's", told)
+        mine.unlink()
+        for _ in range(2):
+            self.assertEqual(self.ran(*words)[0], 0)
+        self.assertTrue(mine.read_text().startswith("PUT "))
+
     def test_what_a_kill_leaves_goes_at_the_next_start(self) -> None:
         source = self.file("plan.wkt", SQUARE)
         writer = ("import pathlib, sys, time\nfrom tools import writing\n"
