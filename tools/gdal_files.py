@@ -150,15 +150,32 @@ def as_geojson(path: pathlib.Path, layer: str | None = None) -> str:
         file = gdal.OpenEx(name, gdal.OF_VECTOR, open_options=options, allowed_drivers=drivers)
         found = layer_of(file, layer)
         written = translated(gdal, file, "map.geojson", [*words, found.GetName()])
+        value = read_value(written, path)
+        found.ResetReading()
+        for own, feature in zip(value["features"], found, strict=True):
+            if own["geometry"] and own["geometry"]["type"] in ("Polygon", "MultiPolygon"):
+                set_doubles(own["geometry"]["coordinates"], feature.GetGeometryRef().GetLinearGeometry())
         # A table has no place for a system.
         system = None if drivers == TABLES else coordinate_systems.of_layer(file, found)
-    try:
-        value = json.loads(written)
-    except UnicodeDecodeError as fault:
-        raise GdalFault(not_utf8(path)) from fault
     if system:
         value["crs"] = {"type": "name", "properties": {"name": system}}
     return json.dumps(value)
+
+
+def read_value(written: bytes, path: pathlib.Path) -> Any:
+    """The GeoJSON that GDAL has written of a file."""
+    try:
+        return json.loads(written)
+    except UnicodeDecodeError as fault:
+        raise GdalFault(not_utf8(path)) from fault
+
+
+def set_doubles(coordinates: Any, shape: Any) -> None:
+    """Has the coordinates of rings be the doubles that a file has: GDAL writes 618.3149999999999 as 618.315."""
+    for place, part in enumerate(coordinates if shape.GetGeometryCount() else ()):
+        set_doubles(part, shape.GetGeometryRef(place))
+    for place, point in zip(coordinates, (shape.GetPoints() or ()) if not shape.GetGeometryCount() else ()):
+        place[:2] = point[:2]
 
 
 def not_utf8(path: pathlib.Path) -> str:

@@ -75,6 +75,12 @@ class OnePolygon(Case):
                 count = 10 if name == "long" and file.suffix != ".gpkg" else 0
                 self.assertEqual(f", {count} coordinates of more digits than a double has" in errors, count > 0, errors)
 
+    def test_a_double_beside_a_half_is_that_double_of_a_file_too(self) -> None:
+        corners = (("61.31499999999999", "0"), ("70.005", "0"), ("70.005", "9"), ("61.31499999999999", "9"))
+        source = self.file("near.geojson", feature(corners))
+        for file in (source, self.package(source)):
+            self.assertIn("((6131 0, 7001 0, 7001 900, 6131 900, 6131 0))", self.script(file)[0], file.name)
+
     def test_by_overlay_maps(self) -> None:
         for name, corners in GIVEN.items():
             text = self.file(f"{name}.geojson", feature(corners))
