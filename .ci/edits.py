@@ -1,7 +1,9 @@
-"""Edits of a crate's texts: wrong bodies, which the prover has to refuse, and what stands beside them, which it must not.
+"""Edits of a crate's texts: wrong bodies, which the prover has to refuse, and what stands beside
+them, which it must not.
 
-Those of must-fail/ the gate tries; each is a file there, NAME.edit, in the form of `rt must-fail`. The others stand in the
-crate's file wrong-bodies.edits, and so does what stands beside any wrong body. An empty line ends each of its entries:
+Those of must-fail/ the gate tries; each is a file there, NAME.edit, in the form of `rt must-fail`. The others stand in
+the crate's file wrong-bodies.edits, and so does what stands beside any wrong body. An empty line ends each of its
+entries:
 
     tried 0d5e..                        the digest of what was tried last, all wrong bodies of this file (`digest`)
 
@@ -22,9 +24,10 @@ crate's file wrong-bodies.edits, and so does what stands beside any wrong body. 
     control
     ..
 
-A control leaves what its function means as it was, in a shape like that of the wrong body: one that falls at a proof that
-was written for the text as it is may fall by its shape alone, and its control shows it. A refutation changes the clause at
-which its wrong body falls into what that does instead, which contradicts the clause: the wrong body is proved to be wrong.
+A control leaves what its function means as it was, in a shape like that of the wrong body: one that falls at a proof
+that was written for the text as it is may fall by its shape alone, and its control shows it. A refutation changes the
+clause at which its wrong body falls into what that does instead, which contradicts the clause: the wrong body is proved
+to be wrong.
 """
 
 from __future__ import annotations
@@ -89,7 +92,8 @@ class Pair(NamedTuple):
 
 @dataclasses.dataclass(frozen=True)
 class Edit:
-    """A wrong body, or what stands beside one, as a control or a refutation: its crate, its name, and its pairs of lines."""
+    """A wrong body, or what stands beside one, as a control or a refutation: its crate, its name,
+    and its pairs of lines."""
 
     crate: str
     name: str
@@ -112,7 +116,8 @@ class Edit:
 
 
 class Entry(NamedTuple):
-    """What a crate's file has under a name: the pairs of the wrong body, none where must-fail/ has it, and those beside it."""
+    """What a crate's file has under a name: the pairs of the wrong body, none where must-fail/ has
+    it, and those beside it."""
 
     name: str
     body: tuple[Pair, ...]
@@ -151,7 +156,8 @@ def pairs_of(said: str | None) -> tuple[Pair, ...]:
 
 
 def read(home: pathlib.Path) -> tuple[str, list[Entry]]:
-    """What the file of a crate has: the digest of what was tried last, if there is one, and the entries in their order."""
+    """What the file of a crate has: the digest of what was tried last, if there is one, and the
+    entries in their order."""
     file = home / FILE
     if not file.exists():
         return "", []
@@ -191,8 +197,8 @@ def beside(top: pathlib.Path, given: list[Edit], kind: str) -> list[Edit]:
 
 
 def strangers(top: pathlib.Path, names: list[str]) -> list[str]:
-    """What stands in must-fail/ and is none to `rt must-fail`; edits elsewhere; names that stand twice, and in must-fail/
-    too; those beside nothing.
+    """What stands in must-fail/ and is none to `rt must-fail`; edits elsewhere; names that stand twice, and in
+    must-fail/ too; those beside nothing.
     """
     found: list[str] = []
     for home in (top / "crates" / name for name in names):
@@ -222,8 +228,8 @@ def digest(home: pathlib.Path) -> str:
 
 
 def age(top: pathlib.Path, crate: str) -> str:
-    """What is to be reported of when the wrong bodies of a crate's file were tried last: nothing where it has none, or where
-    neither they nor its texts have changed since.
+    """What is to be reported of when the wrong bodies of a crate's file were tried last: nothing where it has none, or
+    where neither they nor its texts have changed since.
     """
     home = top / "crates" / crate
     tried, entries = read(home)

@@ -1,10 +1,10 @@
 """The functions of a crate: where each stands in its sources, and the name by which the prover calls it.
 
-Sources are laid out by `rt fmt`, so a function begins at the margin or four columns in, and ends with a brace there or on
-its own line. The prover names one by its module, its type and itself: `bounds::Bounds::with`; one of an `impl` for a trait
-by both names in one, `point::PtOrd::cmp`; one of a type by the module where the type is, wherever its `impl` stands; but
-one of an `impl` for some types alone by the module where that stands, and with what the type is given there:
-`fault_disk::PlannedDisk+D+FaultPlan::new`.
+Sources are laid out by `rt fmt`, so a function begins at the margin or four columns in, and ends with a brace there or
+on its own line. The prover names one by its module, its type and itself: `bounds::Bounds::with`; one of an `impl` for a
+trait by both names in one, `point::PtOrd::cmp`; one of a type by the module where the type is, wherever its `impl`
+stands; but one of an `impl` for some types alone by the module where that stands, and with what the type is given
+there: `fault_disk::PlannedDisk+D+FaultPlan::new`.
 """
 
 from __future__ import annotations
@@ -24,8 +24,8 @@ TYPE = re.compile(r"^(?:pub(?:\([^)]*\))? )?(?:struct|enum|union) (?P<name>\w+)"
 class Function:
     """A function: its name, its file, and the lines, from 0, of its head, of the brace of its body and of its end.
 
-    It has no proof of its own where a trait declares it; the `drop` of a type, and a function of two `impl` blocks, have
-    names of the prover's.
+    It has no proof of its own where a trait declares it; the `drop` of a type, and a function of two `impl` blocks,
+    have names of the prover's.
     """
 
     name: str
@@ -87,7 +87,8 @@ def owner(line: str, path: str, homes: dict[str, list[str]]) -> str | None:
 
 
 def ends(lines: list[str], first: int, indent: str) -> tuple[int, int]:
-    """The line that opens the body of the function that begins on a line, and its last one; no body: the last one twice."""
+    """The line that opens the body of the function that begins on a line, and its last one; no
+    body: the last one twice."""
     body = last = len(lines) - 1
     for at in range(first, len(lines)):
         is_level = lines[at].startswith(indent) and not lines[at].startswith(f"{indent} ")

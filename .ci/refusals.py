@@ -1,11 +1,11 @@
 """What a check says of the functions of a crate: which are refused, and at which goal.
 
-A wrong body is refused for its meaning where a goal has no proof: a clause, an invariant, a condition of what is called.
-`Shown to be false` stands where the prover found and checked values at which the goal fails, so that no proof closes it;
-`at its written proof` where there was one that was written for the text as it is: whether the goal could be proved
-otherwise, that does not show; nor does `at a limit of the search`, where the prover gave up. Nothing is known of the
-contract where it only finds that a written proof names what the edit has taken away (`a name that is gone`), that an
-operation may go wrong, or that a loop may not end.
+A wrong body is refused for its meaning where a goal has no proof: a clause, an invariant, a condition of what is
+called. `Shown to be false` stands where the prover found and checked values at which the goal fails, so that no proof
+closes it; `at its written proof` where there was one that was written for the text as it is: whether the goal could be
+proved otherwise, that does not show; nor does `at a limit of the search`, where the prover gave up. Nothing is known of
+the contract where it only finds that a written proof names what the edit has taken away (`a name that is gone`), that
+an operation may go wrong, or that a loop may not end.
 """
 
 from __future__ import annotations
@@ -26,7 +26,8 @@ NAMED = re.compile(r"^`(?P<first>[^`]+)`: |\(in `(?P<last>[^`]+)`\)")
 GONE = re.compile(r"has no field|is not in scope|has no `|was not admitted")
 # An error in a file of lemmas, and what cites a declaration that was refused.
 LEMMA = re.compile(r"(?:\./)?proofs/\w+\.antt:\d+:\d+: error: (?P<said>.*)")
-CITED = re.compile(r"declarations? that depends? on `[^`]*`, which was (?:rejected|not admitted), w(?:as|ere) not checked: (?P<names>.*)")
+CITED = re.compile(r"declarations? that depends? on `[^`]*`, which was (?:rejected|not admitted), w(?:as|ere) not"
+                   r" checked: (?P<names>.*)")
 # What a record lacks, where antt goes on in another line.
 GOES_ON = re.compile(r"\n {2}(?=has no )")
 # What is lent out by a method can be written by the caller, and the type's invariant goes with it.
@@ -154,7 +155,8 @@ def at_line(path: str, line: int, known: list[functions.Function]) -> list[str]:
 
 
 def holder(name: str) -> str:
-    """The path of a function or of what stands within one, as a closure, without the marks of closures and of cycles."""
+    """The path of a function or of what stands within one, as a closure, without the marks of
+    closures and of cycles."""
     return re.sub(r"(^|::)fn::", r"\1", name).replace("::+", "::").removeprefix("+")
 
 
@@ -170,7 +172,8 @@ def cycles(output: str) -> set[str]:
 
 
 def is_unread(line: str, changed: set[str]) -> bool:
-    """Whether antt could not read a text of src/ or specs/, or of a file that an edit changes: so does `rt must-fail` ask."""
+    """Whether antt could not read a text of src/ or specs/, or of a file that an edit changes: so
+    does `rt must-fail` ask."""
     error = ERROR.match(line)
     if not error or not (error["path"] in changed or error["path"].startswith(("src/", "specs/"))):
         return False

@@ -25,8 +25,8 @@ def too_long(number: int, frame: object) -> None:
 
 
 def counted(tests: Iterable[Test], only: str | None = None) -> int:
-    """Runs tests, each in a folder of its own, examples (`NAME.txt`) in one; prints what fails and the last line, `N passed,
-    M failed`, and gives the exit status."""
+    """Runs tests, each in a folder of its own, examples (`NAME.txt`) in one; prints what fails and the last line, `N
+    passed, M failed`, and gives the exit status."""
     passed = failed = 0
     signal.signal(signal.SIGALRM, too_long)
     with tempfile.TemporaryDirectory() as made:

@@ -1,4 +1,5 @@
-"""What judges, tries and measures: a package whose programs run at the top, as `python3 -m bench.trials.stress PROGRAM`."""
+"""What judges, tries and measures: a package whose programs run at the top, as `python3 -m
+bench.trials.stress PROGRAM`."""
 
 import pathlib
 

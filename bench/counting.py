@@ -1,4 +1,5 @@
-"""A module for programs of bench/: their words, a folder for a run, what was tried, and the last line, `N passed, M failed`."""
+"""A module for programs of bench/: their words, a folder for a run, what was tried, and the last
+line, `N passed, M failed`."""
 
 from __future__ import annotations
 
@@ -75,8 +76,8 @@ class Kept:
         (self.folder / "store.db").unlink(missing_ok=True)
 
     def run(self, work: Callable[[pathlib.Path], int], *faults: type[Exception]) -> int:
-        """Does work in the folder that gives how much was wrong, or ends by one of some faults, which is reported and is one
-        thing wrong; the exit status."""
+        """Does work in the folder that gives how much was wrong, or ends by one of some faults, which is reported and
+        is one thing wrong; the exit status."""
         try:
             self.wrong = work(self.folder)
         except faults as fault:

@@ -74,13 +74,15 @@ def zones(count: int, step: int, draw: np.random.Generator) -> Cells:
     corners = jittered(count, step, draw)
     flat = winding(corners[:-1], corners[1:], 12, draw)  # west to east
     steep = winding(corners[:, :-1], corners[:, 1:], 12, draw)  # south to north
-    closed = np.concatenate([flat, corners[1:, :, None]], axis=2)[:, :, :0:-1]  # east to west, its first corner the east
+    # East to west, its first corner the east.
+    closed = np.concatenate([flat, corners[1:, :, None]], axis=2)[:, :, :0:-1]
     down = np.concatenate([steep, corners[:, 1:, None]], axis=2)[:, :, :0:-1]
     return [np.concatenate([flat[:, :-1], steep[1:], closed[:, 1:], down[:-1]], axis=2).reshape(-1, 48, 2)]
 
 
 def turned_squares(count: int, long: int) -> Numbers:
-    """Rectangles of one by so many squares, count by count of the squares: each corner is whole, and all are on lines."""
+    """Rectangles of one by so many squares, count by count of the squares: each corner is whole,
+    and all are on lines."""
     along, across = np.array([24_001, 18_003]), np.array([-18_003, 24_001])  # 30 m, at a right angle
     column, row = (one.ravel()[:, None] for one in np.meshgrid(np.arange(0, count, long), np.arange(count)))
     corners = [(0, 0), (long, 0), (long, 1), (0, 1)]

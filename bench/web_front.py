@@ -1,4 +1,5 @@
-"""A module for trials of the front, browser.py, map_clients.py and others: a store of real shapes, a running front, Debian's packages."""
+"""A module for trials of the front, browser.py, map_clients.py and others: a store of real shapes,
+a running front, Debian's packages."""
 
 from __future__ import annotations
 
@@ -56,7 +57,8 @@ def sent(method: str, place: str, body: str | None, revision: str = "") -> tuple
 
 
 def first_map(source: pathlib.Path, folder: pathlib.Path, program: str | pathlib.Path | None, *words: str) -> str:
-    """Makes the stores of a map in a folder by `./overlay`, in one of its own that is called after the map; what that says of it."""
+    """Makes the stores of a map in a folder by `./overlay`, in one of its own that is called after the map; what that
+    says of it."""
     given = [sys.executable, TOP / "overlay", source, "--folder", folder, "--only-make", *words]
     given += ["--program", program] if program else []
     done = subprocess.run([str(word) for word in given], capture_output=True, text=True, check=False)

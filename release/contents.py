@@ -39,8 +39,8 @@ COMMANDS = {
     "overlay-which": "tools/which.py",
 }
 NOT_PACKED = re.compile(r"(?:tools|web)/(?:commands/)?tests\.py|web/(?:test_\w+|testing|stressing)\.py")
-SOURCES = ("overlay", "tools/*.py", "tools/maps/*.py", "tools/commands/*.py", "web/*.py", "web/commands/*.py", "web/page/*",
-           "web/client/*")
+SOURCES = ("overlay", "tools/*.py", "tools/maps/*.py", "tools/commands/*.py", "web/*.py", "web/commands/*.py",
+           "web/page/*", "web/client/*")
 TEXTS = ("README.md", "docs/*.md", "docs/*.png", "docs/*.svg", "tools/README.md", "tools/maps/README.md",
          "tools/data/*", "web/README.md", "examples/**/*")
 # What is read where pages are printed of the sources.

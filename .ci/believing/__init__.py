@@ -1,1 +1,2 @@
-"""What the contracts of calls reach: reads definitions and types, and writes docs/BELIEVE.md and the texts of its rows."""
+"""What the contracts of calls reach: reads definitions and types, and writes docs/BELIEVE.md and
+the texts of its rows."""

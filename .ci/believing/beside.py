@@ -1,4 +1,5 @@
-"""What a text prints besides, and does not count, as it is proved: laws, and what each value of a type with a model keeps to."""
+"""What a text prints besides, and does not count, as it is proved: laws, and what each value of a
+type with a model keeps to."""
 
 from __future__ import annotations
 
@@ -26,7 +27,8 @@ def besides(told: Told, keys: set[Key], cut: Cut) -> list[Beside]:
     """What is proved of the definitions of a text, and what values of its types keep to."""
     house = told.house
     listed = set().union(*(reach.keys for reach in told.reach.values()))
-    kinds = sorted((key for key in keys if not key[0] and house.model(key[1], key[2])), key=lambda key: (house.crates[key[1]], key[2]))
+    kinds = sorted((key for key in keys if not key[0] and house.model(key[1], key[2])),
+                   key=lambda key: (house.crates[key[1]], key[2]))
     found = [keeps_to(house, key, keys) for key in kinds]
     for law in told.tables.laws:
         reach = house.of_call(Call(law.name, law.file, law.name, ""), cut).keys

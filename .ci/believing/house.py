@@ -59,7 +59,8 @@ class Link:
 
 @dataclasses.dataclass(frozen=True)
 class Pin:
-    """A definition that a law says whole: the law's statement is read in its place. The law's file, function and statement."""
+    """A definition that a law says whole: the law's statement is read in its place. The law's file,
+    function and statement."""
 
     key: Key
     file: str
@@ -107,7 +108,8 @@ class House:
             for path in sorted(self.folder(crate).glob("**/*.antt")):
                 name = ".".join(path.relative_to(self.folder(crate)).with_suffix("").parts)
                 self.modules[crate, name] = read_module(path.read_text())
-        self.sources = {crate: {path: path.read_text() for path in sorted((top / "crates" / crate / "src").glob("**/*.rt"))}
+        self.sources = {crate: {path: path.read_text()
+                                for path in sorted((top / "crates" / crate / "src").glob("**/*.rt"))}
                         for crate in self.crates}
         self.types = self.find_types()
         self.used: dict[tuple[Key, Cut], set[Key]] = {}
@@ -116,7 +118,8 @@ class House:
             if not definition or (link.field and not re.search(rf"^\s+pub {link.field} :", definition.text, re.M)):
                 raise SystemExit(f"believe: {link.crate}/specs/{link.module}.antt has no {link.title}")
         for pin in pins:
-            if not re.search(rf"ensures \{{ {pin.statement[2]} \}}", self.head(Call(pin.law, pin.file, pin.law, ""))[1]):
+            if not re.search(rf"ensures \{{ {pin.statement[2]} \}}",
+                             self.head(Call(pin.law, pin.file, pin.law, ""))[1]):
                 raise SystemExit(f"believe: {pin.law} does not promise {pin.statement[2]}")
             if pin.key not in self.of_text(pin.statement, NOTHING):
                 raise SystemExit(f"believe: {pin.statement[2]} does not speak of {pin.key[2]}")
@@ -180,7 +183,8 @@ class House:
         home = self.home(found.crate, found.path)
         key = self.resolve(home, found.name, seen)
         if not key and found.crate in self.crates and home not in seen:
-            raise SystemExit(f"believe: {place} is reached, and names {found.name} of {'.'.join(home)}, which has no such definition")
+            raise SystemExit(f"believe: {place} is reached, and names {found.name} of {'.'.join(home)}, which has no"
+                             " such definition")
         return key
 
     def named(self, text: str, file: File | None, names: dict[str, Import], aliases: dict[str, Import]) -> set[Key]:
@@ -234,7 +238,8 @@ class House:
     def stated(self, key: Key) -> str:
         """What the law says of a definition that it says whole, in one line."""
         statement = self.pins[key].statement
-        said = " ".join(line.strip() for line in self.module(statement[:2]).definitions[statement[2]].shown if not line.strip().startswith("--"))
+        said = " ".join(line.strip() for line in self.module(statement[:2]).definitions[statement[2]].shown
+                        if not line.strip().startswith("--"))
         return said.partition(f"{statement[2]} = ")[2]
 
     def of_text(self, key: Key, cut: Cut) -> set[Key]:
@@ -276,7 +281,8 @@ class House:
         return found[1] if found else ""
 
     def declared(self, crate: str, name: str, fields: set[str], cut: Cut = NOTHING) -> list[str]:
-        """A type as its source declares it, with the fields of these names; a trait without the clauses that are cut."""
+        """A type as its source declares it, with the fields of these names; a trait without the
+        clauses that are cut."""
         lines = rust.declared(self.types[crate, name].read_text(), name, fields)
         gone = {clause for title, clause in cut.clauses if title == name}
         return [line for line in lines if not (found := re.match(r" *ensures (\w+) ", line)) or found[1] not in gone]
@@ -332,7 +338,8 @@ class House:
         _, said, _ = self.head(call)
         for title, clause in cut.clauses:
             if title == call.title:
-                said, count = re.subn(rf"\n *ensures {clause} \{{.*?(?=\n *(?:ensures|requires) |\Z)", "", said, flags=re.S)
+                said, count = re.subn(rf"\n *ensures {clause} \{{.*?(?=\n *(?:ensures|requires) |\Z)", "", said,
+                                      flags=re.S)
                 if not count:
                     raise SystemExit(f"believe: {title} has no clause {clause}")
         return said
@@ -378,7 +385,8 @@ class House:
         """What the contract of a call reaches."""
         start = self.contract(call, cut) - cut.words
         hidden = {link for link in self.links if not link.field and link.key in start}
-        reach = self.reached(start - {link.key for link in hidden}, set(re.findall(r"\.(\w+)", self.promised(call, cut))), cut)
+        reach = self.reached(start - {link.key for link in hidden},
+                             set(re.findall(r"\.(\w+)", self.promised(call, cut))), cut)
         reach.links |= hidden
         return reach
 
@@ -466,7 +474,8 @@ class House:
         if key in self.pins:
             shown = self.module(key[:2]).definitions[key[2]].shown
             sentence = list(itertools.takewhile(lambda line: line.strip().startswith("--"), shown))
-            return [*sentence, *self.signature(key), f"-- the law `{self.pins[key].law}` says it whole: {self.stated(key)}"]
+            return [*sentence, *self.signature(key),
+                    f"-- the law `{self.pins[key].law}` says it whole: {self.stated(key)}"]
         return without(self.module(key[:2]).definitions[key[2]].shown, {field for of, field in cut.fields if of == key})
 
     def lines(self, keys: set[Key], cut: Cut = NOTHING) -> int:

@@ -103,7 +103,6 @@ class Told:
         of_kit = f"{len(kit)} ({self.house.lines(kit):,})" if kit else ""
         return f"{len(mine)} | {self.house.lines(mine, cut):,} | {files} | {of_kit}"
 
-
     def needed(self, title: str) -> int:
         """The lines of all that a reader of a row needs: definitions, those of the kit, contracts, and types."""
         house, cut = self.house, self.cut(title)
@@ -133,7 +132,8 @@ def page(house: House, tables: Tables) -> str:
         counts = f"{told.counted(reach.keys, told.cut(row.title))} | {told.needed(row.title):,}"
         rows.append(f"| {row.title} | {counts} | {row.says} |")
     every = sum(len(module.definitions) for (crate, _), module in house.modules.items() if crate in house.crates)
-    table = ["| Call | Definitions | Lines | Files | Of the kit (lines) | Lines in all | What it is |", f"|{'---|' * 7}", *rows]
+    table = ["| Call | Definitions | Lines | Files | Of the kit (lines) | Lines in all | What it is |",
+             f"|{'---|' * 7}", *rows]
     head = tables.head.replace("@CONTRACT@", "\n".join(f"    {line}" for line in quoted(house, tables.calls[0])))
     head = head.replace("@LINKS@", links(told)).replace("@WITHOUT@", left_out(told)).replace("@PINS@", pinned(house))
     tail = f"\nOf {every:,} definitions in `crates/*/specs`.\n"
@@ -183,8 +183,8 @@ def left_out(told: Told) -> str:
 def promised(told: Told, listed: dict[Key, str]) -> list[str]:
     """How much the words of the promises rest on, and in which sections that is listed."""
     house = told.house
-    lines = ["The same of single words, by which a promise is said, and the sections that list what each rests on (what no",
-             "call reaches is in none):", "",
+    lines = ["The same of single words, by which a promise is said, and the sections that list what each rests on",
+             "(what no call reaches is in none):", "",
              "| Word | Definitions | Lines | Files | Of the kit (lines) | What it says | Sections |", f"|{'---|' * 7}"]
     for word in told.tables.promises:
         if word.name not in house.module((word.crate, word.module)).definitions:
@@ -210,11 +210,13 @@ def section(told: Told, call: Call, reach: Reach, fresh: set[Key]) -> str:
         count = house.lines({(crate, module, name) for name in names})
         path = f"{crate}/specs/{module.replace('.', '/')}.antt"
         lines.append(f"| [{crate} {module}](../crates/{path}) | {count} | {', '.join(f'`{name}`' for name in names)} |")
-    for head, names in [("Link words", sorted(link.title for link in reach.links)), ("Of the kit", of_kit(house, fresh)),
+    for head, names in [("Link words", sorted(link.title for link in reach.links)),
+                        ("Of the kit", of_kit(house, fresh)),
                         ("Types", sorted({name for crate, _, name in fresh if not crate}))]:
         if names:
             said = [name if head == "Of the kit" else f"`{name}`" for name in names]
-            lines += ["", f"{head}: {(';' if head == 'Of the kit' else ',').join(f' {name}' for name in said).strip()}."]
+            lines += ["",
+                      f"{head}: {(';' if head == 'Of the kit' else ',').join(f' {name}' for name in said).strip()}."]
     return "\n".join([*lines, *laws(told, call, new), ""])
 
 
@@ -252,17 +254,18 @@ def laws(told: Told, call: Call, fresh: set[Key]) -> list[str]:
 def types(house: House, keys: set[Key]) -> str:
     """The types of the sources that contracts and definitions name."""
     lines = ["## Types of the sources", "",
-             "Counted above in lines in all alone, and there those without a model. A value of a type with a model is seen as",
-             "the model's value; of any other its fields are seen, and of an enum its cases. What each value of a type with a",
-             "model keeps to, the texts of rows say. A trait has clauses of its own: what a disk has to keep, a crash's premise,",
-             "is in `Disk`.", "",
+             "Counted above in lines in all alone, and there those without a model. A value of a type with a model",
+             "is seen as the model's value; of any other its fields are seen, and of an enum its cases. What each",
+             "value of a type with a model keeps to, the texts of rows say. A trait has clauses of its own: what a",
+             "disk has to keep, a crash's premise, is in `Disk`.", "",
              "| File | Types, and what they are seen as |", "|---|---|"]
     files: dict[tuple[int, str], list[str]] = {}
     for crate, name in sorted({key[1:] for key in keys if not key[0]}):
         path = str(house.types[crate, name].relative_to(house.top / "crates"))
         files.setdefault((house.crates[crate], path), []).append(seen_as(house, crate, name))
     for (_, path), names in sorted(files.items()):
-        lines.append(f"| [{path}](../crates/{path}) | {', '.join(sorted(names, key=lambda n: n.removeprefix('trait ')))} |")
+        lines.append(
+            f"| [{path}](../crates/{path}) | {', '.join(sorted(names, key=lambda n: n.removeprefix('trait ')))} |")
     return "\n".join([*lines, ""])
 
 
@@ -274,8 +277,8 @@ def seen_as(house: House, crate: str, name: str) -> str:
 
 
 def with_numbers(readme: str, page_text: str) -> str:
-    """README.md with the numbers of the page: of a point, of the sentence in bold, of a run's crash, and of all, without what
-    stands beside and with it.
+    """README.md with the numbers of the page: of a point, of the sentence in bold, of a run's crash, and of all,
+    without what stands beside and with it.
     """
     numbers = iter(ROW.findall(page_text))
 

@@ -83,13 +83,15 @@ def cases(text: str, name: str) -> list[str]:
 
 
 def declared(text: str, name: str, fields: set[str]) -> list[str]:
-    """A type or a trait as it is declared, with its comments, without attributes; of a struct the fields of these names."""
+    """A type or a trait as it is declared, with its comments, without attributes; of a struct the
+    fields of these names."""
     lines = text.splitlines()
     head = re.compile(rf"pub (?:struct|enum|trait) {name}\b")
     first = next((at for at, line in enumerate(lines) if head.match(line)), None)
     if first is None:
         return []
-    last = first if re.search(r"[;}]$", lines[first]) else next(at for at in range(first, len(lines)) if lines[at] == "}")
+    last = first if re.search(r"[;}]$", lines[first]) else next(at
+                                                                for at in range(first, len(lines)) if lines[at] == "}")
     above = first
     while above and lines[above - 1].startswith(("///", "#[")):
         above -= 1
@@ -100,7 +102,8 @@ def declared(text: str, name: str, fields: set[str]) -> list[str]:
 
 
 def named(body: list[str], fields: set[str]) -> list[str]:
-    """The lines of a struct that have a field of one of these names, with the comments above them, and the last line."""
+    """The lines of a struct that have a field of one of these names, with the comments above them,
+    and the last line."""
     kept: list[str] = []
     comments: list[str] = []
     is_kept = False

@@ -10,7 +10,8 @@ IMPORT = re.compile(
     r"(?:\.\{(?P<names>[^}]*)\}| as (?P<alias>\w+))?;?\s*$", re.M,
 )
 HEADER = re.compile(
-    r"^(?P<indent> *)(?P<kind>(?:(?:abbrev|unfoldable|opaque) )?(?:pub )?(?:record |data )?)(?P<name>[^\s:({]+)(?P<rest>.*)$"
+    r"^(?P<indent> *)(?P<kind>(?:(?:abbrev|unfoldable|opaque) )?(?:pub )?(?:record |data )?)"
+    r"(?P<name>[^\s:({]+)(?P<rest>.*)$"
 )
 NO_DEFINITION = ("use", "mod", "module", "infixl", "infixr", "infix", "unfolding", "--")
 
@@ -170,8 +171,8 @@ def fields_of(shown: list[str]) -> set[str]:
 
 
 def without(shown: list[str], fields: set[str]) -> list[str]:
-    """The lines of a definition without some of its fields and the comments above these; a line at the end names them, as
-    the sentence above speaks of them too.
+    """The lines of a definition without some of its fields and the comments above these; a line at the end names them,
+    as the sentence above speaks of them too.
     """
     kept: list[str] = []
     gone: list[str] = []

@@ -138,10 +138,11 @@ use low::thing::{Kind as Sort, Store, Thing};
 use high::Passing;
 """
 LIB = "//! All.\npub use low::thing::Thing as Passing;\n"
-BODIES = [("go", "thing: &Thing", "Goes thing.now result"), ("turn", "n: usize", "Turns result"), ("rest", "n: usize", "Rests result"),
-          ("sort", "kind: Sort", "result ≡ result"), ("opens", "n: usize", "Opens result"), ("hide", "n: usize", "Hides result"),
-          ("lack", "n: usize", "Lacks result"),
-          ("give", "n: usize", "Gives result"), ("take", "n: usize", "Takes result"), ("pass", "n: &Passing", "Passed result"),
+BODIES = [("go", "thing: &Thing", "Goes thing.now result"), ("turn", "n: usize", "Turns result"),
+          ("rest", "n: usize", "Rests result"), ("sort", "kind: Sort", "result ≡ result"),
+          ("opens", "n: usize", "Opens result"), ("hide", "n: usize", "Hides result"),
+          ("lack", "n: usize", "Lacks result"), ("give", "n: usize", "Gives result"),
+          ("take", "n: usize", "Takes result"), ("pass", "n: &Passing", "Passed result"),
           ("store", "store: &Store", "result ≡ result")]
 LINKS = (Link("high", "Calls", "Handed", ("give",), ("take",)),)
 FIELD = (Link("high", "Calls", "Handed", ("give",), ("take",), field="rest"),)
@@ -149,14 +150,18 @@ FIELD = (Link("high", "Calls", "Handed", ("give",), ("take",), field="rest"),)
 
 def files() -> dict[str, str]:
     """The small tree."""
-    calls = "".join(f"pub fn {name}({words}) -> usize\n    // Turns is no word of a clause here.\n    ensures first {{ {clause} }}\n{{\n    0\n}}\n"
-                    for name, words, clause in BODIES)
+    calls = "".join(
+        f"pub fn {name}({words}) -> usize\n    // Turns is no word of a clause here.\n"
+        f"    ensures first {{ {clause} }}\n{{\n    0\n}}\n"
+        for name, words, clause in BODIES)
     law = "/// What goes,\n/// goes on.\npub fn goes_law()\n    ensures { GoesLaw }\n{}\n"
     method = "impl Thing {\n    pub fn look(&self) -> usize\n        ensures { Pair }\n    {\n        0\n    }\n}\n"
     return {"crates.txt": "# all\nlow:\nhigh: low\nabove: high\n", "crates/low/specs/Numbers.antt": LOW,
-            "crates/high/specs/Calls.antt": HIGH, "crates/high/specs/Lib.antt": "pub mod Calls\npub use Rattle.low.specs.Numbers\n",
+            "crates/high/specs/Calls.antt": HIGH,
+            "crates/high/specs/Lib.antt": "pub mod Calls\npub use Rattle.low.specs.Numbers\n",
             "crates/above/specs/From.antt": TOP, "crates/low/src/thing.rt": THING, "crates/high/src/lib.rt": LIB,
-            "crates/high/src/calling.rt": CALLING + calls + law + method, **{f"kit/{path}": said for path, said in KIT.items()}}
+            "crates/high/src/calling.rt": CALLING + calls + law + method,
+            **{f"kit/{path}": said for path, said in KIT.items()}}
 
 
 def calls_of(*names: str) -> list[Call]:
@@ -180,14 +185,16 @@ def reaches(top: pathlib.Path) -> int:
         # Of an enum the payloads, of a struct the fields that something names: `thing`, and not `other`.
         "sort": {("", "low", "Kind"), ("", "low", "Box"), *thing},
         "opens": {("high", "Calls", "Opens"), ("", "low", "Box"), *thing},
-        "give": {("high", "Calls", "Gives"), ("high", "Calls", "Handed"), ("high", "Calls", "Rests"), *low("Part", "Pair")},
+        "give": {("high", "Calls", "Gives"), ("high", "Calls", "Handed"), ("high", "Calls", "Rests"),
+                 *low("Part", "Pair")},
         "pass": {("above", "From", "Passed"), *low("Part", "Pair"), ("", "low", "Thing")},
         "store": {("", "low", "Store"), *low("Part", "Pair")},
     }
     for call in calls_of(*wanted):
         got = house.of_call(call).keys
         assert got == wanted[call.name], (call.name, got ^ wanted[call.name])
-    for name, said in (("hide", "Hidden of high/proofs"), ("lack", "Gone of low.Numbers, which has no such definition")):
+    for name, said in (("hide", "Hidden of high/proofs"),
+                       ("lack", "Gone of low.Numbers, which has no such definition")):
         try:
             house.of_call(calls_of(name)[0])
         except SystemExit as fault:
@@ -207,9 +214,10 @@ def hides(top: pathlib.Path) -> int:
         assert not {key[2] for key in reach.keys} & hidden, (links, reach)
         assert ({link.title for link in reach.links} == {links[0].title}) == bool(hidden), reach.links
     house = House(top, top / "kit")
-    for without, gone in [(("Handed.rest",), {"Part"}), (("Handed.few",), {"Rests"}), (("Calls Handed",), {"Handed", "Part", "Rests"})]:
-        reach = house.of_call(calls_of("give")[0], house.cut(without))
-        assert not {key[2] for key in reach.keys} & gone and not reach.links, (without, reach)
+    for left_out, gone in [(("Handed.rest",), {"Part"}), (("Handed.few",), {"Rests"}),
+                           (("Calls Handed",), {"Handed", "Part", "Rests"})]:
+        reach = house.of_call(calls_of("give")[0], house.cut(left_out))
+        assert not {key[2] for key in reach.keys} & gone and not reach.links, (left_out, reach)
     assert not house.mine(house.of_call(calls_of("go")[0], house.cut(("go: first",))).keys) & low("twice")
     assert house.of_call(calls_of("store")[0], house.cut(("Store: two",))).keys == {("", "low", "Store"), *low("Pair")}
     for call, wrong in (("go", "Handed.none"), ("go", "None"), ("go", "go: none"), ("store", "Store: three")):
@@ -219,7 +227,8 @@ def hides(top: pathlib.Path) -> int:
             continue
         raise AssertionError(wrong)
     parts: list[tuple[tuple[str, ...], set[str]]] = [
-        (("Handed.few",), {"Handed", "Rests", "Pair"}), (("Handed.rest",), {"Handed", "Part", "Pair"}), (("Opens",), {"Opens", "Box", "Thing", "Pair"}),
+        (("Handed.few",), {"Handed", "Rests", "Pair"}), (("Handed.rest",), {"Handed", "Part", "Pair"}),
+        (("Opens",), {"Opens", "Box", "Thing", "Pair"}),
         (("go: first", "Handed.few"), {"Goes", "twice", "twofold", "Thing", "Handed", "Rests", "Pair"}),
         (("Store: two",), {"Store", "Part", "Pair"})]
     for only, wanted in parts:
@@ -237,12 +246,16 @@ def pins(top: pathlib.Path) -> int:
     law = Pin(("high", "Calls", "Goes"), "high/src/calling.rt", "goes_law", ("high", "Calls", "GoesLaw"))
     house = House(top, top / "kit", pins=(law,))
     assert house.of_call(calls_of("go")[0]).keys == {law.key, ("", "low", "Thing"), *low("Pair")}
-    shown = ["-- goes up", "abbrev pub Goes : Thing → ℕ → Type 0", "-- the law `goes_law` says it whole: (n : ℕ) → Goes n n"]
+    shown = ["-- goes up", "abbrev pub Goes : Thing → ℕ → Type 0",
+             "-- the law `goes_law` says it whole: (n : ℕ) → Goes n n"]
     assert house.shown(law.key) == shown, house.shown(law.key)
     tables = Tables("# Head\n@PINS@", calls_of("go"), [], [], [])
-    assert "| [`Goes`](../crates/high/specs/Calls.antt) | [`goes_law`](../crates/high/src/calling.rt) | `(n : ℕ) → Goes n n` |" in page(house, tables)
+    pinned = ("| [`Goes`](../crates/high/specs/Calls.antt) | [`goes_law`](../crates/high/src/calling.rt)"
+              " | `(n : ℕ) → Goes n n` |")
+    assert pinned in page(house, tables)
     for wrong, fault in [(Pin(law.key, law.file, "go", law.statement), "go does not promise GoesLaw"),
-                         (Pin(("high", "Calls", "Gives"), law.file, law.law, law.statement), "GoesLaw does not speak of Gives")]:
+                         (Pin(("high", "Calls", "Gives"), law.file, law.law, law.statement),
+                          "GoesLaw does not speak of Gives")]:
         try:
             House(top, top / "kit", pins=(wrong,))
         except SystemExit as stop:
@@ -265,7 +278,8 @@ def writes(top: pathlib.Path) -> int:
     house = House(top, top / "kit", LINKS)
     tables = small_tables()
     said = page(house, tables)
-    for line in ["| `go` | 3 | 10 | 2 | 1 (3) | 16 | A call. |", "| `give` | 1 | 2 | 1 |  | 5 | A call. |", "| both | 4 | 12 | 2 | 1 (3) | 21 | Two. |",
+    for line in ["| `go` | 3 | 10 | 2 | 1 (3) | 16 | A call. |", "| `give` | 1 | 2 | 1 |  | 5 | A call. |",
+                 "| both | 4 | 12 | 2 | 1 (3) | 21 | Two. |",
                  "| [`Handed`](../crates/high/specs/Calls.antt) | `give` | `take` |", "Link words: `Handed`.",
                  "Of the kit: core Numbers `twofold`.", "    pub fn go(thing: &Thing) -> usize",
                  "- [`goes_law`](../crates/high/src/calling.rt): What goes, goes on.",
@@ -274,7 +288,8 @@ def writes(top: pathlib.Path) -> int:
     assert said.index("low Numbers") < said.index("high Calls") and "`Thing` as `Pair`" in said
     assert "| few | 2 | 6 | 2 |  | 12 | Less. |" in said and "- `few` leaves out `Goes`, `go: first`." in said, said
     assert "- `part` has `Handed.rest`." in said
-    for wrong, fault in [(Law("give", "high/src/calling.rt", "goes_law"), "speaks of nothing"), (Law("go", "high/src/calling.rt", "go"), "no law")]:
+    for wrong, fault in [(Law("give", "high/src/calling.rt", "goes_law"), "speaks of nothing"),
+                         (Law("go", "high/src/calling.rt", "go"), "no law")]:
         try:
             page(house, Tables("", tables.calls, [], [], [wrong]))
         except SystemExit as stop:
@@ -289,27 +304,36 @@ def prints(top: pathlib.Path) -> int:
     house = House(top, top / "kit", LINKS)
     tables = small_tables()
     row = text(Told(house, tables), "both")
-    assert row.index("abbrev pub twice") < row.index("-- goes up\nabbrev pub Goes") < row.index("Takes n = Handed n → Goes n n")
+    in_turn = ["abbrev pub twice", "-- goes up\nabbrev pub Goes", "Takes n = Handed n → Goes n n"]
+    assert in_turn == sorted(in_turn, key=row.index)
     assert "What to believe of: both (4 definitions, 12 lines)" in row and "idle" not in row
-    assert row.index("`Thing`, a type of low: each value is seen as `Pair`, and keeps to\n    λ t. Part ≡ Part\n\n-- a part\n") > row.index("pub left")
+    seen = "`Thing`, a type of low: each value is seen as `Pair`, and keeps to\n    λ t. Part ≡ Part\n\n-- a part\n"
+    assert row.index(seen) > row.index("pub left")
     assert "goes_law (crates/high/src/calling.rt): What goes, goes on.\n\nabbrev pub GoesLaw : Type 0\n" in row
-    places = dict(re.findall(r"(\w+) (\d+)(?:,|$)", row.partition("==== Names, and the lines at which they are\n\n")[2], re.M))
+    places = dict(re.findall(r"(\w+) (\d+)(?:,|$)", row.partition("==== Names, and the lines at which they are\n\n")[2],
+                             re.M))
     assert set(places) == {"Goes", "GoesLaw", "Pair", "Part", "Takes", "Thing", "twice", "twofold"}, places
     assert row.splitlines()[int(places["Goes"]) - 1] == "abbrev pub Goes : Thing → ℕ → Type 0" and "left" not in places
     assert "==== Of the kit: core Numbers\n\n-- both\nabbrev pub twofold : ℕ → ℕ\ntwofold n = n + n\n" in row, row
-    for call, head, lines in [("opens", "A type of low: Box", "/// A box.\npub struct Box<D: Disk> {\n    pub(crate) thing: Vec<Thing>,\n}\n"),
-                              ("sort", "A type of low: Kind", "pub enum Kind {\n    /// One.\n    One { thing: Thing },\n    Two(Box<u8>),\n}\n")]:
+    for call, head, lines in [("opens", "A type of low: Box",
+                               "/// A box.\npub struct Box<D: Disk> {\n    pub(crate) thing: Vec<Thing>,\n}\n"),
+                              ("sort", "A type of low: Kind",
+                               "pub enum Kind {\n    /// One.\n    One { thing: Thing },\n    Two(Box<u8>),\n}\n")]:
         looked = text(Told(house, Tables("", calls_of(call), [], [], [])), call)
         assert f"==== {head}\n\n{lines}" in looked, looked
         assert call == "sort" or looked.index(f"==== {head}") < looked.index("abbrev pub Opens"), looked
     cut = Tables("", calls_of("store"), [Row("less", ("store",), "Less.", ("Store: two",))], [], [])
     assert "ensures one" in text(Told(house, cut), "less") and "ensures two" not in text(Told(house, cut), "less")
-    assert text(Told(house, cut), "less").index("A type of low: Store") < text(Told(house, cut), "less").index("pub record Pair")
-    assert "    go: first" in text(Told(house, tables), "few") and "{ Goes thing.now result }  // left out" in text(Told(house, tables), "few")
+    less = text(Told(house, cut), "less")
+    assert less.index("A type of low: Store") < less.index("pub record Pair")
+    assert ("    go: first" in text(Told(house, tables), "few")
+            and "{ Goes thing.now result }  // left out" in text(Told(house, tables), "few"))
     assert "    Handed.rest" in text(Told(house, tables), "part")
     every = text(Told(house, tables), "all together")
-    assert all(f"==== {call.title}: A call." in every for call in tables.calls) and "; 26 lines with contracts, types and these" in every, every
-    assert "  -- fields left out, of which the sentence may speak: few" in text(Told(house, tables), "part") and "pub few" not in text(Told(house, tables), "part")
+    assert (all(f"==== {call.title}: A call." in every for call in tables.calls)
+            and "; 26 lines with contracts, types and these" in every), every
+    assert ("  -- fields left out, of which the sentence may speak: few" in text(Told(house, tables), "part")
+            and "pub few" not in text(Told(house, tables), "part"))
     return 9
 
 
@@ -328,8 +352,10 @@ def proves(top: pathlib.Path) -> int:
 
 def names(top: pathlib.Path) -> int:
     """The names that have two meanings, as definitions, types and cases; and those that differ in letters' cases."""
-    found = names_of(House(top, top / "kit"), {("", "low", "Kind"), ("", "low", "Box"), *low("Way", "twice", "Pair"), ("above", "From", "Passed")})
-    assert found["Two"] == ["a case of Kind, a type of low"] and found["up"] == ["a case of Way, a definition of low Numbers"], found
+    found = names_of(House(top, top / "kit"), {("", "low", "Kind"), ("", "low", "Box"), *low("Way", "twice", "Pair"),
+                                               ("above", "From", "Passed")})
+    assert (found["Two"] == ["a case of Kind, a type of low"]
+            and found["up"] == ["a case of Way, a definition of low Numbers"]), found
     assert meanings(found) == [] and alike(found) == []
     found["up"].append("a type of low")
     found["TWICE"] = ["a type of low"]
@@ -340,13 +366,17 @@ def names(top: pathlib.Path) -> int:
 
 def compares(top: pathlib.Path) -> int:
     """The numbers of README.md, and what is as it would be written."""
-    rows = ("| `locate` | 4 | 1,009 | 2 |  | 1,010 |\n| the sentence in bold | 5 | 8 | 2 | 3 (4) | 21 |\n| a crash of a run, and its opening | 5 | 9 "
-            "| 2 |  | 22 |\n| all without what stands beside | 5 | 3 | 2 |  | 23 |\n| all together | 6 | 7 | 2 |  | 24 |\n")
-    readme = ("| Line | Reply | Meaning |\n|---|---|---|\n| a line of 1 | 2 | lines |\n\n| To read | Definitions | Lines | In all |\n|---|---|---|---|\n"
-              "| LOCATE | 1 | 2 | 1 |\n| new files | 3 | 4 | 1 |\n| a crash | 3 | 4 | 1 |\n| most | 3 | 4 | 1 |\n| all | 5 | 1,006 | 9 |\n")
+    rows = ("| `locate` | 4 | 1,009 | 2 |  | 1,010 |\n| the sentence in bold | 5 | 8 | 2 | 3 (4) | 21 |\n"
+            "| a crash of a run, and its opening | 5 | 9 | 2 |  | 22 |\n"
+            "| all without what stands beside | 5 | 3 | 2 |  | 23 |\n| all together | 6 | 7 | 2 |  | 24 |\n")
+    readme = ("| Line | Reply | Meaning |\n|---|---|---|\n| a line of 1 | 2 | lines |\n\n"
+              "| To read | Definitions | Lines | In all |\n|---|---|---|---|\n"
+              "| LOCATE | 1 | 2 | 1 |\n| new files | 3 | 4 | 1 |\n| a crash | 3 | 4 | 1 |\n| most | 3 | 4 | 1 |\n"
+              "| all | 5 | 1,006 | 9 |\n")
     told = with_numbers(readme, rows)
-    assert told == readme[: readme.index("| LOCATE")] + ("| LOCATE | 4 | 1,009 | 1,010 |\n| new files | 5 | 8 | 21 |\n| a crash | 5 | 9 | 22 |\n"
-                                                         "| most | 5 | 3 | 23 |\n| all | 6 | 7 | 24 |\n"), told
+    assert told == readme[: readme.index("| LOCATE")] + (
+        "| LOCATE | 4 | 1,009 | 1,010 |\n| new files | 5 | 8 | 21 |\n| a crash | 5 | 9 | 22 |\n"
+        "| most | 5 | 3 | 23 |\n| all | 6 | 7 | 24 |\n"), told
     kept, other = top / "kept.md", top / "other.md"
     kept.write_text("kept")
     assert is_written(kept, "kept") and not is_written(kept, "more") and not is_written(other, "none")
@@ -360,13 +390,18 @@ def reads() -> int:
     assert deep.within == "module _ (p : Pair) where\nmodule _ (n : ℕ) (m : ℕ) where" and deep.lines == 3, deep
     assert module.definitions["Part"].within == "" and module.definitions["Part"].lines == 3
     assert module.definitions["inner"].lines == 3 and module.constructors["down"] == "Way"
-    assert rust.leaves("a::{b::C as D, e::{F, G}}") == [("D", ("a", "b", "C")), ("F", ("a", "e", "F")), ("G", ("a", "e", "G"))]
-    assert twice({("low", "A", "same"), ("high", "B", "same"), ("low", "A", "code_of"), ("high", "B", "code_of")}) == ["same: high B, low A"]
+    assert rust.leaves("a::{b::C as D, e::{F, G}}") == [("D", ("a", "b", "C")), ("F", ("a", "e", "F")),
+                                                        ("G", ("a", "e", "G"))]
+    assert twice({("low", "A", "same"), ("high", "B", "same"), ("low", "A", "code_of"),
+                  ("high", "B", "code_of")}) == ["same: high B, low A"]
     assert file_of("a crash of a run, and its opening") == "a-crash-of-a-run-and-its-opening.txt"
-    shown = ["-- a claim", "pub record P : Type 0 where", "  pub a : A", "  -- of b", "  pub b : B", "    → C", "  -- of c", "  pub c : C"]
+    shown = ["-- a claim", "pub record P : Type 0 where", "  pub a : A", "  -- of b", "  pub b : B", "    → C",
+             "  -- of c", "  pub c : C"]
     assert fields_of(shown) == {"a", "b", "c"} and without(shown, set()) == shown
-    assert without(shown, {"b"}) == [*shown[:3], *shown[6:], "  -- fields left out, of which the sentence may speak: b"], without(shown, {"b"})
-    assert without(shown, {"c", "a"}) == [*shown[:2], *shown[3:6], "  -- fields left out, of which the sentence may speak: a, c"]
+    assert without(shown, {"b"}) == [*shown[:3], *shown[6:],
+                                     "  -- fields left out, of which the sentence may speak: b"], without(shown, {"b"})
+    assert without(shown, {"c", "a"}) == [*shown[:2], *shown[3:6],
+                                          "  -- fields left out, of which the sentence may speak: a, c"]
     return 5
 
 
@@ -377,6 +412,7 @@ def test() -> int:
         for path, said in files().items():
             (top / path).parent.mkdir(parents=True, exist_ok=True)
             (top / path).write_text(said)
-        passed = reaches(top) + hides(top) + pins(top) + writes(top) + prints(top) + proves(top) + names(top) + compares(top) + reads()
+        tests = (reaches, hides, pins, writes, prints, proves, names, compares)
+        passed = sum(test(top) for test in tests) + reads()
     print(f"{passed} passed, 0 failed")
     return 0

@@ -1,4 +1,5 @@
-"""Writes the text of a row: its contracts, and the definitions that they rest on, in the order in which they are read."""
+"""Writes the text of a row: its contracts, and the definitions that they rest on, in the order in
+which they are read."""
 
 from __future__ import annotations
 
@@ -27,7 +28,8 @@ def text(told: Told, title: str) -> str:
     cut = told.cut(title)
     body = Body(told, title)
     lines = [*head(told, title, body), *(line for call in calls for line in [
-        f"==== {call.title}: {call.says}", f"     crates/{call.file}", "", *marked(quoted(house, call), call.title, cut), ""])]
+        f"==== {call.title}: {call.says}", f"     crates/{call.file}", "",
+        *marked(quoted(house, call), call.title, cut), ""])]
     lines += body.lines()
     lines += rest(house, body.keys, sorted(link.title for link in reach.links))
     lines += body.types(body.kinds)
@@ -39,17 +41,20 @@ def head(told: Told, title: str, body: Body) -> list[str]:
     house = told.house
     row, reach = told.row_of(title), told.row(title)[1]
     mine, kit = house.mine(reach.keys), house.of_kit(reach.keys)
-    count = (f"({len(mine)} definitions, {house.lines(mine, told.cut(title)):,} lines), over {len(kit)} of the kit ({house.lines(kit):,} "
-             f"lines); {told.needed(title):,} lines with contracts, types and these")
+    count = (f"({len(mine)} definitions, {house.lines(mine, told.cut(title)):,} lines), over {len(kit)} of the kit "
+             f"({house.lines(kit):,} lines); {told.needed(title):,} lines with contracts, types and these")
     lines = [f"What to believe of: {title} {count}", "",
-             "`.ci/believe --text` wrote this from the sources. docs/BELIEVE.md says how to read it. First the contracts,",
-             "then the definitions on which they rest, lowest first: each comes after those that it rests on, or beside them",
-             "in one file. A type of the sources, with the fields that these name, stands before the first file that needs it.",
-             "After a file stands, not counted, what is proved of it: laws, and what each value of a type with a model keeps",
-             "to. At the end, to be looked up, are the kit's definitions that these name, the types that no definition of the",
-             "row names, and the lines of all names.", ""]
-    for first, parts in [("Left out are these promises, which stand beside (docs/BELIEVE.md); their words are not defined here:", row.without),
-                         ("Of the contracts this row has these promises alone; the words of others are not defined here:", row.only)]:
+             "`.ci/believe --text` wrote this from the sources. docs/BELIEVE.md says how to read it. First the",
+             "contracts, then the definitions on which they rest, lowest first: each comes after those that it rests",
+             "on, or beside them in one file. A type of the sources, with the fields that these name, stands before",
+             "the first file that needs it. After a file stands, not counted, what is proved of it: laws, and what",
+             "each value of a type with a model keeps to. At the end, to be looked up, are the kit's definitions",
+             "that these name, the types that no definition of the row names, and the lines of all names.", ""]
+    for first, parts in [
+        ("Left out are these promises, which stand beside (docs/BELIEVE.md); their words are not defined here:",
+         row.without),
+        ("Of the contracts this row has these promises alone; the words of others are not defined here:", row.only),
+    ]:
         if parts:
             lines += [first, "", *(f"    {one}" for one in parts), ""]
     found = names_of(house, body.keys)
@@ -96,7 +101,8 @@ class Body:
 
     def is_needed(self, kind: Key, keys: set[Key]) -> bool:
         """Whether some definitions name a type, or are named by the clauses of a trait."""
-        return any(kind in self.house.uses(key, self.cut) for key in keys) or bool(self.house.uses(kind, self.cut) & keys)
+        return (any(kind in self.house.uses(key, self.cut) for key in keys)
+                or bool(self.house.uses(kind, self.cut) & keys))
 
     def types(self, kinds: set[Key]) -> list[str]:
         """Some types as their sources declare them, each after those that its fields and cases name."""
@@ -125,7 +131,8 @@ class Body:
 def index(lines: list[str], keys: set[Key]) -> list[str]:
     """The definitions and types of a text, each with the line at which it is."""
     either = "|".join(sorted({re.escape(key[2]) for key in keys}, key=len, reverse=True))
-    first = re.compile(rf" *(?:(?:abbrev|unfoldable) )?pub (?:(?:record|data|struct|enum|trait) )?({either})(?=[ <(:{{]|$)")
+    first = re.compile(
+        rf" *(?:(?:abbrev|unfoldable) )?pub (?:(?:record|data|struct|enum|trait) )?({either})(?=[ <(:{{]|$)")
     kept = re.compile(rf"`({either})`, a type of ")
     found: dict[str, list[str]] = {}
     for at, line in enumerate(lines, 1):
@@ -135,7 +142,8 @@ def index(lines: list[str], keys: set[Key]) -> list[str]:
         if named and not above:
             found.setdefault(named[1], []).append(str(at))
     # What belongs together is not parted at the end of a line.
-    said = ", ".join(FIRM.join([name, *places]) for name, places in sorted(found.items(), key=lambda one: (one[0].lower(), one)))
+    said = ", ".join(FIRM.join([name, *places])
+                     for name, places in sorted(found.items(), key=lambda one: (one[0].lower(), one)))
     wrapped = [line.replace(FIRM, " ") for line in textwrap.wrap(said, 110, break_on_hyphens=False)]
     return ["==== Names, and the lines at which they are", "", *wrapped, ""] if found else []
 
@@ -155,7 +163,8 @@ def names_of(house: House, keys: set[Key]) -> dict[str, list[str]]:
     for crate, module, name in sorted(keys):
         what = f"a definition of {crate} {module}" if crate else f"a type of {module}"
         made = house.module((crate, module)).constructors.items() if crate else []
-        cases = [case for case, of in made if of == name] if crate else rust.cases(house.types[module, name].read_text(), name)
+        cases = ([case for case, of in made if of == name] if crate
+                 else rust.cases(house.types[module, name].read_text(), name))
         if name not in OF_FAULTS:
             found.setdefault(name, []).append(what)
         for case in cases:

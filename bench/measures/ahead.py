@@ -60,8 +60,8 @@ def boundary_of_a_batch(session: Session, asked: Pairs) -> Iterator[list[Piece]]
 
 
 def many_lines_ahead(session: Session, asked: Pairs) -> Iterator[list[Piece]]:
-    """Batches and the columns that can have anything, sent ahead; two sets of layers in turns, so that one is built while
-    the other is read."""
+    """Batches and the columns that can have anything, sent ahead; two sets of layers in turns, so that one is built
+    while the other is read."""
     questions: list[str | list[str]] = []
     for place, (one, other, columns) in enumerate(asked):
         turn = place % 2

@@ -29,7 +29,8 @@ MARGIN = 16
 def zigzag(steps: int, number: int, upright: bool) -> list[Point]:
     """A ring of so many steps, each from side to side of a square that is as wide as a column but for a margin."""
     wide = COLUMN_WIDTH - 2 * MARGIN
-    points = [((MARGIN if i % 2 == 0 else MARGIN + wide) + number, MARGIN + number + i * (wide - MARGIN) // steps) for i in range(steps)]
+    points = [((MARGIN if i % 2 == 0 else MARGIN + wide) + number, MARGIN + number + i * (wide - MARGIN) // steps)
+              for i in range(steps)]
     return closed([(y, x) for x, y in points] if upright else points)
 
 
@@ -81,7 +82,8 @@ def main() -> None:
             for program in words.programs:
                 memory, processor, ended = measured(program, script(layers, words.steps, small), words.seconds)
                 told = "" if ended else f", stopped after {words.seconds:.0f} s"
-                print(f"{layers} layers, {'small' if small else 'all'}: {memory:.0f} MB, {processor:.1f} s{told}  {program}", flush=True)
+                print(f"{layers} layers, {'small' if small else 'all'}: {memory:.0f} MB, {processor:.1f} s{told}",
+                      program, sep="  ", flush=True)
 
 
 if __name__ == "__main__":

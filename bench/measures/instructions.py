@@ -10,8 +10,8 @@ cost, with their DEFINE; EDGES of all columns are a quarter of what asking four 
 is asked for the columns that it has. The layers are those of peers.py, and two squares in one column.
 
 With --peers more layers, and beside them CGAL and Clipper as in peers.py: a quarter of what four more calls cost, from
-the points in memory to the count of edges, so that reading and the first call are left out, as they are of the programs.
-After a colon: how many times theirs the instructions of each program are, WAIT and EDGES together.
+the points in memory to the count of edges, so that reading and the first call are left out, as they are of the
+programs. After a colon: how many times theirs the instructions of each program are, WAIT and EDGES together.
 """
 
 from __future__ import annotations
@@ -132,7 +132,8 @@ def test() -> int:
         (row("x", [(1000000, 500000), (2000000, 250000)]), "| x | 1.000, 2.000 | 0.500, 0.250 | 1.50 times |"),
         (row("x", [(1000000, 500000)]), "| x | 1.000 | 0.500 |  |"),
         (row("x", [(1000000, 500000)], [3000000]), "| x | 1.000 | 0.500 |  | 3.000: 0.50 |"),
-        (row("x", [(1000000, 500000), (500000, 0)], [2000000]), "| x | 1.000, 0.500 | 0.500, 0.000 | 0.33 times | 2.000: 0.75, 0.25 |"),
+        (row("x", [(1000000, 500000), (500000, 0)], [2000000]),
+         "| x | 1.000, 0.500 | 0.500, 0.000 | 0.33 times | 2.000: 0.75, 0.25 |"),
     ]
     return checked(checks)
 

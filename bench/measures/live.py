@@ -211,7 +211,8 @@ def postgres() -> Iterator[str]:
             os.chown(place, pwd.getpwnam(user).pw_uid, -1)
         quiet: dict[str, Any] = {"stdout": subprocess.DEVNULL, "stderr": subprocess.DEVNULL, "user": user, "cwd": place}
         subprocess.run([str(POSTGRES / "initdb"), "-U", "postgres", "-D", f"{place}/data"], check=True, **quiet)
-        words: list[str | pathlib.Path] = [POSTGRES / "postgres", "-D", f"{place}/data", "-k", place, "-c", "listen_addresses="]
+        words: list[str | pathlib.Path] = [POSTGRES / "postgres", "-D", f"{place}/data", "-k", place, "-c",
+                                           "listen_addresses="]
         server = subprocess.Popen(words, **quiet)
         try:
             while not pathlib.Path(f"{place}/.s.PGSQL.5432").exists() and server.poll() is None:

@@ -1,11 +1,12 @@
 """How long do the overlaps of two maps take, and what are they: overlay_maps.py beside shapely, geopandas and PostGIS?
 
-    /usr/bin/python3 -m bench.measures.map_peers LIVE [--parcels N] [--zones N] [--lattice] [--folder FOLDER] [--only PEER]..
+/usr/bin/python3 -m bench.measures.map_peers LIVE [--parcels N] [--zones N] [--lattice] [--folder
+FOLDER] [--only PEER]..
 
 LIVE is the built overlay_live. The maps are those of bench/map_making.py. Each peer reads both files and writes a table
 of the pairs whose common part has an area; of each are reported processor seconds and memory of the whole run, how many
-pairs it has, and how these differ from ours. Needs python3-gdal, -numpy, -shapely, -geopandas, -rtree and, for
-PostGIS, postgresql-15-postgis-3; a peer that is not there is left out, and reported. All is done once, on one processor at a
+pairs it has, and how these differ from ours. Needs python3-gdal, -numpy, -shapely, -geopandas, -rtree and, for PostGIS,
+postgresql-15-postgis-3; a peer that is not there is left out, and reported. All is done once, on one processor at a
 time.
 """
 
@@ -63,7 +64,8 @@ def by_geopandas(parcels: Any, zones: Any) -> Iterator[tuple[str, str, float]]:
     yield from zip(made.parcel, made.zone, made.area)
 
 
-READERS: dict[str, Callable[[Any, Any], Iterator[Any]]] = {"shapely": by_shapely, "shapely, whole": by_whole_shapely, "geopandas": by_geopandas}
+READERS: dict[str, Callable[[Any, Any], Iterator[Any]]] = {"shapely": by_shapely, "shapely, whole": by_whole_shapely,
+                                                           "geopandas": by_geopandas}
 
 
 def peer(name: str, folder: pathlib.Path, table: pathlib.Path) -> None:
@@ -111,7 +113,9 @@ SET jit = off;
 SELECT pg_backend_pid() AS pid \gset
 \setenv PID :pid
 \! cat /proc/$PID/stat
-\copy (SELECT parcel, zone, ST_Area(ST_Intersection(p.geom, z.geom)) FROM p JOIN z ON ST_Intersects(p.geom, z.geom)) TO 'TABLE' CSV
+CREATE TEMP VIEW o AS
+SELECT parcel, zone, ST_Area(ST_Intersection(p.geom, z.geom)) FROM p JOIN z ON ST_Intersects(p.geom, z.geom);
+\copy (SELECT * FROM o) TO 'TABLE' CSV
 \! cat /proc/$PID/stat
 \! grep VmHWM /proc/$PID/status
 """
@@ -125,11 +129,13 @@ def postgis(folder: pathlib.Path, table: pathlib.Path) -> Run:
         asking = ["psql", "-X", "-At", "-q", "-h", place, "-U", "postgres"]
         subprocess.run([*asking, "-c", "CREATE EXTENSION postgis"], check=True, capture_output=True)
         for kind in ("parcels", "zones"):
-            subprocess.run(["ogr2ogr", "-f", "PostgreSQL", f"PG:host={place} user=postgres", folder / f"{kind}.gpkg", "-nln",
-                            kind[0], "-lco", "GEOMETRY_NAME=geom", "--config", "PG_USE_COPY", "YES"], check=True)
+            subprocess.run(["ogr2ogr", "-f", "PostgreSQL", f"PG:host={place} user=postgres", folder / f"{kind}.gpkg",
+                            "-nln", kind[0], "-lco", "GEOMETRY_NAME=geom", "--config", "PG_USE_COPY", "YES"],
+                           check=True)
         subprocess.run([*asking, "-c", "ANALYZE"], check=True)
         begin = time.monotonic()
-        done = subprocess.run(asking, input=SCRIPT.replace("TABLE", str(table)), capture_output=True, text=True, check=True)
+        done = subprocess.run(asking, input=SCRIPT.replace("TABLE", str(table)), capture_output=True, text=True,
+                              check=True)
         clock = time.monotonic() - begin
     before, after, memory = done.stdout.strip().splitlines()
     ticks = [sum(map(int, line.rsplit(")", 1)[1].split()[11:13])) for line in (before, after)]
@@ -150,9 +156,9 @@ def boxes_that_meet(folder: pathlib.Path) -> int:
 
     from tools.maps import box_pairs, gdal_maps, numpy_planning
 
-    parcels, zones = (numpy_planning.boxes_of(gdal_maps.read(str(folder / f"{kind}.gpkg"), Fraction(1000), None, None, False).whole)
-                      for kind in ("parcels", "zones"))
-    return len(box_pairs.pairs_of_arrays(parcels, zones))
+    maps = [gdal_maps.read(str(folder / f"{kind}.gpkg"), Fraction(1000), None, None, False).whole
+            for kind in ("parcels", "zones")]
+    return len(box_pairs.pairs_of_arrays(*map(numpy_planning.boxes_of, maps)))
 
 
 def main() -> int:
@@ -173,14 +179,17 @@ def main() -> int:
         making = [PYTHON, str(TOP / "bench" / "map_making.py"), str(words.parcels), str(words.zones), str(folder)]
         subprocess.run(making + ["--lattice"] * words.lattice, check=True)
         boxes, base = boxes_that_meet(folder), ours(words.live, folder, folder / "ours.csv")
-        print(f"{boxes:,} pairs of boxes\n\n| what | processor s | us a pair of boxes | MB | overlaps | more than ours | fewer "
-              f"| areas apart, m2 |\n|---|---|---|---|---|---|---|---|\n{line('overlay_maps', base, base, boxes)}", flush=True)
+        heads = ["what", "processor s", "us a pair of boxes", "MB", "overlaps", "more than ours", "fewer",
+                 "areas apart, m2"]
+        print(f"{boxes:,} pairs of boxes\n\n| {' | '.join(heads)} |\n|{'---|' * len(heads)}")
+        print(line("overlay_maps", base, base, boxes), flush=True)
         for name in words.only or [*READERS, "PostGIS"]:
             table = folder / "peer.csv"
             table.unlink(missing_ok=True)
             try:
                 run = postgis(folder, table) if name == "PostGIS" else timed(
-                    [PYTHON, "-m", "bench.measures.map_peers", words.live, "--folder", str(folder), "--peer", name, str(table)], table)
+                    [PYTHON, "-m", "bench.measures.map_peers", words.live, "--folder", str(folder), "--peer", name,
+                     str(table)], table)
                 print(line(name, run, base, boxes), flush=True)
             except Exception as fault:
                 print(f"{name} is left out: {fault}", file=sys.stderr)

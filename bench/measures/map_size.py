@@ -2,11 +2,11 @@
 
     /usr/bin/python3 -m bench.measures.map_size LIVE [--parcels N] [--zones N] [--jobs N] [--maps FOLDER] [-- WORD..]
 
-LIVE is the built overlay_live; overlay_window is taken where it stands beside it. The maps are made by ../map_making.py,
-or stand in --maps; words after -- go to overlay_maps.py. It prints seconds of processors of the run and all that it
-began, seconds by the clock, and the most memory that the run and all processes below it had together at one time: the
-sum of PSS of /proc/PROCESS/smaps_rollup, in which a page that several have counts once, looked at some times a second.
-Status 1: the run fails, or takes more than --seconds or --megabytes.
+LIVE is the built overlay_live; overlay_window is taken where it stands beside it. The maps are made by
+../map_making.py, or stand in --maps; words after -- go to overlay_maps.py. It prints seconds of processors of the run
+and all that it began, seconds by the clock, and the most memory that the run and all processes below it had together at
+one time: the sum of PSS of /proc/PROCESS/smaps_rollup, in which a page that several have counts once, looked at some
+times a second. Status 1: the run fails, or takes more than --seconds or --megabytes.
 """
 
 import contextlib
@@ -60,7 +60,8 @@ def main() -> int:
     parser.add_argument("--parcels", type=int, default=300_000)
     parser.add_argument("--zones", type=int, default=20_000)
     parser.add_argument("--jobs", type=int, default=2)
-    parser.add_argument("--maps", metavar="FOLDER", type=pathlib.Path, help="parcels.gpkg and zones.gpkg that stand there")
+    parser.add_argument("--maps", metavar="FOLDER", type=pathlib.Path,
+                        help="parcels.gpkg and zones.gpkg that stand there")
     parser.add_argument("--seconds", type=float, help="of processors, which it may take")
     parser.add_argument("--megabytes", type=float, help="which it may take")
     at = sys.argv.index("--") if "--" in sys.argv else len(sys.argv)
@@ -72,14 +73,16 @@ def main() -> int:
             subprocess.run([PYTHON, MAKING, str(words.parcels), str(words.zones), folder], check=True)
         out = folder / "pairs.csv"
         status, seconds, clock, megabytes = watched(
-            [PYTHON, str(TOOL), "pairs", str(maps / "parcels.gpkg"), str(maps / "zones.gpkg"), "--factor", "1000", "--a-id",
-             "parcel", "--b-id", "zone", "--program", words.live, "--jobs", str(words.jobs), "--out", str(out), *more])
+            [PYTHON, str(TOOL), "pairs", str(maps / "parcels.gpkg"), str(maps / "zones.gpkg"), "--factor", "1000",
+             "--a-id", "parcel", "--b-id", "zone", "--program", words.live, "--jobs", str(words.jobs), "--out",
+             str(out), *more])
         if status:
             return 1
         digest = hashlib.sha256(out.read_bytes()).hexdigest()[:12]
         with out.open() as table:
             rows = sum(1 for _ in table) - 1
-    print(f"{rows} rows, digest {digest}: {seconds:.0f} s of processors, {clock:.0f} s by the clock, {megabytes:.0f} MB")
+    print(
+        f"{rows} rows, digest {digest}: {seconds:.0f} s of processors, {clock:.0f} s by the clock, {megabytes:.0f} MB")
     return int(seconds > (words.seconds or seconds) or megabytes > (words.megabytes or megabytes))
 
 

@@ -2,9 +2,9 @@
 
     python3 -m bench.measures.map_tools PROGRAM [--rings N] [--features N]
 
-PROGRAM is the built overlay_live. Rings that lie in each other (squares and diamonds), and squares apart from each other
-in one hole, are joined of their pieces; features of four sides, each with a common border with its neighbours, some of
-which overlap, are looked at by to_script.py --check. Prints processor seconds, of Python and of the program.
+PROGRAM is the built overlay_live. Rings that lie in each other (squares and diamonds), and squares apart from each
+other in one hole, are joined of their pieces; features of four sides, each with a common border with its neighbours,
+some of which overlap, are looked at by to_script.py --check. Prints processor seconds, of Python and of the program.
 """
 
 import json
@@ -84,8 +84,8 @@ def check_figure(program: str, count: int) -> tuple[str, float]:
     with tempfile.TemporaryDirectory() as folder:
         file, output = pathlib.Path(folder, "parcels.geojson"), pathlib.Path(folder, "parcels.txt")
         file.write_text(parcels(count, random.Random(3)))
-        words = [sys.executable, str(TOP / "tools" / "to_script.py"), str(file), "--coded", "--check", "--name-by", "nr",
-                 "--factor", "1", "--program", program, "--output", str(output)]
+        words = [sys.executable, str(TOP / "tools" / "to_script.py"), str(file), "--coded", "--check", "--name-by",
+                 "nr", "--factor", "1", "--program", program, "--output", str(output)]
         before = processor()
         done = subprocess.run(words, capture_output=True, text=True, check=False)
         took = processor() - before

@@ -30,7 +30,8 @@ from tools.limits import COLUMNS, COORDINATE_MAX
 
 HERE = pathlib.Path(__file__).resolve().parent
 COMPILE = "g++ -std=c++17 -O2 -DNDEBUG -w".split()
-LIBRARIES: dict[str, list[str]] = {"cgal": ["-lgmp", "-lmpfr"], "clipper": ["-lpolyclipping"], "boost": [], "geos": ["-lgeos"]}
+LIBRARIES: dict[str, list[str]] = {"cgal": ["-lgmp", "-lmpfr"], "clipper": ["-lpolyclipping"], "boost": [],
+                                   "geos": ["-lgeos"]}
 TITLES = {"cgal": "CGAL", "clipper": "Clipper", "boost": "Boost"}
 SIMPLE = {"star", "sliver", "comb"}
 # So many layers are waited for, and so often are the edges of one asked for: the difference is then well above what two
@@ -77,7 +78,7 @@ def script(layers: list[Layer], waited: int, written: int) -> list[str]:
 
 def processor_seconds(program: pathlib.Path, path: pathlib.Path) -> float:
     """The processor seconds of a script by one worker."""
-    words = [program, "--workers", "1", path]
+    words: list[str | pathlib.Path] = [program, "--workers", "1", path]
     before = processor()
     subprocess.run(words, stdin=subprocess.DEVNULL, stdout=subprocess.DEVNULL, check=True)
     return processor() - before
@@ -104,7 +105,8 @@ def pieces_of(program: pathlib.Path, path: pathlib.Path) -> int:
 
 
 def overlays(
-    programs: list[pathlib.Path], built: dict[str, pathlib.Path], folder: pathlib.Path, sizes: list[int], names: list[str] | None,
+    programs: list[pathlib.Path], built: dict[str, pathlib.Path], folder: pathlib.Path, sizes: list[int],
+    names: list[str] | None,
 ) -> None:
     """Prints the times of overlays, by family and size."""
     for name, family in tiles.FAMILIES.items():
@@ -119,13 +121,14 @@ def overlays(
                 wait = (best[at, 1] - best[at, 0]) / (LAYERS - 1)
                 text = (best[at, 2] - best[at, 1]) / WRITTEN
                 rows.append((wait, text))
-            beside = {peer: told(built[peer], path)[1] for peer in TITLES if peer in built and (peer != "boost" or name in SIMPLE)}
+            beside = {peer: told(built[peer], path)[1] for peer in TITLES if peer in built
+                      and (peer != "boost" or name in SIMPLE)}
             cells = [
                 f"WAIT {1000 * wait:.2f} ms, EDGES {1000 * text:.2f} ms ({100 * text / wait:.0f} %)"
                 for wait, text in rows
             ]
-            theirs = [f"{TITLES[peer]} {1000 * took:.2f} ms ({', '.join(f'{(wait + text) / took:.2f}' for wait, text in rows)} of it)"
-                      for peer, took in beside.items()]
+            parts = {took: ", ".join(f"{(wait + text) / took:.2f}" for wait, text in rows) for took in beside.values()}
+            theirs = [f"{TITLES[peer]} {1000 * took:.2f} ms ({parts[took]} of it)" for peer, took in beside.items()]
             pieces = pieces_of(programs[0], folder / "script2")
             print(f"{name} {edges}, {pieces // WRITTEN} pieces: {'; '.join(cells)}; {', '.join(theirs)}", flush=True)
 

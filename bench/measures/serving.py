@@ -90,7 +90,8 @@ def built(steps: int, count: int) -> list[str]:
 
 
 def commits(runs: Runs, count: int) -> list[Row]:
-    """A commit of one changed layer: alone, beside 16 layers that stay, and beside derived ones with all their tiles."""
+    """A commit of one changed layer: alone, beside 16 layers that stay, and beside derived ones
+    with all their tiles."""
     rows = []
     heads: dict[str, list[str]] = {"0 others": [], "16 others": [f"PUT B{n} {SQUARE}" for n in range(16)],
                                    "29 derived layers of 600 steps": built(600, 29)}

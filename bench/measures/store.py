@@ -4,9 +4,9 @@
     python3 -m bench.measures.store --test
 
 Builds the program of bench/measures/store over the store's crates, unproved (minutes); PROGRAM is one that was built
-before. Of several the reading and writing of records is reported side by side, all else of the first. The files and records
-that it is given are written here, byte by byte, as docs/FORMAT.md has them. Processor times, the best of five runs less
-those without the work, each on a disk in memory.
+before. Of several the reading and writing of records is reported side by side, all else of the first. The files and
+records that it is given are written here, byte by byte, as docs/FORMAT.md has them. Processor times, the best of five
+runs less those without the work, each on a disk in memory.
 """
 
 from __future__ import annotations

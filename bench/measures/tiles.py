@@ -3,8 +3,8 @@
 python3 -m bench.measures.tiles [PROGRAM]..
 
 Builds the program of bench/measures/tiles over tile_build, tile_by_pairs and layer_book, unproved and without checks
-(minutes); PROGRAM is one that was built before, and several are reported side by side. Tiles of two layers of so many edges
-each, by `build` and by `build_by_pairs`, both whole; the same layers with a point in the middle of each edge, by
+(minutes); PROGRAM is one that was built before, and several are reported side by side. Tiles of two layers of so many
+edges each, by `build` and by `build_by_pairs`, both whole; the same layers with a point in the middle of each edge, by
 `build`; and two combs to the cap of 65,536. Processor times less those without the building, the best of five runs that
 take a tenth of a second or more, in turns, or one run where it takes more than two seconds.
 """

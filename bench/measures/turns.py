@@ -25,7 +25,8 @@ def programs_of(named: Sequence[pathlib.Path], source: str, place: pathlib.Path)
 
 
 def least_times(
-    programs: Sequence[pathlib.Path], file: pathlib.Path, told: Callable[[list[str]], tuple[str, Found, list[tuple[str, float]]]],
+    programs: Sequence[pathlib.Path], file: pathlib.Path,
+    told: Callable[[list[str]], tuple[str, Found, list[tuple[str, float]]]],
 ) -> tuple[Times, dict[str, Found]]:
     """The least microseconds, by the program's place, the case and what was timed; and what was found of each case.
 

@@ -36,7 +36,8 @@ WALKS = {
 DEFINED = re.compile(r'define [^@]*@(?:"([^"]*)"|([\w.$]+))\(')
 NAMED = re.compile(r'@(?:"([^"]*)"|([\w.$]+))')
 WORKS = re.compile(r"  %\w+ = (?:add|sub|mul|icmp|udiv|sdiv|and|or|xor|shl|lshr) ")
-UNSEEN = re.compile(r"(?:Clone::clone|PartialEq::(?:eq|ne)|Ord::cmp|PartialOrd::\w+|Default::default|From\w+::from|::fmt)$")
+UNSEEN = re.compile(
+    r"(?:Clone::clone|PartialEq::(?:eq|ne)|Ord::cmp|PartialOrd::\w+|Default::default|From\w+::from|::fmt)$")
 
 
 class Function:

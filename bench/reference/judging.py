@@ -111,8 +111,10 @@ class History:
         self.meanings = meanings
         self.versions = [model.Layers()]
         self.shapes = [0]  # the versions at which names or definitions change
-        self.changes: dict[str, list[tuple[int, Any]]] = collections.defaultdict(lambda: [(0, None)])  # by name: version and key
-        self.touched: dict[str, list[int]] = collections.defaultdict(lambda: [0])  # by name: the versions that may touch its tiles
+        # By name: version and key.
+        self.changes: dict[str, list[tuple[int, Any]]] = collections.defaultdict(lambda: [(0, None)])
+        # By name: the versions that may touch its tiles.
+        self.touched: dict[str, list[int]] = collections.defaultdict(lambda: [0])
         self.keys: dict[str, Any] = {}
         self.told_built: dict[str, list[int]] = collections.defaultdict(list)
 
@@ -222,7 +224,8 @@ class History:
 class Session:
     """One session: what it asked and was answered, and the least version that it has seen."""
 
-    def __init__(self, history: History, asked: list[Request], replies: list[Reply], seen: int, has_store: bool) -> None:
+    def __init__(self, history: History, asked: list[Request], replies: list[Reply], seen: int,
+                 has_store: bool) -> None:
         self.history = history
         self.has_store = has_store
         self.asked = asked
@@ -357,7 +360,8 @@ class Judged:
         self.histories: list[History] = []  # all by which the replies are right, where sessions were cut off
         self.replies: collections.Counter[str] = collections.Counter()
         self.unjudged: collections.Counter[str] = collections.Counter()
-        self.outside: list[tuple[Session, int, int]] = []  # the replies that can't be judged: session, place and number of the refusal
+        # The replies that can't be judged: session, place and number of the refusal.
+        self.outside: list[tuple[Session, int, int]] = []
         self.sessions: list[Session] = []
         self.wrong: list[str] = []
         self.seen: list[int] = []
@@ -540,7 +544,8 @@ CHANGED = [
     ("ok 2", "error 11 not a base layer", None),
 ]
 
-# Each: scripts whose sessions were cut off, what they wrote, and how many replies are wrong (None: the output as a whole).
+# Each: scripts whose sessions were cut off, what they wrote, and how many replies are wrong (None: the output as a
+# whole).
 CUT_OFF = [
     ([b"DROP A\n", b"PUT A " + SQUARE, b"PUT B " + OTHER], "# script 1\n# script 2\n# script 3\nok 2\n", 0),
     ([b"PUT A " + SQUARE, b"DROP A\n", b"PUT B " + OTHER], "# script 1\n# script 2\n# script 3\nok 3\n", 0),

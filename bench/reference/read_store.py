@@ -492,8 +492,8 @@ def longest_definition() -> bytes:
 
 
 def tile_of(count: int) -> bytes:
-    """A tile of column 16 with pieces of one support, whose left ends are at each whole x, all ends named as crossings: no
-    name takes more bytes, and there is room for as many pieces as a tile may have."""
+    """A tile of column 16 with pieces of one support, whose left ends are at each whole x, all ends named as crossings:
+    no name takes more bytes, and there is room for as many pieces as a tile may have."""
     support = (0, 0, COLUMN_WIDTH, 0)
 
     def name(x: int) -> bytes:
@@ -504,15 +504,18 @@ def tile_of(count: int) -> bytes:
 
 
 def length_checks(page: str) -> list[tuple[Any, ...]]:
-    """The lengths of the longest records and those of the page; a reader takes them, of catalog and tile shorter ones."""
+    """The lengths of the longest records and those of the page; a reader takes them, of catalog and
+    tile shorter ones."""
     catalog, tile = (2 + 65535 * (len(catalog_of(1)) - 2), 6 + PIECES_MAX * (len(tile_of(1)) - 6))
-    found = re.search(r"a\s+catalog ([\d,]+) bytes, a base record ([\d,]+), a definition ([\d,]+), a tile ([\d,]+)", page)
+    found = re.search(r"a\s+catalog ([\d,]+) bytes, a base record ([\d,]+), a definition ([\d,]+), a tile ([\d,]+)",
+                      page)
     told = [int(number.replace(",", "")) for number in found.groups()] if found else []
     steps = sum(len(ring) - 1 for ring in read_base(longest_base()))
     return [
         ("the longest records", [catalog, len(longest_base()), len(longest_definition()), tile], told),
-        ("layers", len(read_catalog(catalog_of(40))), 40), ("pieces", read_tile(tile_of(40), 16), 40), ("steps", steps, STEPS_MAX),
-        ("lengths of several", (len(catalog_of(40)), len(tile_of(40))), (2 + 40 * (catalog - 2) // 65535, 6 + 40 * (tile - 6) // PIECES_MAX)),
+        ("layers", len(read_catalog(catalog_of(40))), 40), ("pieces", read_tile(tile_of(40), 16), 40),
+        ("steps", steps, STEPS_MAX), ("lengths of several", (len(catalog_of(40)), len(tile_of(40))),
+                                      (2 + 40 * (catalog - 2) // 65535, 6 + 40 * (tile - 6) // PIECES_MAX)),
         ("a definition", model.spelled(read_definition(longest_definition())).encode(), longest_definition()),
     ]
 

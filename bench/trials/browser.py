@@ -41,7 +41,8 @@ STEP = 23
 
 
 class Browser:
-    """Chromium without a window, over its debugging pipe: commands to descriptor 3, what it says comes from 4, each ended by 0."""
+    """Chromium without a window, over its debugging pipe: commands to descriptor 3, what it says comes from 4, each
+    ended by 0."""
 
     def __init__(self, folder: pathlib.Path) -> None:
         (to_in, to_out), (from_in, from_out) = os.pipe(), os.pipe()
@@ -162,9 +163,10 @@ POINTS = """(() => { const {map} = overlayPage.plot, size = map.getSize(), found
 )
 LAYERS = """[...overlayPage.layers].map(layer => [layer.id, overlayPage.plot.drawn.get(layer.id)])
   .filter(([name]) => !overlayPage.plot.hidden.has(name))
-  .sort(([, a], [, b]) => a.derived - b.derived).map(([name, {shape}]) => [name, shape.options.color, shape.options.fillOpacity])"""
-BARE = """for (const one of document.querySelectorAll('.leaflet-control-container, .leaflet-lines-pane, .leaflet-marker-pane, '
-  + '.leaflet-popup-pane, .leaflet-overlay-pane')) one.style.visibility = '%s'"""
+  .sort(([, a], [, b]) => a.derived - b.derived)
+  .map(([name, {shape}]) => [name, shape.options.color, shape.options.fillOpacity])"""
+BARE = """for (const one of document.querySelectorAll('.leaflet-control-container, .leaflet-lines-pane, '
+  + '.leaflet-marker-pane, .leaflet-popup-pane, .leaflet-overlay-pane')) one.style.visibility = '%s'"""
 
 
 def compared(browser: Browser, address: str, tries: Tries, what: str) -> None:
@@ -209,7 +211,8 @@ FAULTS = """(() => { const found = [], seen = element => { const box = element.g
   const text = one => `${one.tagName} ${(one.value ?? one.textContent).trim().slice(0, 30)}`;
   leaves.forEach((one, place) => { const a = one.getBoundingClientRect();
     if (a.left < -1 || a.right > innerWidth + 1) found.push(`${text(one)}: out of the window`);
-    if (!one.matches('input') && one.scrollWidth > one.clientWidth + 1 && one.clientWidth) found.push(`${text(one)}: cut`);
+    if (!one.matches('input') && one.scrollWidth > one.clientWidth + 1 && one.clientWidth)
+      found.push(`${text(one)}: cut`);
     for (const other of leaves.slice(place + 1)) {
       if (getComputedStyle(one.closest('.tools') ?? one).opacity === '0' || other.closest('.tools')) continue;
       const meets = [...one.getClientRects()].some(c => [...other.getClientRects()].some(d =>
@@ -232,7 +235,8 @@ def looked_over(browser: Browser, what: str, tries: Tries) -> None:
     time.sleep(0.5)  # until the map has taken its room
     width = browser.value("innerWidth")
     found = browser.value(FAULTS)
-    tries.that(not found, f"{what} at {width} pixels: nothing lies over another thing, is cut or out of sight {found[:4]}")
+    tries.that(not found,
+               f"{what} at {width} pixels: nothing lies over another thing, is cut or out of sight {found[:4]}")
 
 
 READY = (
@@ -267,7 +271,8 @@ def refused(browser: Browser, place: str, text: str, tries: Tries) -> None:
         "return told.contains(document.elementFromPoint(box.left + 3, box.top + 3)) "
         "&& told.contains(document.elementFromPoint(box.left + 3, box.bottom - 3)); })()"
     )
-    tries.that(seen and text in told(browser, place), f"refused and told in {place}: {told(browser, place)}, seen: {seen}")
+    tries.that(seen and text in told(browser, place),
+               f"refused and told in {place}: {told(browser, place)}, seen: {seen}")
 
 
 def many_layers(browser: Browser, address: str, tries: Tries) -> None:
@@ -408,7 +413,8 @@ def building(browser: Browser, address: str, picture: pathlib.Path, tries: Tries
     browser.until("/D is built/.test(document.getElementById('told-define').textContent)")
     tries.that(
         0 < cells.count("built") < len(cells),
-        f"while it is built {cells.count('built')} of {len(cells)} cells are green; then {told(browser, 'told-define')}",
+        f"while it is built {cells.count('built')} of {len(cells)} cells are green; then "
+        f"{told(browser, 'told-define')}",
     )
     browser.until("document.getElementById('columns').hidden")
 

@@ -35,7 +35,8 @@ SHARED = 'mount -t tmpfs -o mode=1777 tmpfs "$0/dev/shm" && exec chroot "$@"'
 Done = subprocess.CompletedProcess[str]
 SERVED = """
 import json, subprocess, urllib.request
-front = subprocess.Popen(["overlay-web", "--store", "nc.overlay/nc.db", "--port", "0"], stdout=subprocess.PIPE, text=True)
+words = ["overlay-web", "--store", "nc.overlay/nc.db", "--port", "0"]
+front = subprocess.Popen(words, stdout=subprocess.PIPE, text=True)
 address = front.stdout.readline().strip()
 with urllib.request.urlopen(address + "collections/nc/items?limit=1000") as answer:
     print(len(json.load(answer)["features"]))

@@ -6,8 +6,8 @@ python3 -m bench.trials.faults --test
 The program loads faults.c, which lets a call on the store's file or folder fail, or that one and all after it: with
 nothing done, half a write done, interrupted, or the device full. A sync that fails loses what was written since the
 last one, or half of each write. Each run ends; its replies are the model's, but for 30 by SYNC; the store holds a
-version no older than what was reported durable, and opens. A program that leaves out a sync is seen. Status 1: a line of
-the table is wrong.
+version no older than what was reported durable, and opens. A program that leaves out a sync is seen. Status 1: a line
+of the table is wrong.
 """
 
 import argparse
@@ -92,7 +92,8 @@ def left(library: pathlib.Path, folder: pathlib.Path, first: int, kind: int) -> 
     """What fails for the writer above where a call is made to fail, and what it leaves."""
     with tempfile.TemporaryDirectory(dir=folder) as place:
         store = pathlib.Path(place) / "file"
-        given: dict[str, Any] = {"LD_PRELOAD": library, "FAIL_STORE": store, "FAIL_FOLDER": place, "FAIL_COUNTS": place + "/counts"}
+        given: dict[str, Any] = {"LD_PRELOAD": library, "FAIL_STORE": store, "FAIL_FOLDER": place,
+                                 "FAIL_COUNTS": place + "/counts"}
         given |= {"FAIL_FIRST": first, "FAIL_KIND": kind}
         environment = {**os.environ, **{name: str(value) for name, value in given.items()}}
         words = [sys.executable, "-c", CALLS, str(store)]
@@ -101,7 +102,8 @@ def left(library: pathlib.Path, folder: pathlib.Path, first: int, kind: int) -> 
 
 
 def test() -> int:
-    """Looks whether the shim fails the call that it is given and loses what it has to, and what refusals may be reported."""
+    """Looks whether the shim fails the call that it is given and loses what it has to, and what
+    refusals may be reported."""
     passed, failed = refusal_cases.test(refusing.device)
     with tempfile.TemporaryDirectory() as place:
         folder = pathlib.Path(place)

@@ -5,8 +5,9 @@ python3 -m bench.trials.growths --test
 
 The program loads growths.c, which refuses a call for memory or a thread (it sees none of a static program). Each run
 ends; its replies are the model's, but that one growth may be reported once (refusing.py); the store holds a version no
-older than what was reported durable, and opens. Scripts that wait for nothing also run with all growths refused from each
-one on. --step N takes each Nth, --every many at once. Counts differ by the threads' order. Status 1: a line is wrong.
+older than what was reported durable, and opens. Scripts that wait for nothing also run with all growths refused from
+each one on. --step N takes each Nth, --every many at once. Counts differ by the threads' order. Status 1: a line is
+wrong.
 """
 
 import argparse
@@ -27,7 +28,8 @@ def spread(calls: int, step: int, each: int) -> list[dict[str, int]]:
     return [{"FIRST": number, "EACH": each} for number in range(1, calls + refusal_tables.MARGIN, step)]
 
 
-def tables(runner: refused_runs.Runner, calls: int, step: int, every: bool) -> Iterator[tuple[str, refusal_tables.Table]]:
+def tables(runner: refused_runs.Runner, calls: int, step: int,
+           every: bool) -> Iterator[tuple[str, refusal_tables.Table]]:
     """The tables of runs of a scenario, each with what it refuses."""
     if step == 1:
         yield "one growth", refusal_tables.run_in_turn(runner, "REFUSE", {"EACH": 0}, calls, one_growth)

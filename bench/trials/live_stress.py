@@ -559,7 +559,8 @@ def stressed(words: argparse.Namespace, folder: pathlib.Path) -> tuple[int, int]
         failed = 1
     print(
         f"runs ended by kill {whole.kills}, by themselves {whole.ends}; accepted {whole.history.last()}, and "
-        f"{whole.lost} lost by kills that were reported durable to nobody; replies judged {sum(whole.replies.values())}: "
+        f"{whole.lost} lost by kills that were reported durable to nobody; "
+        f"replies judged {sum(whole.replies.values())}: "
         + ", ".join(f"{kind} {count}" for kind, count in sorted(whole.replies.items()))
     )
     return passed, failed

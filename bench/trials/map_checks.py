@@ -1,11 +1,13 @@
-"""Compares the overlaps and the gaps of a map by tools/overlay_maps.py check with those of GEOS, over the same whole numbers.
+"""Compares the overlaps and the gaps of a map by tools/overlay_maps.py check with those of GEOS,
+over the same whole numbers.
 
     /usr/bin/python3 -m bench.trials.map_checks LIVE MAP --factor F [--bend]
     /usr/bin/python3 -m bench.trials.map_checks LIVE --coast POINTS
 
 LIVE is the built overlay_live; python3-shapely, python3-gdal and python3-numpy are needed. With --coast the map is one
-feature of so many points among 1,000 small ones. Status 1: the check takes more than a minute, its audit does not close, or
-an overlap or a gap has another area by more than 1e-6 of it; areas of less than a square unit are left out, as GEOS rounds.
+feature of so many points among 1,000 small ones. Status 1: the check takes more than a minute, its audit does not
+close, or an overlap or a gap has another area by more than 1e-6 of it; areas of less than a square unit are left out,
+as GEOS rounds.
 """
 
 import csv
@@ -33,7 +35,8 @@ REACH, AMONG, WIDE = 10_000_000, 1000, 32
 
 
 def ring_text(ring: list[list[int]]) -> str:
-    return json.dumps({"type": "Feature", "properties": {}, "geometry": {"type": "Polygon", "coordinates": [[*ring, ring[0]]]}})
+    return json.dumps({"type": "Feature", "properties": {},
+                       "geometry": {"type": "Polygon", "coordinates": [[*ring, ring[0]]]}})
 
 
 def coast(points: int) -> str:

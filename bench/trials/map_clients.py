@@ -31,20 +31,19 @@ from collections.abc import Callable, Iterator
 from dataclasses import dataclass, field
 from typing import Any
 
-os.environ.setdefault("QT_QPA_PLATFORM", "offscreen")
+from osgeo import gdal
+from owslib.ogcapi.features import Features
+from shapely import geometry, wkb
 
-from osgeo import gdal  # noqa: E402
-from owslib.ogcapi.features import Features  # noqa: E402
-from shapely import geometry, wkb  # noqa: E402
-
-from bench import TOP, web_front  # noqa: E402
-from bench.counting import Tries, Words  # noqa: E402
-from bench.reference import read_store  # noqa: E402
-from bench.trials.maps import loaded  # noqa: E402
-from bench.web_front import asked, sent  # noqa: E402
-from tools import overlay_client  # noqa: E402
+from bench import TOP, web_front
+from bench.counting import Tries, Words
+from bench.reference import read_store
+from bench.trials.maps import loaded
+from bench.web_front import asked, sent
+from tools import overlay_client
 from tools.limits import COLUMN_WIDTH, COORDINATE_MAX
 
+os.environ.setdefault("QT_QPA_PLATFORM", "offscreen")
 try:
     from qgis import core as qgis
 except ImportError:
@@ -271,7 +270,8 @@ def try_map(tries: Tries, source: Source, folder: pathlib.Path, program: str) ->
     place.mkdir()
     stores, told = made_stores(source, path, place, program)
     wanted = by_gdal(path, source.key, source.layer)
-    tries.that(len(wanted) == source.count, f"{source.name}: {len(wanted)} features in {path.name}, {len(stores)} stores")
+    tries.that(len(wanted) == source.count,
+               f"{source.name}: {len(wanted)} features in {path.name}, {len(stores)} stores")
     placed: Found = {}
     for store in stores:
         placed |= copy_in_degrees(store, place, program, source.key)
@@ -289,7 +289,8 @@ def try_map(tries: Tries, source: Source, folder: pathlib.Path, program: str) ->
                 own = found_in(address, collection_of(store))
                 if how == "ogr2ogr":
                     wrong = wrong_boxes(address, collection_of(store), own, source.key)
-                    tries.that(not wrong, f"{store.stem}: 100 boxes of degrees have the features that GEOS has there {wrong[:3]}")
+                    tries.that(not wrong,
+                               f"{store.stem}: 100 boxes of degrees have the features that GEOS has there {wrong[:3]}")
                 found |= own
             check_client(tries, f"{source.name} by {how}", wanted, found, placed, told)
     check_place(tries, source, path, place, placed, told)
@@ -301,7 +302,8 @@ def wrong_boxes(address: str, collection: str, found: Found, key: str) -> list[t
     west, south, east, north = geometry.GeometryCollection([one.shape for one in found.values()]).bounds
     for _ in range(100):
         x, y, part = chance.uniform(west, east), chance.uniform(south, north), chance.choice([0.0001, 0.01, 0.1, 0.5])
-        box = x, y, min(180.0, x + part * (east - west)), min(90.0, y + part * (north - south) * chance.choice([0.3, 1]))
+        box = x, y, min(180.0, x + part * (east - west)), min(90.0,
+                                                              y + part * (north - south) * chance.choice([0.3, 1]))
         items = asked(f"{address}collections/{collection}/items?limit=10000&bbox={','.join(map(str, box))}")["features"]
         there = {name for name, one in found.items() if one.shape.intersects(geometry.box(*box))}
         wrong += [box] if {one["properties"][key] for one in items} != there else []
@@ -318,8 +320,9 @@ def check_place(tries: Tries, source: Source, path: pathlib.Path, folder: pathli
                     for x in one.shape.bounds) else DEGREE
     far = max(beyond(placed[key].shape, one.shape) for key, one in wanted.items()) * DEGREE
     most = 2**0.5 * told.moved * unit * 1.01 + CENTIMETRE
-    tries.that(far < most, f"{source.name}: each corner is at most {far:.3g} m from ogr2ogr's copy of the source, as told: "
-                           f"{most:.3g} m; of {rings_of(wanted)} rings, less those left out, {rings_of(placed)} have come")
+    tries.that(far < most,
+               f"{source.name}: each corner is at most {far:.3g} m from ogr2ogr's copy of the source, as told: "
+               f"{most:.3g} m; of {rings_of(wanted)} rings, less those left out, {rings_of(placed)} have come")
 
 
 # ---- editing
@@ -344,9 +347,11 @@ def try_edits(tries: Tries, folder: pathlib.Path, program: str) -> None:
     moved = edited(tries, store, program)
     after = listed_in(store)
     changed = sorted(name for name, one in after.items() if one.record != before[name].record)
-    tries.that(changed == wake["layers"], f"in the file {changed} are other layers, those that hold it, of {len(after)}")
+    tries.that(changed == wake["layers"],
+               f"in the file {changed} are other layers, those that hold it, of {len(after)}")
     columns = [place for place, (old, new) in enumerate(zip(before["land"].tiles, after["land"].tiles)) if old != new]
-    tries.that(columns == sorted(moved), f"of 33 columns of a derived layer {columns} were built again, those it touches")
+    tries.that(columns == sorted(moved),
+               f"of 33 columns of a derived layer {columns} were built again, those it touches")
     with fronts_of([store], program, "--writable") as (address,):
         items = f"{address}collections/{store.stem}/items"
         one = asked(f"{items}/1")
@@ -411,7 +416,8 @@ def edited(tries: Tries, store: pathlib.Path, program: str) -> set[int]:
         others = {key: each for key, each in before.items() if key != identity}
         same = all(after[key]["geometry"] == each["geometry"] and after[key]["properties"] == each["properties"]
                    for key, each in others.items())
-        tries.that(same and len(after) == len(before), f"the {len(others)} other counties are as they were, to the digit")
+        tries.that(same and len(after) == len(before),
+                   f"the {len(others)} other counties are as they were, to the digit")
         wait_built(address, "land")
         return columns_of(store, geometry.shape(before[identity]["geometry"])) | columns_of(store, again["Moved"].shape)
 
@@ -429,7 +435,8 @@ def try_layers(tries: Tries, folder: pathlib.Path, program: str) -> None:
             parts = [wkb.loads(bytes(each.GetGeometryRef().ExportToWkb())) for each in data.GetLayer(0)]
             count, area = len(getattr(shape, "geoms", [shape])), sum(part.area for part in parts)
             tries.that(len(parts) == count and abs(area - shape.area) < 1e-9,
-                       f"{name}, a derived layer, by ogr2ogr: {len(parts)} of {count} polygons, area {area:.9f} of {shape.area:.9f}")
+                       f"{name}, a derived layer, by ogr2ogr: {len(parts)} of {count} polygons, "
+                       f"area {area:.9f} of {shape.area:.9f}")
 
 
 def try_owslib(tries: Tries, folder: pathlib.Path, program: str) -> None:

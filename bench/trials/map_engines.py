@@ -4,11 +4,11 @@ process left?
     /usr/bin/python3 -m bench.trials.map_engines LIVE [--parcels N] [--zones N] [--times N] [--only CASE]..
 
 LIVE is the built overlay_live; overlay_window is taken where it stands beside it. One process makes the table that all
-others have to have, byte by byte. In each case a
-run is begun, and when a few tasks are done something of it gets SIGKILL; a run that was killed itself is begun again.
-Dask's scheduler and two workers are started here, over TCP and TLS on the loopback; in two cases the workers are another
-user, who may not see the folder, or not write in it, so tasks and results are sent (as root). Needs python3-gdal, -numpy, -distributed. Status 1: a table
-differs, a run fails, a second run does not go on, or a process is left.
+others have to have, byte by byte. In each case a run is begun, and when a few tasks are done something of it gets
+SIGKILL; a run that was killed itself is begun again. Dask's scheduler and two workers are started here, over TCP and
+TLS on the loopback; in two cases the workers are another user, who may not see the folder, or not write in it, so tasks
+and results are sent (as root). Needs python3-gdal, -numpy, -distributed. Status 1: a table differs, a run fails, a
+second run does not go on, or a process is left.
 """
 
 from __future__ import annotations
@@ -215,8 +215,8 @@ def scheduler(folder: pathlib.Path, user: str | None, protocol: str) -> Iterator
 
         host, port = address.rsplit(":", 1)
         started("dask-scheduler", "--host", host, "--protocol", protocol, "--port", port, "--no-dashboard")
-        workers = [started("dask-worker", address, "--nthreads", "1", "--no-nanny", "--no-dashboard", "--local-directory",
-                           str(place), **({"user": user} if user else {})) for _ in range(2)]
+        workers = [started("dask-worker", address, "--nthreads", "1", "--no-nanny", "--no-dashboard",
+                           "--local-directory", str(place), **({"user": user} if user else {})) for _ in range(2)]
         yield address, [worker.pid for worker in workers]
 
 
@@ -262,7 +262,8 @@ def main() -> int:
     with tempfile.TemporaryDirectory() as made:
         folder = pathlib.Path(made)
         folder.chmod(0o711)
-        subprocess.run([PYTHON, TOP / "bench" / "map_making.py", str(words.parcels), str(words.zones), folder], check=True)
+        subprocess.run([PYTHON, TOP / "bench" / "map_making.py", str(words.parcels), str(words.zones), folder],
+                       check=True)
         live = shutil.copy(words.live, folder / "overlay_live")
         if (window := pathlib.Path(words.live).with_name("overlay_window")).is_file():
             shutil.copy(window, folder / "overlay_window")

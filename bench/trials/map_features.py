@@ -41,7 +41,8 @@ class Changes:
         x, y = self.chance.uniform(-83, -77), self.chance.uniform(34, 36)
         width, height = self.chance.uniform(0.01, 0.4), self.chance.uniform(0.01, 0.4)
         ring = [[round(a, 5), round(b, 5)] for a, b in ((x, y), (x + width, y), (x + width, y + height), (x, y))]
-        return {"type": "Feature", "properties": {"name": f"n{self.chance.randrange(10**6)}", "n": self.chance.random()},
+        return {"type": "Feature",
+                "properties": {"name": f"n{self.chance.randrange(10**6)}", "n": self.chance.random()},
                 "geometry": {"type": "Polygon", "coordinates": [ring]}}
 
     def make(self, address: str, name: str) -> int:
@@ -85,7 +86,8 @@ def what(one: dict[str, Any] | None) -> Any:
     return json.dumps([properties, one["geometry"]], sort_keys=True)
 
 
-def killed_amid(front: subprocess.Popen[str], changes: Changes, address: str, name: str, count: int, delay: float) -> int:
+def killed_amid(front: subprocess.Popen[str], changes: Changes, address: str, name: str, count: int,
+                delay: float) -> int:
     """Makes changes until a kill of the front and of its program cuts one off; how many were answered."""
     kill = ["sh", "-c", f"sleep {delay}; kill -9 {front.pid} $(cat /proc/{front.pid}/task/*/children)"]
     with subprocess.Popen(kill, stderr=subprocess.DEVNULL):
@@ -101,7 +103,8 @@ def try_changes(tries: Tries, folder: pathlib.Path, program: str, chance: random
     web_front.first_map(SOURCE, folder, program)
     store, changes, done, kills = folder / f"{SOURCE.stem}.overlay/{SOURCE.stem}.db", None, 0, 0
     while done < count:
-        words = [web_front.DEBIAN_PYTHON, TOP / "web/overlay_web.py", "--store", store, "--writable", "--port", "0", "--program", program]
+        words = [web_front.DEBIAN_PYTHON, TOP / "web/overlay_web.py", "--store", store, "--writable", "--port", "0",
+                 "--program", program]
         with subprocess.Popen([str(word) for word in words], stdout=subprocess.PIPE, text=True) as front:
             assert front.stdout
             address = front.stdout.readline().strip()
@@ -114,7 +117,8 @@ def try_changes(tries: Tries, folder: pathlib.Path, program: str, chance: random
             done += killed_amid(front, changes, address, store.stem, count, chance.uniform(0.02, 1.5))
             kills += 1
             front.kill()
-    tries.that(True, f"{done} changes, {kills} kills: each that was answered is there, each other one whole or not at all")
+    tries.that(True,
+               f"{done} changes, {kills} kills: each that was answered is there, each other one whole or not at all")
 
 
 def main() -> int:

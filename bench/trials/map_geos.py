@@ -122,7 +122,8 @@ def tell(name: str, different: list[Pair], first: WholeMap, second: WholeMap, fa
 
 
 def is_same(area: Fraction, told: Fraction) -> bool:
-    """Whether an area is the one that was reported: exactly, or where it has too many digits to a thousandth of a unit."""
+    """Whether an area is the one that was reported: exactly, or where it has too many digits to a
+    thousandth of a unit."""
     return area == told or (area.denominator > 10**900 and abs(area - told) < Fraction(1, 1000))
 
 
@@ -163,7 +164,8 @@ def main(arguments: list[str]) -> int:
     first, second = (running.read_map(path, own, words, print).whole
                      for path, own in ((words.first, words.a_id), (words.second, words.b_id)))
     found = tables_areas(words, first, second)
-    pairs = np.array(box_pairs.pairs_of_arrays(numpy_planning.boxes_of(first), numpy_planning.boxes_of(second))).tolist()
+    pairs = np.array(box_pairs.pairs_of_arrays(numpy_planning.boxes_of(first),
+                                               numpy_planning.boxes_of(second))).tolist()
     print(f"{len(pairs)} pairs of boxes, {len(found)} overlap")
     factor, wrong = float(words.factor), 0
     for name, is_moved in (("whole numbers", True), ("the maps' unit", False)):

@@ -1,4 +1,5 @@
-"""Overlays random maps by the steps of tools/overlay_maps.py, judges each answer by slabs of fractions, and plants faults.
+"""Overlays random maps by the steps of tools/overlay_maps.py, judges each answer by slabs of
+fractions, and plants faults.
 
     python3 -m bench.trials.map_overlays LIVE [--answers N] [--seed S] [--numpy] [--window PATH]
 

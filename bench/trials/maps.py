@@ -311,7 +311,8 @@ def rows_of(chart: Chart, folder: pathlib.Path) -> list[dict[str, str]]:
 
 
 def compare_points(result: Result, which: list[list[str]], found: list[list[str]], names: dict[str, str]) -> None:
-    """Compares in which features points are, by which.py and by GEOS, but for those that which.py says to be on an edge."""
+    """Compares in which features points are, by which.py and by GEOS, but for those that which.py
+    says to be on an edge."""
     different, within, edges = 0, 0, 0
     for own, other in zip(which, found, strict=True):
         if own and own[0] == "edge":

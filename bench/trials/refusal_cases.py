@@ -46,8 +46,8 @@ CASES: dict[Allows, list[tuple[Any, int, str | None, bool]]] = {
 }
 
 
-# Two scripts, and what may be reported of them: how many replies each has (None: nothing is printed), what is on standard
-# error, and whether that is right.
+# Two scripts, and what may be reported of them: how many replies each has (None: nothing is printed), what is on
+# standard error, and whether that is right.
 PAIR = Scenario("two", [[f"PUT A {SQUARE}", "HELLO"], ["HELLO", "HELLO"]], 1)
 BAD = "error 41 command syntax"
 PAIR_REPLIES = [["ok 1", BAD], [BAD, BAD]]

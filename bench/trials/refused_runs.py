@@ -34,8 +34,8 @@ AFTER = ["LOCATE I 7 7", "EDGES I 16", f"PUT C {SQUARE}", "SYNC", "DROP I", "VER
 # Two layers over five columns: a WAIT takes a strip of 17, five of which have pieces. Then a change in two of these.
 LONG = "((-720000 0, -400000 9, -400000 -9, -720000 0))"
 STRIPS = [
-    f"PUT A POLYGON {LONG}", "PUT B POLYGON ((-690000 9, -430000 -7, -430000 7, -690000 9))", "DEFINE I = A ^ B", "WAIT I",
-    "EDGES I 5", "EDGES I 7", "VERIFY I 9", "SYNC",
+    f"PUT A POLYGON {LONG}", "PUT B POLYGON ((-690000 9, -430000 -7, -430000 7, -690000 9))", "DEFINE I = A ^ B",
+    "WAIT I", "EDGES I 5", "EDGES I 7", "VERIFY I 9", "SYNC",
     f"PUT A MULTIPOLYGON ({LONG}, ((-530000 1, -520000 1, -520000 30, -530000 1)))", "WAIT I",
     *[f"EDGES I {column}" for column in range(5, 10)], "VERIFY I 8", "SYNC",
 ]
@@ -83,7 +83,8 @@ QUIET_CREATED = Scenario("two of them, a new store", QUIET, 2)
 def compiled(name: str, folder: pathlib.Path) -> pathlib.Path:
     """Compiles a source beside this file, by the kit's compiler, into something that a program can be made to load."""
     library, tools = folder / (name + ".so"), unproved.kit() / "toolchain/bin"
-    words: unproved.Command = [tools / "clang", "--target=x86_64-unknown-linux-gnu", "--no-default-config", "-fintegrated-cc1", "-O1"]
+    words: unproved.Command = [tools / "clang", "--target=x86_64-unknown-linux-gnu", "--no-default-config",
+                               "-fintegrated-cc1", "-O1"]
     words += ["-fno-builtin", "-fPIC", "-shared", "-nostdlib", f"--ld-path={tools / 'ld.lld'}"]
     subprocess.run([*words, "-o", library, HERE / (name + ".c")], check=True)
     return library
@@ -92,8 +93,8 @@ def compiled(name: str, folder: pathlib.Path) -> pathlib.Path:
 class Outcome:
     """What a run left."""
 
-    def __init__(self, sessions: int, status: int | None, output: str, fault: str, store: bytes | None, counts: tuple[int, int],
-                 is_early: bool, is_live: bool = False) -> None:
+    def __init__(self, sessions: int, status: int | None, output: str, fault: str, store: bytes | None,
+                 counts: tuple[int, int], is_early: bool, is_live: bool = False) -> None:
         self.sessions = sessions
         self.status = status  # None where it did not end by itself
         self.output = output
@@ -110,7 +111,8 @@ class Runner:
 
     is_live = False
 
-    def __init__(self, program: str, scenario: Scenario, library: pathlib.Path, folder: pathlib.Path, seconds: int) -> None:
+    def __init__(self, program: str, scenario: Scenario, library: pathlib.Path, folder: pathlib.Path,
+                 seconds: int) -> None:
         self.program = program
         self.scenario = scenario
         self.library = library

@@ -154,7 +154,8 @@ def one_growth(outcome: Outcome, judged: Judged | None) -> None:
     check_cut(outcome, judged, fault)
     is_store = bool(syncs) or is_silent(outcome)
     if len(lines) + is_store + (fault is not None) > 1:
-        raise judging.Wrong(f"one growth is reported by {len(lines)} lines, {len(syncs)} SYNCs and as {fault} at the end")
+        raise judging.Wrong(
+            f"one growth is reported by {len(lines)} lines, {len(syncs)} SYNCs and as {fault} at the end")
     for session, place, _ in syncs:
         for other, behind, _ in syncs:
             if other is session and behind > place and any(
@@ -225,7 +226,8 @@ def layers_told(lines: list[str]) -> list[str]:
 
 
 def history_stored(judged: Judged, number: int, lines: list[str]) -> History:
-    """The history by which the replies are right and whose version of a number has the layers of the store, if one is."""
+    """The history by which the replies are right and whose version of a number has the layers of
+    the store, if one is."""
     for history in judged.histories:
         if number <= history.last() and history.versions[number].lines() == layers_told(lines):
             return history

@@ -4,11 +4,12 @@ python3 -m bench.trials.same_replies FIRST SECOND [--scripts N] [--after N] [--s
                                         [--seconds N] [--keep FOLDER]
 python3 -m bench.trials.same_replies --test
 
-FIRST may be of another commit: `python3 bench/unproved.py --unchecked crates/overlayd/src FIRST` in a worktree of it. The
-scripts are those of examples/ and drawn ones of one session each: commands of all kinds, good and bad, batches, layers of
-one column, of several and of all, and points. EDGES and VERIFY come right after a WAIT for their layer, as it is chance
-whether a tile is built sooner. Each script is run by each number of workers without a store, with a new one, and over the
-store that the other program left. Status 1: replies, standard error or a status differ, or a run does not end; such a script is kept.
+FIRST may be of another commit: `python3 bench/unproved.py --unchecked crates/overlayd/src FIRST` in a worktree of it.
+The scripts are those of examples/ and drawn ones of one session each: commands of all kinds, good and bad, batches,
+layers of one column, of several and of all, and points. EDGES and VERIFY come right after a WAIT for their layer, as it
+is chance whether a tile is built sooner. Each script is run by each number of workers without a store, with a new one,
+and over the store that the other program left. Status 1: replies, standard error or a status differ, or a run does not
+end; such a script is kept.
 """
 
 from __future__ import annotations
@@ -76,7 +77,8 @@ KINDS: list[Callable[[random.Random], Layer]] = [across, across, on_borders, of_
 def zigzag(draw: random.Random, upright: bool) -> Layer:
     """A ring of 240 steps that goes to and fro over the eight columns of one strip, or up and down."""
     low, wide, steps = column_begin(16), 8 * COLUMN_WIDTH, 240
-    points = [(draw.randrange(9) + (i % 2) * (wide - 9), (2 * i + 1) * (wide // 2) // steps + draw.randrange(9)) for i in range(steps)]
+    points = [(draw.randrange(9) + (i % 2) * (wide - 9), (2 * i + 1) * (wide // 2) // steps + draw.randrange(9))
+              for i in range(steps)]
     return [closed([(low + y, x) if upright else (low + x, y) for x, y in points])]
 
 
@@ -85,7 +87,8 @@ def crowded(draw: random.Random) -> list[str]:
     small = tile_texts.text_of([closed([(low, low), (low + 9, low), (low, low + 9)]) for low in (0, 7)])
     layers = [f"PUT {name} {tile_texts.text_of(zigzag(draw, name == 'Y'))}" for name in "XY"]
     asked = waited("Z", range(COLUMNS), [14, 16, 19, 25])
-    return [*layers, f"PUT W {small}", "DEFINE Z = X ^ Y ^ W", *asked, "DROP Z", "DEFINE Z = (X ^ Y) - W", f"PUT W {small}", *asked]
+    return [*layers, f"PUT W {small}", "DEFINE Z = X ^ Y ^ W", *asked, "DROP Z", "DEFINE Z = (X ^ Y) - W",
+            f"PUT W {small}", *asked]
 
 
 # ---- scripts
@@ -93,7 +96,8 @@ def crowded(draw: random.Random) -> list[str]:
 
 def waited(name: str, asked: range | list[int], verified: list[int]) -> list[str]:
     """A WAIT for a layer, its edges in some columns, and some of its tiles built anew."""
-    return [f"WAIT {name}", *[f"EDGES {name} {column}" for column in asked], *[f"VERIFY {name} {column}" for column in verified]]
+    return [f"WAIT {name}", *[f"EDGES {name} {column}" for column in asked],
+            *[f"VERIFY {name} {column}" for column in verified]]
 
 
 class Script(stress.Script):
@@ -142,7 +146,8 @@ class Script(stress.Script):
         """The lines that are drawn next."""
         kinds: list[tuple[Callable[[], str | list[str]], int]] = [
             (self.put, 20), (self.define, 12), (self.drop, 3), (self.batch, 6), (self.wait, 14), (self.locate, 12),
-            (self.far_point, 6), (self.grid, 3), (lambda: "LAYERS", 2), (lambda: "SYNC", 3), (self.broken, 4), (self.skipped, 1),
+            (self.far_point, 6), (self.grid, 3), (lambda: "LAYERS", 2), (lambda: "SYNC", 3), (self.broken, 4),
+            (self.skipped, 1),
         ]
         drawn = self.draw.choices([kind for kind, _ in kinds], [weight for _, weight in kinds])[0]()
         return drawn if isinstance(drawn, list) else [drawn]
@@ -190,7 +195,8 @@ class Pair:
         """A run of a program on the script, killed where it takes longer than it may."""
         asked, quiet = [program, *words, "script.txt"], subprocess.DEVNULL
         try:
-            done = subprocess.run(asked, stdin=quiet, capture_output=True, cwd=self.folder, check=False, timeout=self.seconds)
+            done = subprocess.run(asked, stdin=quiet, capture_output=True, cwd=self.folder, check=False,
+                                  timeout=self.seconds)
         except subprocess.TimeoutExpired as late:
             return Ran(None, late.stdout or b"", late.stderr or b"")
         return Ran(done.returncode, done.stdout, done.stderr)
@@ -229,7 +235,8 @@ def difference(first: Ran, second: Ran) -> str | None:
     if first.output != second.output:
         lines, others = (one.output.splitlines(keepends=True) for one in (first, second))
         place, line, other = next(
-            (at, line, other) for at, (line, other) in enumerate(itertools.zip_longest(lines, others, fillvalue=b"")) if line != other
+            (at, line, other) for at, (line, other) in enumerate(itertools.zip_longest(lines, others, fillvalue=b""))
+            if line != other
         )
         return f"line {place + 1} of the replies: {line[:80]!r}, {other[:80]!r}"
     if first != second:
@@ -285,7 +292,8 @@ def stub_runs(folder: pathlib.Path, old: str, new: str, seconds: float = 60) -> 
 
 
 def strips(segments: int) -> list[range]:
-    """The columns of each strip of a layer over so many segments that is pending everywhere, as `strip_parts` has them."""
+    """The columns of each strip of a layer over so many segments that is pending everywhere, as
+    `strip_parts` has them."""
     wide = min(17, 4096 // segments)
     return [range(first, min(first + wide, COLUMNS)) for first in range(0, COLUMNS, wide)]
 
@@ -328,8 +336,10 @@ def test() -> int:
         ("a crossing", [crossings([(0, 0), (9, 9)], [(1, 8), (8, 1)], range(at, at + 1)) for at in (15, 16)], [0, 1]),
         ("pieces", most_pieces() > PIECES_MAX, True),
         ("alike", difference(Ran(0, b"ok 1\n", b""), Ran(0, b"ok 1\n", b"")), None),
-        ("another line", difference(Ran(0, b"ok 1\nok 2\n", b""), Ran(0, b"ok 1\nok 3\n", b"")), "line 2 of the replies: b'ok 2\\n', b'ok 3\\n'"),
-        ("a line more", difference(Ran(0, b"ok 1\n", b""), Ran(0, b"ok 1\nok 2\n", b"")), "line 2 of the replies: b'', b'ok 2\\n'"),
+        ("another line", difference(Ran(0, b"ok 1\nok 2\n", b""), Ran(0, b"ok 1\nok 3\n", b"")),
+         "line 2 of the replies: b'ok 2\\n', b'ok 3\\n'"),
+        ("a line more", difference(Ran(0, b"ok 1\n", b""), Ran(0, b"ok 1\nok 2\n", b"")),
+         "line 2 of the replies: b'', b'ok 2\\n'"),
         ("a part more", difference(Ran(0, b"a", b""), Ran(0, b"a\nb", b"")), "line 1 of the replies: b'a', b'a\\n'"),
         ("another status", difference(Ran(0, b"", b""), Ran(1, b"", b"x")), "status 0, 1; standard error b'', b'x'"),
     ]

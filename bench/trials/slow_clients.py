@@ -1,8 +1,9 @@
-"""Are others answered while 900 clients of the front send their requests a line at a time, and does each of those come to an end?
+"""Are others answered while 900 clients of the front send their requests a line at a time, and does each of those come
+to an end?
 
-Each slow client sends a line of its head, or some bytes of its body, every 4 seconds, until the front closes it. Meanwhile
-another one asks where a point lies, twice a second, and each answer has to come within 5 seconds. Not of the gate, whose
-tests have 250 slow clients for some seconds.
+Each slow client sends a line of its head, or some bytes of its body, every 4 seconds, until the front closes it.
+Meanwhile another one asks where a point lies, twice a second, and each answer has to come within 5 seconds. Not of the
+gate, whose tests have 250 slow clients for some seconds.
 
     python3 -m bench.trials.slow_clients [--program PATH] [--python PATH] [--clients 900]
 
@@ -24,7 +25,7 @@ from bench import web_front
 from bench.counting import Tries, Words
 
 LAST, LINES, PAUSE = 80.0, 4.0, 0.5
-"""How many seconds the slow ones are looked at, and how many pass between two of their lines, and between two questions."""
+"""How many seconds the slow ones are looked at, and how many pass between two lines of theirs, and two questions."""
 ANSWER = 5.0
 HEAD = b"GET /conformance HTTP/1.1\r\nHost: 127.0.0.1\r\n"
 BODY = (b"PUT /collections/x HTTP/1.1\r\nHost: 127.0.0.1\r\nContent-Type: application/json\r\n"
@@ -83,14 +84,17 @@ def tried(tries: Tries, address: str, what: str, count: int, begin: bytes, more:
     took = sorted(one for one in waits if one is not None)
     tries.that(len(took) == len(waits) and took,
                f"{count} slow {what}: {len(took)} of {len(waits)} others answered, half within "
-               f"{1000 * took[len(took) // 2]:.0f} ms, all within {1000 * took[-1]:.0f} ms" if took else f"{what}: no answer")
-    tries.that(not slow.open_ones, f"{count - len(slow.open_ones)} of {count} closed after {time.monotonic() - began:.0f} s")
+               f"{1000 * took[len(took) // 2]:.0f} ms, all within {1000 * took[-1]:.0f} ms" if took
+               else f"{what}: no answer")
+    tries.that(not slow.open_ones,
+               f"{count - len(slow.open_ones)} of {count} closed after {time.monotonic() - began:.0f} s")
 
 
 def main() -> int:
     parser = Words(__doc__)
     parser.add_argument("--program", default=str(web_front.PROGRAM), metavar="PATH")
-    parser.add_argument("--python", default=web_front.DEBIAN_PYTHON, metavar="PATH", help="the Python that runs the front")
+    parser.add_argument("--python", default=web_front.DEBIAN_PYTHON, metavar="PATH",
+                        help="the Python that runs the front")
     parser.add_argument("--clients", type=int, default=900, metavar="N", help="how many are slow (default 900)")
     words, tries = parser.words(), Tries()
     with tempfile.TemporaryDirectory() as folder:

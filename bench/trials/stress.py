@@ -58,7 +58,8 @@ def wide_ring(draw: random.Random) -> list[Point]:
 
 
 def text(draw: random.Random) -> str:
-    """A base layer as Well-Known Text: how many rings it has and of which form each is (the functions above) is drawn."""
+    """A base layer as Well-Known Text: how many rings it has and of which form each is (the
+    functions above) is drawn."""
     kinds: Sequence[Callable[[random.Random], list[Point]]] = [rectangle] * 5 + [random_ring] * 4 + [wide_ring]
     rings = [draw.choice(kinds)(draw) for _ in range(draw.choice([0, 1, 1, 1, 1, 2, 2, 3]))]
     if len(rings) == 1 and draw.random() < 0.7:
@@ -343,7 +344,8 @@ def main() -> int:
     parser.add_argument("--without", metavar="WORD", help="draws no lines with this word")
     parser.add_argument("--keep", metavar="FOLDER", help="keeps the scripts, replies and store here")
     words = parser.words()
-    return Kept(words.keep, "stress").run(lambda folder: stress(words, folder), judging.Wrong, subprocess.TimeoutExpired)
+    return Kept(words.keep, "stress").run(lambda folder: stress(words, folder), judging.Wrong,
+                                          subprocess.TimeoutExpired)
 
 
 if __name__ == "__main__":

@@ -147,7 +147,8 @@ def drawn(number: int) -> tuple[int, str, list[Layer]]:
 def edges_in(column: int, layers: list[Layer]) -> list[tuple[Point, Point]]:
     """The edges that reach into a column, each from left to right."""
     pairs = [tuple(sorted(pair)) for layer in layers for ring in layer for pair in zip(ring, ring[1:])]
-    return [(l, r) for l, r in pairs if l != r and border(column) <= r[0] and l[0] < border(column + 1)]
+    return [(left, right) for left, right in pairs
+            if left != right and border(column) <= right[0] and left[0] < border(column + 1)]
 
 
 def turn(a: Point, b: Point, p: Point) -> int:
@@ -159,16 +160,16 @@ def features(column: int, layers: list[Layer]) -> set[str]:
     """What is peculiar about an input, by names."""
     edges = edges_in(column, layers)
     found = set()
-    for l, r in edges:
-        if l[0] == r[0]:
+    for left, right in edges:
+        if left[0] == right[0]:
             found.add("upright edges")
-        if l[0] < border(column) < r[0] or l[0] < border(column + 1) < r[0]:
+        if left[0] < border(column) < right[0] or left[0] < border(column + 1) < right[0]:
             found.add("edges cut by a border")
         for a, b in edges:
-            on_line = [p for p in (a, b) if turn(l, r, p) == 0]
-            if len(on_line) == 1 and l < on_line[0] < r:
+            on_line = [p for p in (a, b) if turn(left, right, p) == 0]
+            if len(on_line) == 1 and left < on_line[0] < right:
                 found.add("edges that end within others")
-            if len(on_line) == 2 and max(l, a) < min(r, b) and (l, r) != (a, b):
+            if len(on_line) == 2 and max(left, a) < min(right, b) and (left, right) != (a, b):
                 found.add("edges that overlap in part")
     if len(set(edges)) < len(edges):
         found.add("edges that stand twice")

@@ -1,8 +1,9 @@
 """Does the unit of a release run a front by systemd, with all that it takes from it, and bring it up again?
 
 A root of Debian's base gets systemd and the package, and is begun in namespaces and a control group of its own, with
-systemd as its first process. There a map is served by the unit; another one is changed by Part 4, killed, comes up again
-with what was answered, and is stopped; then the package is purged while a front runs. Not of the gate; it needs root.
+systemd as its first process. There a map is served by the unit; another one is changed by Part 4, killed, comes up
+again with what was answered, and is stopped; then the package is purged while a front runs. Not of the gate; it needs
+root.
 
     python3 -m bench.trials.unit_run [--programs FOLDER] [--base FOLDER]
 
@@ -106,7 +107,8 @@ def begun_by(process: int) -> int | None:
 def machine(folder: pathlib.Path, root: pathlib.Path) -> Iterator[Machine]:
     """A machine while the block lasts; all that runs in it ends with its first process."""
     words = ["unshare", "--mount", "--propagation", "private", "sh", "-c", BEGIN, str(folder), str(root)]
-    with subprocess.Popen(words, stdin=subprocess.DEVNULL, stdout=subprocess.DEVNULL, stderr=subprocess.DEVNULL) as outer:
+    with subprocess.Popen(words, stdin=subprocess.DEVNULL, stdout=subprocess.DEVNULL,
+                          stderr=subprocess.DEVNULL) as outer:
         first, end = None, time.monotonic() + SECONDS
         try:
             while first is None and time.monotonic() < end:
@@ -126,7 +128,8 @@ def with_systemd(root: pathlib.Path) -> pathlib.Path:
     shutil.copy("/etc/resolv.conf", root / "etc/resolv.conf")
     for words in (["update"], ["install", "-y", "--no-install-recommends", *WANTED]):
         environment = {**os.environ, "DEBIAN_FRONTEND": "noninteractive"}
-        done = subprocess.run(["chroot", root, "apt-get", "-q", *words], env=environment, capture_output=True, text=True)
+        done = subprocess.run(["chroot", root, "apt-get", "-q", *words], env=environment, capture_output=True,
+                              text=True)
         if done.returncode:
             sys.exit(f"apt-get {' '.join(words)}: {done.stderr}")
     return root

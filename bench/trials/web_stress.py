@@ -28,7 +28,8 @@ def new_ask(address: str) -> Ask:
 def main() -> int:
     parser = Words(__doc__)
     parser.add_argument("--program", default=str(web_front.PROGRAM), metavar="PATH")
-    parser.add_argument("--python", default=web_front.DEBIAN_PYTHON, metavar="PATH", help="the Python that runs the front")
+    parser.add_argument("--python", default=web_front.DEBIAN_PYTHON, metavar="PATH",
+                        help="the Python that runs the front")
     parser.add_argument("--seconds", type=float, default=60, metavar="N", help="how long they ask (default 60)")
     words = parser.words()
     with tempfile.TemporaryDirectory() as folder:

@@ -2,10 +2,10 @@
 
     python3 -m bench.trials.windows PROGRAM [--seed N] [--parts N]
 
-Random rings, which cross themselves and have far corners, are drawn in round random boxes. From each of some points of the
-box, its corners and borders among them, the layer has to be seen as the map is, inside even-odd and on an edge; and from
-points off the frame nothing of it. What tools/maps/drawing_in.py draws of the same rings is looked at beside it. The last line is
-'N passed, M failed'.
+Random rings, which cross themselves and have far corners, are drawn in round random boxes. From each of some points of
+the box, its corners and borders among them, the layer has to be seen as the map is, inside even-odd and on an edge; and
+from points off the frame nothing of it. What tools/maps/drawing_in.py draws of the same rings is looked at beside it.
+The last line is 'N passed, M failed'.
 """
 
 import argparse
@@ -35,7 +35,8 @@ REFUSED: list[tuple[windows.Part, int]] = [
 
 def rings_of(text: str) -> list[Ring]:
     """The rings of a text, each without its first point once more."""
-    return [[(int(x), int(y)) for x, y in re.findall(r"(-?\d+) (-?\d+)", ring)][:-1] for ring in re.findall(r"\(([-\d ,]+)\)", text)]
+    return [[(int(x), int(y)) for x, y in re.findall(r"(-?\d+) (-?\d+)", ring)][:-1]
+            for ring in re.findall(r"\(([-\d ,]+)\)", text)]
 
 
 def steps_of(rings: list[Ring]) -> list[tuple[Point, Point]]:
@@ -76,7 +77,8 @@ def core_of(source: random.Random) -> Box:
 
 
 def frame_of(core: Box, rings: list[Ring]) -> Box:
-    ends = [end for a, b in steps_of(rings) if not drawing_in.off(*a, core) & drawing_in.off(*b, core) for end in (a, b)]
+    ends = [end for a, b in steps_of(rings) if not drawing_in.off(*a, core) & drawing_in.off(*b, core)
+            for end in (a, b)]
     return drawing_in.grown(core, ends)
 
 
@@ -85,7 +87,8 @@ def part_of(source: random.Random) -> windows.Part:
     core = core_of(source)
     rings = [[corner(source, core) for _ in range(source.randint(3, 9))] for _ in range(source.randint(1, 3))]
     rings = [ring for ring in rings if max(frame_of(core, [ring])[2] - core[0], core[2] - frame_of(core, [ring])[0],
-                                           frame_of(core, [ring])[3] - core[1], core[3] - frame_of(core, [ring])[1]) < 2**19]
+                                           frame_of(core, [ring])[3] - core[1], core[3] - frame_of(core, [ring])[1])
+             < 2**19]
     return windows.Part(core, frame_of(core, rings), core[:2], rings)
 
 
@@ -93,7 +96,8 @@ def places_of(source: random.Random, box: Box) -> list[Place]:
     """Corners, places of the border and of the inside."""
     left, under, right, over = box
     xs = [Fraction(left), Fraction(right), *(left + (right - left) * Fraction(source.randint(0, 12), 12) for _ in "ab")]
-    ys = [Fraction(under), Fraction(over), *(under + (over - under) * Fraction(source.randint(0, 12), 12) for _ in "ab")]
+    ys = [Fraction(under), Fraction(over),
+          *(under + (over - under) * Fraction(source.randint(0, 12), 12) for _ in "ab")]
     return [(x, y) for x in xs for y in ys]
 
 

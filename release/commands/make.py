@@ -3,11 +3,11 @@
     release/make                        release/out/overlayd-VERSION-linux-x86_64.tar.gz, overlayd_VERSION_amd64.deb
     release/make --programs FOLDER      of programs that are built elsewhere, to try it
 
-The version is the one that overlay_live prints (crates/overlay_live/src/texts.rt). A program that prints another is built
-of other sources, and is refused. The time of all files is SOURCE_DATE_EPOCH, else that of the commit, and then the tree has
-to be as it was committed, with no further file among those that are packed or printed. So one commit, with the same
-programs and the same Python, gives the same bytes. Python, git and the kit's `rt` are needed. Beside both are their
-SHA-256 sums, in SHA256SUMS.
+The version is the one that overlay_live prints (crates/overlay_live/src/texts.rt). A program that prints another is
+built of other sources, and is refused. The time of all files is SOURCE_DATE_EPOCH, else that of the commit, and then
+the tree has to be as it was committed, with no further file among those that are packed or printed. So one commit, with
+the same programs and the same Python, gives the same bytes. Python, git and the kit's `rt` are needed. Beside both are
+their SHA-256 sums, in SHA256SUMS.
 
 Status 0: both are made; 1: not so, and none of them is written; 2: wrong words.
 """

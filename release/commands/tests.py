@@ -2,10 +2,10 @@
 
     python3 release/tests.py FOLDER_OR_PROGRAM [LIVE WINDOW]
 
-FOLDER has the built overlayd, overlay_live and overlay_window; or these three are named one by one. Python and the kit's
-`rt` are needed; what dpkg-deb, groff, systemd-analyze and bash say of a release is looked at where they are, and else
-reported as left out. The package in a clean root is tried by bench/trials/clean_root.py. The last line is 'N passed, M
-failed'.
+FOLDER has the built overlayd, overlay_live and overlay_window; or these three are named one by one. Python and the
+kit's `rt` are needed; what dpkg-deb, groff, systemd-analyze and bash say of a release is looked at where they are, and
+else reported as left out. The package in a clean root is tried by bench/trials/clean_root.py. The last line is 'N
+passed, M failed'.
 """
 
 from __future__ import annotations
@@ -53,7 +53,8 @@ class Built:
 
 def made_by(programs: pathlib.Path, out: pathlib.Path, umask: int = 0o022, **environment: str) -> Done:
     """A run of make as a process."""
-    words = [sys.executable, contents.TOP / "release/make", "--programs", programs, "--out", out, "--maintainer", "A B <a@b.example>"]
+    words = [sys.executable, contents.TOP / "release/make", "--programs", programs, "--out", out, "--maintainer",
+             "A B <a@b.example>"]
     told = {**os.environ, "SOURCE_DATE_EPOCH": str(SECONDS), **environment}
     given = [str(word) for word in words]
     return subprocess.run(given, env=told, umask=umask, capture_output=True, text=True, check=False)
@@ -126,7 +127,8 @@ class Bytes(unittest.TestCase):
                 self.assertEqual({(one.uid, one.gid, one.uname, one.gname, one.mtime) for one in found},
                                  {(0, 0, "root", "root", SECONDS)})
                 self.assertLessEqual({(one.type, one.mode) for one in found}, {
-                    (tarfile.DIRTYPE, 0o755), (tarfile.REGTYPE, 0o644), (tarfile.REGTYPE, 0o755), (tarfile.SYMTYPE, 0o777)})
+                    (tarfile.DIRTYPE, 0o755), (tarfile.REGTYPE, 0o644), (tarfile.REGTYPE, 0o755),
+                    (tarfile.SYMTYPE, 0o777)})
 
     def test_sums_are_those_of_the_files(self) -> None:
         sums = dict(line.split("  ")[::-1] for line in Built.made["SHA256SUMS"].decode().splitlines())
@@ -318,7 +320,9 @@ class Package(unittest.TestCase):
         fields = dict(line.split(": ", 1) for line in text.splitlines() if not line.startswith(" "))
         self.assertEqual((fields["Package"], fields["Version"], fields["Architecture"], fields["Maintainer"]),
                          ("overlayd", make.version_told()[0], "amd64", "A B <a@b.example>"))
-        self.assertRegex(fields["Depends"], r"^libc6 \(>= 2\.[0-9]+\), python3 \(>= 3\.11\), python3-cachetools, python3-gdal, python3-numpy, python3-pyproj, python3-tqdm, python3-waitress$")
+        self.assertRegex(fields["Depends"],
+                         r"^libc6 \(>= 2\.[0-9]+\), python3 \(>= 3\.11\), python3-cachetools, "
+                         r"python3-gdal, python3-numpy, python3-pyproj, python3-tqdm, python3-waitress$")
         self.assertIn("gdal-bin", fields["Recommends"])
         self.assertGreater(int(fields["Installed-Size"]), 1000)
 
@@ -361,7 +365,8 @@ class Uses(unittest.TestCase):
         shutil.copy(MAP, self.folder / "nc.geojson")
         done = ran("overlay", "nc.geojson", "--only-make", cwd=self.folder)
         self.assertEqual(done.returncode, 0, done.stderr)
-        self.assertEqual(ran("overlay-which", "--store", "nc.overlay/nc.db", *RALEIGH, cwd=self.folder).stdout.strip(), "Wake")
+        self.assertEqual(ran("overlay-which", "--store", "nc.overlay/nc.db", *RALEIGH, cwd=self.folder).stdout.strip(),
+                         "Wake")
         done = ran("overlay-to-geojson", "--store", "nc.overlay/nc.db", "--features", cwd=self.folder)
         self.assertEqual(len(json.loads(done.stdout)["features"]), 100)
         done = ran("overlay-maps", "check", "nc.geojson", "--factor", "100000", "--out", "o.csv", cwd=self.folder)
