@@ -90,14 +90,14 @@ def is_store(path: pathlib.Path) -> bool:
         return begins_as_store(file.read(SLOTS_END))
 
 
-def content(path: pathlib.Path, kind: str, words: str) -> bytes:
-    """What a file has that is to be a script, or replies; where it is a store the words to type are reported."""
+def content(path: pathlib.Path) -> bytes:
+    """What a file has that is to be a script; where it is a store the words to type are reported."""
     try:
         data = path.read_bytes()
     except OSError as fault:
         raise Unusable(ending.told(path, fault)) from fault
     if begins_as_store(data):
-        raise Unusable(f"{path}: a store, and no {kind}; {words}")
+        raise Unusable(f"{path}: a store, and no script; say --store {path}")
     return data
 
 
@@ -168,18 +168,11 @@ class Map:
 
 
 def add_words(parser: argparse.ArgumentParser, many: bool = False) -> None:
-    """The words that tools have for where layers and replies come from."""
+    """The words that tools have for where layers come from."""
     parser.add_argument("script", metavar="SCRIPT", nargs="?", type=pathlib.Path, help="a script for overlayd")
     parser.add_argument("--store", metavar="FILE", type=pathlib.Path,
                         help="the layers of this store, in the place of a script; it is not changed")
-    source = parser.add_mutually_exclusive_group()
-    source.add_argument("--program", metavar="PATH",
-                        help=PROGRAM_HELP)
-    source.add_argument("--replies", metavar="FILE", type=pathlib.Path,
-                        help="ask no program: the replies to the script, which asks EDGES itself")
-    source.add_argument("--questions", action="store_true",
-                        help="only print the script with the questions after it, to be run elsewhere; where no layer "
-                        "is named, those of its last DEFINE, as no reply says which layers there are")
+    parser.add_argument("--program", metavar="PATH", help=PROGRAM_HELP)
     add_layer_word(parser, many)
 
 
@@ -231,8 +224,6 @@ def scale_of(words: argparse.Namespace, parser: argparse.ArgumentParser) -> tupl
 def check_words(words: argparse.Namespace, parser: argparse.ArgumentParser) -> None:
     if (words.script is None) == (words.store is None):
         parser.error("either a SCRIPT or --store FILE; a layer is named by --layer")
-    if words.store and words.replies:
-        parser.error("--replies are those of a SCRIPT")
 
 
 def wanted(words: argparse.Namespace, default: list[str]) -> list[str]:
@@ -266,8 +257,6 @@ def of_store(words: argparse.Namespace, many: bool, grid: GridFor | None) -> tup
         raise Unusable(f"{words.store}: it has no layer")
     derived = [name for name in layers if name in first.definitions]
     script = b"LAYERS\nSYNC\n" + sessions.questions(derived) + grid_line(layers[0], grid(first) if grid else None)
-    if words.questions:
-        return printed(script)
     session = sessions.read(script, store_replies(program, words.store, script), 0)
     if (session.base, session.definitions) != (first.base, first.definitions):
         raise Unusable(f"{words.store}: its layers changed meanwhile; ask again")
@@ -295,16 +284,10 @@ def standing(session: Session, named: list[str], many: bool) -> list[str]:
 
 def of_script(words: argparse.Namespace, many: bool, grid: GridFor | None) -> tuple[Session, list[str]]:
     """The session of a script and the layers that are asked for, with all their pieces."""
-    script = content(words.script, "script", f"say --store {words.script}")
-    replies = content(words.replies, "replies", f"say --store {words.replies}") if words.replies else None
+    script = content(words.script)
     named = wanted(words, sessions.named_by(script) if many else [sessions.last_defined(script)])
     if not named:
         raise Unusable("the script makes no layer")
-    if replies is not None:
-        session = sessions.read(script, replies)
-        return session, wanted(words, standing(session, named, many))
-    if words.questions:
-        return printed(with_questions(script, named, grid))
     program = words.program or found_program((BATCHED, LIVE))
     session = answered(program, script, named, grid)
     layers = wanted(words, standing(session, named, many))
@@ -318,13 +301,8 @@ def base_of(words: argparse.Namespace, program: str) -> dict[str, list[list[tupl
     """The base layers of a store or a script, each with its rings; nothing is asked of their boundaries."""
     if words.store:
         return sessions.read(b"LAYERS\n", store_replies(program, words.store, b"LAYERS\n"), 0).base
-    script = content(words.script, "script", f"say --store {words.script}")
+    script = content(words.script)
     return sessions.read(script, ran(program, [], script)).base
-
-
-def printed(script: bytes) -> tuple[Session, list[str]]:
-    sys.stdout.write(script.decode())
-    sys.exit(0)
 
 
 class Missing(Unusable):

@@ -114,8 +114,8 @@ def feature_collection(words: argparse.Namespace, parser: argparse.ArgumentParse
                        errors: TextIO) -> tuple[str, scales.Scale]:
     """The features of the source, as they are in a store or in the layers of a script."""
     asking.check_words(words, parser)
-    if words.layer or words.replies or words.questions or words.top:
-        parser.error("--features are those of a script or a store, all of them, and the program is asked")
+    if words.layer or words.top:
+        parser.error("--features are those of a script or a store, all of them")
     named = words.store or words.script
     scale, file = asking.scale_of(words, parser)
     program = words.program or asking.found_program((asking.LIVE, asking.BATCHED))
@@ -172,7 +172,7 @@ def check_output(words: argparse.Namespace, parser: argparse.ArgumentParser) -> 
     if asking.is_store(words.output):
         parser.error(f"--output: {words.output} is a store, which is not written over")
     given = [path for path in (words.store, words.script) if path and path.name]
-    for path in [*given, *(path for path in (words.replies, words.scale) if path)]:
+    for path in [*given, *([words.scale] if words.scale else [])]:
         if keeping.is_same(words.output, path):
             parser.error(f"--output: {words.output} is read here, and is not written over")
     try:

@@ -10,7 +10,17 @@ from .. import ending
 from .common import SECONDS, SQUARE, InFolder, path
 
 COUNT = 20000
-LONG = "PUT A x\n" + "".join(f"DROP L{place}\n" for place in range(COUNT))
+SQUARES = 2000
+# A program whose layers have so many squares in one column.
+DRAWING = f"""#!/bin/sh
+exec awk '
+    /^EDGES . 16$/ {{ print "edges {4 * SQUARES}"
+        for (k = 0; k < {SQUARES}; k++) {{ x = 2 * k; y = x + 1
+            print x " 0 1 " x " 1 1\\n" x " 0 1 " y " 0 1\\n" x " 1 1 " y " 1 1\\n" y " 0 1 " y " 1 1" }}
+        next }}
+    /^EDGES/ {{ print "edges 0"; next }}
+    {{ print "ok 1" }}'
+"""
 
 
 class Endings(InFolder):
@@ -18,7 +28,6 @@ class Endings(InFolder):
         """A call of each tool that writes more than a buffer of the interpreter and of a pipe holds."""
         map_file = self.file("map.wkt", "".join(f"POLYGON (({x} 100000, {x + 9} 100000, {x + 9} 100009, {x} 100000))\n"
                                                 for x in range(100000, 115000, 10)))
-        script = self.file("long.txt", LONG)
         store = self.file("a.db", "")
         many = self.file("many.replies", f"layers {COUNT}\n" + "I = A\n" * COUNT)
         program = self.file("program", f"#!/bin/sh\ncat '{many}'\n", 0o700)
@@ -27,15 +36,12 @@ class Endings(InFolder):
         answers = self.file("answers", f"#!/bin/sh\nread line\n[ $line = LAYERS ] && exec cat '{listed}'\n"
                                        f"exec cat '{found}'\n", 0o700)
         points = self.file("points.txt", "1 1\n" * 4000)
-        ring = ", ".join(f"{place} {place % 7}" for place in [*range(COUNT), 0])
-        drawn, accepted = self.file("drawn.txt", f"PUT A POLYGON (({ring}))\n"), self.file("drawn.replies", "ok 1\n")
+        script, drawing = self.file("one.txt", f"PUT A {SQUARE}\n"), self.file("drawing", DRAWING, 0o700)
         return [
             ["to_script.py", str(map_file), "--split"],
             ["dump_store.py", str(store), "--program", str(program)],
             ["which.py", "--store", str(store), "--program", str(answers), "--points", str(points)],
-            ["to_rings.py", str(script), "--questions", "--layer", "A"],
-            ["to_geojson.py", str(script), "--questions", "--layer", "A"],
-            ["to_svg.py", str(drawn), "--replies", str(accepted)],
+            *([name, str(script), "--program", str(drawing)] for name in ("to_rings.py", "to_geojson.py", "to_svg.py")),
         ]
 
     def test_a_reader_that_went_away(self) -> None:

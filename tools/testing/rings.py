@@ -1,8 +1,6 @@
 """Tests of to_rings.py: rings of answers of fixtures/, and of answers that a program gives."""
 
-import io
 import pathlib
-import sys
 import unittest
 from fractions import Fraction
 
@@ -30,8 +28,9 @@ def hole(*corners: tuple[object, object]) -> tuple[bool, list[Place]]:
     return False, outer(*corners)[1]
 
 
-class ToRings(unittest.TestCase):
+class ToRings(InFolder):
     def setUp(self) -> None:
+        super().setUp()
         self.session = shapes()
 
     def test_a_square(self) -> None:
@@ -72,8 +71,10 @@ class ToRings(unittest.TestCase):
         with self.assertRaisesRegex(sessions.Unusable, "Gone: column 0: not asked, or asked before a change"):
             to_rings.layer_polygons(self.session, "Gone")
 
-    def words(self, layer: str) -> tuple[str, ...]:
-        return path("fixtures", "shapes.txt"), "--replies", path("fixtures", "shapes.replies"), "--layer", layer
+    def words(self, layer: str) -> tuple[object, ...]:
+        """A script of the layers alone, and the plain model of bench/ for the program."""
+        made = [line for line in content("fixtures", "shapes.txt").splitlines(True) if not line.startswith((b"WAIT", b"EDGES"))]
+        return self.file("shapes.txt", b"".join(made)), "--program", self.model(), "--layer", layer
 
     def test_the_text(self) -> None:
         status, output, errors = outcome(to_rings, *self.words("F"), "--digits", 3)
@@ -101,9 +102,8 @@ class ToRings(unittest.TestCase):
         self.assertEqual(output, "POLYGON ((7.05 -2.95, 7.1 -2.95, 7.1 -2.9, 7.05 -2.9, 7.05 -2.95))\n")
 
     def test_a_layer_that_gives_no_rings(self) -> None:
-        status, output, errors = outcome(to_rings, *self.words("A"))
-        self.assertEqual((status, output), (1, ""))
-        self.assertIn("A: column 0: not asked", errors)
+        with self.assertRaisesRegex(sessions.Unusable, "A: column 0: not asked"):
+            to_rings.layer_polygons(self.session, "A")
 
     def test_pieces_that_do_not_close(self) -> None:
         pieces, _ = sessions.pieces_of(self.session, "I")
@@ -129,15 +129,9 @@ class RealShapes(unittest.TestCase):
             whole = abs(sum(area_twice(ring[:-1]) for ring in self.session.base[name]))
             self.assertTrue(whole * 4 // 5 < common < whole)
 
-    def test_the_picture_of_the_readme(self) -> None:
-        words = path("fixtures", "iceland.txt"), "--replies", path("fixtures", "iceland.replies"), "--layer", "both"
-        status, output, errors = outcome(to_svg, *words)
-        self.assertEqual((status, errors), (0, ""))
-        self.assertEqual(output.encode(), content("..", "docs", "overlay.svg"))
-
 
 class Runs(InFolder):
-    """The tools with --program and --questions; the program here writes a fixture."""
+    """The tools with --program, which here writes a fixture."""
 
     def setUp(self) -> None:
         super().setUp()
@@ -158,16 +152,6 @@ class Runs(InFolder):
         for program in (self.program("exit 1\n"), self.folder / "none"):
             for tool in (to_rings, to_svg):
                 self.assertEqual(outcome(tool, self.script, "--program", program)[:2], (1, ""))
-
-    def test_the_questions_alone(self) -> None:
-        output, sys.stdout = sys.stdout, io.StringIO()
-        try:
-            with self.assertRaises(SystemExit) as ended:
-                to_rings.main([str(self.script), "--questions"])
-            text = sys.stdout.getvalue()
-        finally:
-            sys.stdout = output
-        self.assertEqual((ended.exception.code, text.encode()), (0, content("fixtures", "iceland.txt")))
 
     def test_a_script_that_is_not_there(self) -> None:
         self.assertEqual(outcome(to_rings, self.folder / "none", "--program", "x")[:2], (1, ""))

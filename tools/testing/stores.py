@@ -71,11 +71,6 @@ class OverScripts(InFolder):
                 self.assertEqual(found, wanted)
                 self.assertEqual((found[0], found[2].count("error 10")), (min(1, refused_lines), refused_lines))
         for tool in (to_rings, to_svg):
-            words = ["--replies", self.folder / "replies"]
-            script = self.file("asked.txt", text + "DEFINE J = Q\nWAIT I\n"
-                               + "".join(f"EDGES I {column}\n" for column in range(33)))
-            self.file("replies", "ok 1\nok 2\nerror 10 unknown layer\nbuilt 2\n" + "edges 0\n" * 33)
-            self.assertEqual(outcome(tool, script, *words), outcome(tool, script, *words, "--layer", "I"))
             self.assertEqual(self.asked(tool, "PUT A POLYGON EMPTY x\n")[2].splitlines()[-1],
                              "A: no layer has this name")
 
@@ -85,8 +80,8 @@ class OverScripts(InFolder):
             status, output, errors = self.asked(tool, text, "--layer", "A", *words)
             self.assertEqual((status, errors.split(" error ")[0]), (1, "line 2: PUT B ..:"))
             self.assertIn("10", output)
-        script, replies = self.file("b.txt", text), self.file("b.replies", "ok 1\nok 2\n")  # no program replies so
-        self.assertEqual(outcome(to_rings, script, "--replies", replies)[:2], (1, ""))
+        script, accepting = self.file("b.txt", text), self.file("accepting", "#!/bin/sh\nsed 's/.*/ok 1/'\n", 0o700)  # no program does
+        self.assertEqual(outcome(to_rings, script, "--program", accepting)[:2], (1, ""))
 
     def test_a_scale_beside_the_script(self) -> None:
         scale = self.file("plan.scale.json", SCALE)
@@ -134,7 +129,7 @@ class OverScripts(InFolder):
         self.assertEqual(value["crs"]["properties"]["name"][:6], "ENGCRS")  # nowhere on the earth
 
     def test_words_that_go_not_together(self) -> None:
-        for words in ([], ["a.txt", "--store", "b"], ["--store", "b", "--replies", "c"], ["a.txt", "--digits", "101"],
+        for words in ([], ["a.txt", "--store", "b"], ["a.txt", "--digits", "101"],
                       ["a.txt", "--factor", "0"], ["a.txt", "--factor", "2", "--scale", "x"],
                       ["a.txt", "--factor", "1e400000000"], ["a.txt", "--factor-y", "1e-400000000"],
                       ["a.txt", "--origin", "0", "1e400000000"]):
@@ -146,7 +141,7 @@ class OverScripts(InFolder):
     def test_a_file_that_is_not_there(self) -> None:
         script, absent = self.file("a.txt", TRIANGLE), self.folder / "absent"
         told = f"{absent}: No such file or directory\n"
-        for words in ([absent], [script, "--replies", absent], [script, "--program", absent]):
+        for words in ([absent], [script, "--program", absent]):
             self.assertEqual(outcome(to_rings, *words), (1, "", told))
         self.assertEqual(outcome(to_script, absent), (2, "", told.replace(": No", ": not read: No")))
 
@@ -154,8 +149,6 @@ class OverScripts(InFolder):
         for tool in (to_rings, to_svg, to_geojson):
             self.assertEqual(self.asked(tool, "LAYERS\n"), (1, "", "the script makes no layer\n"))
             self.assertEqual(self.asked(tool, ""), (1, "", "the script makes no layer\n"))
-            status, output, errors = outcome(tool, self.file("a.txt", "SYNC\n"), "--replies", self.file("b", "ok 0\n"))
-            self.assertEqual((status, output, errors), (1, "", "the script makes no layer\n"))
 
 
 class OverStores(WithProgram):
@@ -242,13 +235,11 @@ class OverStores(WithProgram):
                 self.assertEqual(outcome(tool, store, "--program", self.program),
                                  (1, "", f"{store}: a store, and no script; say --store {store}\n"))
 
-    def test_a_store_in_the_place_of_a_map_or_of_replies(self) -> None:
-        store, script = self.store("map.db", CUT), self.file("map.txt", CUT)
+    def test_a_store_in_the_place_of_a_map(self) -> None:
+        store = self.store("map.db", CUT)
         self.assertEqual(outcome(to_script, store),
                          (2, "", f"{store}: a store, and no map; its layers as a script: dump_store.py {store}, as "
                                  f"GeoJSON: to_geojson.py --store {store}\n"))
-        self.assertEqual(outcome(to_rings, script, "--replies", store),
-                         (1, "", f"{store}: a store, and no replies; say --store {store}\n"))
 
     def test_no_program(self) -> None:
         script = self.file("plan.txt", CUT)
