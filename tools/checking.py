@@ -12,8 +12,8 @@ from . import asking, layering, limits, progress, sessions
 from .areas import area_of_all
 from .commands import to_rings
 from .layering import Group
-from .maps import bending, box_pairs, jobs, planning, rounds, task_form
-from .maps.whole_maps import Box, WholeMap
+from .maps import bending, rounds, task_form
+from .maps.whole_maps import WholeMap
 
 ASKED = "asked"
 RUN_MAX = 100  # pairs of layers that one script can have
@@ -81,11 +81,17 @@ def has_long_step(group: Group) -> bool:
                for step in zip(ring, ring[1:]))
 
 
-def slotted(program: str, whole: WholeMap, boxes: list[Box], pairs: list[Pair]) -> Iterator[Overlap]:
+def slotted(program: str, whole: WholeMap, pairs: list[Pair]) -> Iterator[Overlap]:
     """What pairs of features have in common, many of them asked in one definition."""
+    import numpy as np
+
+    from .maps import jobs, planning  # which take numpy along; few runs need it
+
     question = planning.Question("check", task_form.COMMON, whole, whole, Fraction(1))
+    boxes = planning.boxes_of(whole)
+    planned = planning.jobs_of_pairs(boxes, boxes, np.array(pairs, np.int64).reshape(-1, 2), planning.places(boxes))
     with rounds.Program(program) as asked, progress.bar("checking pairs", len(pairs)) as told:
-        for task in planning.tasks_of(question, planning.jobs_of_pairs(boxes, boxes, pairs)):
+        for task in planning.tasks_of(question, planned):
             for row in jobs.run(task, asked).rows:
                 yield Overlap(row.own, row.others[0], row.area)
             told.update(len(task))
@@ -116,8 +122,10 @@ def one_by_one(program: str, groups: list[Group], pairs: list[Pair]) -> Iterator
 
 def overlapping(program: str, groups: list[Group]) -> list[Overlap]:
     """The pairs of features that have an area in common, the largest first. A feature is even-odd over its rings."""
+    from .maps import box_pairs
+
     whole = whole_map(groups)
-    boxes = planning.boxes_of(whole)
+    boxes = [whole.box(feature) for feature in range(len(whole))]
     is_long = [has_long_step(group) for group in groups]
     is_batched = pathlib.Path(program).name != asking.LIVE
     slow: list[Pair] = []
@@ -125,7 +133,7 @@ def overlapping(program: str, groups: list[Group]) -> list[Overlap]:
     for i, j in box_pairs.pairs_within(boxes):
         (slow if is_batched or is_long[i] or is_long[j] else quick).append((i, j))
     try:
-        found = [*slotted(program, whole, boxes, quick), *one_by_one(program, groups, slow)]
+        found = [*slotted(program, whole, quick), *one_by_one(program, groups, slow)]
     except (rounds.ProgramEnded, rounds.ProgramRefused) as fault:
         raise sessions.Unusable(str(fault)) from fault
     return sorted(found, key=lambda one: (-one.area, one.first, one.second))

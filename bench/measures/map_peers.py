@@ -154,11 +154,11 @@ def boxes_that_meet(folder: pathlib.Path) -> int:
     """Pairs of boxes with a common part that has an area."""
     from fractions import Fraction
 
-    from tools.maps import box_pairs, gdal_maps, numpy_planning
+    from tools.maps import box_pairs, gdal_maps, planning
 
     maps = [gdal_maps.read(str(folder / f"{kind}.gpkg"), Fraction(1000), None, None, False).whole
             for kind in ("parcels", "zones")]
-    return len(box_pairs.pairs_of_arrays(*map(numpy_planning.boxes_of, maps)))
+    return len(box_pairs.pairs_of_arrays(*map(planning.boxes_of, maps)))
 
 
 def main() -> int:

@@ -27,7 +27,7 @@ from shapely.ops import unary_union
 from shapely.validation import make_valid
 
 from tools.commands import overlay_maps
-from tools.maps import box_pairs, numpy_planning, running
+from tools.maps import box_pairs, planning, running
 from tools.maps.whole_maps import WholeMap
 
 CLOSE, MINUTE, SMALL = 1e-6, 60.0, 1.0
@@ -55,7 +55,7 @@ def coast(points: int) -> str:
 def by_geos(whole: WholeMap) -> tuple[dict[tuple[int, int], float], list[float]]:
     """The areas of overlaps, and those of gaps."""
     shapes = [make_valid(shape(whole.rings(feature), (0, 0), 1.0)) for feature in range(len(whole))]
-    boxes = numpy_planning.boxes_of(whole)
+    boxes = planning.boxes_of(whole)
     pairs = [(i, j) for i, j in box_pairs.pairs_of_arrays(boxes, boxes).tolist() if i < j]
     areas = {(i, j): shapes[i].intersection(shapes[j]).area for i, j in pairs}
     union = unary_union(shapes)

@@ -33,7 +33,7 @@ except ImportError as fault:
     sys.exit(f"{fault}: apt-get install python3-shapely python3-numpy, and run this by /usr/bin/python3")
 
 from tools.commands import overlay_maps
-from tools.maps import box_pairs, geojson_maps, numpy_planning, running
+from tools.maps import box_pairs, geojson_maps, planning, running
 from tools.maps.whole_maps import Box, Ring, WholeMap
 from tools.testing import slabs
 
@@ -164,8 +164,8 @@ def main(arguments: list[str]) -> int:
     first, second = (running.read_map(path, own, words, print).whole
                      for path, own in ((words.first, words.a_id), (words.second, words.b_id)))
     found = tables_areas(words, first, second)
-    pairs = np.array(box_pairs.pairs_of_arrays(numpy_planning.boxes_of(first),
-                                               numpy_planning.boxes_of(second))).tolist()
+    pairs = np.array(box_pairs.pairs_of_arrays(planning.boxes_of(first),
+                                               planning.boxes_of(second))).tolist()
     print(f"{len(pairs)} pairs of boxes, {len(found)} overlap")
     factor, wrong = float(words.factor), 0
     for name, is_moved in (("whole numbers", True), ("the maps' unit", False)):

@@ -6,6 +6,8 @@ An audit takes the areas of features from their own points, and trusts neither d
 from collections.abc import Iterable, Iterator, Sequence
 from fractions import Fraction
 
+import numpy as np
+
 from .planning import places
 from .task_form import Row
 from .touching import Step, meet
@@ -158,11 +160,16 @@ def even_odd_areas(whole: WholeMap) -> tuple[list[Fraction], int, list[int]]:
     return areas, crossing, unknown
 
 
+def by_places(rows: Sequence[tuple[int, Row]]) -> Iterator[tuple[int, Row]]:
+    """Rows in an order in which what is near follows each other: parts that meet at a crossing have its divisor, which goes
+    where they are added, so that no number of a sum grows beyond what the border of a region needs."""
+    boxes = np.array([(row.x, row.y, row.x, row.y) for _, row in rows], np.int64).reshape(-1, 4)
+    return (rows[at] for at in np.argsort(places(boxes), kind="stable").tolist())
+
+
 def sum_of(rows: Sequence[tuple[int, Row]]) -> Fraction:
-    """The sum of areas, each times a sign. What is near is added first: parts that meet at a crossing have its divisor,
-    which goes where they are added, so that no number grows beyond what the border of a region needs."""
-    order = places([(row.x, row.y, row.x, row.y) for _, row in rows])
-    return added([rows[at][0] * rows[at][1].area for at in sorted(range(len(rows)), key=order.__getitem__)])
+    """The sum of areas, each times a sign."""
+    return added([sign * row.area for sign, row in by_places(rows)])
 
 
 def added(left: list[Fraction]) -> Fraction:
@@ -172,9 +179,9 @@ def added(left: list[Fraction]) -> Fraction:
     return left[0] if left else Fraction(0)
 
 
-def sums(rows: Iterable[tuple[int, Row]]) -> dict[int, Fraction]:
+def sums(rows: Sequence[tuple[int, Row]]) -> dict[int, Fraction]:
     """What each number has in all of its rows."""
-    held: dict[int, list[tuple[int, Row]]] = {}
-    for number, row in rows:
-        held.setdefault(number, []).append((1, row))
-    return {number: sum_of(own) for number, own in held.items()}
+    held: dict[int, list[Fraction]] = {}
+    for number, row in by_places(rows):
+        held.setdefault(number, []).append(row.area)
+    return {number: added(areas) for number, areas in held.items()}

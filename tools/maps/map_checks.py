@@ -8,7 +8,7 @@ from fractions import Fraction
 from itertools import islice
 from typing import TextIO
 
-from . import auditing, boundaries, exact_area, jobs, leaving_out, pieces, planning, quickest, tables
+from . import auditing, boundaries, exact_area, jobs, leaving_out, pieces, planning, tables
 from .planning import Question
 from .questions import named
 from .running import Say, found_of, read_map, some, tell_unit, written
@@ -33,17 +33,17 @@ class Check:
     open_pieces: list[tuple[int, ...]] = field(default_factory=list)
 
     def __post_init__(self) -> None:
-        self.boxes = quickest.planning.boxes_of(self.whole)
+        self.boxes = planning.boxes_of(self.whole)
 
     def frame(self) -> Box:
-        return quickest.planning.frame_of(self.boxes)
+        return planning.frame_of(self.boxes)
 
     def tasks(self, with_gaps: bool, shapes: bool) -> Iterator[Task]:
         """All tasks: pairs of features, then cells."""
-        pairs = quickest.planning.within_jobs(self.boxes)
+        pairs = planning.within_jobs(self.boxes)
         yield from planning.tasks_of(Question(OVERLAPS_OF, COMMON, self.whole, self.whole, self.factor), pairs)
         if with_gaps:
-            cells = quickest.planning.gap_jobs(self.whole, self.boxes)
+            cells = planning.gap_jobs(self.whole, self.boxes)
             yield from planning.tasks_of(Question(GAPS_OF, GAPS, self.whole, self.whole, self.factor, shapes), cells)
 
     def take(self, some_found: Iterable[Found]) -> Iterator[pieces.Piece]:

@@ -9,7 +9,7 @@ from itertools import combinations
 from typing import TextIO
 
 from .. import coordinate_systems
-from . import auditing, box_pairs, exact_area, leaving_out, pieces, planning, quickest, tables
+from . import auditing, box_pairs, exact_area, leaving_out, pieces, planning, tables
 from .planning import Question
 from .running import Say, check_crs, found_of, read_map, some, tell_unit, written
 from .task_form import ALONE, COMMON, Found, Row, Task
@@ -30,9 +30,8 @@ class Overlay:
 
     def tasks(self, shapes: bool) -> Iterator[Task]:
         """All tasks."""
-        quick = quickest.planning
-        a, b = quick.boxes_of(self.first), quick.boxes_of(self.second)
-        jobs = {BOTH: quick.common_jobs(a, b), FIRST: quick.alone_jobs(a, b), SECOND: quick.alone_jobs(b, a)}
+        a, b = planning.boxes_of(self.first), planning.boxes_of(self.second)
+        jobs = {BOTH: planning.common_jobs(a, b), FIRST: planning.alone_jobs(a, b), SECOND: planning.alone_jobs(b, a)}
         for label, own in jobs.items():
             one, other = (self.second, self.first) if label == SECOND else (self.first, self.second)
             kind = COMMON if label == BOTH else ALONE

@@ -6,12 +6,15 @@ from fractions import Fraction
 from functools import reduce
 from typing import NamedTuple
 
+import numpy as np
+
 from .. import limits
-from . import box_pairs
+from . import box_pairs, spooled
 from .cells import halved
 from .drawing_in import spared
+from .numpy_arrays import Numbers, of_array
 from .task_form import NOBODY, Task
-from .whole_maps import Box, Ring, WholeMap
+from .whole_maps import NOWHERE, Box, Ring, WholeMap, as_box
 
 JOBS_OF_TASK = 4000
 POINTS_OF_TASK = 400_000
@@ -20,6 +23,8 @@ SPREADS = ((16, 0x0000FFFF0000FFFF), (8, 0x00FF00FF00FF00FF), (4, 0x0F0F0F0F0F0F
            (1, 0x5555555555555555))
 WHOLE_POINTS = limits.STEPS_MAX  # a window takes a feature of so many points, whatever its core is
 CELL_POINTS = 1000  # about as many points a cell of gaps has near it
+AT_ONCE = 1 << 16  # pairs of which jobs are made
+FEATURES_AT_ONCE = 1 << 18  # of a map that are looked at together
 
 
 class Job(NamedTuple):
@@ -43,40 +48,90 @@ class Question:
     touches: bool = False
 
 
-def places(boxes: Sequence[Box]) -> list[int]:
+def boxes_of(whole: WholeMap) -> Numbers:
+    """The boxes of features, a row each."""
+    boxes = np.tile(np.array(NOWHERE, np.int64), (len(whole), 1))
+    for at in range(0, len(whole), FEATURES_AT_ONCE):
+        add_boxes(boxes[at : at + FEATURES_AT_ONCE], whole, at)
+        spooled.release()
+    return boxes
+
+
+def add_boxes(boxes: Numbers, whole: WholeMap, first: int) -> None:
+    """Fills in the boxes of so many features, from the first on."""
+    at = of_array(whole.ring_at)[of_array(whole.feature_at)[first : first + len(boxes) + 1]]
+    full = at[1:] > at[:-1]
+    begins = (at[:-1] - at[0])[full]
+    if len(begins):
+        for axis, line in ((0, of_array(whole.xs)), (1, of_array(whole.ys))):
+            own = line[at[0] : at[-1]]
+            boxes[full, axis] = np.minimum.reduceat(own, begins)
+            boxes[full, 2 + axis] = np.maximum.reduceat(own, begins)
+
+
+def places(boxes: Numbers) -> Numbers:
     """Numbers for boxes that are near where boxes are: of their middles, by Morton's curve."""
-    middles = [((left + right) // 2, (under + over) // 2) for left, under, right, over in boxes]
-    low = [min((middle[axis] for middle in middles), default=0) for axis in (0, 1)]
-    wide = max((middle[axis] - low[axis] for middle in middles for axis in (0, 1)), default=0)
-    shift = max(0, wide.bit_length() - BITS)
-    return [spread((x - low[0]) >> shift) | spread((y - low[1]) >> shift) << 1 for x, y in middles]
+    if not len(boxes):
+        return np.zeros(0, np.int64)
+    middles: Numbers = (boxes[:, :2] + boxes[:, 2:]) // 2
+    middles = middles - middles.min(axis=0)
+    middles >>= max(0, int(middles.max()).bit_length() - BITS)
+    found: Numbers = spread(middles[:, 0]) | spread(middles[:, 1]) << 1
+    return found
 
 
-def spread(number: int) -> int:
-    """The bits of a number, each with a zero after it."""
+def spread(given: Numbers) -> Numbers:
+    """The bits of numbers, each with a zero after it."""
     for shift, mask in SPREADS:
-        number = (number | number << shift) & mask
-    return number
+        given = (given | given << shift) & mask
+    return given
 
 
-def boxes_of(whole: WholeMap) -> list[Box]:
-    return [whole.box(feature) for feature in range(len(whole))]
+def by_parts(a: Numbers, b: Numbers, own_places: Numbers, touching: bool = False) -> Iterator[tuple[Numbers, Numbers]]:
+    """The first map in parts, in the order of places, and the pairs of boxes of each: no more pairs are in memory."""
+    order = np.argsort(own_places, kind="stable")
+    for at in range(0, len(order), FEATURES_AT_ONCE):
+        part = order[at : at + FEATURES_AT_ONCE]
+        own, near = np.sort(part), np.flatnonzero(meets(b, frame_of(a[part])))
+        pairs = box_pairs.pairs_of_arrays(a[own], b[near], touching)
+        yield part, np.stack([own[pairs[:, 0]], near[pairs[:, 1]]], axis=1)
 
 
-def common_jobs(a: Sequence[Box], b: Sequence[Box], touching: bool = False) -> list[Job]:
+def common_jobs(a: Numbers, b: Numbers, touching: bool = False) -> Iterator[Job]:
     """A job for each pair of boxes with a common part, in the order of the places of the first."""
-    return jobs_of_pairs(a, b, box_pairs.pairs(a, b, touching))
+    own_places = places(a)
+    for _, pairs in by_parts(a, b, own_places, touching):
+        yield from jobs_of_pairs(a, b, pairs, own_places)
 
 
-def within_jobs(boxes: Sequence[Box]) -> list[Job]:
+def meets(boxes: Numbers, box: Box) -> Numbers:
+    """Which boxes have a common point with one box."""
+    left, under, right, over = box
+    return (boxes[:, 0] <= right) & (boxes[:, 2] >= left) & (boxes[:, 1] <= over) & (boxes[:, 3] >= under)
+
+
+def within_jobs(boxes: Numbers) -> Iterator[Job]:
     """A job for each pair of boxes of one map."""
-    return jobs_of_pairs(boxes, boxes, box_pairs.pairs_within(boxes))
+    own_places = places(boxes)
+    for _, pairs in by_parts(boxes, boxes, own_places):
+        yield from jobs_of_pairs(boxes, boxes, pairs[pairs[:, 0] < pairs[:, 1]], own_places)
 
 
-def jobs_of_pairs(a: Sequence[Box], b: Sequence[Box], pairs: Iterable[tuple[int, int]]) -> list[Job]:
-    order = places(a)
-    ordered = sorted(pairs, key=lambda pair: (order[pair[0]], pair))
-    return [Job(box_pairs.common(a[i], b[j]), i, (j,)) for i, j in ordered]
+def jobs_of_pairs(a: Numbers, b: Numbers, pairs: Numbers, own_places: Numbers) -> Iterator[Job]:
+    pairs = pairs[np.lexsort((pairs[:, 1], pairs[:, 0], own_places[pairs[:, 0]]))] if len(pairs) else pairs
+    for at in range(0, len(pairs), AT_ONCE):
+        i, j = pairs[at : at + AT_ONCE].T
+        cores = np.concatenate([np.maximum(a[i, :2], b[j, :2]), np.minimum(a[i, 2:], b[j, 2:])], axis=1)
+        yield from (Job(as_box(core), own, (other,)) for core, own, other in zip(cores.tolist(), i.tolist(), j.tolist()))
+
+
+def alone_jobs(a: Numbers, b: Numbers) -> Iterator[Job]:
+    """A job for each feature of the first map that has a box, with all of the second that may have a part of it."""
+    for part, pairs in by_parts(a, b, places(a)):
+        live = part[(a[part, :2] < a[part, 2:]).all(axis=1)]
+        begins, ends = np.searchsorted(pairs[:, 0], live).tolist(), np.searchsorted(pairs[:, 0], live, "right").tolist()
+        for own, begin, end in zip(live.tolist(), begins, ends):
+            yield Job(as_box(a[own].tolist()), own, tuple(pairs[begin:end, 1].tolist()))
 
 
 def common_parts(first: WholeMap, second: WholeMap, groups: Iterable[tuple[int, ...]]) -> Iterator[Job]:
@@ -88,35 +143,25 @@ def common_parts(first: WholeMap, second: WholeMap, groups: Iterable[tuple[int, 
             yield Job(core, group[0], group[1:])
 
 
-def alone_jobs(a: Sequence[Box], b: Sequence[Box]) -> list[Job]:
-    """A job for each feature of the first map that has a box, with all of the second that may have a part of it."""
-    near: dict[int, list[int]] = {}
-    for i, j in box_pairs.pairs(a, b):
-        near.setdefault(i, []).append(j)
-    order = places(a)
-    live = sorted((i for i, box in enumerate(a) if box_pairs.has_area(box)), key=lambda i: (order[i], i))
-    return [Job(a[i], i, tuple(near.get(i, ()))) for i in live]
-
-
-def frame_of(boxes: Sequence[Box]) -> Box:
+def frame_of(boxes: Numbers) -> Box:
     """The box of a map, one unit more on each side."""
-    real = [box for box in boxes if box_pairs.has_points(box)] or [(0, 0, 0, 0)]
-    return (min(box[0] for box in real) - 1, min(box[1] for box in real) - 1,
-            max(box[2] for box in real) + 1, max(box[3] for box in real) + 1)
+    real = boxes[(boxes[:, :2] <= boxes[:, 2:]).all(axis=1)]
+    if not len(real):
+        return -1, -1, 1, 1
+    return as_box([*(real[:, :2].min(axis=0) - 1).tolist(), *(real[:, 2:].max(axis=0) + 1).tolist()])
 
 
-def gap_jobs(whole: WholeMap, boxes: Sequence[Box]) -> Iterator[Job]:
+def gap_jobs(whole: WholeMap, boxes: Numbers) -> Iterator[Job]:
     """Cells that cover the map's frame, each half of a larger one, with the features whose boxes meet it."""
-    points = [end - begin for begin, end in map(whole.span, range(len(whole)))]
-    live = [feature for feature, box in enumerate(boxes) if box_pairs.has_points(box)]
-    stack = [(frame_of(boxes), live)]
+    at = of_array(whole.ring_at)[of_array(whole.feature_at)]
+    points = np.diff(at)
+    stack = [(frame_of(boxes), np.flatnonzero((boxes[:, :2] <= boxes[:, 2:]).all(axis=1)))]
     while stack:
         core, near = stack.pop()
-        total = sum(points[feature] for feature in near)
-        parts = [(half, [f for f in near if box_pairs.has_points(box_pairs.common(boxes[f], half))])
-                 for half in halved(core)]
-        if total <= CELL_POINTS or not is_less(total, [sum(points[f] for f in part) for _, part in parts]):
-            yield Job(core, NOBODY, tuple(near))
+        total, own = int(points[near].sum()), boxes[near]
+        parts = [(half, near[meets(own, half)]) for half in halved(core)]
+        if total <= CELL_POINTS or not is_less(total, [int(points[part].sum()) for _, part in parts]):
+            yield Job(core, NOBODY, tuple(near.tolist()))
         else:
             stack += parts[::-1]
 

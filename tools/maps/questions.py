@@ -6,7 +6,7 @@ from dataclasses import dataclass
 from typing import TextIO
 
 from .. import coordinate_systems
-from . import leaving_out, planning, quickest, tables
+from . import leaving_out, planning, tables
 from .planning import Question
 from .running import Say, check_crs, found_of, read_map, tell_unit, written
 from .task_form import COMMON, OVERLAPS, Row
@@ -19,8 +19,8 @@ def pairs(words: argparse.Namespace, output: TextIO, say: Say) -> int:
     check_crs(first, second, words)
     tell_unit(next(iter(coordinate_systems.distinct((first.crs, second.crs))), None), say)
     question = Question("pairs", COMMON, first.whole, second.whole, words.factor, touches=True)
-    a, b = (quickest.planning.boxes_of(read.whole) for read in (first, second))
-    jobs = quickest.planning.common_jobs(a, b, touching=True)
+    a, b = (planning.boxes_of(read.whole) for read in (first, second))
+    jobs = planning.common_jobs(a, b, touching=True)
     counted = Counted(tables.Units(words.factor))
     rows = counted.rows(row for found in found_of(planning.tasks_of(question, jobs), words) for row in found.rows)
     with written(words.out, output) as file:

@@ -2,17 +2,15 @@
 
 
 try:
-    from . import numpy_planning as planning
     from .numpy_drawing import ByNumpy
     from .numpy_windows import ByNumpy as ByWindows
 except ImportError:
-    from . import planning  # type: ignore[no-redef]
     from .drawing_in import Plain as ByNumpy  # type: ignore[assignment]
     from .windows import ByWindows  # type: ignore[assignment]
 
 from .drawing_in import Plain
 
-__all__ = ["ByNumpy", "ByWindows", "drawing", "planning"]
+__all__ = ["ByNumpy", "ByWindows", "drawing"]
 
 
 def drawing(window: str | None) -> Plain:

@@ -10,6 +10,8 @@ import weakref
 from collections.abc import Sequence
 from typing import IO, Any, overload
 
+import numpy as np
+
 from .whole_maps import WholeMap
 
 BUFFER = 1 << 22
@@ -126,8 +128,6 @@ def number(given: int) -> bytes:
 
 def moved(begins: Sequence[int], by: int) -> bytes:
     """Places as bytes, without the first, each so much later."""
-    import numpy
-
     whole: Any = begins
-    later: bytes = (numpy.frombuffer(whole, numpy.int64)[1:] + by).tobytes()
+    later: bytes = (np.frombuffer(whole, np.int64)[1:] + by).tobytes()
     return later

@@ -6,7 +6,6 @@ import json
 import math
 import os
 import pathlib
-import random
 import resource
 import struct
 import unittest
@@ -17,7 +16,7 @@ from unittest import mock
 import numpy
 
 from ..commands import overlay_maps
-from ..maps import gdal_maps, gdal_writing, numpy_planning, planning, running
+from ..maps import gdal_maps, gdal_writing, running
 from ..maps.spooled import Names
 from ..maps.whole_maps import MapFault, ReadMap
 from ..sessions import Unusable
@@ -289,23 +288,6 @@ class Writing(InFolder):
     def test_another_suffix_is_refused(self) -> None:
         with self.assertRaisesRegex(MapFault, r"pieces\.dxf: pieces are written as \.gpkg, \.fgb or \.geojson"):
             gdal_writing.write(str(self.folder / "pieces.dxf"), [], None)
-
-
-class Placed(unittest.TestCase):
-    """Jobs that are looked for in parts of the first map are the jobs of Python alone, in their order."""
-
-    def test_jobs_by_parts(self) -> None:
-        draw = random.Random(3)
-        boxes = [[(x, y, x + draw.randrange(40), y + draw.randrange(90)) for x, y in
-                  ((draw.randrange(1000), draw.randrange(1000)) for _ in range(count))] for count in (300, 200)]
-        a, b = (numpy.array(one, numpy.int64) for one in boxes)
-        self.enterContext(mock.patch.object(numpy_planning, "FEATURES_AT_ONCE", 17))
-        for touching in (False, True):
-            wanted = planning.common_jobs(*boxes, touching)
-            self.assertGreater(len(wanted), 150)
-            self.assertEqual(list(numpy_planning.common_jobs(a, b, touching)), wanted)
-        self.assertEqual(list(numpy_planning.alone_jobs(a, b)), planning.alone_jobs(*boxes))
-        self.assertEqual(list(numpy_planning.within_jobs(a)), planning.within_jobs(boxes[0]))
 
 
 class OverTool(WithFiles):

@@ -5,12 +5,15 @@ import random
 import unittest
 from collections.abc import Callable, Iterable, Iterator
 from fractions import Fraction
+from typing import Any
 from unittest import mock
+
+import numpy as np
 
 from ..maps import (auditing, bending, box_pairs, cells, drawing_in, exact_area, jobs, map_checks, planning, rounds,
                   sewing, slots, tables, touching, windows)
 from ..maps.task_form import ALONE, COMMON, Found, Row, ShapeOf, Task
-from ..maps.whole_maps import Box, Point, Ring, WholeMap
+from ..maps.whole_maps import NOWHERE, Box, Point, Ring, WholeMap
 from ..sessions import Piece, Unusable
 from ..testing import plain, slabs
 from .common import Programs
@@ -97,6 +100,67 @@ class Steps(unittest.TestCase):
         found = Found("b", [Row(1, (2, 3), Fraction(10**5000, 3), 1.5), Row(-1, (), Fraction(0))],
                       [ShapeOf(0, b"a\n\n"), ShapeOf(1, b"")], [(1, 2, 3, -4, 5, 6)], 4, 5, 6)
         self.assertEqual(Found.of_bytes(found.to_bytes()), found)
+
+
+def place_of(boxes: list[Box], at: int) -> int:
+    """The place of a box on the curve, bit by bit."""
+    middles = [((left + right) // 2, (under + over) // 2) for left, under, right, over in boxes]
+    low = [min(middle[axis] for middle in middles) for axis in (0, 1)]
+    wide = max(middle[axis] - low[axis] for middle in middles for axis in (0, 1))
+    x, y = (middles[at][axis] - low[axis] >> max(0, wide.bit_length() - planning.BITS) for axis in (0, 1))
+    return sum((x >> bit & 1) << 2 * bit | (y >> bit & 1) << 2 * bit + 1 for bit in range(planning.BITS))
+
+
+class Planned(unittest.TestCase):
+    """Jobs are those of all pairs of boxes, in the order of places, whether a map is looked at in parts or at once."""
+
+    def setUp(self) -> None:
+        source = random.Random(3)
+        self.boxes = [[self.box(source) for _ in range(count)] for count in (70, 50)]
+        self.arrays = [np.array(one, np.int64) for one in self.boxes]
+
+    def box(self, source: random.Random) -> Box:
+        x, y = source.randrange(1000), source.randrange(1000)
+        return source.choice([(x, y, x + source.randrange(80), y + source.randrange(180))] * 9 + [NOWHERE])
+
+    def wanted(self, b: list[Box], touching: bool = False) -> list[planning.Job]:
+        """The jobs of all pairs with boxes of the first map."""
+        a, is_pair = self.boxes[0], box_pairs.has_points if touching else box_pairs.has_area
+        cores = {(place_of(a, i), i, j): box_pairs.common(a[i], b[j]) for i in range(len(a)) for j in range(len(b))}
+        return [planning.Job(core, i, (j,)) for (_, i, j), core in sorted(cores.items()) if is_pair(core)]
+
+    def test_common_parts_and_parts_alone(self) -> None:
+        a, b = self.arrays
+        areas = self.wanted(self.boxes[1])
+        self.assertGreater(len(areas), 20)
+        order = sorted((i for i, box in enumerate(self.boxes[0]) if box_pairs.has_area(box)),
+                       key=lambda i: (place_of(self.boxes[0], i), i))
+        alone = [planning.Job(self.boxes[0][i], i, tuple(job.others[0] for job in areas if job.own == i)) for i in order]
+        for at_once in (17, 1000):
+            with mock.patch.object(planning, "FEATURES_AT_ONCE", at_once):
+                for touching in (False, True):
+                    self.assertEqual(list(planning.common_jobs(a, b, touching)), self.wanted(self.boxes[1], touching))
+                self.assertEqual(list(planning.within_jobs(a)),
+                                 [job for job in self.wanted(self.boxes[0]) if job.own < job.others[0]])
+                self.assertEqual(list(planning.alone_jobs(a, b)), alone)
+
+    def test_cells_cover_the_frame_and_have_what_is_near(self) -> None:
+        whole = WholeMap()
+        for left, under, right, over in self.boxes[0]:
+            whole.add("", [[(left, under), (right, under), (left, over)]] * (left <= right))
+        self.assertEqual([tuple(box) for box in planning.boxes_of(whole).tolist()], self.boxes[0])
+        real = [box for box in self.boxes[0] if box != NOWHERE]
+        frame = (min(box[0] for box in real) - 1, min(box[1] for box in real) - 1,
+                 max(box[2] for box in real) + 1, max(box[3] for box in real) + 1)
+        self.assertEqual((planning.frame_of(self.arrays[0]), planning.frame_of(self.arrays[0][:0])), (frame, (-1, -1, 1, 1)))
+        with mock.patch.object(planning, "CELL_POINTS", 12):
+            cells_of = list(planning.gap_jobs(whole, self.arrays[0]))
+        areas = [(job.core[2] - job.core[0]) * (job.core[3] - job.core[1]) for job in cells_of]
+        self.assertEqual(sum(areas), (frame[2] - frame[0]) * (frame[3] - frame[1]))
+        self.assertEqual(box_pairs.pairs_within([job.core for job in cells_of]), [])
+        for core, _, near in cells_of:
+            wanted = [i for i, box in enumerate(self.boxes[0]) if box_pairs.has_points(box_pairs.common(box, core))]
+            self.assertEqual(list(near), wanted)
 
 
 class WithLive(unittest.TestCase):
@@ -234,9 +298,11 @@ def merged_across_nodes(pieces: Iterable[Piece], along: int) -> Iterator[Piece]:
     return iter(held)
 
 
-def one_unit_short(a: Box, b: Box) -> Box:
-    left, under, right, over = COMMON_BOX(a, b)
-    return left, under, right - (right - left > 1), over
+def one_unit_short(*given: Any) -> Iterator[planning.Job]:
+    """Wrong `jobs_of_pairs`: cores end before the common part of two boxes does."""
+    for job in JOBS_OF_PAIRS(*given):
+        left, under, right, over = job.core
+        yield job._replace(core=(left, under, right - (right - left > 1), over))
 
 
 def beside_too_near(packer: slots.Packer, laid: slots.Laid) -> bool:
@@ -257,7 +323,7 @@ def bent_by_direction(a: Point, b: Point) -> list[Point]:
             for part in range(1, count)]
 
 
-STRETCHES, COMMON_BOX, PLACE = sewing.stretches, box_pairs.common, slots.Packer.place
+STRETCHES, JOBS_OF_PAIRS, PLACE = sewing.stretches, planning.jobs_of_pairs, slots.Packer.place
 COLUMNS = slots.Slots.columns
 
 
@@ -281,7 +347,7 @@ class Planted(WithLive):
         self.found(sewing, "stretches", merged_across_nodes, ALONE)
 
     def test_a_core_one_unit_short(self) -> None:
-        self.found(box_pairs, "common", one_unit_short, COMMON)
+        self.found(planning, "jobs_of_pairs", one_unit_short, COMMON)
 
     def test_a_neighbour_seen(self) -> None:
         self.found(slots.Packer, "place", beside_too_near, COMMON)

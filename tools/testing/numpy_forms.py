@@ -8,7 +8,7 @@ from fractions import Fraction
 import numpy as np
 
 from .. import grid
-from ..maps import (drawing_in, geojson_maps, jobs, numpy_drawing, numpy_maps, numpy_planning,
+from ..maps import (drawing_in, geojson_maps, jobs, numpy_drawing, numpy_maps,
                   numpy_windows, planning, rounds, windows)
 from ..maps.drawing_in import Plain
 from ..maps.task_form import ALONE, COMMON, GAPS, Task
@@ -21,30 +21,23 @@ from .scales import halves
 MANY = 30
 
 
-def planned(kind: str, module: object, maps: Maps) -> list[planning.Job]:
-    """The jobs of a kind as one of both forms plans them."""
-    a, b = map(module.boxes_of, maps.wholes)  # type: ignore[attr-defined]
+def planned(kind: str, maps: Maps) -> list[planning.Job]:
+    """The jobs of a kind."""
+    a, b = map(planning.boxes_of, maps.wholes)
     if kind == COMMON:
-        return list(module.common_jobs(a, b, True))  # type: ignore[attr-defined]
+        return list(planning.common_jobs(a, b, True))
     if kind == ALONE:
-        return list(module.alone_jobs(a, b))  # type: ignore[attr-defined]
-    return list(module.gap_jobs(maps.wholes[1], b))  # type: ignore[attr-defined]
+        return list(planning.alone_jobs(a, b))
+    return list(planning.gap_jobs(maps.wholes[1], b))
 
 
 def tasks_of(source: random.Random, kind: str) -> list[Task]:
     maps = random_maps(source, 10, source.choice([12, 60]))
     question = planning.Question("", kind, *maps.wholes, Fraction(1))
-    return [Task.of_bytes(task.to_bytes()) for task in planning.tasks_of(question, planned(kind, planning, maps))]
+    return [Task.of_bytes(task.to_bytes()) for task in planning.tasks_of(question, planned(kind, maps))]
 
 
 class Forms(unittest.TestCase):
-    def test_jobs(self) -> None:
-        source = random.Random(5)
-        for _ in range(MANY):
-            maps = random_maps(source, 12, source.choice([12, 60, 2**30]))
-            for kind in (COMMON, ALONE, GAPS):
-                self.assertEqual(planned(kind, numpy_planning, maps), planned(kind, planning, maps))
-
     def test_drawing_in(self) -> None:
         """Frames are the same; rings may have more or fewer points, and each place of the core sees the same of
         them."""

@@ -28,9 +28,9 @@ class Maps:
         """The jobs of a kind, and the area that each row has to have."""
         a, b = map(planning.boxes_of, self.wholes)
         if kind == COMMON:
-            found = planning.common_jobs(a, b, touching=True)
+            found = list(planning.common_jobs(a, b, touching=True))
             return found, {(i, j): slabs.common(self.rings[0][i], self.rings[1][j]) for _, i, (j,) in found}
-        found = planning.alone_jobs(a, b)
+        found = list(planning.alone_jobs(a, b))
         return found, {(job.own,): slabs.area([self.rings[0][job.own], *(self.rings[1][j] for j in job.others)],
                                               lambda states: states[0] and not any(states[1:])) for job in found}
 
