@@ -1,13 +1,12 @@
 """Overlays random maps by the steps of tools/overlay_maps.py, judges each answer by slabs of
 fractions, and plants faults.
 
-    python3 -m bench.trials.map_overlays LIVE [--answers N] [--seed S] [--numpy] [--window PATH]
+    python3 -m bench.trials.map_overlays LIVE [--answers N] [--seed S] [--window PATH]
 
 Rings cross themselves and each other, or features have common borders with corners that a neighbour lacks, and holes;
 cells are of 7 units up, slots of 60 steps up. Asked are common parts, what a feature has alone, and gaps. Before that
-six faults are planted in the steps, each of which has to be found in the same way. By
---numpy features are drawn in by numpy (python3-numpy, /usr/bin/python3), by --window by overlay_window, else in whole
-numbers of Python. Status 1: an answer is wrong, or a fault is not found.
+six faults are planted in the steps, each of which has to be found in the same way. By --window features are drawn in
+by overlay_window. Status 1: an answer is wrong, or a fault is not found.
 """
 
 import collections
@@ -18,10 +17,10 @@ from collections.abc import Callable
 from fractions import Fraction
 
 from bench.counting import Words
-from tools.maps import jobs, map_checks, quickest, rounds
-from tools.maps.drawing_in import Plain
+from tools.maps import jobs, map_checks, rounds
+from tools.maps.numpy_drawing import Plain
+from tools.maps.numpy_windows import ByWindows
 from tools.maps.task_form import ALONE, COMMON
-from tools.maps.windows import ByWindows
 from tools.testing import map_steps, slabs
 from tools.testing.common import Programs
 from tools.testing.random_maps import divided_maps, random_maps, wrong_answers
@@ -78,13 +77,8 @@ def main(arguments: list[str]) -> int:
     parser.add_argument("--answers", type=int, default=10_000, help="so many at least (default: %(default)s)")
     parser.add_argument("--seed", type=int, default=1)
     parser.add_argument("--window", metavar="PATH", help="draw in by overlay_window")
-    parser.add_argument("--numpy", action="store_true", help="draw in by numpy")
     words = parser.parse_args(arguments)
-    drawing = Plain()
-    if words.window:
-        drawing = quickest.ByWindows(words.window) if words.numpy else ByWindows(words.window)
-    elif words.numpy:
-        drawing = quickest.ByNumpy()
+    drawing = ByWindows(words.window) if words.window else Plain()
     missed = planted(words.program)
     with rounds.Program(words.program) as program:
         counts = tried(program, words.answers, words.seed, drawing)

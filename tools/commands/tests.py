@@ -16,7 +16,7 @@ from ..testing.common import Programs, status_of
 
 MODULES = (
     "helps", "endings", "scales", "scripts", "layouts", "replies", "rings", "pictures", "overlays", "stores",
-    "maps", "feature_files", "first_maps", "map_steps", "map_words", "large_checks", "own_files", "numpy_forms", "map_tasks", "gdal_maps", "pages", "example_maps",
+    "maps", "feature_files", "first_maps", "map_steps", "map_words", "large_checks", "own_files", "map_arrays", "map_tasks", "gdal_maps", "pages", "example_maps",
     "corners", "sidecars", "inputs", "forms", "progresses",
     "coordinate_systems",
 )

@@ -14,7 +14,8 @@ from typing import NamedTuple
 from .. import limits
 from ..sessions import Piece
 from . import box_pairs
-from .drawing_in import Drawn, Plain, Wanted, is_inside, off
+from .drawing_in import Drawn, Wanted, is_inside, off
+from .numpy_drawing import Plain
 from .slots import CORE_MAX, Laid, ring_of, steps_of
 from .task_form import ALONE, COMMON, GAPS
 from .whole_maps import NOWHERE, Box, Ring

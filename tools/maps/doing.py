@@ -19,10 +19,10 @@ from ..sessions import Unusable
 from . import dask_engine, engines, spooled, tasks, windows, work
 from .dask_engine import DaskFault
 from .engines import Engine, TaskFault
+from .numpy_windows import ByWindows
 from .task_form import Found, Task
 from .tasks import FolderFault, TaskFolder
 from .whole_maps import MapFault
-from .windows import ByWindows
 from .work import ByProgram
 
 INPUTS = ("first", "second")  # the words that name maps

@@ -100,22 +100,6 @@ def framed(wanted: Wanted) -> tuple[Box, bool]:
     return grown(wanted.core, ends), not ends
 
 
-class Plain:
-    """Draws in by this module alone; numpy_drawing.py and windows.py have other forms, with the same answers."""
-
-    told = "by Python"
-
-    def of_task(self, task: Task, jobs: range) -> Iterator[Drawn]:
-        """Jobs of a task drawn in, in their order: of each the own feature, where it has one, then the others."""
-        for wanted in wanted_of(task, jobs):
-            yield drawn(*wanted)
-
-    def of_boxes(self, wanted: Sequence[Wanted]) -> Iterator[Drawn]:
-        """Parts of jobs, in their order."""
-        for one in wanted:
-            yield drawn(*one)
-
-
 def wanted_of(task: Task, jobs: range) -> Iterator[Wanted]:
     """What of a task's jobs is to be drawn in."""
     for job in jobs:

@@ -11,7 +11,8 @@ from ..sessions import Corner, Piece
 from . import boundaries, box_pairs, exact_area, touching
 from .boundaries import Loop, Outline, Polygon
 from .cells import Cell, Parting
-from .drawing_in import Drawn, Plain, drawn
+from .drawing_in import Drawn, drawn
+from .numpy_drawing import Plain
 from .rounds import Program, Round
 from .sewing import sewn
 from .slots import Laid, Slots, packed, round_of

@@ -1,13 +1,13 @@
-"""Draws the jobs of a task in by numpy, many at once: the same law as drawing_in.py's, and the same answers.
+"""Draws the jobs of a task in by numpy, many at once, by the law of drawing_in.py.
 
 A pass over one half-plane leaves of each run of points in it the first and the last; those between lie in it with both.
 """
 
-from collections.abc import Iterator
+from collections.abc import Iterator, Sequence
 
 import numpy as np
 
-from .drawing_in import LEFT, OVER, RIGHT, UNDER, Drawn, Plain
+from .drawing_in import LEFT, OVER, RIGHT, UNDER, Drawn, Wanted, drawn
 from .numpy_arrays import Numbers, of_array, spans
 from .task_form import GAPS, Task
 from .whole_maps import Ring, as_box
@@ -153,15 +153,21 @@ class Points:
             yield part, points[begin:end]
 
 
-class ByNumpy(Plain):
-    """Draws the jobs of a task in by numpy, and parts of jobs by Python."""
+class Plain:
+    """Draws in by this module, and parts of jobs by drawing_in.py; windows.py has another form, with the same answers."""
 
-    told = "by numpy"
+    told = "by Python"
 
     def of_task(self, task: Task, jobs: range) -> Iterator[Drawn]:
+        """Jobs of a task drawn in, in their order: of each the own feature, where it has one, then the others."""
         flat = Flat(task)
         for chunk in flat.chunks(jobs):
             yield from drawn_jobs(flat, chunk)
+
+    def of_boxes(self, wanted: Sequence[Wanted]) -> Iterator[Drawn]:
+        """Parts of jobs, in their order."""
+        for one in wanted:
+            yield drawn(*one)
 
 
 def drawn_jobs(flat: Flat, jobs: range) -> Iterator[Drawn]:

@@ -1,24 +1,30 @@
-"""The same windows as windows.py has, whose parts are written by numpy, many at once."""
+"""Draws the jobs of a task in by windows of overlay_window, whose parts are written by numpy, many at once."""
 
-from collections.abc import Iterator
+from collections.abc import Iterator, Sequence
 from itertools import islice
 
 import numpy as np
 
-from .drawing_in import Drawn, wanted_of
+from .drawing_in import Drawn, Wanted, drawn, framed, wanted_of
 from .numpy_arrays import Numbers
-from .numpy_drawing import Flat, Points
+from .numpy_drawing import Flat, Plain, Points
 from .slots import CORE_MAX
 from .task_form import Task
 from .whole_maps import Ring, as_box
-from .windows import ByWindows, Refused, drawn_of, layer_of, near, output_of
+from .windows import Part, Refused, drawn_of, is_window, layer_of, middle_of, near, output_of, padded, windows
 
 HEAD_WORDS = 21  # of 32 bits: core, frame and origin of 64 bits, and how many rings follow
 POINT_WORDS = 4
 
 
-class ByNumpy(ByWindows):
-    """Draws the jobs of a task in by overlay_window."""
+class ByWindows(Plain):
+    """Draws in by overlay_window. Where a core is wider than a slot holds, or a feature has too many steps in it,
+    Python finds what is near; the halves that come of it are windows again."""
+
+    told = "by overlay_window"
+
+    def __init__(self, program: str) -> None:
+        self.program = program
 
     def of_task(self, task: Task, jobs: range) -> Iterator[Drawn]:
         flat = Flat(task)
@@ -40,6 +46,19 @@ class ByNumpy(ByWindows):
             if found is None:
                 found = near(next(wanted_of(task, range(job, job + 1))), as_box(frame), is_plain)
             yield found
+
+    def of_boxes(self, wanted: Sequence[Wanted]) -> Iterator[Drawn]:
+        frames = [framed(one) for one in wanted]
+        parts = [Part(one.core, frame, middle_of(frame), padded(rings))
+                 for one, (frame, is_plain) in zip(wanted, frames) if is_window(one.core, is_plain)
+                 for rings in one.features]
+        texts = windows(self.program, parts) if parts else []
+        layers = iter([layer_of(text, part.origin) for text, part in zip(texts, parts)])
+        for one, (frame, is_plain) in zip(wanted, frames):
+            if not is_window(one.core, is_plain):
+                yield near(one, frame, is_plain)
+                continue
+            yield drawn_of(one.core, frame, list(islice(layers, len(one.features)))) or drawn(*one)
 
 
 def input_bytes(points: Points, frames: Numbers, parts: Numbers) -> bytes:

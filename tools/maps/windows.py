@@ -7,22 +7,19 @@ from the origin, or the number and text of a refusal (docs/COMMANDS.md, "Windows
 import contextlib
 import struct
 import subprocess
-from collections.abc import Iterable, Iterator, Sequence
+from collections.abc import Iterable, Sequence
 from dataclasses import dataclass
-from itertools import islice
 from pathlib import Path
 
 from .. import asking, ending
 from ..sessions import Unusable
-from .drawing_in import Drawn, Plain, Wanted, drawn, framed, wanted_of
+from .drawing_in import Drawn, Wanted, drawn
 from .rounds import ProgramEnded, ProgramRefused
 from .slots import CORE_MAX
-from .task_form import Task
 from .whole_maps import Box, Point, Ring
 
 WINDOW = "overlay_window"
 TOO_MANY_STEPS = 6  # of a layer
-JOBS_AT_ONCE = 4096
 
 
 @dataclass(frozen=True)
@@ -117,34 +114,6 @@ def found(program: str) -> str | None:
         beside = Path(program).with_name(WINDOW)
         return str(beside) if beside.is_file() else asking.found_program((WINDOW,))
     return None
-
-
-class ByWindows(Plain):
-    """Draws in by overlay_window. Where a core is wider than a slot holds, or a feature has too many steps in it,
-    Python finds what is near; the halves that come of it are windows again."""
-
-    told = "by overlay_window"
-
-    def __init__(self, program: str) -> None:
-        self.program = program
-
-    def of_task(self, task: Task, jobs: range) -> Iterator[Drawn]:
-        left = wanted_of(task, jobs)
-        while some := list(islice(left, JOBS_AT_ONCE)):
-            yield from self.of_boxes(some)
-
-    def of_boxes(self, wanted: Sequence[Wanted]) -> Iterator[Drawn]:
-        frames = [framed(one) for one in wanted]
-        parts = [Part(one.core, frame, middle_of(frame), padded(rings))
-                 for one, (frame, is_plain) in zip(wanted, frames) if is_window(one.core, is_plain)
-                 for rings in one.features]
-        texts = windows(self.program, parts) if parts else []
-        layers = iter([layer_of(text, part.origin) for text, part in zip(texts, parts)])
-        for one, (frame, is_plain) in zip(wanted, frames):
-            if not is_window(one.core, is_plain):
-                yield near(one, frame, is_plain)
-                continue
-            yield drawn_of(one.core, frame, list(islice(layers, len(one.features)))) or drawn(*one)
 
 
 def is_window(core: Box, is_plain: bool) -> bool:

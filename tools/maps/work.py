@@ -5,7 +5,9 @@ import gc
 from collections.abc import Iterator
 from dataclasses import dataclass
 
-from . import jobs, quickest
+from . import jobs
+from .numpy_drawing import Plain
+from .numpy_windows import ByWindows
 from .rounds import Program, ProgramEnded
 from .task_form import Found, Task
 
@@ -32,7 +34,7 @@ class ByProgram:
         """What a task finds. A program that a task failed in is not asked again."""
         program = STANDING.pop(self.path, None) or Program(self.path)
         try:
-            found = jobs.run(task, program, quickest.drawing(self.window))
+            found = jobs.run(task, program, Plain() if self.window is None else ByWindows(self.window))
         except BaseException:
             program.close()
             raise

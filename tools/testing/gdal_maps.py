@@ -8,7 +8,6 @@ import os
 import pathlib
 import resource
 import struct
-import unittest
 from collections.abc import Iterator, Sequence
 from fractions import Fraction
 from unittest import mock

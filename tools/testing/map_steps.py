@@ -10,8 +10,9 @@ from unittest import mock
 
 import numpy as np
 
-from ..maps import (auditing, bending, box_pairs, cells, drawing_in, exact_area, jobs, map_checks, planning, rounds,
-                  sewing, slots, tables, touching, windows)
+from ..maps import (auditing, bending, box_pairs, cells, drawing_in, exact_area, jobs, map_checks, numpy_drawing,
+                     numpy_windows, planning, rounds, sewing, slots, tables, touching, windows)
+from ..maps.numpy_arrays import Numbers
 from ..maps.task_form import ALONE, COMMON, Found, Row, ShapeOf, Task
 from ..maps.whole_maps import NOWHERE, Box, Point, Ring, WholeMap
 from ..sessions import Piece, Unusable
@@ -239,7 +240,7 @@ class ByWindows(WithLive):
         program = windows.found(str(Programs.live))
         if program is None:
             self.skipTest("overlay_window is not there")
-        drawing = windows.ByWindows(program)
+        drawing = numpy_windows.ByWindows(program)
         for kind in (COMMON, ALONE):
             told = [wrong_answers(self.program, random.Random(seed), kind, drawing) for seed in range(SEEDS)]
             self.assertEqual([wrong for _, wrong in told], [0] * SEEDS)
@@ -259,7 +260,7 @@ class ByWindows(WithLive):
         wholes[1].add("box", [[(-5, -5), (2**19, -5), (far + 5, -5), (far + 5, 2**19), (far + 5, 2**19 + 9), (2**19, 2**19 + 9),
                                (-5, 2**19 + 9), (-5, 2**19)]])
         question = planning.Question("", COMMON, *wholes, Fraction(1))
-        for drawing in (drawing_in.Plain(), windows.ByWindows(program)):
+        for drawing in (numpy_drawing.Plain(), numpy_windows.ByWindows(program)):
             planned = planning.common_jobs(*map(planning.boxes_of, wholes))
             rows = [row for task in planning.tasks_of(question, planned)
                     for row in jobs.run(task, self.program, drawing).rows]
@@ -285,6 +286,14 @@ def drawn_in_all_at_once(ring: Ring, core: Box) -> tuple[Ring, list[int]]:
             kept.append(point)
             marks.append(mark)
     return kept[:-1], marks[:-1]
+
+
+def between_any(points: numpy_drawing.Points, marks: Numbers) -> Numbers:
+    """Wrong `between_alike`: points that lie off the core need not lie off it on the same side."""
+    found = np.zeros(len(marks), bool)
+    is_off = (marks != 0) & (points.ring == np.roll(points.ring, 1)) & (points.ring == np.roll(points.ring, -1))
+    found[1:-1] = is_off[1:-1] & (marks[:-2] != 0) & (marks[2:] != 0)
+    return found
 
 
 def merged_across_nodes(pieces: Iterable[Piece], along: int) -> Iterator[Piece]:
@@ -342,6 +351,7 @@ class Planted(WithLive):
 
     def test_half_planes_all_at_once(self) -> None:
         self.found(drawing_in, "spared", drawn_in_all_at_once, COMMON)
+        self.found(numpy_drawing.Points, "between_alike", between_any, COMMON)
 
     def test_a_stretch_across_a_node(self) -> None:
         self.found(sewing, "stretches", merged_across_nodes, ALONE)

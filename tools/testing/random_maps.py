@@ -7,7 +7,7 @@ from unittest import mock
 
 from .. import limits
 from ..maps import cells, jobs, planning, rounds
-from ..maps.drawing_in import Plain
+from ..maps.numpy_drawing import Plain
 from ..maps.task_form import COMMON, TOUCHES, Task
 from ..maps.whole_maps import WholeMap
 from ..testing import slabs

@@ -1,4 +1,4 @@
-"""Tests of what maps/ does by numpy, beside the same steps in Python's whole numbers."""
+"""Tests of what maps/ does over arrays of numpy, beside fractions, whole numbers of Python and texts."""
 
 import random
 import unittest
@@ -8,12 +8,10 @@ from fractions import Fraction
 import numpy as np
 
 from .. import grid
-from ..maps import (drawing_in, geojson_maps, jobs, numpy_drawing, numpy_maps,
-                  numpy_windows, planning, rounds, windows)
-from ..maps.drawing_in import Plain
+from ..maps import drawing_in, geojson_maps, numpy_drawing, numpy_maps, numpy_windows, planning, windows
 from ..maps.task_form import ALONE, COMMON, GAPS, Task
 from ..maps.whole_maps import MapFault, ReadMap, Told
-from .common import InFolder, Programs
+from .common import InFolder
 from .map_steps import sees
 from .random_maps import Maps, random_maps
 from .scales import halves
@@ -37,23 +35,25 @@ def tasks_of(source: random.Random, kind: str) -> list[Task]:
     return [Task.of_bytes(task.to_bytes()) for task in planning.tasks_of(question, planned(kind, maps))]
 
 
-class Forms(unittest.TestCase):
+class Tasks(unittest.TestCase):
     def test_drawing_in(self) -> None:
-        """Frames are the same; rings may have more or fewer points, and each place of the core sees the same of
-        them."""
+        """Each place of a core sees the same of what is drawn in and of what is given, and all of that is in the frame."""
         source = random.Random(3)
         for task in (task for _ in range(MANY) for kind in (COMMON, ALONE, GAPS) for task in tasks_of(source, kind)):
-            plainly, quickly = (draw.of_task(task, range(len(task))) for draw in (Plain(), numpy_drawing.ByNumpy()))
-            for plain, quick in zip(plainly, quickly, strict=True):
-                self.assertEqual((plain.core, plain.frame, plain.is_plain), (quick.core, quick.frame, quick.is_plain))
-                for one, other in zip(plain.features, quick.features, strict=True):
+            jobs = range(len(task))
+            for given, near in zip(drawing_in.wanted_of(task, jobs), numpy_drawing.Plain().of_task(task, jobs), strict=True):
+                self.assertEqual((near.core, near.frame, near.is_plain), (given.core, *drawing_in.framed(given)))
+                left, under, right, over = near.frame
+                for rings in near.features:
+                    self.assertTrue(all(left <= x <= right and under <= y <= over for ring in rings for x, y in ring))
+                for one, other in zip(given.features, near.features, strict=True):
                     w = source.choice([1, 2, 3])
-                    left, under, right, over = (w * side for side in plain.core)
+                    left, under, right, over = (w * side for side in near.core)
                     place = Fraction(source.randint(left, right), w), Fraction(source.randint(under, over), w)
                     self.assertEqual(sees(one, *place), sees(other, *place))
 
     def test_windows(self) -> None:
-        """The bytes of parts and the layers of texts are those of Python alone."""
+        """The bytes of parts and the layers of texts are those that windows.py has one by one."""
         source = random.Random(9)
         texts = b"MULTIPOLYGON EMPTY\nMULTIPOLYGON (((0 1, 2 3, 4 -5, 0 1), (1 1, 2 2, 2 2, 1 1)), ((7 7, 8 8, 9 7, 7 7)))\n"
         origins = np.array([[5, 6], [10, -10]])
@@ -72,20 +72,6 @@ class Forms(unittest.TestCase):
                      for one, frame, is_plain in zip(wanted, frames.tolist(), plain.tolist()) if not is_plain
                      for rings in one.features]
             self.assertEqual(numpy_windows.input_bytes(points, frames, parts), windows.input_bytes(asked))
-
-    def test_what_tasks_find(self) -> None:
-        if Programs.live is None:
-            self.skipTest("no program was given")
-        source = random.Random(7)
-        with rounds.Program(str(Programs.live)) as program:
-            for task in (task for _ in range(5) for kind in (COMMON, ALONE, GAPS) for task in tasks_of(source, kind)):
-                plain = jobs.run(task, program)
-                quick = jobs.run(task, program, numpy_drawing.ByNumpy())
-                key = [(row.own, row.others, row.area, row.relation) for row in plain.rows]
-                self.assertEqual([(row.own, row.others, row.area, row.relation) for row in quick.rows], key)
-                if (window := windows.found(str(Programs.live))) is not None:
-                    by_window = jobs.run(task, program, numpy_windows.ByNumpy(window))
-                    self.assertEqual([(row.own, row.others, row.area, row.relation) for row in by_window.rows], key)
 
 
 class Rounding(InFolder):
