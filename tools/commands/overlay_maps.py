@@ -16,7 +16,7 @@ check    pairs of features of one map that overlap, and the gaps between feature
 A table has the ids of both features, the area, its width (area by perimeter: slivers of millimetres are told from
 errors by it), and `overlaps`, `touches` or `alone`; the largest area is first. overlay and check end with an audit:
 whether each feature is exactly the sum of its pieces, and whether what is covered is exactly areas less overlaps, by
-the features' own points. Maps are GeoJSON, or what GDAL reads where python3-gdal is there.
+the features' own points. Maps are GeoJSON, Well-Known Text, or what GDAL reads.
 
 Status 0: all is written, and the audit found no difference; 1: it found one, the program failed, or something cannot be
 written; 2: a map or a word is refused, and nothing is written.

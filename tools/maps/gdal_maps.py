@@ -1,7 +1,7 @@
-"""Reads and writes maps by GDAL: GeoPackage, FlatGeobuf, Shapefile, and whatever else its Python opens.
+"""Reads maps by GDAL: GeoPackage, FlatGeobuf, Shapefile, and whatever else its Python opens.
 
-It needs Debian's python3-gdal and python3-numpy. Geometry goes as Well-Known Binary, and the points of many features
-into one array, so no feature costs more than its way through GDAL.
+Geometry goes as Well-Known Binary, and the points of many features into one array, so no feature costs more than its
+way through GDAL.
 """
 
 import bisect
@@ -13,27 +13,26 @@ from dataclasses import dataclass, field
 from fractions import Fraction
 from typing import Any
 
+import numpy as np
+
 from .. import coordinate_systems, ending, gdal_files, map_reading
+from .numpy_arrays import Numbers
+from .numpy_maps import whole_of_doubles
 from .spooled import Gathered, Spool
 from .whole_maps import MapFault, ReadMap, Told, and_others
 
 BATCH = 1 << 16  # features that are taken apart at once
 LARGE = 10_000_000  # points of a map above which it stays in files
 POLYGON, MULTIPOLYGON = 3, 6
-NEEDED = "apt-get install python3-gdal python3-numpy, and run this by /usr/bin/python3"
 NAMED_MAX = 20  # properties or layers that a refusal names
 
 
-def modules(path: str) -> tuple[Any, Any, Any]:
-    """GDAL, its OGR and numpy; where one is missing, the refusal for a file."""
-    try:
-        import numpy
-        from osgeo import gdal, ogr
-    except ImportError as fault:
-        raise MapFault(f"{path}: {fault.name} is missing, which opens it: {NEEDED}; GeoJSON needs neither") from None
-    gdal.UseExceptions()
-    ogr.UseExceptions()
-    return gdal, ogr, numpy
+def modules() -> tuple[Any, Any]:
+    """GDAL and its part for features."""
+    from osgeo import ogr
+
+    gdal, _ = coordinate_systems.modules()
+    return gdal, ogr
 
 
 @dataclass
@@ -76,24 +75,24 @@ class Flat:
         for ring in rings:
             yield self.labels[bisect.bisect_right(ends, ring)]
 
-    def arrays(self, numpy: Any) -> tuple[Any, Any, Any, Any, Any]:
+    def arrays(self) -> tuple[Numbers, Numbers, Numbers, Numbers, Numbers]:
         """xs, ys, ring_sizes, is_outer, rings_of_feature. A ring that is not closed, or has what is no number, is a
         MapFault."""
-        xy = numpy.frombuffer(b"".join(self.points), "<f8").reshape(-1, 2)
-        sizes = numpy.array(self.ring_sizes, numpy.int64)
-        ends = numpy.cumsum(sizes)
+        xy = np.frombuffer(b"".join(self.points), "<f8").reshape(-1, 2)
+        sizes = np.array(self.ring_sizes, np.int64)
+        ends = np.cumsum(sizes)
         full = sizes > 0
-        wrong = numpy.zeros(len(sizes), bool)
+        wrong = np.zeros(len(sizes), bool)
         if full.any():
             wrong[full] = (xy[(ends - sizes)[full]] != xy[ends[full] - 1]).any(axis=1)  # also where there is no number
-            odd = numpy.flatnonzero(~numpy.isfinite(xy).all(axis=1))
-            wrong[numpy.searchsorted(ends, odd, "right")] = True
+            odd = np.flatnonzero(~np.isfinite(xy).all(axis=1))
+            wrong[np.searchsorted(ends, odd, "right")] = True
         if wrong.any():
-            label, *others = dict.fromkeys(self.features_of_rings(numpy.flatnonzero(wrong).tolist()))
+            label, *others = dict.fromkeys(self.features_of_rings(np.flatnonzero(wrong).tolist()))
             raise MapFault(f"{self.path}: {label}: a ring that is not closed, or a coordinate that is no number; mend it "
                            f"there{and_others(others)}")
-        rings_of_feature = numpy.array(self.rings_of_feature, numpy.int64)
-        return xy[:, 0], xy[:, 1], sizes, numpy.array(self.is_outer, bool), rings_of_feature
+        rings_of_feature = np.array(self.rings_of_feature, np.int64)
+        return xy[:, 0], xy[:, 1], sizes, np.array(self.is_outer, bool), rings_of_feature
 
 
 @dataclass
@@ -106,7 +105,7 @@ class Source:
     told: Told = field(default_factory=Told)
 
     def __post_init__(self) -> None:
-        self.gdal, self.ogr, self.numpy = modules(self.path)
+        self.gdal, self.ogr = modules()
         try:
             name, options, drivers = gdal_files.opened_as(pathlib.Path(self.path))
             self.file = self.gdal.OpenEx(name, self.gdal.OF_VECTOR, open_options=options, allowed_drivers=drivers)
@@ -185,13 +184,11 @@ def read(path: str, factor: Fraction, id_field: str | None, layer: str | None, b
     """A map of a file in whole numbers, features called by a property, or by the numbers that GDAL gives them. Of a
     large one nothing stays in memory."""
     source = Source(path, id_field, layer)
-    from .numpy_maps import whole_of_doubles
-
     told = source.told
     kept: Gathered | Spool = Gathered()
     for flat in source.batches():
         own = Told()
-        kept.add(whole_of_doubles(path, flat.ids, *flat.arrays(source.numpy), factor, bend, own))
+        kept.add(whole_of_doubles(path, flat.ids, *flat.arrays(), factor, bend, own))
         add_told(told, own)
         if isinstance(kept, Gathered) and told.points > LARGE:
             kept = kept.spooled()

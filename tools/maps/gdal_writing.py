@@ -55,7 +55,7 @@ class Writing:
     parts: list[Part] = field(default_factory=list)
 
     def __post_init__(self) -> None:
-        self.gdal, self.ogr, _ = modules(str(self.path))
+        self.gdal, self.ogr = modules()
         if self.path.suffix not in DRIVERS:
             raise MapFault(f"{self.path}: pieces are written as {', '.join(DRIVERS)} or .geojson")
         if self.path.exists() and not self.path.is_file():
@@ -103,11 +103,8 @@ class Writing:
 
     def _system(self) -> Any:
         """The coordinates' system; a plane where none is named, as GDAL takes none for degrees."""
-        from osgeo import osr
-
-        osr.UseExceptions()
-        system = osr.SpatialReference()
-        system.SetFromUserInput(self.crs or coordinate_systems.UNKNOWN)
+        _, osr = coordinate_systems.modules()
+        system = coordinate_systems.parsed(self.crs or coordinate_systems.UNKNOWN)
         system.SetAxisMappingStrategy(osr.OAMS_TRADITIONAL_GIS_ORDER)
         return system
 

@@ -1,5 +1,4 @@
-"""Writes pieces of maps: GeoJSON by Python alone, other files by GDAL. Coordinates are the doubles nearest to exact
-ones.
+"""Writes pieces of maps: GeoJSON as a text, other files by GDAL. Coordinates are the doubles nearest to exact ones.
 
 A rounded polygon may touch or cross itself by a rounding; the areas beside it are those of the exact one.
 """

@@ -1,4 +1,4 @@
-"""Tests of maps that overlay_maps.py reads and writes by GDAL."""
+"""Tests of reading and writing maps by GDAL, and of the tool over such a map."""
 
 import csv
 import io
@@ -8,18 +8,20 @@ import os
 import pathlib
 import resource
 import struct
+import subprocess
+import sys
 from collections.abc import Iterator, Sequence
 from fractions import Fraction
 from unittest import mock
 
-import numpy
+from osgeo import gdal, ogr, osr
 
 from ..commands import overlay_maps
 from ..maps import gdal_maps, gdal_writing, running
 from ..maps.spooled import Names
 from ..maps.whole_maps import MapFault, ReadMap
 from ..sessions import Unusable
-from .common import InFolder, Programs, outcome
+from .common import TOP, InFolder, Programs, outcome
 
 RING = [(0, 0), (10, 0), (10, 10), (0, 10), (0, 0)]
 HOLE = [(2, 2), (2, 4), (4, 4), (4, 2), (2, 2)]
@@ -33,8 +35,6 @@ class WithFiles(InFolder):
     def made(self, *shapes: str | None, suffix: str = "gpkg", layers: tuple[str, ...] = ("parcels",), crs: int = 25832
              ) -> str:
         """A file with these shapes in each of its layers, called p0, p1, .. by the property nr."""
-        from osgeo import gdal, ogr, osr
-
         gdal.UseExceptions()
         system = osr.SpatialReference()
         system.ImportFromEPSG(crs)
@@ -130,11 +130,9 @@ class Reading(WithFiles):
         for name, ring in (("p0", RING), ("p1", [(0, 0), (math.nan, 1), (1, 1), (0, 0)]), ("p2", RING)):
             flat.add(name, f"feature ({name})", struct.pack(f"<BIII{2 * len(ring)}d", 1, 3, 1, len(ring), *sum(ring, ())))
         with self.assertRaisesRegex(MapFault, r"feature \(p1\): .* no number"):
-            flat.arrays(numpy)
+            flat.arrays()
 
     def test_nothing_is_written_beside_a_map(self) -> None:
-        from osgeo import gdal
-
         path = str(self.folder / "map.gml")
         gdal.VectorTranslate(path, self.made(f"POLYGON {text_of(RING)}"), format="GML")
         (self.folder / "map.xsd").unlink()
@@ -189,8 +187,6 @@ class Writing(InFolder):
             yield {"a": f"p{k}", "b": "" if k % 2 else "z", "area": 100.0}, wkb
 
     def features(self, name: str) -> list[tuple[str, str | None, float, str]]:
-        from osgeo import gdal
-
         file = gdal.OpenEx(str(self.folder / name), gdal.OF_VECTOR)
         layer = file.GetLayerByName("pieces")
         return sorted((f["a"], f["b"], f["area"], f.GetGeometryRef().ExportToWkt()) for f in layer)
@@ -204,8 +200,6 @@ class Writing(InFolder):
         self.assertEqual({one.name for one in self.folder.iterdir()}, {"pieces.gpkg", "pieces.fgb"})
 
     def test_pieces_of_a_map_without_a_system_are_of_a_plane(self) -> None:
-        from osgeo import gdal
-
         for name in ("pieces.gpkg", "pieces.fgb"):
             path = str(self.folder / name)
             gdal_writing.write(path, self.pieces(3), None)
@@ -287,6 +281,17 @@ class Writing(InFolder):
     def test_another_suffix_is_refused(self) -> None:
         with self.assertRaisesRegex(MapFault, r"pieces\.dxf: pieces are written as \.gpkg, \.fgb or \.geojson"):
             gdal_writing.write(str(self.folder / "pieces.dxf"), [], None)
+
+
+class Missing(WithFiles):
+    def test_a_package_that_is_missing_is_named(self) -> None:
+        words = ["check", self.made(f"POLYGON {text_of(RING)}"), "--factor", "1", "--program", sys.executable]
+        for module, package in (("numpy", "python3-numpy"), ("osgeo", "python3-gdal")):
+            text = (f"import sys; sys.modules['{module}'] = None; from tools import ending; "
+                    "ending.run_module('tools.commands.overlay_maps')")
+            done = subprocess.run([sys.executable, "-c", text, *words], cwd=TOP, capture_output=True, text=True, check=False)
+            self.assertEqual((done.returncode, done.stdout, done.stderr), (
+                1, "", f"-c: {package} is missing: apt-get install {package}, and run this by /usr/bin/python3\n"))
 
 
 class OverTool(WithFiles):

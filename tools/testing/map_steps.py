@@ -11,7 +11,7 @@ from unittest import mock
 import numpy as np
 
 from ..maps import (auditing, bending, box_pairs, cells, drawing_in, exact_area, jobs, map_checks, numpy_drawing,
-                     numpy_windows, planning, rounds, sewing, slots, tables, touching, windows)
+                    numpy_windows, planning, rounds, sewing, slots, tables, touching, windows)
 from ..maps.numpy_arrays import Numbers
 from ..maps.task_form import ALONE, COMMON, Found, Row, ShapeOf, Task
 from ..maps.whole_maps import NOWHERE, Box, Point, Ring, WholeMap
@@ -124,9 +124,9 @@ class Planned(unittest.TestCase):
         x, y = source.randrange(1000), source.randrange(1000)
         return source.choice([(x, y, x + source.randrange(80), y + source.randrange(180))] * 9 + [NOWHERE])
 
-    def wanted(self, b: list[Box], touching: bool = False) -> list[planning.Job]:
+    def wanted(self, b: list[Box], points_too: bool = False) -> list[planning.Job]:
         """The jobs of all pairs with boxes of the first map."""
-        a, is_pair = self.boxes[0], box_pairs.has_points if touching else box_pairs.has_area
+        a, is_pair = self.boxes[0], box_pairs.has_points if points_too else box_pairs.has_area
         cores = {(place_of(a, i), i, j): box_pairs.common(a[i], b[j]) for i in range(len(a)) for j in range(len(b))}
         return [planning.Job(core, i, (j,)) for (_, i, j), core in sorted(cores.items()) if is_pair(core)]
 
@@ -139,8 +139,8 @@ class Planned(unittest.TestCase):
         alone = [planning.Job(self.boxes[0][i], i, tuple(job.others[0] for job in areas if job.own == i)) for i in order]
         for at_once in (17, 1000):
             with mock.patch.object(planning, "FEATURES_AT_ONCE", at_once):
-                for touching in (False, True):
-                    self.assertEqual(list(planning.common_jobs(a, b, touching)), self.wanted(self.boxes[1], touching))
+                for points_too in (False, True):
+                    self.assertEqual(list(planning.common_jobs(a, b, points_too)), self.wanted(self.boxes[1], points_too))
                 self.assertEqual(list(planning.within_jobs(a)),
                                  [job for job in self.wanted(self.boxes[0]) if job.own < job.others[0]])
                 self.assertEqual(list(planning.alone_jobs(a, b)), alone)
@@ -376,7 +376,6 @@ class Planted(WithLive):
                     whole.add(str(number), [bending.bent(ring)])
                 made = self.checked(whole)
             self.assertEqual(len(made.overlaps) + len(made.gaps) > 0, wrong is not None)
-
 
 
 def told_up_to(most: int) -> Callable[[rounds.Program, Iterable[rounds.Round]], Iterator[list[Piece] | None]]:
