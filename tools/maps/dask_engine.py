@@ -1,11 +1,10 @@
 """Does tasks by workers of Dask: of a cluster that is made on this machine, or of a scheduler at an address.
 
-Dask's scheduler runs whatever Python it is sent. So a cluster of this machine speaks TLS with keys of its own where
-python3-cryptography is there, and an address beyond the loopback is reported where it is without TLS.
+Dask's scheduler runs whatever Python it is sent. So a cluster of this machine speaks TLS with keys of its own, and an
+address beyond the loopback is reported where it is without TLS.
 """
 
 import contextlib
-import importlib.util
 import ipaddress
 import logging
 import pathlib
@@ -29,7 +28,7 @@ WORKERS_WITHIN = 30  # seconds
 TOP = pathlib.Path(__file__).resolve().parents[2]
 # What a worker elsewhere needs.
 SENT = ("tools/*.py", "tools/maps/*.py", "tools/commands/__init__.py", "tools/commands/to_rings.py")
-NEEDED = ("--dask needs Dask: apt-get install python3-distributed, and run this by /usr/bin/python3; "
+NEEDED = ("--dask needs Dask: apt-get install python3-distributed python3-cryptography, and run this by /usr/bin/python3; "
           "--jobs N needs nothing")
 
 
@@ -78,11 +77,12 @@ def _client(address: str | None, jobs: int) -> Iterator[Any]:
 
 def _cluster(dask: Any, jobs: int) -> Any:
     """Workers of this machine, which end with this process."""
-    secured = importlib.util.find_spec("cryptography") is not None
-    return dask.LocalCluster(
-        n_workers=jobs, threads_per_worker=1, host="127.0.0.1", dashboard_address=None, silence_logs=logging.CRITICAL,
-        security=dask.Security.temporary() if secured else None,
-    )
+    try:
+        security = dask.Security.temporary()
+    except ImportError:
+        raise DaskFault(NEEDED) from None
+    return dask.LocalCluster(n_workers=jobs, threads_per_worker=1, host="127.0.0.1", dashboard_address=None,
+                             silence_logs=logging.CRITICAL, security=security)
 
 
 def is_open_to_all(address: str) -> bool:

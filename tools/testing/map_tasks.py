@@ -23,6 +23,7 @@ from .map_works import Refusing, Reversing
 
 NAMES = [f"task {number}".encode() for number in range(12)]
 ENDS = [name[::-1] for name in NAMES]
+HAS_DASK = importlib.util.find_spec("distributed") is not None
 WAIT = 60  # seconds, for what comes at once where the machine is not busy
 
 
@@ -290,7 +291,7 @@ class Engines(WithProcesses):
         self.assertEqual((again.returncode, list(TaskFolder(self.work).results())), (0, ENDS))
 
 
-@unittest.skipUnless(importlib.util.find_spec("distributed"), "python3-distributed is not installed")
+@unittest.skipUnless(HAS_DASK, "python3-distributed is not installed")
 class Dask(WithProcesses):
     def test_what_a_dead_worker_had_is_begun_again_and_no_process_is_left(self) -> None:
         words = self.words("0", "dask", "1")
@@ -359,7 +360,7 @@ class OverTool(InTasks):
         self.assertEqual((status, table), (1, ""))
         self.assertRegex(told, "task 0: ProgramRefused: .*never: status 3, 0 answers of [0-9]+")
 
-    @unittest.skipUnless(importlib.util.find_spec("distributed"), "python3-distributed is not installed")
+    @unittest.skipUnless(HAS_DASK, "python3-distributed is not installed")
     def test_dask_has_the_same_table(self) -> None:
         words = [sys.executable, TOOLS / "overlay_maps.py", "pairs", self.folder / "a.geojson", self.folder / "b.geojson",
                  "--factor", "1", "--program", Programs.live, "--jobs", "2", "--dask"]
@@ -457,11 +458,12 @@ class Addresses(unittest.TestCase):
                                   timeout=SECONDS)
             self.assertIn(".zip", done.stdout)
 
-    @unittest.skipIf(importlib.util.find_spec("distributed"), "Dask is there")
-    def test_without_dask_the_refusal_has_the_line_to_type(self) -> None:
+    def test_without_dask_or_keys_the_refusal_has_the_line_to_type(self) -> None:
         engine = dask_engine.by_dask(None, 1)
-        with self.assertRaisesRegex(dask_engine.DaskFault, "apt-get install python3-distributed"):
-            list(engine(Refusing(), TaskFolder(pathlib.Path("none")), []))
+        for module in ["distributed", *["cryptography"] * HAS_DASK]:
+            with mock.patch.dict(sys.modules, {module: None}), self.assertRaisesRegex(
+                    dask_engine.DaskFault, "apt-get install python3-distributed python3-cryptography"):
+                list(engine(Refusing(), TaskFolder(pathlib.Path("none")), []))
 
 
 class Telling(unittest.TestCase):
