@@ -19,7 +19,7 @@ from .front import HEADERS, Front, refusal
 from .serving import (
     ANSWER_SECONDS, LINE_MOST, PORT_MOST, QUIET_SECONDS, REQUEST_SECONDS, THREADS, Unheard, connections_most, told,
 )
-from .web_request import BODY_MOST
+from .pages import BODY_MOST
 
 
 class Refusal(ErrorTask):
@@ -29,10 +29,10 @@ class Refusal(ErrorTask):
         fault = self.request.error
         answer = refusal(fault.code, fault.code, f"{fault.reason}: {fault.body}")
         self.status = f"{fault.code} {fault.reason}"
-        self.response_headers += [*HEADERS.items(), ("Content-Type", answer.kind), ("Connection", "close")]
+        self.response_headers += [*HEADERS.items(), ("Content-Type", answer.content_type), ("Connection", "close")]
         self.close_on_finish = True
-        self.content_length = len(answer.body)
-        self.write(answer.body)
+        self.content_length = len(answer.data)
+        self.write(answer.data)
 
 
 class Channel(HTTPChannel):

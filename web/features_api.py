@@ -6,19 +6,23 @@ their least corners, so a number holds as long as the layer's revision does.
 
 from __future__ import annotations
 
+import pathlib
 import re
 import urllib.parse
 from collections.abc import Callable, Sequence
 from fractions import Fraction
 from typing import Any, NamedTuple
 
+from flask import Response, g, request, send_from_directory
+
 from .layer_store import LayerStore
 from .map_scale import CRS84
+from .pages import BOX, GEOJSON, Problem, Word, link, one_of, page, sent, text, whole
 from .shapes import Box, homogeneous
 from .systems import Item, Placed, Systems
 from .views import View
-from .web_request import GEOJSON, Answer, Problem, Request, json_answer, link
 
+PAGE = pathlib.Path(__file__).resolve().parent / "page"
 ITEMS_USUAL, ITEMS_MOST = 1000, 10000
 OFFSET_MOST = 10**9
 CRS_CLASS = "http://www.opengis.net/spec/ogcapi-features-2/1.0/conf/crs"
@@ -26,14 +30,35 @@ CORE = "http://www.opengis.net/spec/ogcapi-features-1/1.0/conf/"
 OPENAPI = "application/vnd.oai.openapi+json;version=3.0"
 DATE = r"[0-9]{4}-[0-9]{2}-[0-9]{2}(T[0-9]{2}:[0-9]{2}:[0-9]{2}(\.[0-9]{1,9})?(Z|[+-][0-9]{2}:[0-9]{2}))?"
 DATETIME = re.compile(rf"{DATE}|({DATE}|\.\.|)/({DATE}|\.\.|)")
-ITEM_WORDS = ("bbox", "bbox-crs", "crs", "datetime", "limit", "offset", "revision")
+LAYER = "/collections/<layer:name>"
+
+
+def time_of(given: str) -> str:
+    """A time, which says nothing of items: each is of every time."""
+    if not DATETIME.fullmatch(given):
+        raise ValueError("a time of RFC 3339, or two with / between them")
+    return given
+
+
+PAGE_FORM = one_of("f", "the form of the answer: the landing page, or the page with the map", "json", "html")
+CRS = text("crs", "the system of the answer, one of those that the collection has", "uri")
+ITEM_WORDS = (
+    BOX, whole("limit", "the most items of an answer", ITEMS_USUAL, 1, ITEMS_MOST,
+               {"maximum": ITEMS_MOST, "default": ITEMS_USUAL}),
+    whole("offset", "how many items are passed over", 0, 0, OFFSET_MOST, {"default": 0}),
+    Word("datetime", "every item is of every time", {"type": "string"}, time_of), CRS,
+    text("bbox-crs", "the system of bbox, one of those that the collection has", "uri"),
+    text("revision", "go on with the items of this revision, 409 where it is gone"),
+)
 
 
 class Asked(NamedTuple):
-    """What is asked of items: the system that they are written in, and which lie in bbox."""
+    """What is asked of items: the system that they are written in, which lie in bbox, and how many from which on."""
 
     system: str | None
     meets: Callable[[Item], bool] | None
+    limit: int
+    offset: int
 
 
 class FeaturesApi:
@@ -41,9 +66,16 @@ class FeaturesApi:
         self.store, self.scale = store, store.scale
         self.systems = systems or Systems(store.scale)
 
-    def landing(self, request: Request) -> Answer:
-        root = request.root
-        return json_answer(
+    @page("GET", "/", "getLandingPage", "the first page", "landingPage", PAGE_FORM)
+    def landing(self) -> Response:
+        """For a browser the page with the map, else the landing page of the standard."""
+        wanted = request.args.get("f", "html" if "text/html" in request.headers.get("Accept", "") else "json")
+        made = send_from_directory(PAGE, "map.html") if wanted == "html" else self._landing(g.root)
+        made.headers["Vary"] = "Accept"
+        return made
+
+    def _landing(self, root: str) -> Response:
+        return sent(
             {
                 "title": self.scale.title,
                 "description": "Layers of polygons and exact overlays of them",
@@ -56,34 +88,43 @@ class FeaturesApi:
             }
         )
 
-    def api(self, request: Request) -> Answer:
+    @page("GET", "/api", "getApi", "this description", "description", kind=OPENAPI)
+    def api(self) -> Response:
         from . import openapi
 
-        made = openapi.document(self.scale.title, request.root, self.store.writable, self.described())
-        return json_answer(made, OPENAPI)
+        return sent(openapi.document(self.scale.title, g.root, self.store.writable, self.described()), OPENAPI)
 
     def described(self) -> Any:
         """What the description says of a map's features, where there are some."""
         return None
 
-    def conformance(self, _: Request) -> Answer:
+    @page("GET", "/conformance", "getConformanceDeclaration", "what the server conforms to", "confClasses")
+    def conformance(self) -> Response:
+        return sent({"conformsTo": self.classes()})
+
+    def classes(self) -> list[str]:
         """The core asks for longitude and latitude, so where these are not answered nothing conforms to it."""
         names = [CORE + name for name in ("core", "geojson", "oas30") if self.systems.is_conforming()]
-        return json_answer({"conformsTo": names + [CRS_CLASS] * bool(self.systems.projection)})
+        return names + [CRS_CLASS] * bool(self.systems.projection)
 
-    def collections(self, request: Request) -> Answer:
+    @page("GET", "/collections", "getCollections", "all collections", "collections", slow=True)
+    def collections(self) -> Response:
         with self.store.view() as view:
-            described = [self._described(request, view, name) for name in view.layers]
-        return json_answer({"links": [link(f"{request.root}/collections", "self")], "collections": described})
+            found = self._collections(view)
+        return sent({"links": [link(f"{g.root}/collections", "self")], "collections": found})
 
-    def collection(self, request: Request, name: str) -> Answer:
+    def _collections(self, view: View) -> list[dict[str, object]]:
+        return [self._described(view, name) for name in view.layers]
+
+    @page("GET", LAYER, "describeCollection", "a collection", "collection", slow=True)
+    def collection(self, name: str) -> Response:
         with self.store.view() as view:
-            return json_answer(self._described(request, view, name))
+            return sent(self._described(view, name))
 
-    def _described(self, request: Request, view: View, name: str) -> dict[str, object]:
+    def _described(self, view: View, name: str) -> dict[str, object]:
         found = view.layer(name)
         definition = found.layer.definition
-        at = f"{request.root}/collections/{name}"
+        at = f"{g.root}/collections/{name}"
         made: dict[str, object] = {
             "id": name, "title": name, "itemType": "feature", "revision": found.revision, "definition": definition,
             "description": f"{name} = {definition}" if definition else "a base layer",
@@ -100,31 +141,33 @@ class FeaturesApi:
             made = {"extent": {"spatial": spatial}, "box": self.scale.position(least) + self.scale.position(most)}
         return {**made, "crs": self.systems.uris, "storageCrs": self.systems.storage} if self.systems.uris else made
 
-    def items(self, request: Request, name: str) -> Answer:
-        asked = self._asked(request)
-        joined = self.store.joined(name, request.words.get("revision"))
-        return self._page(request, name, joined.revision, joined.features, asked)
+    @page("GET", f"{LAYER}/items", "getFeatures", "items of a collection", "featureCollection", *ITEM_WORDS,
+          kind=GEOJSON, slow=True)
+    def items(self, name: str, revision: str | None, **words: Any) -> Response:
+        asked = self._asked(**words)
+        joined = self.store.joined(name, revision)
+        return self._page(name, joined.revision, joined.features, asked)
 
-    def _page(self, request: Request, name: str, revision: str, items: Sequence[Item], asked: Asked) -> Answer:
+    def _page(self, name: str, revision: str, items: Sequence[Item], asked: Asked) -> Response:
         """The items that are asked for, as many as a page has, with links to the next page and the one before."""
-        limit, offset = request.count("limit", ITEMS_USUAL, 1, ITEMS_MOST), request.count("offset", 0, 0, OFFSET_MOST)
+        limit, offset, given = asked.limit, asked.offset, request.args.to_dict()
         headers = self._headers(revision, asked.system)
-        if headers["ETag"] in request.header("if-none-match").split(", "):
-            return Answer(304, GEOJSON, b"", headers)
+        if request.if_none_match.contains_weak(revision):
+            return Response(status=304, headers=headers)
         matched = [one for one in items if asked.meets is None or asked.meets(one)]
         chosen = matched[offset : offset + limit]
-        at = f"{request.root}/collections/{name}"
+        at = f"{g.root}/collections/{name}"
         links = [
-            link(f"{at}/items?{urllib.parse.urlencode(request.words, safe=',')}".rstrip("?"), "self", GEOJSON),
+            link(f"{at}/items?{urllib.parse.urlencode(given, safe=',')}".rstrip("?"), "self", GEOJSON),
             link(at, "collection"),
         ]
         places = [("next", offset + limit)] * (offset + limit < len(matched)) + [("prev", max(0, offset - limit))] * (
             offset > 0
         )
         for rel, start in places:
-            words = {**request.words, "limit": limit, "offset": start, "revision": revision}
+            words = {**given, "limit": limit, "offset": start, "revision": revision}
             links.append(link(f"{at}/items?{urllib.parse.urlencode(words, safe=',')}", rel, GEOJSON))
-        return json_answer(
+        return sent(
             {
                 "type": "FeatureCollection", "numberMatched": len(matched), "numberReturned": len(chosen),
                 "revision": revision, "links": links,
@@ -134,48 +177,49 @@ class FeaturesApi:
             headers=headers,
         )
 
-    def item(self, request: Request, name: str, number: str) -> Answer:
+    @page("GET", f"{LAYER}/items/<item:identity>", "getFeature", "an item", "feature", CRS, kind=GEOJSON, slow=True)
+    def item(self, name: str, identity: str, crs: str | None) -> Response:
         joined = self.store.joined(name)
-        if not re.fullmatch(r"[0-9]{1,9}", number) or not 1 <= int(number) <= len(joined.features):
-            raise Problem(404, f"{name} has no item {number}")
-        at = f"{request.root}/collections/{name}"
-        system = self._system(request, "crs")
-        made = Placed(joined.features[int(number) - 1], self.systems, system).geojson()
-        made["revision"] = joined.revision
-        made["links"] = [link(f"{at}/items/{number}", "self", GEOJSON), link(at, "collection")]
-        return json_answer(made, GEOJSON, headers=self._headers(joined.revision, system))
+        if not re.fullmatch(r"[0-9]{1,9}", identity) or not 1 <= int(identity) <= len(joined.features):
+            raise Problem(404, f"{name} has no item {identity}")
+        return self._item(name, identity, joined.revision, joined.features[int(identity) - 1], crs)
+
+    def _item(self, name: str, identity: str, revision: str, item: Item, crs: str | None) -> Response:
+        at, system = f"{g.root}/collections/{name}", self._system("crs", crs)
+        made = Placed(item, self.systems, system).geojson()
+        made["revision"] = revision
+        made["links"] = [link(f"{at}/items/{identity}", "self", GEOJSON), link(at, "collection")]
+        return sent(made, GEOJSON, headers=self._headers(revision, system))
 
     def _headers(self, revision: str, system: str | None) -> dict[str, str]:
         return {"ETag": f'"{revision}"', **({"Content-Crs": f"<{system}>"} if system else {})}
 
-    def _system(self, request: Request, word: str) -> str | None:
+    def _system(self, word: str, given: str | None) -> str | None:
         """The system that a word names, one of those that the store has; the usual one where it is left out."""
-        given = request.words.get(word, self.systems.usual())
+        given = self.systems.usual() if given is None else given
         if given in self.systems.uris or given is None:
             return given
         known = " or ".join(self.systems.uris)
         told = f"it is {known}" if known else "and the layers are in a plane without a name: leave it out"
-        raise Problem(400, f"{word}: {'no other is known' if self.systems.projection else 'nothing is transformed'}, {told}")
+        raise Problem(
+            400, f"{word}: {'no other is known' if self.systems.projection else 'nothing is transformed'}, {told}")
 
-    def _asked(self, request: Request) -> Asked:
-        system, boxes_in = self._system(request, "crs"), self._system(request, "bbox-crs")
-        if not DATETIME.fullmatch(request.words.get("datetime", "../..")):
-            raise Problem(400, "datetime: a time of RFC 3339, or two with / between them")
-        return Asked(system, self._meets(request, boxes_in))
+    def _asked(self, bbox: list[Fraction] | None, bbox_crs: str | None, crs: str | None, limit: int, offset: int,
+               datetime: str | None) -> Asked:
+        return Asked(self._system("crs", crs), self._meets(bbox, self._system("bbox-crs", bbox_crs)), limit, offset)
 
-    def _meets(self, request: Request, system: str | None) -> Callable[[Item], bool] | None:
+    def _meets(self, given: list[Fraction] | None, system: str | None) -> Callable[[Item], bool] | None:
         """Whether an item lies in bbox; None where it is left out."""
-        if "bbox" not in request.words:
+        if given is None:
             return None
-        boxes = self._boxes(request, system)
+        boxes = self._boxes(given, system)
         if system == self.systems.storage or not self.systems.projection:
             stored = [Box(*self.scale.scale.stored(*box[:2]), *self.scale.scale.stored(*box[2:])) for box in boxes]
             return lambda item: any(map(item.meets, stored))
         return lambda item: any(map(Placed(item, self.systems, system).meets_written, boxes))
 
-    def _boxes(self, request: Request, system: str | None) -> list[Box]:
+    def _boxes(self, given: list[Fraction], system: str | None) -> list[Box]:
         """The boxes that bbox asks for, x first: two where it goes over the 180th meridian."""
-        given = request.numbers("bbox", 4, 6)
         left, low, right, high = given if len(given) == 4 else (*given[:2], *given[3:5])
         if system == self.systems.storage and not self.systems.is_stored(system):
             left, low, right, high = low, left, high, right

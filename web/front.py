@@ -1,36 +1,43 @@
-"""The front as a WSGI application: who may ask, which page answers, and how a refusal is reported."""
+"""The front as an application of Flask: who may ask, which page answers, and how a refusal is reported."""
 
 from __future__ import annotations
 
+import functools
 import pathlib
 import re
 import threading
 import traceback
 import urllib.parse
-from collections.abc import Callable, Iterable, Mapping, Sequence
-from http import HTTPStatus
-from typing import Any, NamedTuple
+from collections.abc import Callable, Iterable, Iterator, Mapping
+from contextlib import contextmanager
+from typing import Any
+
+from flask import Flask, Response, g, request, send_from_directory
+from werkzeug.exceptions import HTTPException, MethodNotAllowed
+from werkzeug.routing import BaseConverter
 
 from tools.feature_changes import Unwritten
 from tools.overlay_client import NAME, Ended, Refused
+from . import schemas
 from .feature_store import FeatureStore, Unlike
-from .features_api import ITEM_WORDS, FeaturesApi
+from .features_api import PAGE, FeaturesApi
 from .joining import TooLarge
 from .layer_store import WAITING_MOST, Changed, LayerStore, NotDurable, Pending, Protected
 from .map_api import MapApi
 from .map_features import MapFeatures
+from .pages import FORM, Page, Problem, page, said_by, sent
 from .rescue import AGAIN, NotWritten
 from .systems import Systems, Unplaced
+from .usual import LEAFLET, LOOPBACK
 from .views import Busy
-from .web_request import Answer, Problem, Request, json_answer
 
-PAGE = pathlib.Path(__file__).resolve().parent / "page"
-LEAFLET = pathlib.Path("/usr/share/javascript/leaflet")
-LOOPBACK = frozenset(["127.0.0.1", "localhost", "[::1]"])
 SLOW_MOST, CHANGES_MOST = WAITING_MOST + 4, 4
 """How many questions that may wait, and how many changes, are answered at once; the front has more threads. Some of
 these questions have no polygons to wait for, and keep places of their own."""
-KINDS = {".html": "text/html; charset=utf-8", ".js": "text/javascript", ".css": "text/css", ".png": "image/png"}
+WORDS_MOST = 32
+DAY = 86400
+READING, CHANGING = ("GET", "HEAD", "OPTIONS"), ("POST", "PUT", "DELETE")
+KINDS = {".js": "text/javascript", ".css": "text/css", ".png": "image/png"}
 HEADERS = {
     "X-Content-Type-Options": "nosniff", "Referrer-Policy": "no-referrer",
     "Cross-Origin-Resource-Policy": "same-origin",
@@ -41,17 +48,14 @@ HEADERS = {
 NOT_FOUND, CONFLICT = (10, 23), (11, 12, 13, 14, 15, 16, 21, 22)
 UNABLE = (30, 31, 35, 36, 40, 43, 44, 46)
 
-Start = Callable[[str, list[tuple[str, str]]], object]
+
+def part(form: str) -> type[BaseConverter]:
+    """A part of a route that has a form."""
+    return type("Part", (BaseConverter,), {"regex": form.strip("^$")})
 
 
-class Route(NamedTuple):
-    """A page: its method and path, the words that its question may have, and whether it may have to wait."""
-
-    method: str
-    path: str
-    answer: Callable[..., Answer]
-    words: tuple[str, ...] = ()
-    slow: bool = False
+PARTS = {"layer": part(schemas.NAME), "item": part(schemas.ID), "script": part(r"[a-z.-]+\.(?:js|css)"),
+         "picture": part(r"[a-z0-9-]+\.png")}
 
 
 def status_of(fault: Refused) -> int:
@@ -62,9 +66,68 @@ def status_of(fault: Refused) -> int:
     return 400
 
 
-def refusal(status: int, code: object, text: str, headers: Mapping[str, str] | None = None, **more: object) -> Answer:
+def refusal(status: int, code: object, text: str, headers: Mapping[str, str] | None = None, **more: object) -> Response:
     more.update(code=str(code), description=text)
-    return json_answer(more, status=status, headers=headers)
+    return sent(more, status=status, headers=headers)
+
+
+def refused(fault: Exception) -> Response:
+    """What was refused, as a JSON object of code and description."""
+    match fault:
+        case Problem():
+            return refusal(fault.status, fault.status, str(fault), fault.headers)
+        case HTTPException():
+            status = fault.code or 500
+            headers = {name: value for name, value in fault.get_headers() if name != "Content-Type"}
+            return refusal(status, status, absent(request.path) if status == 404 else str(fault.description), headers)
+        case Refused():
+            return refusal(status_of(fault), fault.number, str(fault), command=fault.place)
+        case NotDurable():
+            return refusal(503, 503, str(fault), version=fault.version)
+        case TooLarge():
+            return refusal(413, 413, str(fault))
+        case Changed() | Protected() | Unlike() | Unplaced():
+            return refusal(409, 409, str(fault))
+        case Busy() | Pending():
+            return refusal(503, 503, str(fault), {"Retry-After": "1"})
+        case NotWritten() | Unwritten():
+            return refusal(503, 503, str(fault), {"Retry-After": f"{AGAIN:.0f}"})
+        case Ended() | OSError() | TimeoutError():
+            return refusal(503, 503, f"the store does not answer: {fault}")
+    traceback.print_exception(fault)  # a fault of the front's own: it goes on, and the fault is reported where it runs
+    return refusal(500, 500, "the front has a fault, which it has reported on its standard error")
+
+
+def absent(path: str) -> str:
+    """What is said of a path that no page has: of a layer's, whether its name may be none."""
+    found = re.match(r"/collections/([^/]+)", path)
+    if found and not NAME.match(found[1]):
+        return "there is no such page: a name is 1 to 32 bytes, an ASCII letter, then letters, digits and _"
+    return "there is no such page"
+
+
+class Files:
+    """What a browser loads for the page with the map."""
+
+    def __init__(self, leaflet: pathlib.Path) -> None:
+        self.leaflet = leaflet.resolve()  # Flask takes another folder than the present one for a path to begin in
+
+    @page("GET", "/<script:name>")
+    def script(self, name: str) -> Response:
+        return file(PAGE, name)
+
+    @page("GET", "/leaflet/<script:name>")
+    def leaflet_script(self, name: str) -> Response:
+        return file(self.leaflet, name, DAY)
+
+    @page("GET", "/leaflet/images/<picture:name>")
+    def leaflet_picture(self, name: str) -> Response:
+        return file(self.leaflet / "images", name, DAY)
+
+
+def file(folder: pathlib.Path, name: str, seconds: int | None = None) -> Response:
+    """A file, which may be kept for so long."""
+    return send_from_directory(folder, name, mimetype=KINDS[pathlib.Path(name).suffix], max_age=seconds)
 
 
 class Front:
@@ -76,158 +139,107 @@ class Front:
         self, store: LayerStore, hosts: Iterable[str] = LOOPBACK, base: str | None = None,
         leaflet: pathlib.Path = LEAFLET, maps: FeatureStore | None = None, systems: Systems | None = None,
     ) -> None:
-        self.store, self.leaflet = store, leaflet
+        self.store = store
         self.base = base.rstrip("/") if base else None
         parts = urllib.parse.urlsplit(base or "")
         self.base_host = parts.netloc.lower()
         self.hosts = {*hosts, parts.hostname or ""} - {""}
         self._slow, self._changes = threading.BoundedSemaphore(SLOW_MOST), threading.BoundedSemaphore(CHANGES_MOST)
-        features = MapFeatures(maps, systems) if maps else FeaturesApi(store, systems)
-        of_map = MapApi(store, maps, systems)
-        name, number = "([A-Za-z][A-Za-z0-9_]{0,31})", "([A-Za-z0-9_.-]{1,64})"
-        layer = f"/collections/{name}"
-        routes = [
-            Route("GET", "/", self.first), Route("GET", "/api", features.api),
-            Route("GET", "/conformance", features.conformance),
-            Route("GET", "/collections", features.collections, slow=True),
-            Route("GET", layer, features.collection, slow=True),
-            Route("GET", f"{layer}/items", features.items, ITEM_WORDS, slow=True),
-            Route("GET", f"{layer}/items/{number}", features.item, ("crs",), slow=True),
-            Route("GET", f"{layer}/locate", of_map.locate, ("x", "y")),
-            Route("GET", "/locate", of_map.locate_all, ("x", "y")),
-            Route("GET", f"{layer}/tiles", of_map.tiles, ("columns",)), Route("GET", "/status", of_map.status),
-            Route("PUT", layer, of_map.put, slow=True), Route("DELETE", layer, of_map.drop, slow=True),
-            Route("POST", "/batch", of_map.batch, slow=True), Route("GET", r"/([a-z]+\.(?:js|css))", self.page_file),
-            Route("GET", r"/leaflet/([a-z.-]+\.(?:js|css)|images/[a-z0-9-]+\.png)", self.leaflet_file),
-        ]
-        self.features = features
-        if isinstance(features, MapFeatures):
-            routes += editing(features, f"{layer}/items", f"{layer}/items/{number}")
-        self.routes = [(re.compile(route.path + r"\Z"), route) for route in routes]
+        self.app = Flask(__name__, static_folder=None)
+        self.app.url_map.merge_slashes = False
+        self.app.url_map.converters.update(PARTS)
+        self.features = MapFeatures(maps, systems) if maps else FeaturesApi(store, systems)
+        for owner in (self.features, MapApi(store, maps, systems), Files(leaflet)):
+            for name, said in said_by(type(owner)).items():
+                self._add(said, getattr(owner, name), maps.name if maps else "")
+        self.app.before_request(self._look)
+        self.app.after_request(dressed)
+        self.app.register_error_handler(Exception, refused)
 
-    def __call__(self, environ: Mapping[str, Any], start: Start) -> list[bytes]:
-        answer = self.answered(environ)
-        headers = {**HEADERS, "Cache-Control": "no-cache", **answer.headers}
-        if answer.status != 304:
-            headers |= {"Content-Type": answer.kind, "Content-Length": str(len(answer.body))}
-        start(f"{answer.status} {HTTPStatus(answer.status).phrase}", list(headers.items()))
-        return [] if environ["REQUEST_METHOD"] == "HEAD" else [answer.body]
+    def __call__(self, environ: dict[str, Any], start: Any) -> Any:
+        return self.app(environ, start)
 
-    def answered(self, environ: Mapping[str, Any]) -> Answer:
-        """The answer, or what was refused as a JSON object of code and description."""
+    def _add(self, said: Page, answers: Callable[..., Response], name: str) -> None:
+        """Gives a page its route. name is that of the map; one that is none of a collection has no pages of its own."""
+        if "<map>" in said.route and not NAME.match(name):
+            return
+
+        @functools.wraps(answers)
+        def answered(**parts: str) -> Response:
+            given = request.args.to_dict()
+            for word in given.keys() - {one.name for one in said.words}:
+                raise Problem(400, f"unknown word {word[:40]}")
+            words = {one.name.replace("-", "_"): one.value(given) for one in said.words}
+            del words[FORM.name]
+            with self._place(said):
+                return answers(**parts, **words)
+
+        route = said.route.replace("<map>", name)
+        self.app.add_url_rule(
+            route, f"{said.method} {route}", answered, methods=[said.method], provide_automatic_options=False
+        )
+
+    @contextmanager
+    def _place(self, said: Page) -> Iterator[None]:
+        """A place among those that wait, for a page that may have to."""
+        places = self._changes if said.is_change else self._slow
+        if said.slow and not places.acquire(blocking=False):
+            raise Problem(503, "too many questions that have to wait", **{"Retry-After": "1"})
         try:
-            return self.answer(Request(environ, self.root(environ)))
-        except Problem as fault:
-            return refusal(fault.status, fault.status, str(fault), fault.headers)
-        except Refused as fault:
-            return refusal(status_of(fault), fault.number, str(fault), command=fault.place)
-        except NotDurable as fault:
-            return refusal(503, 503, str(fault), version=fault.version)
-        except TooLarge as fault:
-            return refusal(413, 413, str(fault))
-        except Changed as fault:
-            return refusal(409, 409, str(fault))
-        except (Protected, Unlike, Unplaced) as fault:
-            return refusal(409, 409, str(fault))
-        except (Busy, Pending) as fault:
-            return refusal(503, 503, str(fault), {"Retry-After": "1"})
-        except (NotWritten, Unwritten) as fault:
-            return refusal(503, 503, str(fault), {"Retry-After": f"{AGAIN:.0f}"})
-        except (Ended, OSError, TimeoutError) as fault:
-            return refusal(503, 503, f"the store does not answer: {fault}")
-        except Exception:  # a fault of the front's own: it goes on, and the fault is reported where it runs
-            traceback.print_exc()
-            return refusal(500, 500, "the front has a fault, which it has reported on its standard error")
+            yield
+        finally:
+            if said.slow:
+                places.release()
 
-    def root(self, environ: Mapping[str, Any]) -> str:
+    def _look(self) -> Response | None:
+        """Looks at what was asked before a page answers it."""
+        g.root = self._root()
+        words = list(request.args.items(multi=True))
+        if len(words) > WORDS_MOST:
+            raise Problem(400, f"the question: it has more than {WORDS_MOST} words")
+        if len(words) > len({name for name, _ in words}):
+            raise Problem(400, "a word is given twice")
+        method, fault, rule = str(request.environ["REQUEST_METHOD"]), request.routing_exception, request.url_rule
+        if isinstance(fault, MethodNotAllowed):
+            return self._other_method(method, fault.valid_methods or ())
+        if rule and method != request.method:  # as get, which Werkzeug takes for GET
+            return self._other_method(method, rule.methods or ())
+        if rule:
+            self._check(method)
+        return None
+
+    def _root(self) -> str:
         """Looks at Host: the address that was asked. A foreign name, which a page may give this address, is refused."""
-        host = str(environ.get("HTTP_HOST", "")).lower()
+        host = request.headers.get("Host", "").lower()
         found = re.fullmatch(r"(\[[0-9a-f:.]{2,45}\]|[a-z0-9._-]{1,253})(:[0-9]{1,5})?", host)
         if not found or found[1] not in self.hosts:
             raise Problem(403, "this name is not served")
-        return self.base if self.base and host == self.base_host else f"{environ['wsgi.url_scheme']}://{host}"
+        return self.base if self.base and host == self.base_host else f"{request.scheme}://{host}"
 
-    def answer(self, request: Request) -> Answer:
-        method = "GET" if request.method == "HEAD" else request.method
-        found = [(place.match(request.path), route) for place, route in self.routes]
-        fitting = [(match, route) for match, route in found if match]
-        if not fitting:
-            raise Problem(404, absent(request.path))
-        for match, route in fitting:
-            if route.method == method:
-                self._check(request, route)
-                return self._run(request, route, match.groups())
-        raise Problem(405, f"{request.method} is not for this page", Allow=allowed(request, fitting))
+    def _other_method(self, method: str, known: Iterable[str]) -> Response:
+        """The methods of a page: as the answer to OPTIONS, else beside the refusal of another one."""
+        may = (*READING, *CHANGING) if self.store.writable else READING
+        allowed = ", ".join(one for one in may if one == "OPTIONS" or one in known)
+        if method != "OPTIONS":
+            raise Problem(405, f"{method} is not for this page", Allow=allowed)
+        self._check(method)
+        return Response(headers={"Allow": allowed})
 
-    def _check(self, request: Request, route: Route) -> None:
-        """Refuses what another site's page asks, a change where none may be made, and words that the page has not."""
-        site = request.header("sec-fetch-site").strip().lower()
-        if route.method not in ("GET", "OPTIONS"):
+    def _check(self, method: str) -> None:
+        """Refuses what another site's page asks, and a change where none may be made."""
+        site = request.headers.get("Sec-Fetch-Site", "").strip().lower()
+        if method not in READING:
             if not self.store.writable:
                 raise Problem(403, "it was started without --writable")
-            origin, parts = request.header("origin"), urllib.parse.urlsplit(request.root)
+            origin, parts = request.headers.get("Origin", ""), urllib.parse.urlsplit(g.root)
             if site in ("cross-site", "same-site") or origin not in ("", f"{parts.scheme}://{parts.netloc}"):
                 raise Problem(403, "another site's page may change nothing")
-        if site == "cross-site" and route.path != "/":  # a link to the page itself may be anywhere
+        if site == "cross-site" and request.path != "/":  # a link to the page itself may be anywhere
             raise Problem(403, "another site's page may ask nothing")
-        for word, value in request.words.items():
-            if word not in (*route.words, "f"):
-                raise Problem(400, f"unknown word {word[:40]}")
-            if word == "f" and value != "json" and (value, route.path) != ("html", "/"):
-                raise Problem(400, "f: json is wanted")
-
-    def _run(self, request: Request, route: Route, words: tuple[str, ...]) -> Answer:
-        if not route.slow:
-            return route.answer(request, *words)
-        places = self._slow if route.method == "GET" else self._changes
-        if not places.acquire(blocking=False):
-            raise Problem(503, "too many questions that have to wait", **{"Retry-After": "1"})
-        try:
-            return route.answer(request, *words)
-        finally:
-            places.release()
-
-    # ---- files
-
-    def first(self, request: Request) -> Answer:
-        """For a browser the page, else the landing page of the standard."""
-        page = request.wants_html()
-        answer = self.page_file(request, "map.html") if page else self.features.landing(request)
-        return answer._replace(headers={**answer.headers, "Vary": "Accept"})
-
-    def page_file(self, _: Request, name: str) -> Answer:
-        return file_answer(PAGE / name, {})
-
-    def leaflet_file(self, _: Request, name: str) -> Answer:
-        return file_answer(self.leaflet / name, {"Cache-Control": "max-age=86400"})
 
 
-def allowed(request: Request, fitting: Sequence[tuple[re.Match[str], Route]]) -> str:
-    """The methods of a page, as its OPTIONS tells them where it has that; a page that answers GET answers HEAD."""
-    told = (route.answer(request, *match.groups()) for match, route in fitting if route.method == "OPTIONS")
-    methods = ("GET, HEAD" if route.method == "GET" else route.method for _, route in fitting)
-    return next((answer.headers["Allow"] for answer in told), ", ".join(methods))
-
-
-def absent(path: str) -> str:
-    """What is said of a path that no page has: of a layer's, whether its name may be none."""
-    found = re.match(r"/collections/([^/]+)", path)
-    if found and not NAME.match(found[1]):
-        return "there is no such page: a name is 1 to 32 bytes, an ASCII letter, then letters, digits and _"
-    return "there is no such page"
-
-
-def editing(features: MapFeatures, items: str, item: str) -> list[Route]:
-    """The pages by which single features are changed."""
-    return [
-        Route("POST", items, features.create, slow=True), Route("OPTIONS", items, features.methods),
-        Route("PUT", item, features.replace, slow=True), Route("DELETE", item, features.remove, slow=True),
-        Route("OPTIONS", item, features.methods),
-    ]
-
-
-def file_answer(path: pathlib.Path, headers: Mapping[str, str]) -> Answer:
-    try:
-        return Answer(200, KINDS[path.suffix], path.read_bytes(), headers)
-    except OSError:
-        raise Problem(404, f"there is no file {path.name}") from None
+def dressed(answer: Response) -> Response:
+    """An answer with the headers that each has."""
+    for name, value in {**HEADERS, "Cache-Control": "no-cache"}.items():
+        answer.headers.setdefault(name, value)
+    return answer

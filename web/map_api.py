@@ -3,18 +3,33 @@
 from __future__ import annotations
 
 import re
+from fractions import Fraction
 from typing import cast
+
+from flask import Response
 
 from tools import coordinate_systems, limits
 from tools.overlay_client import LARGEST_BATCH, NAME, OUT_OF_RANGE, Piece, Point, Refused, Session
 from .feature_store import FeatureStore, State
+from .features_api import LAYER
 from .layer_store import LayerStore
+from .pages import POINT, Problem, Word, body, page, sent
 from .shapes import text_of
 from .systems import Systems
 from .views import Busy, View
-from .web_request import Answer, Problem, Request, json_answer
 
 DEFINITION_MOST = 2000
+COLUMNS_FORM = "[0-9]{1,2}(,[0-9]{1,2}){0,99}"
+
+
+def columns_of(given: str) -> list[int]:
+    if not re.fullmatch(COLUMNS_FORM, given):
+        raise ValueError("numbers parted by commas are wanted")
+    return sorted({int(one) for one in given.split(",")})
+
+
+COLUMNS = Word("columns", "numbers of columns, from 0, parted by commas; all where it is left out",
+               {"type": "string", "pattern": f"^{COLUMNS_FORM}$"}, columns_of, [*range(limits.COLUMNS)])
 
 
 class MapApi:
@@ -22,7 +37,8 @@ class MapApi:
         self.store, self.scale, self.maps = store, store.scale, maps
         self.systems = systems or Systems(store.scale)
 
-    def status(self, _: Request) -> Answer:
+    @page("GET", "/status", "getStatus", "the version, and what of it is durable", "status")
+    def status(self) -> Response:
         store = self.store
         state: State | None = None
         try:
@@ -31,7 +47,7 @@ class MapApi:
                 state = self.maps.state(view) if self.maps else None
         except (Busy, TimeoutError):  # what is lost is reported all the same
             version, durable, count = store.version, store.durable, None
-        return json_answer(
+        return sent(
             {
                 "title": self.scale.title, "version": version, "durable": durable if store.kept else None,
                 "lost": store.lost(), "writable": store.writable, "layers": count,
@@ -43,14 +59,15 @@ class MapApi:
             }
         )
 
-    def locate(self, request: Request, name: str) -> Answer:
-        question, told = self._question(request)
+    @page("GET", f"{LAYER}/locate", "locate", "where a point lies in a collection", "located", *POINT)
+    def locate(self, name: str, x: Fraction, y: Fraction) -> Response:
+        question, told = self._question(x, y)
         with self.store.view() as view:
             if self.maps and name == self.maps.name:
                 told["features"] = self._features(view, question)
-                return json_answer(told)
+                return sent(told)
             told["place"] = view.locate([name], question)[name]
-        return json_answer(told)
+        return sent(told)
 
     def _features(self, view: View, question: Point) -> list[dict[str, object]]:
         """The features that have a point, with all that they are but their outlines."""
@@ -61,21 +78,22 @@ class MapApi:
             for one, place in self.maps.at(view, question)
         ]
 
-    def locate_all(self, request: Request) -> Answer:
-        question, told = self._question(request)
+    @page("GET", "/locate", "locateAll", "where a point lies in each layer, and the features that have it",
+          "locatedAll", *POINT)
+    def locate_all(self, x: Fraction, y: Fraction) -> Response:
+        question, told = self._question(x, y)
         with self.store.view() as view:
             hidden = self.maps.hidden(self.maps.state(view).table) if self.maps else set()
             told["places"] = view.locate([name for name in view.layers if name not in hidden], question)
             if self.maps:
                 told["features"] = self._features(view, question)
-        return json_answer(told)
+        return sent(told)
 
-    def _question(self, request: Request) -> tuple[Point, dict[str, object]]:
+    def _question(self, x: Fraction, y: Fraction) -> tuple[Point, dict[str, object]]:
         """What LOCATE is asked, and what the answer says of it: the point that was asked, and whether it is the given one.
 
         A point out of the plane is refused here, as the program reads no number of so many digits as it may have.
         """
-        x, y = *request.numbers("x", 1), *request.numbers("y", 1)
         question = self.scale.scale.question(x, y)
         if max(abs(question[0]), abs(question[1])) > limits.COORDINATE_MAX * question[2]:
             system = self.systems.storage or coordinate_systems.shown(self.scale.scale.crs)
@@ -84,21 +102,14 @@ class MapApi:
         point = self.scale.scale.world(question)
         return question, {"asked": question, "point": [self.scale.number(n) for n in point], "exact": point == (x, y)}
 
-    def tiles(self, request: Request, name: str) -> Answer:
+    @page("GET", f"{LAYER}/tiles", "getTiles", "the boundary of a derived layer by columns, as far as it is built",
+          "tiles", COLUMNS)
+    def tiles(self, name: str, columns: list[int]) -> Response:
         """The columns of a derived layer: of each its pieces, or null where it is pending."""
-        columns = self._columns(request)
         with self.store.view() as view:
             revision = view.layer(name).revision
             found = view.columns(name, columns)
-        return json_answer({"revision": revision, "tiles": [self._tile(*one) for one in zip(columns, found)]})
-
-    def _columns(self, request: Request) -> list[int]:
-        word = request.words.get("columns")
-        if word is None:
-            return list(range(limits.COLUMNS))
-        if not re.fullmatch(r"[0-9]{1,2}(,[0-9]{1,2}){0,99}", word):
-            raise Problem(400, "columns: numbers parted by commas are wanted")
-        return sorted({int(one) for one in word.split(",")})
+        return sent({"revision": revision, "tiles": [self._tile(*one) for one in zip(columns, found)]})
 
     def _tile(self, column: int, pieces: list[Piece] | None) -> dict[str, object]:
         lines = None if pieces is None else [[self.scale.position(a), self.scale.position(b)] for a, b in pieces]
@@ -106,25 +117,28 @@ class MapApi:
 
     # ---- changes
 
-    def put(self, request: Request, name: str) -> Answer:
-        line, moved = self._command(request.body(), name)
+    @page("PUT", LAYER, "putLayer", "puts or defines a layer", "changed", body="layer", slow=True)
+    def put(self, name: str) -> Response:
+        line, moved = self._command(body(), name)
         return self._changed([line], moved)
 
-    def drop(self, _: Request, name: str) -> Answer:
+    @page("DELETE", LAYER, "dropLayer", "drops a layer", "changed", slow=True)
+    def drop(self, name: str) -> Response:
         return self._changed([f"DROP {name}"], 0.0)
 
-    def batch(self, request: Request) -> Answer:
+    @page("POST", "/batch", "batch", "changes several layers as one version", "changed", body="batch", slow=True)
+    def batch(self) -> Response:
         """{"commands": [{"put": name, "geometry": ..}, {"define": name, "definition": ..}, {"drop": name}]}."""
-        commands = request.body().get("commands")
+        commands = body().get("commands")
         if not isinstance(commands, list) or not 1 <= len(commands) <= LARGEST_BATCH:
             raise Problem(400, f"commands: a list of 1 to {LARGEST_BATCH} objects is wanted")
         made = [self._command_of_batch(one) for one in commands]
         return self._changed([line for line, _ in made], max(moved for _, moved in made))
 
-    def _changed(self, lines: list[str], moved: float) -> Answer:
+    def _changed(self, lines: list[str], moved: float) -> Response:
         version = self.store.change(lines)
         durable = self.store.durable if self.store.kept else None
-        return json_answer({"version": version, "durable": durable, "moved": moved})
+        return sent({"version": version, "durable": durable, "moved": moved})
 
     def _command_of_batch(self, given: object) -> tuple[str, float]:
         words = [word for word in ("put", "define", "drop") if isinstance(given, dict) and word in given]

@@ -2,29 +2,31 @@
 
 from __future__ import annotations
 
-import json
 from collections.abc import Callable, Sequence
 from decimal import Decimal
 from fractions import Fraction
 from typing import Any, cast
 
+from flask import Response, g, request
+
 from tools import feature_changes, features, simple
 from tools.feature_changes import ChangeFault, GeometryFault, Given, Plan, Rounded, Unfit
 from tools.features import FeaturesFault, Outline
 from .feature_store import Drawn, FeatureStore, State
-from .features_api import FeaturesApi
+from .features_api import CRS, ITEM_WORDS, FeaturesApi
 from .joining import TooLarge
 from .layer_store import Changed
 from .map_scale import MapScale
-from .openapi import Described
-from .schemas import properties_of
+from .pages import GEOJSON, Problem, content, link, must_match, page, sent
+from .schemas import Described, properties_of
 from .shapes import Box, box_round
-from .systems import Placed, Systems, Unplaced
-from .web_request import GEOJSON, Answer, Problem, Request, json_answer, link
+from .systems import Systems, Unplaced
+from .views import View
 
 EDITING = ("http://www.opengis.net/spec/ogcapi-features-4/1.0/conf/create-replace-delete",
            "http://www.opengis.net/spec/ogcapi-features-4/1.0/conf/optimistic-locking")
-READING = ("GET", "HEAD", "OPTIONS")
+ITEMS = "/collections/<map>/items"
+ITEM = f"{ITEMS}/<item:identity>"
 
 
 class MapItem:
@@ -72,29 +74,23 @@ class MapFeatures(FeaturesApi):
         rows = [one.feature.properties for one in state.outlines.values()]
         return Described(self.maps.name, properties_of(rows, state.area_name))
 
-    def conformance(self, request: Request) -> Answer:
-        answer = json.loads(super().conformance(request).body)
-        if self.store.writable:
-            answer["conformsTo"] += EDITING
-        return json_answer(answer)
+    def classes(self) -> list[str]:
+        return [*super().classes(), *(EDITING if self.store.writable else ())]
 
-    def collections(self, request: Request) -> Answer:
-        with self.store.view() as view:
-            state = self.maps.state(view)
-            hidden = self.maps.hidden(state.table)
-            layers = [self._described(request, view, name) for name in view.layers if name not in hidden]
-        links = [link(f"{request.root}/collections", "self")]
-        return json_answer({"links": links, "collections": [self._map(request, state), *layers]})
+    def _collections(self, view: View) -> list[dict[str, object]]:
+        state = self.maps.state(view)
+        hidden = self.maps.hidden(state.table)
+        return [self._map(state), *(self._described(view, name) for name in view.layers if name not in hidden)]
 
-    def collection(self, request: Request, name: str) -> Answer:
-        return json_answer(self._map(request, self._state())) if name == self.maps.name else super().collection(request, name)
+    def collection(self, name: str) -> Response:
+        return sent(self._map(self._state())) if name == self.maps.name else super().collection(name)
 
     def _state(self) -> State:
         with self.store.view() as view:
             return self.maps.state(view)
 
-    def _map(self, request: Request, state: State) -> dict[str, object]:
-        at = f"{request.root}/collections/{self.maps.name}"
+    def _map(self, state: State) -> dict[str, object]:
+        at = f"{g.root}/collections/{self.maps.name}"
         made: dict[str, object] = {
             "id": self.maps.name, "title": self.scale.title if self.scale.scale.title else self.maps.name,
             "itemType": "feature", "revision": state.revision, "definition": None, "features": len(state.outlines),
@@ -104,26 +100,20 @@ class MapFeatures(FeaturesApi):
         boxes = [Box(*map(Fraction, one.box)) for one in state.outlines.values()]
         return {**made, **self._placed(box_round(boxes))}
 
-    def items(self, request: Request, name: str) -> Answer:
-        if name != self.maps.name:
-            return super().items(request, name)
-        asked, state = self._asked(request), self._state()
-        if request.words.get("revision", state.revision) != state.revision:
-            raise Changed(f"{name} has changed since revision {request.words['revision']}")
+    @page("GET", ITEMS, "getMapFeatures", "features of the map", "mapFeatures", *ITEM_WORDS, kind=GEOJSON, slow=True)
+    def map_items(self, revision: str | None, **words: Any) -> Response:
+        asked, state, name = self._asked(**words), self._state(), self.maps.name
+        if revision not in (None, state.revision):
+            raise Changed(f"{name} has changed since revision {revision}")
         found = [MapItem(self.maps, one, state.area_name) for one in state.outlines.values()]
-        return self._page(request, name, state.revision, found, asked)
+        return self._page(name, state.revision, found, asked)
 
-    def item(self, request: Request, name: str, number: str) -> Answer:
-        if name != self.maps.name:
-            return super().item(request, name, number)
+    @page("GET", ITEM, "getMapFeature", "a feature of the map", "mapFeature", CRS, kind=GEOJSON, slow=True)
+    def map_item(self, identity: str, crs: str | None) -> Response:
         state = self._state()
-        outline = self._known(state, number)
-        system = self._system(request, "crs")
-        made = Placed(MapItem(self.maps, outline, state.area_name), self.systems, system).geojson()
-        at, revision = f"{request.root}/collections/{name}", outline.feature.revision()
-        made["revision"] = revision
-        made["links"] = [link(f"{at}/items/{number}", "self", GEOJSON), link(at, "collection")]
-        return json_answer(made, GEOJSON, headers=self._headers(revision, system))
+        outline = self._known(state, identity)
+        item = MapItem(self.maps, outline, state.area_name)
+        return self._item(self.maps.name, identity, outline.feature.revision(), item, crs)
 
     def _known(self, state: State, identity: str) -> Outline:
         found = state.outline(identity)
@@ -133,35 +123,31 @@ class MapFeatures(FeaturesApi):
 
     # ---- changes
 
-    def methods(self, request: Request, name: str, identity: str | None = None) -> Answer:
-        """What may be done with items, for OPTIONS."""
-        own = ("POST",) if identity is None else ("PUT", "DELETE")
-        may = own if name == self.maps.name and self.store.writable else ()
-        return Answer(204, GEOJSON, b"", {"Allow": ", ".join((*READING, *may))})
-
-    def create(self, request: Request, name: str) -> Answer:
+    @page("POST", ITEMS, "addMapFeature", "a new feature", "changedFeature", body="newFeature", status=201, slow=True,
+          if_match=True)
+    def create(self) -> Response:
         """A new feature, and where it is."""
-        self._must_be_map(name)
-        given = Body.of(request, self.systems)
+        given = Body.of_request(self.systems)
 
         def plan(state: State, names: Sequence[str]) -> Plan:
-            self._must_match(request, state.revision)
+            must_match(state.revision)
             return feature_changes.added(state.table, state.held, names, given.feature(state, self.scale, None))
 
-        return self._changed(request, plan, 201, given)
+        return self._changed(plan, 201, given)
 
-    def replace(self, request: Request, name: str, identity: str) -> Answer:
+    @page("PUT", ITEM, "replaceMapFeature", "another feature in the place of one", "changedFeature", body="newFeature",
+          slow=True, if_match=True)
+    def replace(self, identity: str) -> Response:
         """Another feature in the place of one."""
-        self._must_be_map(name)
-        given = Body.of(request, self.systems)
+        given = Body.of_request(self.systems)
 
         def plan(state: State, _: Sequence[str]) -> Plan:
             outline = self._known(state, identity)
-            self._must_match(request, outline.feature.revision())
+            must_match(outline.feature.revision())
             own = given.feature(state, self.scale, self._served(outline))
             return feature_changes.replaced(state.table, state.held, outline.feature.id, own)
 
-        return self._changed(request, plan, 200, given)
+        return self._changed(plan, 200, given)
 
     def _served(self, outline: Outline) -> dict[str, object] | None:
         """The geometry of a feature as it is served; None where it is more than can be."""
@@ -170,30 +156,18 @@ class MapFeatures(FeaturesApi):
         except TooLarge:
             return None
 
-    def remove(self, request: Request, name: str, identity: str) -> Answer:
+    @page("DELETE", ITEM, "removeMapFeature", "takes a feature out", "changed", slow=True, if_match=True)
+    def remove(self, identity: str) -> Response:
         """A feature goes."""
-        self._must_be_map(name)
 
         def plan(state: State, _: Sequence[str]) -> Plan:
             outline = self._known(state, identity)
-            self._must_match(request, outline.feature.revision())
+            must_match(outline.feature.revision())
             return feature_changes.removed(state.table, state.held, outline.feature.id)
 
-        return self._changed(request, plan, 200, None)
+        return self._changed(plan, 200, None)
 
-    def _must_be_map(self, name: str) -> None:
-        if name != self.maps.name:
-            raise Problem(405, f"items of {name} are parts of a layer, and not changed one by one",
-                          Allow=", ".join(READING))
-
-    def _must_match(self, request: Request, revision: str) -> None:
-        """Refuses (412) a change whose If-Match names another revision than the present one."""
-        if request.header("if-match") and not request.names("if-match", revision):
-            raise Problem(412, f"it has changed: its revision is {revision}")
-
-    def _changed(
-        self, request: Request, plan: Callable[[State, Sequence[str]], Plan], status: int, given: Body | None
-    ) -> Answer:
+    def _changed(self, plan: Callable[[State, Sequence[str]], Plan], status: int, given: Body | None) -> Response:
         try:
             done = self.maps.change(plan)
         except GeometryFault as fault:
@@ -202,11 +176,11 @@ class MapFeatures(FeaturesApi):
             raise Problem(409, str(fault)) from fault
         told: dict[str, object] = {"version": done.version, "durable": self.store.durable if self.store.kept else None}
         if done.feature is None or given is None:
-            return json_answer(told)
-        revision, at = done.feature.revision(), f"{request.root}/collections/{self.maps.name}/items/{done.feature.id}"
+            return sent(told)
+        revision, at = done.feature.revision(), f"{g.root}/collections/{self.maps.name}/items/{done.feature.id}"
         told |= {"id": done.feature.id, "revision": revision, "moved": float(given.moved)}
         headers = {"ETag": f'"{revision}"', **({"Location": at} if status == 201 else {})}
-        return json_answer(told, status=status, headers=headers)
+        return sent(told, status=status, headers=headers)
 
 
 class Body:
@@ -217,12 +191,12 @@ class Body:
         self._systems, self._uri, self._rounded = systems, uri, cast("Rounded | None", None)
 
     @staticmethod
-    def of(request: Request, systems: Systems) -> Body:
-        given = request.header("content-crs").strip().strip("<>") or systems.usual()
+    def of_request(systems: Systems) -> Body:
+        given = request.headers.get("Content-Crs", "").strip().strip("<>") or systems.usual()
         if given is not None and given not in systems.uris:
             raise Problem(400, f"Content-Crs: it is {' or '.join(systems.uris) or 'left out'}")
         try:
-            value = feature_changes.read(request.content())
+            value = feature_changes.read(content())
         except RecursionError:
             raise Problem(400, "no JSON that is read: lists and objects are nested too deep") from None
         except (ValueError, ArithmeticError) as fault:

@@ -3,17 +3,25 @@
 from __future__ import annotations
 
 from collections.abc import Iterable, Mapping
-from typing import Any
+from typing import Any, NamedTuple
 
 from tools import limits, simple
 
 Value = dict[str, Any]
 NAME = "^[A-Za-z][A-Za-z0-9_]{0,31}$"
+ID = "^[A-Za-z0-9_.-]{1,64}$"
 STRING: Value = {"type": "string"}
 TEXT_OR_NOTHING: Value = {"type": "string", "nullable": True}
 WHOLE: Value = {"type": "integer", "minimum": 0}
 NUMBER: Value = {"type": "number"}
 PLACE: Value = {"type": "string", "enum": ["in", "out", "edge"]}
+
+
+class Described(NamedTuple):
+    """The map whose features are served: its name, and the schema of their properties."""
+
+    name: str
+    properties: Value
 
 
 def ref(name: str) -> Value:

@@ -335,7 +335,7 @@ class Editing(Case):
                              ("/collections/plan/items/1", "GET, HEAD, OPTIONS, PUT, DELETE"),
                              ("/collections/b0/items", "GET, HEAD, OPTIONS")):
             told = self.client.ask(path, "OPTIONS")
-            self.assertEqual((told.status, told.headers["Allow"]), (204, wanted))
+            self.assertEqual((told.status, told.headers["Allow"]), (200, wanted))
             for method in ("PATCH", *(("POST", "PUT") if path == "/collections/b0/items" else ())):
                 refused = self.client.ask(path, method, MAP[0])
                 self.assertEqual((refused.status, refused.headers["Allow"]), (405, wanted), method)
@@ -550,7 +550,7 @@ class Reading(Case):
         with opened(self.store, writable=False) as (client, _, _):
             self.assertEqual(client.ask("/collections/plan/items/1", "PUT", MAP[0]).status, 403)
             self.assertEqual(len(client.get("/collections/plan/items")["features"]), 4)
-            for method, status in (("OPTIONS", 204), ("PATCH", 405)):
+            for method, status in (("OPTIONS", 200), ("PATCH", 405)):
                 told = client.ask("/collections/plan/items", method)
                 self.assertEqual((told.status, told.headers["Allow"]), (status, "GET, HEAD, OPTIONS"))
         self.assertEqual(features.read(path).pending, pending)

@@ -259,6 +259,22 @@ class Iceland(FrontCase):
         for file in (TOP / "web/page").iterdir():
             self.assertNotRegex(file.read_text(encoding="utf-8"), "https?:", file.name)
 
+    def test_a_file_that_has_not_changed_is_not_sent_again_and_a_part_may_be_asked(self) -> None:
+        for path in ("/map.js", "/leaflet/leaflet.js", "/?f=html"):
+            whole = self.client.ask(path)
+            self.assertEqual(whole.status, 200, path)
+            for name, word in (("HTTP_IF_NONE_MATCH", "ETag"), ("HTTP_IF_MODIFIED_SINCE", "Last-Modified")):
+                again = self.client.ask(path, headers={name: whole.headers[word]})
+                self.assertEqual((again.status, again.value), (304, b""), (path, word))
+                self.assertIn("default-src 'none'", again.headers["Content-Security-Policy"])
+            some = self.client.ask(path, headers={"HTTP_RANGE": "bytes=3-9"})
+            self.assertEqual((some.status, some.value), (206, whole.value[3:10]), path)
+            self.assertEqual(some.headers["Content-Range"], f"bytes 3-9/{len(whole.value)}")
+            beyond = self.client.ask(path, headers={"HTTP_RANGE": f"bytes={len(whole.value)}-"})
+            self.assertEqual((beyond.status, beyond.value["code"]), (416, "416"))
+            self.assertEqual(beyond.headers["Content-Range"], f"bytes */{len(whole.value)}")
+        self.assertEqual(self.client.ask("/map.js").headers["Cache-Control"], "no-cache")
+        self.assertIn("max-age=86400", self.client.ask("/leaflet/leaflet.js").headers["Cache-Control"])
 
     def test_what_is_refused_is_told_beside_it(self) -> None:
         """Each form of the page, and its head, has a place of its own for what is reported, and the scripts know these."""

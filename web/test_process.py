@@ -12,6 +12,7 @@ import subprocess
 import sys
 import unittest
 import urllib.parse
+import urllib.request
 from collections.abc import Iterator
 
 from tools.overlay_client import Server
@@ -171,7 +172,7 @@ class Processes(unittest.TestCase):
     def test_a_package_that_is_missing_is_named_with_the_line_to_type(self) -> None:
         scale = self.folder / "projected.json"
         scale.write_text('{"factor": 10, "crs": "EPSG:25832"}')
-        for module in ("waitress", "pyproj"):
+        for module in ("flask", "waitress", "cachetools", "pyproj"):
             told = f"python3-{module} is missing: apt-get install python3-{module}, and run this by /usr/bin/python3"
             run = started("--store", self.store, "--scale", scale, lacking=module)
             self.assertEqual(self.ended(run), (1, f"overlay_web.py: {told}\n"))
@@ -180,8 +181,10 @@ class Processes(unittest.TestCase):
         with socket.create_server(("127.0.0.1", 0)) as other:
             taken = other.getsockname()[1]
             tries: list[tuple[list[str | pathlib.Path], str]] = [
-                (["--writable", "--port", str(taken)], f"127.0.0.1 port {taken}: another program listens there; say another --port"),
-                (["--store", self.store, "--port", str(taken)], f"127.0.0.1 port {taken}: another program listens there; say another --port"),
+                (["--writable", "--port", str(taken)],
+                 f"127.0.0.1 port {taken}: another program listens there; say another --port"),
+                (["--store", self.store, "--port", str(taken)],
+                 f"127.0.0.1 port {taken}: another program listens there; say another --port"),
                 (["--writable", "--port", "65536"], "127.0.0.1 port 65536: a port is 0 to 65535"),
                 (["--store", self.store, "--host", "192.0.2.1"], "192.0.2.1 port 0: "),  # an address of documents
                 (["--store", self.store, "--host", "a b"], "a b port 0: "),
@@ -191,6 +194,16 @@ class Processes(unittest.TestCase):
                     status, text = self.ended(run)
                     self.assertEqual((status, address), (1, ""), words)
                     self.assertEqual((text[: len(told)], text.count("\n")), (told, 1), text)
+
+    def test_files_come_whole_and_in_part(self) -> None:
+        wanted = (testing.TOP / "web/page/map.js").read_bytes()
+        with running("--store", self.store) as (_, address):
+            with urllib.request.urlopen(f"{address}map.js") as whole:
+                self.assertEqual(
+                    (whole.read(), whole.headers["Content-Type"].split(";")[0]), (wanted, "text/javascript"))
+            given = urllib.request.Request(f"{address}map.js", headers={"Range": "bytes=100-"})
+            with urllib.request.urlopen(given) as rest:
+                self.assertEqual((rest.status, rest.read()), (206, wanted[100:]))
 
     def test_words(self) -> None:
         for line in (

@@ -20,7 +20,7 @@ from .layer_store import LayerStore
 from .scratch import Scratch
 from .testing import SHIFTED, SQUARE, Client, FrontCase, Told
 from .views import View
-from .web_request import BODY_MOST
+from .pages import BODY_MOST
 
 GEOMETRY = {"type": "Polygon", "coordinates": [[[0, 0], [9, 0], [9, 9], [0, 0]]]}
 
@@ -177,11 +177,16 @@ class Refusals(RefusalCase):
             refused = self.refused(404, f"/collections/{name}", "PUT", {"definition": "A"})
             self.assertEqual("a name is 1 to 32 bytes" in refused.value["description"], told, name)
         for path, method, allowed in (
-            ("/status", "POST", "GET, HEAD"), ("/collections", "DELETE", "GET, HEAD"), ("/batch", "GET", "POST"),
-            ("/collections/A", "PATCH", "GET, HEAD, PUT, DELETE"), ("/", "OPTIONS", "GET, HEAD"),
-            ("/status", "get", "GET, HEAD"), ("/collections/A/items", "POST", "GET, HEAD"),
+            ("/status", "POST", "GET, HEAD, OPTIONS"), ("/collections", "DELETE", "GET, HEAD, OPTIONS"),
+            ("/batch", "GET", "OPTIONS, POST"), ("/collections/A", "PATCH", "GET, HEAD, OPTIONS, PUT, DELETE"),
+            ("/status", "get", "GET, HEAD, OPTIONS"), ("/collections/A/items", "POST", "GET, HEAD, OPTIONS"),
         ):
             self.assertEqual(self.refused(405, path, method).headers["Allow"], allowed)
+            found = self.client.ask(path, "OPTIONS")
+            self.assertEqual((found.status, found.value, found.headers["Allow"]), (200, b"", allowed))
+        self.refused(404, "/nowhere", "OPTIONS")
+        self.refused(403, "/status", "OPTIONS", HTTP_SEC_FETCH_SITE="cross-site")
+        self.refused(403, "/status", "OPTIONS", HTTP_HOST="map.example.org")
 
     def test_words(self) -> None:
         items = "/collections/I/items"

@@ -11,9 +11,9 @@ import unittest.mock
 from collections.abc import Iterable, Iterator
 from typing import Any
 
-from . import by_waitress, front, serving
+from . import by_waitress, pages, serving
 from .testing import SQUARE, FrontCase, wait_until
-from .web_request import BODY_MOST
+from .pages import BODY_MOST
 
 HEAD = b"GET /status HTTP/1.1\r\nHost: 127.0.0.1\r\n"
 
@@ -118,8 +118,8 @@ class Serving(FrontCase):
 
     def test_slow_readers(self) -> None:
         """Clients that take no answer, which is longer than what is on its way: others are answered, and each ends."""
-        large = front.json_answer({"a": "b" * 20_000_000})
-        self.enterContext(unittest.mock.patch.object(self.front, "answer", return_value=large))
+        large = pages.sent({"a": "b" * 20_000_000})
+        self.enterContext(unittest.mock.patch.object(self.front, "app", large))
         self.begin(600, 600)
         self.many(HEAD + b"\r\n")
         self.assertEqual(self.status(), 200)
@@ -129,7 +129,7 @@ class Serving(FrontCase):
             link.recv(1, socket.MSG_PEEK)
         wait_until(lambda: self.open_ones() == 0)
         for link in links:
-            self.assertLess(len(read_all(link)), len(large.body))
+            self.assertLess(len(read_all(link)), len(large.data))
 
     def test_own_refusals(self) -> None:
         self.begin(60, 60)
