@@ -21,29 +21,23 @@ Pair = tuple[int, int]
 Step = tuple[list[str], str]  # lines that make or change layers, and an expression over what there is then
 
 
-def areas(program: str, steps: list[Step]) -> list[Fraction]:
-    """The areas of expressions after lines of a script, in memory; each is defined in the place of the one before."""
+def boundaries(program: str, steps: list[Step]) -> Iterator[list[sessions.Piece]]:
+    """The pieces of expressions after lines of a script, in memory; each is defined in the place of the one before."""
     questions = sessions.questions([ASKED]).decode().splitlines()
     script = [line for lines, text in steps for line in (*lines, f"DEFINE {ASKED} = {text}", *questions)]
     replies = sessions.lines_of(asking.ran(program, [], "".join(line + "\n" for line in script).encode()))
-    found, at = [], 0
+    at = 0
     for lines, text in steps:
         for place, reply in enumerate(replies[at : at + len(lines)]):
             if not reply.startswith("ok "):
                 raise sessions.Unusable(f"{sessions.shortened(lines[place])}: {reply}")
         pieces, at = pieces_from(replies, at + len(lines), text)
-        found.append(area_of_all(to_rings.polygons_of(pieces)))
-    return found
+        yield pieces
 
 
-def pieces(program: str, lines: list[str], name: str) -> list[sessions.Piece]:
-    """The boundary of a name that lines make, in memory."""
-    script = [*lines, f"DEFINE {ASKED} = {name}", *sessions.questions([ASKED]).decode().splitlines()]
-    replies = sessions.lines_of(asking.ran(program, [], "".join(line + "\n" for line in script).encode()))
-    for line, reply in zip(lines, replies):
-        if not reply.startswith("ok "):
-            raise sessions.Unusable(f"{sessions.shortened(line)}: {reply}")
-    return pieces_from(replies, len(lines), name)[0]
+def areas(program: str, steps: list[Step]) -> list[Fraction]:
+    """The areas of expressions after lines of a script, in memory."""
+    return [area_of_all(to_rings.polygons_of(pieces)) for pieces in boundaries(program, steps)]
 
 
 def pieces_from(replies: list[str], at: int, text: str) -> tuple[list[sessions.Piece], int]:

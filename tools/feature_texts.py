@@ -31,7 +31,8 @@ def shaped(polygons: list[Polygon], program: str) -> Shaped:
         return Shaped([[[(x, y, 1) for x, y in ring] for ring in polygon] for polygon in polygons],
                       rounding.area_of(polygons))
     layout = layering.split("f", polygons, layering.Names(), False)
-    found = to_rings.polygons_of(checking.pieces(program, layout.lines(), "f"))
+    (pieces,) = checking.boundaries(program, [(layout.lines(), "f")])
+    found = to_rings.polygons_of(pieces)
     closed = [[ring.corners + ring.corners[:1] for ring in polygon] for polygon in found]
     return Shaped(closed, areas.area_of_all(found))
 
