@@ -174,8 +174,8 @@ def set_doubles(coordinates: Any, shape: Any) -> None:
     """Has the coordinates of rings be the doubles that a file has: GDAL writes 618.3149999999999 as 618.315."""
     for place, part in enumerate(coordinates if shape.GetGeometryCount() else ()):
         set_doubles(part, shape.GetGeometryRef(place))
-    for place, point in zip(coordinates, (shape.GetPoints() or ()) if not shape.GetGeometryCount() else ()):
-        place[:2] = point[:2]
+    for position, point in zip(coordinates, (shape.GetPoints() or ()) if not shape.GetGeometryCount() else ()):
+        position[:2] = point[:2]
 
 
 def not_utf8(path: pathlib.Path) -> str:
