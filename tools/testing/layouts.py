@@ -112,7 +112,7 @@ class Fitting(InFolder):
         for text, crs, unit in (
             (geojson(("a", [[square(5, 7, 9)]])), None, "1"), (lonlat, "OGC:CRS84", "degree"),
             (geojson(("a", [[square(5, 7, 9)]]), crs="urn:ogc:def:crs:OGC:1.3:CRS84"), "OGC:CRS84", "degree"),
-            (geojson(("a", [[square(5, 7, 9)]]), crs="EPSG:3857"), "EPSG:3857", "1"),
+            (geojson(("a", [[square(5, 7, 9)]]), crs="EPSG:3857"), "EPSG:3857", "metre"),
         ):
             told = self.sidecar(text, "--factor", 100)
             self.assertEqual((told["crs"], told["unit"]), (crs, unit))
