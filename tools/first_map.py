@@ -9,8 +9,8 @@ The features of one map are numbered over few layers and served with their names
 is a layer of its file's name then, and `both` is what all of them have in common.
 
 It works in a folder of its own, CITY.overlay in --folder (default: where it is called), and writes nothing elsewhere:
-CITY.txt, CITY.db and what goes with them lie there. A folder of that name with files in it that overlay did not make
-is refused and left as it is. A store that is there is served as it is; --again makes it anew, unless a program has it
+CITY.txt, CITY.db and what goes with them lie there. A folder of that name with files in it that overlay did not make,
+or a link, is refused and left as it is. A store that is there is served as it is; --again makes it anew, unless a program has it
 open, as a running front. A store of another map of the same name, or one without the CITY.txt that it was made of, is
 refused and left as it is. Where one store does not suffice each has a front of its own. A browser is opened where there
 is a screen, but for --no-browser. Ctrl-C ends the front.
@@ -204,7 +204,9 @@ def is_own(folder: pathlib.Path) -> bool:
 
 
 def check_own(own: pathlib.Path) -> None:
-    """Refuses a folder with files in it that this did not make, and what is no folder."""
+    """Refuses a folder with files in it that this did not make, what is no folder, and a link, whatever it leads to."""
+    if own.is_symlink():
+        raise Unmade(2, f"{own}: it is a link, and overlay works in a folder of its own; say another --folder, or move it away")
     if os.path.lexists(own) and not is_own(own) and (not own.is_dir() or any(own.iterdir())):
         raise Unmade(2, f"{own}: it is there, and overlay did not make it (no {MARK} is in it); say another --folder, "
                         "or move it away")

@@ -8,7 +8,8 @@ The store is read and not changed. The script has the layers and definitions, as
 expression with the fewest brackets. It has no version numbers, and no tiles: they are built again.
 
 --output NAME.txt writes the script there, and takes along what lies beside the store: NAME.scale.json says what its
-numbers mean, NAME.features.json has its features, as they are. It writes over no store and none of what it reads.
+numbers mean, NAME.features.json has its features, as they are. It writes over no store and none of what it reads, nor
+over a scale or features that would be written otherwise where NAME.txt is not there as a script, to which they belong.
 
 Status 0: all layers are written; 1: the store cannot be read, its features are another's, or the output cannot be
 written.

@@ -34,7 +34,8 @@ by more than a 1000th of the extent, or are out of range, nothing is written, an
 Status 0: all was written; 1: something was refused, the rest was written, features overlap, no layer came of the files
 and nothing was written, or standard output or an open standard error cannot be written; 2: a file could not be read,
 the factor does not fit, no feature has the property of --name-by, or what would be written over is a store, an input,
-or a scale, names or features that a store beside it needs, and nothing was written.
+a scale, names or features that a store beside it needs, or a file that was not named and belongs to no script of
+--output, and nothing was written.
 """
 
 import argparse
@@ -406,7 +407,7 @@ def check_output(words: argparse.Namespace, scripts: list[pathlib.Path], files: 
     try:
         for script in scripts:
             keeping.check_apart(script)
-        keeping.check(words.output, files.texts, scripts)
+        keeping.check(words.output, files.texts, scripts, [words.scale] if words.scale else [])
     except keeping.StoreStands as fault:
         raise Stopped(f"--output: {fault}") from fault
 

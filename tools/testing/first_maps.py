@@ -220,6 +220,22 @@ class FirstMaps(WithProgram):
         own.write_text("a file")
         self.assertEqual((self.made(given), own.read_text()), ((2, "", told), "a file"))
 
+    def test_a_link_in_the_place_of_its_folder_is_refused(self) -> None:
+        given, own, other = self.file("city.geojson", MAP), self.own(), self.folder / "other"
+        other.mkdir()
+        own.parent.mkdir(exist_ok=True)
+        own.symlink_to(other)
+        told = f"{own}: it is a link, and overlay works in a folder of its own; say another --folder, or move it away\n"
+        for mark in ("", "made-by-overlay", "notes.txt"):
+            if mark:
+                (other / mark).touch()
+            before = sorted(other.iterdir())
+            self.assertEqual((self.made(given), sorted(other.iterdir())), ((2, "", told), before))
+            self.assertEqual(list(own.parent.iterdir()), [own])
+        own.unlink()
+        own.symlink_to(self.folder / "none")
+        self.assertEqual(self.made(given), (2, "", told))
+
     def test_what_a_kill_left_is_taken_away_at_the_next_start(self) -> None:
         given, maps = self.file("city.geojson", MAP), self.folder / "maps"
         slow = self.file("slow", "#!/bin/sh\nkill -9 $PPID\n", 0o700)

@@ -28,6 +28,35 @@ class OwnFiles(InFolder):
         for _ in range(2):  # what it has written itself it replaces
             self.assertEqual(self.ran("to_script.py", source, "--coded", "--output", self.folder / "out.txt")[0], 0)
 
+    def test_names_and_a_scale_that_the_user_has_edited(self) -> None:
+        """They are of the tool's form, and belong to no script where none of the output's name is there."""
+        source, output = self.file("plan.wkt", SQUARE), self.folder / "out.txt"
+        made = {self.folder / f"out{end}": edit for end, edit in ((".names.csv", ("plan.wkt, text 1", "town hall")),
+                                                                  (".scale.json", ('"factor"', '"title": "Mine", "factor"')))}
+        for mine, edit in made.items():
+            self.assertEqual(self.ran("to_script.py", source, "--coded", "--output", output)[0], 0)
+            self.assertEqual(self.ran("to_script.py", source, "--coded", "--output", output)[0], 0)
+            output.unlink()
+            self.assertEqual(self.ran("to_script.py", source, "--coded", "--output", output)[0], 0)  # the same are no loss
+            output.unlink()
+            edited = mine.read_text().replace(*edit)
+            mine.write_text(edited)
+            status, told = self.ran("to_script.py", source, "--coded", "--output", output)
+            self.assertEqual((status, mine.read_text() == edited, output.exists()), (2, True, False), told)
+            self.assertIn(f"--output: {mine} stands, would be written otherwise, and belongs to no script, as {output} is not "
+                          "there as one: it was not named, and is not written over; take another name, or move it away", told)
+            output.write_text("PUT plan POLYGON ((0 0, 1 0, 1 1, 0 0))\n")
+            self.assertEqual(self.ran("to_script.py", source, "--coded", "--output", output)[0], 0)
+            self.assertNotEqual(mine.read_text(), edited)
+            output.unlink()
+
+    def test_a_scale_that_is_given_may_have_the_name_of_the_output(self) -> None:
+        source, given = self.file("plan.wkt", SQUARE), self.file("out.scale.json", '{"title": "out", "factor": 10}')
+        words = "to_script.py", source, "--output", self.folder / "out.txt"
+        self.assertEqual(self.ran(*words)[0], 2)
+        status, told = self.ran(*words, "--scale", given)
+        self.assertEqual(status, 0, told)
+
     def test_scripts_of_several_stores_that_are_the_users(self) -> None:
         """NAME.1.txt and so on are not named by --output NAME.txt."""
         rings = (", ".join(f"{100 * at + x} {y}" for x, y in [*((x, x % 2) for x in range(41)), (20, 90), (0, 0)])
