@@ -139,7 +139,8 @@ def of_numpy(given: Numbers) -> array[int]:
 def check_range(xs: Numbers, ys: Numbers, ring_sizes: Numbers, rings_of_feature: Numbers, factor: Fraction,
                 called: Callable[[int], str]) -> None:
     """Refuses numbers that are none, or that are too large in whole units."""
-    most = np.maximum(np.abs(xs), np.abs(ys)) * float(factor)
+    with np.errstate(over="ignore"):  # beyond all doubles is too large as well
+        most = np.maximum(np.abs(xs), np.abs(ys)) * float(factor)
     wrong = np.flatnonzero(~(most <= FARTHEST))
     if len(wrong):
         ring = int(np.searchsorted(np.cumsum(ring_sizes), wrong[0], "right"))

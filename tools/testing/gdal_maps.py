@@ -21,6 +21,7 @@ from ..maps import gdal_maps, gdal_writing, running
 from ..maps.spooled import Names
 from ..maps.whole_maps import MapFault, ReadMap
 from ..sessions import Unusable
+from . import common
 from .common import TOP, InFolder, Programs, outcome
 
 RING = [(0, 0), (10, 0), (10, 10), (0, 10), (0, 0)]
@@ -131,6 +132,14 @@ class Reading(WithFiles):
             flat.add(name, f"feature ({name})", struct.pack(f"<BIII{2 * len(ring)}d", 1, 3, 1, len(ring), *sum(ring, ())))
         with self.assertRaisesRegex(MapFault, r"feature \(p1\): .* no number"):
             flat.arrays()
+
+    def test_one_that_is_beyond_all_doubles_in_units_is_refused_in_one_line(self) -> None:
+        path = self.made(f"POLYGON {text_of(RING)}", "POLYGON ((0 0, 1e300 0, 1 1, 0 0))")
+        done = subprocess.run([sys.executable, common.path("overlay_maps.py"), "check", path, "--factor", "10000000000", "--program",
+                               "true"], capture_output=True, text=True, timeout=60, check=False)
+        self.assertEqual(done.returncode, 2)
+        self.assertRegex(done.stderr, r"^[^\n]*map\.gpkg, feature 2: a coordinate that is no number, or of more than 2\^52 units; mend "
+                                      r"it there, or say a smaller --factor\n$")
 
     def test_nothing_is_written_beside_a_map(self) -> None:
         path = str(self.folder / "map.gml")
