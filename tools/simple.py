@@ -16,7 +16,7 @@ Cell = tuple[int, int]
 Box = tuple[int, int, int, int]
 
 
-PAIRS_MOST, MEETINGS_MOST = 2_000_000, 1_000
+PAIRS_MOST, MEETINGS_MOST = 300_000, 1_000
 """How many pairs of edges that lie in one cell a check looks at, and how many of these may meet."""
 
 
@@ -131,23 +131,30 @@ def meetings(polygons: list[Polygon], most: int | None = None) -> Iterator[tuple
     """The pairs of edges that have a common point which is no corner between neighbours, each pair once.
 
     Only edges whose boxes touch one cell of a grid are looked at, as others have none; where these are more pairs than
-    `most` it ends by Crowded.
+    `most` it ends by Crowded, before it looks at any.
     """
     edges = edges_of(polygons)
-    size, looked = size_of_cells(edges), 0
+    size = size_of_cells(edges)
+    for cell, there in edges_in_cells(edges, size, most).items():
+        for ((left, low, right, high), edge), ((its_left, its_low, its_right, its_high), other) in itertools.combinations(there, 2):
+            if left <= its_right and its_left <= right and low <= its_high and its_low <= high and cell == (
+                    max(left, its_left) // size[0], max(low, its_low) // size[1]) and meet_wrongly(edge, other):
+                yield edge, other
+
+
+def edges_in_cells(edges: list[Edge], size: Cell, most: int | None) -> dict[Cell, list[tuple[Box, Edge]]]:
+    """The edges whose boxes touch each cell of a grid. Each edge of a cell counts as a pair, too, for `most`."""
     grid: dict[Cell, list[tuple[Box, Edge]]] = {}
+    pairs = 0
     for edge in edges:
-        box = left, low, right, high = box_of([edge.a, edge.b])
+        box = box_of([edge.a, edge.b])
         for cell in cells_of(box, size):
             there = grid.setdefault(cell, [])
-            looked += 1 + len(there)
-            if most is not None and looked > most:
-                raise Crowded(f"its edges lie too close together: more than {most} pairs of them would be looked at")
-            for (its_left, its_low, its_right, its_high), other in there:
-                if left <= its_right and its_left <= right and low <= its_high and its_low <= high and cell == (
-                        max(left, its_left) // size[0], max(low, its_low) // size[1]) and meet_wrongly(edge, other):
-                    yield edge, other
             there.append((box, edge))
+            pairs += len(there)
+            if most is not None and pairs > most:
+                raise Crowded(f"its edges lie too close together: more than {most} pairs of them would be looked at")
+    return grid
 
 
 def size_of_cells(edges: list[Edge]) -> Cell:
