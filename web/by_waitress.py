@@ -17,7 +17,7 @@ from waitress.task import ErrorTask
 
 from .front import HEADERS, Front, refusal
 from .serving import (
-    ANSWER_SECONDS, LINE_MOST, PORT_MOST, QUIET_SECONDS, REQUEST_SECONDS, THREADS, Unheard, connections_most, told,
+    ANSWER_SECONDS, LINE_MOST, PORT_MOST, QUIET_SECONDS, REQUEST_SECONDS, THREADS, Unheard, connections_most, tell_fewer, told,
 )
 from .pages import BODY_MOST
 
@@ -91,7 +91,8 @@ def server_of(front: Front, host: str, port: int, make_ends: Callable[[Any], End
 
 
 def serve(front: Front, host: str, port: int) -> None:
-    """Answers questions until it is ended by a signal. It prints its address on standard output when it listens."""
+    """Answers questions until it is ended by a signal. It prints its address on standard output when it listens; before that it says on
+    standard error where it has fewer places than usual."""
     host = "127.0.0.1" if host == "localhost" else host
     if not 0 <= port <= PORT_MOST:
         raise Unheard(host, port, f"a port is 0 to {PORT_MOST}")
@@ -99,5 +100,6 @@ def serve(front: Front, host: str, port: int) -> None:
         server = server_of(front, host, port)
     except (OSError, ValueError) as fault:  # a ValueError for a name that nobody has
         raise Unheard(host, port, fault) from fault
+    tell_fewer(connections_most())
     told(host, server.effective_port)
     server.run()

@@ -4,6 +4,7 @@ from __future__ import annotations
 
 import errno
 import resource
+import sys
 
 from .front import CHANGES_MOST, SLOW_MOST
 
@@ -45,3 +46,11 @@ def connections_most() -> int:
         allowed = FILES_MOST if most == resource.RLIM_INFINITY else min(FILES_MOST, most)
         resource.setrlimit(resource.RLIMIT_NOFILE, (allowed, most))
     return CONNECTIONS_MOST if allowed >= FILES_MOST or allowed < 0 else max(1, (allowed - FILES_OWN) // 3)
+
+
+def tell_fewer(connections: int) -> None:
+    """Says on standard error that there are files for fewer connections than usual, and how there are more."""
+    if connections < CONNECTIONS_MOST:
+        allowed = resource.getrlimit(resource.RLIMIT_NOFILE)[0]
+        print(f"the system lets the front have {allowed} open files: it takes {connections} connections at once; with "
+              f"{FILES_MOST} (ulimit -Hn, or LimitNOFILE of systemd) it takes {CONNECTIONS_MOST}", file=sys.stderr, flush=True)

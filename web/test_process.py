@@ -13,7 +13,7 @@ import sys
 import unittest
 import urllib.parse
 import urllib.request
-from collections.abc import Iterator
+from collections.abc import Iterator, Sequence
 
 from tools.overlay_client import Server
 from . import testing
@@ -21,8 +21,8 @@ from .commands import overlay_web
 from .stressing import asked
 
 
-def started(*words: str | pathlib.Path, lacking: str = "os.no_module") -> subprocess.Popen[str]:
-    """A front, with a free port unless words name one, in a Python that lacks a module. An interrupt reaches it as from a
+def started(*words: str | pathlib.Path, lacking: str = "os.no_module", by: Sequence[str] = ()) -> subprocess.Popen[str]:
+    """A front, with a free port unless words name one, in a Python that lacks a module, run by other words. An interrupt reaches it as from a
     terminal, also where the tests run in a shell that ignores interrupts."""
     code = (
         "import signal, sys; signal.signal(signal.SIGINT, signal.default_int_handler); "
@@ -31,14 +31,14 @@ def started(*words: str | pathlib.Path, lacking: str = "os.no_module") -> subpro
     )
     usual = {"--program": testing.PROGRAM, "--port": "0"}
     missing = [word for option, value in usual.items() if option not in words for word in (option, value)]
-    given = [sys.executable, "-c", code, *missing, *map(str, words)]
+    given = [*by, sys.executable, "-c", code, *missing, *map(str, words)]
     return subprocess.Popen(given, cwd=testing.TOP, stdout=subprocess.PIPE, stderr=subprocess.PIPE, text=True, start_new_session=True)
 
 
 @contextlib.contextmanager
-def running(*words: str | pathlib.Path) -> Iterator[tuple[subprocess.Popen[str], str]]:
+def running(*words: str | pathlib.Path, by: Sequence[str] = ()) -> Iterator[tuple[subprocess.Popen[str], str]]:
     """A front and its address; it is killed where the test has not ended it."""
-    run = started(*words)
+    run = started(*words, by=by)
     assert run.stdout
     try:
         yield run, run.stdout.readline().strip()
@@ -141,6 +141,18 @@ class Processes(unittest.TestCase):
             self.assertEqual((status["version"], status["durable"], status["layers"], status["lost"]), (2, 2, 3, []))
             self.assertEqual(asked(address, "PUT", "/collections/M", b'{"definition": "I"}')[1]["durable"], 3)
         self.assertEqual(sorted(path.name for path in self.folder.glob("map.db*")), ["map.db"])
+
+    def test_with_fewer_files_it_has_fewer_places_and_says_how_many(self) -> None:
+        for files, told in (("1024", "the system lets the front have 1024 open files: it takes 274 connections at once; with 3200 "
+                             "(ulimit -Hn, or LimitNOFILE of systemd) it takes 1000\n"), ("4000", "")):
+            with running("--store", self.store, by=("prlimit", f"--nofile={files}:{files}")) as (run, address):
+                host, _, port = urllib.parse.urlsplit(address).netloc.partition(":")
+                with contextlib.ExitStack() as links:
+                    for _ in range(270):
+                        links.enter_context(socket.create_connection((host, int(port)), 60)).sendall(b"GET /status HTTP/1.1\r\n")
+                    self.assertEqual(asked(address, "GET", "/status")[0], 200)
+                run.terminate()
+                self.assertEqual(self.ended(run), (0, told))
 
     def test_it_begins_a_store(self) -> None:
         with running("--store", self.folder / "new.db", "--create", "--writable") as (_, address):
