@@ -335,6 +335,14 @@ class Changes(FrontCase):
         self.assertEqual([one["id"] for one in self.client.get("/collections")["collections"]], ["A", "B", "I"])
         self.assertEqual(self.client.change("/batch", "POST", {"commands": [{"drop": "I"}]})["version"], self.began + 2)
 
+    def test_a_layer_without_rings_can_be_put(self) -> None:
+        for kind in ("Polygon", "MultiPolygon"):
+            self.client.change("/collections/E", "PUT", {"type": kind, "coordinates": []})
+            with self.server.session() as one:
+                self.assertEqual({layer.name: layer.text for layer in one.layers()}["E"], "MULTIPOLYGON EMPTY")
+            self.assertEqual(self.client.get("/collections/E/items")["features"], [])
+            self.client.change("/collections/E", "DELETE")
+
     def test_a_change_of_one_layer_leaves_the_revision_of_another(self) -> None:
         self.client.change("/collections/A", "PUT", self.square)
         self.client.change("/collections/I", "PUT", {"definition": "A"})

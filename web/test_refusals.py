@@ -126,6 +126,9 @@ class Refusals(RefusalCase):
         )
         for given in bad:
             self.refused(400, "/collections/N", "PUT", given)
+        for kind, empty in (("Polygon", [[]]), ("MultiPolygon", [[]]), ("MultiPolygon", [[[]]])):
+            told = self.refused(400, "/collections/N", "PUT", {"type": kind, "coordinates": empty})
+            self.assertIn("lists of rings", told.value["description"])
         told = self.refused(400, "/collections/N", "PUT", GEOMETRY | {"coordinates": [[[0, 0], [9, 0], [0, 0]]]})
         self.assertEqual(told.value["code"], "5")
         self.assertEqual(
