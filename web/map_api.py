@@ -90,7 +90,7 @@ class MapApi:
         return sent(told)
 
     def _question(self, x: Fraction, y: Fraction) -> tuple[Point, dict[str, object]]:
-        """What LOCATE is asked, and what the answer says of it: the point that was asked, and whether it is the given one.
+        """What LOCATE is asked, and what the answer says of it: the point that was asked, and whether it is as given.
 
         A point out of the plane is refused here, as the program reads no number of so many digits as it may have.
         """

@@ -1,4 +1,4 @@
-"""The collection of a map's features: its pages, and its items changed one by one (OGC API - Features, parts 1 and 4)."""
+"""The collection of a map's features: its pages, and its items changed one by one (OGC API - Features, parts 1, 4)."""
 
 from __future__ import annotations
 
@@ -184,7 +184,7 @@ class MapFeatures(FeaturesApi):
 
 
 class Body:
-    """The feature of a body: its geometry as it was written in a system, its properties, and how far a corner was moved."""
+    """The feature of a body: its geometry as it was written in a system, its properties, and how far a corner moved."""
 
     def __init__(self, geometry: dict[str, Any], properties: dict[str, Any], systems: Systems, uri: str | None) -> None:
         self.geometry, self.properties, self.moved = geometry, properties, Fraction(0)

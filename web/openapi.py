@@ -1,5 +1,5 @@
-"""The description of the front by OpenAPI 3.0, which GET /api gives: each page as it is said, with its words, its body and
-its answers."""
+"""The description of the front by OpenAPI 3.0, which GET /api gives: each page as it is said, with its words, its body
+and its answers."""
 
 from __future__ import annotations
 
@@ -26,8 +26,8 @@ def content(schema: Value, *kinds: str) -> Value:
 
 
 def parameter(word: Word) -> Value:
-    return {"name": word.name, "in": "query", "description": word.text, "required": word.required, "schema": word.schema,
-            **word.style}
+    return {"name": word.name, "in": "query", "description": word.text, "required": word.required,
+            "schema": word.schema, **word.style}
 
 
 def operation(page: Page) -> Value:

@@ -102,8 +102,8 @@ BOX = Word("bbox", "least x and y, greatest x and y; with heights, these are pas
 
 
 class Page(NamedTuple):
-    """A page: its method and route, and whether it may have to wait. A page whose name is empty is not described. Of the
-    others answer is the schema of the answer, body that of the body; changes name by If-Match what they change."""
+    """A page: its method and route, and whether it may have to wait. A page whose name is empty is not described. Of
+    the others answer is the schema of the answer, body that of the body; changes name by If-Match what they change."""
 
     method: str
     route: str
@@ -159,8 +159,8 @@ def link(href: str, rel: str, kind: str = JSON, title: str | None = None) -> dic
 
 
 def content() -> bytes:
-    """The bytes of the body, said to be JSON; one that is too large is refused (413), unless waitress did. Werkzeug would
-    bound forms alone, and take a length that it cannot read for none."""
+    """The bytes of the body, said to be JSON; one that is too large is refused (413), unless waitress did. Werkzeug
+    would bound forms alone, and take a length that it cannot read for none."""
     if request.mimetype not in (JSON, GEOJSON):
         raise Problem(415, f"{JSON} is wanted")
     length = request.environ.get("CONTENT_LENGTH") or ""
