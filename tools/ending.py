@@ -41,7 +41,7 @@ def buffered(stream: TextIO) -> TextIO:
 
 
 def unforeseen(fault: Exception) -> str:
-    """One line on what a tool does not foresee, with the place in its text; of a package that is missing, how to get it."""
+    """One line on what a tool does not foresee, with its place; of a package that is missing, how to get it."""
     if isinstance(fault, ModuleNotFoundError) and fault.name in PACKAGES:
         package = PACKAGES[fault.name]
         return f"{package} is missing: apt-get install {package}, and run this by /usr/bin/python3"

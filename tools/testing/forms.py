@@ -86,8 +86,9 @@ class FilesOfGdal(WithGdal):
 
     def test_no_program_of_gdal_is_needed(self) -> None:
         file = self.made("a.gpkg", str(self.file("plan.geojson", FIRST)))
-        done = subprocess.run([sys.executable, path("to_script.py"), str(file), "--factor", "2"], env={"PATH": str(self.folder)},
-                              capture_output=True, text=True, check=False, timeout=SECONDS)
+        call = [sys.executable, path("to_script.py"), str(file), "--factor", "2"]
+        done = subprocess.run(call, env={"PATH": str(self.folder)}, capture_output=True, text=True, check=False,
+                              timeout=SECONDS)
         self.assertEqual((done.returncode, done.stdout), (0, "PUT a POLYGON ((0 0, 18 0, 0 19, 0 0))\n"), done.stderr)
 
     def test_several_layers(self) -> None:

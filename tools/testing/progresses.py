@@ -13,7 +13,8 @@ class Progresses(InFolder):
     def call(self, before: str = "") -> list[str]:
         """A call of to_script.py for 300 features, whose bars show at once."""
         features = [(f"n{place}", [[square(7 * place, 0, 5)]]) for place in range(300)]
-        words = [str(self.file("many.geojson", geojson(*features))), "--coded", "--output", str(self.folder / "many.txt")]
+        file, output = self.file("many.geojson", geojson(*features)), self.folder / "many.txt"
+        words = [str(file), "--coded", "--output", str(output)]
         code = (f"import sys\n{before}\n"
                 "from tools import ending, progress\n"
                 "from tools.commands import to_script\n"
@@ -38,7 +39,8 @@ class Progresses(InFolder):
         self.assertEqual((done.stdout, "features: " in done.stderr), ("", False), done.stderr)
 
     def test_a_package_that_is_missing_is_named(self) -> None:
-        done = subprocess.run(self.call("sys.modules['tqdm'] = None"), cwd=TOP, capture_output=True, text=True, check=False,
-                              timeout=SECONDS)
+        call = self.call("sys.modules['tqdm'] = None")
+        done = subprocess.run(call, cwd=TOP, capture_output=True, text=True, check=False, timeout=SECONDS)
+        told = "python3-tqdm is missing: apt-get install python3-tqdm, and run this by /usr/bin/python3"
         self.assertEqual((done.returncode, done.stdout), (1, ""))
-        self.assertEqual(done.stderr, "-c: python3-tqdm is missing: apt-get install python3-tqdm, and run this by /usr/bin/python3\n")
+        self.assertEqual(done.stderr, f"-c: {told}\n")

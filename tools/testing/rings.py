@@ -73,7 +73,8 @@ class ToRings(InFolder):
 
     def words(self, layer: str) -> tuple[object, ...]:
         """A script of the layers alone, and the plain model of bench/ for the program."""
-        made = [line for line in content("fixtures", "shapes.txt").splitlines(True) if not line.startswith((b"WAIT", b"EDGES"))]
+        lines = content("fixtures", "shapes.txt").splitlines(True)
+        made = [line for line in lines if not line.startswith((b"WAIT", b"EDGES"))]
         return self.file("shapes.txt", b"".join(made)), "--program", self.model(), "--layer", layer
 
     def test_the_text(self) -> None:

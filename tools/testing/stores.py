@@ -80,7 +80,8 @@ class OverScripts(InFolder):
             status, output, errors = self.asked(tool, text, "--layer", "A", *words)
             self.assertEqual((status, errors.split(" error ")[0]), (1, "line 2: PUT B ..:"))
             self.assertIn("10", output)
-        script, accepting = self.file("b.txt", text), self.file("accepting", "#!/bin/sh\nsed 's/.*/ok 1/'\n", 0o700)  # no program does
+        script = self.file("b.txt", text)
+        accepting = self.file("accepting", "#!/bin/sh\nsed 's/.*/ok 1/'\n", 0o700)  # no program does
         self.assertEqual(outcome(to_rings, script, "--program", accepting)[:2], (1, ""))
 
     def test_a_scale_beside_the_script(self) -> None:
