@@ -170,14 +170,19 @@ def crs_of(value: dict[str, Any]) -> str | None:
     return coordinate_systems.called_by(name) if isinstance(name, str) else None
 
 
-def number_of(given: Any) -> Fraction:
-    """The number that a coordinate stands for, as grid.py says."""
+def decimal_of(given: Any) -> int | Decimal:
+    """A coordinate as a text spells it; what is none is refused."""
     if isinstance(given, bool) or not isinstance(given, (int, Decimal)):
         raise Refused(f"a coordinate that is no number: {given!r}"[:80])
     _, _, exponent = Decimal(given).as_tuple()
     if not isinstance(exponent, int) or exponent < -BEYOND or Decimal(given).adjusted() > BEYOND:
         raise Refused("a coordinate that is beyond all bounds")
-    return grid.decimal_stands_for(given)
+    return given
+
+
+def number_of(given: Any) -> Fraction:
+    """The number that a coordinate stands for, as grid.py says."""
+    return grid.decimal_stands_for(decimal_of(given))
 
 
 def positions_of(shape: Shape) -> Iterator[tuple[Fraction, Fraction]]:

@@ -55,6 +55,17 @@ def shown(number: Fraction | float, digits: int = 3) -> str:
     return f"{float(number):.{digits}g}" if number else "0"
 
 
+def closed(positions: Any) -> Any:
+    """The positions of a ring, which is refused where it is not closed, or one of them is none."""
+    for position in positions:
+        if not isinstance(position, (list, tuple)) or len(position) < 2:
+            raise Refused("a point that has no two coordinates")
+    if len(positions) >= 2 and list(positions[0][:2]) != list(positions[-1][:2]):
+        begin = " ".join(str(number) for number in positions[0][:2])
+        raise Refused(f"a ring whose last point is not its first, {begin}")
+    return positions
+
+
 class Rounding:
     """Scaling and rounding of rings, and the tally of the ring that is read."""
 
@@ -80,14 +91,9 @@ class Rounding:
         """The ring in whole numbers, without equal points next to each other; range is not looked at here."""
         self.tally = Tally()
         points = []
-        for position in positions:
-            if not isinstance(position, (list, tuple)) or len(position) < 2:
-                raise Refused("a point that has no two coordinates")
+        for position in closed(positions):
             self.tally.heights += len(position) > 2
             points.append((self.whole(0, position[0]), self.whole(1, position[1])))
-        if len(positions) >= 2 and list(positions[0][:2]) != list(positions[-1][:2]):
-            begin = " ".join(str(number) for number in positions[0][:2])
-            raise Refused(f"a ring whose last point is not its first, {begin}")
         kept = points[:1] + [point for before, point in zip(points, points[1:]) if point != before]
         self.tally.merged += len(points) - len(kept)
         return kept

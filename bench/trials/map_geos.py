@@ -33,7 +33,7 @@ except ImportError as fault:
     sys.exit(f"{fault}: apt-get install python3-shapely python3-numpy, and run this by /usr/bin/python3")
 
 from tools.commands import overlay_maps
-from tools.maps import box_pairs, geojson_maps, planning, running
+from tools.maps import auditing, box_pairs, planning, running
 from tools.maps.whole_maps import Box, Ring, WholeMap
 from tools.testing import slabs
 
@@ -80,7 +80,7 @@ def shape(rings: list[Ring], move: tuple[float, float], factor: float) -> MultiP
     polygons: list[tuple[list[tuple[float, float]], list[list[tuple[float, float]]]]] = []
     for ring in rings:
         points = [((x - move[0]) / factor, (y - move[1]) / factor) for x, y in ring]
-        if geojson_maps.twice_area(ring) > 0 or not polygons:
+        if auditing.plain_area([ring]) > 0 or not polygons:
             polygons.append((points, []))
         else:
             polygons[-1][1].append(points)

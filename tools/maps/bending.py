@@ -4,11 +4,10 @@ An edge is bent at points that are at most half a unit off it, the same ones whi
 of two features stays common. A feature that has only a part of the edge is bent otherwise: slivers of up to half a
 unit. """
 
-from dataclasses import dataclass
 from fractions import Fraction
 
 from ..scale import decimals
-from .whole_maps import MapFault, Point, Ring
+from .whole_maps import MapFault, Point
 
 EDGE_MAX = 2**19
 
@@ -30,31 +29,10 @@ def nearest(a: Point, b: Point, part: int, count: int) -> Point:
     return x, y
 
 
-def bent(ring: Ring) -> Ring:
-    """The ring with its long edges bent."""
-    return [point for a, b in zip(ring, ring[1:] + ring[:1]) for point in (a, *way_points(a, b))]
-
-
-@dataclass
-class Longest:
-    """The longest edge of a map, and how many are longer than EDGE_MAX."""
-
-    length: int = 0
-    feature: str = ""
-    count: int = 0
-
-    def look(self, feature: str, ring: Ring) -> None:
-        for a, b in zip(ring, ring[1:] + ring[:1]):
-            length = reach(a, b)
-            self.count += length > EDGE_MAX
-            if length > self.length:
-                self.length, self.feature = length, feature
-
-    def check(self, factor: Fraction) -> None:
-        """Refuses a map with an edge that is too long."""
-        if self.count:
-            raise MapFault(f"{self.feature}: an edge of {self.length} units, the longest of {self.count} of more than "
-                           f"{EDGE_MAX}; say --factor {fitting(factor, self.length)}, or --bend")
+def too_long(feature: str, length: int, count: int, factor: Fraction) -> MapFault:
+    """Why a map is refused whose longest edge, of a feature, is too long, and how many are."""
+    return MapFault(f"{feature}: an edge of {length} units, the longest of {count} of more than {EDGE_MAX}; say --factor "
+                    f"{fitting(factor, length)}, or --bend")
 
 
 def fitting(factor: Fraction, length: int) -> str:

@@ -4,22 +4,17 @@ Geometry goes as Well-Known Binary, and the points of many features into one arr
 way through GDAL.
 """
 
-import bisect
-import itertools
 import pathlib
 import struct
-from collections.abc import Iterator
+from collections.abc import Generator, Iterator
 from dataclasses import dataclass, field
 from fractions import Fraction
 from typing import Any
 
-import numpy as np
-
 from .. import coordinate_systems, ending, gdal_files, map_reading
-from .numpy_arrays import Numbers
-from .numpy_maps import whole_of_doubles
+from .numpy_maps import POINT_BYTES, Flat
 from .spooled import Gathered, Spool
-from .whole_maps import MapFault, ReadMap, Told, and_others
+from .whole_maps import MapFault, ReadMap, Told
 
 BATCH = 1 << 16  # features that are taken apart at once
 LARGE = 10_000_000  # points of a map above which it stays in files
@@ -33,66 +28,6 @@ def modules() -> tuple[Any, Any]:
 
     gdal, _ = coordinate_systems.modules()
     return gdal, ogr
-
-
-@dataclass
-class Flat:
-    """Features one after the other: xs and ys of all points, the closing point of each ring among them."""
-
-    path: str = ""
-    ids: list[str] = field(default_factory=list)
-    labels: list[str] = field(default_factory=list)  # what a fault calls them
-    rings_of_feature: list[int] = field(default_factory=list)
-    ring_sizes: list[int] = field(default_factory=list)
-    is_outer: list[bool] = field(default_factory=list)
-    points: list[bytes] = field(default_factory=list)
-
-    def add(self, name: str, label: str, wkb: bytes) -> None:
-        before = len(self.ring_sizes)
-        self._take(wkb, 0)
-        self.ids.append(name)
-        self.labels.append(label)
-        self.rings_of_feature.append(len(self.ring_sizes) - before)
-
-    def _take(self, wkb: bytes, at: int) -> int:
-        """Takes a polygon or multipolygon in that begins at a byte; where it ends."""
-        kind, count = struct.unpack_from("<II", wkb, at + 1)
-        at += 9
-        for number in range(count):
-            if kind == MULTIPOLYGON:
-                at = self._take(wkb, at)
-                continue
-            (size,) = struct.unpack_from("<I", wkb, at)
-            self.points.append(wkb[at + 4 : at + 4 + 16 * size])
-            self.ring_sizes.append(size)
-            self.is_outer.append(number == 0)
-            at += 4 + 16 * size
-        return at
-
-    def features_of_rings(self, rings: list[int]) -> Iterator[str]:
-        """What the features of rings are called, of rings that go up."""
-        ends = list(itertools.accumulate(self.rings_of_feature))
-        for ring in rings:
-            yield self.labels[bisect.bisect_right(ends, ring)]
-
-    def arrays(self) -> tuple[Numbers, Numbers, Numbers, Numbers, Numbers]:
-        """xs, ys, ring_sizes, is_outer, rings_of_feature. A ring that is not closed, or has what is no number, is a
-        MapFault."""
-        xy = np.frombuffer(b"".join(self.points), "<f8").reshape(-1, 2)
-        sizes = np.array(self.ring_sizes, np.int64)
-        ends = np.cumsum(sizes)
-        full = sizes > 0
-        wrong = np.zeros(len(sizes), bool)
-        if full.any():
-            wrong[full] = (xy[(ends - sizes)[full]] != xy[ends[full] - 1]).any(axis=1)  # also where there is no number
-            odd = np.flatnonzero(~np.isfinite(xy).all(axis=1))
-            wrong[np.searchsorted(ends, odd, "right")] = True
-        if wrong.any():
-            label, *others = dict.fromkeys(self.features_of_rings(np.flatnonzero(wrong).tolist()))
-            raise MapFault(f"{self.path}: {label}: a ring that is not closed, or a coordinate that is no number; mend it "
-                           f"there{and_others(others)}")
-        rings_of_feature = np.array(self.rings_of_feature, np.int64)
-        return xy[:, 0], xy[:, 1], sizes, np.array(self.is_outer, bool), rings_of_feature
 
 
 @dataclass
@@ -172,7 +107,23 @@ class Source:
                 return
             shape.FlattenTo2D()
             wkb = bytes(shape.ExportToWkb(self.ogr.wkbNDR))
-        flat.add(name, label, wkb)
+        flat.add(name, f"{self.path}, {label}", rings_at(wkb, 0))
+
+
+def rings_at(wkb: bytes, at: int) -> Generator[tuple[bool, bytes], None, int]:
+    """The rings of the polygon or multipolygon that begins at a byte, of each whether it is an outer one, and its points; where
+    it ends."""
+    kind, count = struct.unpack_from("<II", wkb, at + 1)
+    at += 9
+    for number in range(count):
+        if kind == MULTIPOLYGON:
+            at = yield from rings_at(wkb, at)
+            continue
+        (size,) = struct.unpack_from("<I", wkb, at)
+        end = at + 4 + POINT_BYTES * size
+        yield number == 0, wkb[at + 4 : end]
+        at = end
+    return at
 
 
 def named(names: list[str]) -> str:
@@ -188,7 +139,7 @@ def read(path: str, factor: Fraction, id_field: str | None, layer: str | None, b
     kept: Gathered | Spool = Gathered()
     for flat in source.batches():
         own = Told()
-        kept.add(whole_of_doubles(path, flat.ids, *flat.arrays(), factor, bend, own))
+        kept.add(flat.whole(factor, bend, own))
         add_told(told, own)
         if isinstance(kept, Gathered) and told.points > LARGE:
             kept = kept.spooled()

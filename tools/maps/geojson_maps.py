@@ -1,18 +1,19 @@
-"""Reads a map of GeoJSON or Well-Known Text into whole numbers, as grid.py says.
+"""Reads a map of GeoJSON or Well-Known Text; gdal_maps.py reads other files.
 
-It needs Python alone. gdal_maps.py reads other files.
+GDAL reads these texts too, but loses of them ids that are not of one type, and how many digits a number has.
 """
 
 import itertools
+import struct
 from collections.abc import Iterable, Iterator
 from fractions import Fraction
 from typing import Any
 
-from .. import ending, map_reading, rounding, scale as scales, wkt
+from .. import ending, grid, map_reading, rounding, scale as scales, wkt
 from ..coordinate_systems import UNKNOWN
 from ..map_reading import Refused, Shape, Source
-from .bending import Longest, bent
-from .whole_maps import FARTHEST, MapFault, ReadMap, Ring, Told, WholeMap, and_others
+from .numpy_maps import Flat
+from .whole_maps import MapFault, ReadMap, Told, WholeMap, and_others
 
 NAMED_MAX = 10  # SRIDs that a refusal names
 
@@ -33,11 +34,6 @@ def features_of(shapes: Iterable[Shape]) -> Iterator[list[Shape]]:
         yield list(shapes_of_one)
 
 
-def twice_area(ring: Ring) -> int:
-    """Greater than 0 where a ring runs counter-clockwise."""
-    return sum(ax * by - ay * bx for (ax, ay), (bx, by) in zip(ring, ring[1:] + ring[:1]))
-
-
 class FeatureFault(MapFault):
     """Why a feature is to be mended before its map is overlaid."""
 
@@ -45,11 +41,10 @@ class FeatureFault(MapFault):
 class Reading:
     """A map while it is read."""
 
-    def __init__(self, source: Source, factor: Fraction, bend: bool) -> None:
-        self.source, self.bend = source, bend
-        self.whole, self.told, self.longest = WholeMap(), Told(), Longest()
-        self.rounding = rounding.Rounding(scales.Scale(factor, factor))
-        self.moved = Fraction(0)
+    def __init__(self, source: Source, factor: Fraction) -> None:
+        self.source, self.factor = source, factor
+        self.flat, self.told = Flat(source.name), Told()
+        self.moved = Fraction(0)  # by coordinates of more digits than a double has
         self.seen = 0  # features, those among them that are left out
 
     def feature(self, shapes: list[Shape]) -> None:
@@ -68,11 +63,10 @@ class Reading:
             return
         name = self.name_of(shapes[0])
         try:
-            rings = [ring for polygon in polygons for ring in self.rings(shapes[0].label, polygon)]
+            self.flat.add(name, shapes[0].label, (ring for polygon in polygons for ring in self.rings(polygon)))
         except (Refused, TypeError, IndexError, KeyError) as fault:
             reason = fault if isinstance(fault, Refused) else "coordinates of another form"
             raise FeatureFault(f"{shapes[0].label}: {reason}; mend it there") from fault
-        self.whole.add(name, rings)
 
     def name_of(self, shape: Shape) -> str:
         """What a feature is called: its property, or its number in the file, from 1."""
@@ -85,30 +79,27 @@ class Reading:
             raise MapFault(f"{shape.label}: no property {self.source.name_by}; say one of: {has}")
         return shape.wish
 
-    def rings(self, label: str, polygon: Any) -> Iterator[Ring]:
-        """The rings of a polygon in whole numbers, the outer one counter-clockwise and holes clockwise."""
+    def rings(self, polygon: Any) -> Iterator[tuple[bool, bytes]]:
+        """The rings of a polygon, as `Flat` takes them."""
         for number, positions in enumerate(polygon):
-            closed = self.rounding.ring(positions)
-            self.moved = max(self.moved, self.rounding.tally.furthest)
-            self.told.longer += self.rounding.tally.longer
-            ring = closed[:-1]
-            if len(ring) < 3 or rounding.is_flat(ring):
-                self.told.collapsed.append(label)
-                continue
-            if any(max(abs(x), abs(y)) > FARTHEST for x, y in ring):
-                raise Refused("a coordinate of more than 2^52 units; say a smaller --factor")
-            self.longest.look(label, ring)
-            turned = ring if (twice_area(ring) > 0) == (number == 0) else ring[::-1]
-            whole = bent(turned) if self.bend else turned
-            self.told.bent += len(whole) > len(turned)
-            yield whole
+            given = [self.double(one) for position in rounding.closed(positions) for one in position[:2]]
+            yield number == 0, struct.pack(f"<{len(given)}d", *given)
+
+    def double(self, given: Any) -> float:
+        """A coordinate as the nearest double. Where it has more digits, all of them count for how far it moves."""
+        number = map_reading.decimal_of(given)
+        if grid.is_longer(number):
+            whole = grid.nearest(grid.decimal_stands_for(number) * self.factor)
+            self.told.longer += 1
+            self.moved = max(self.moved, abs(Fraction(number) - whole / self.factor))
+        return float(number)
 
 
 def read(path: str, factor: Fraction, id_field: str | None, bend: bool) -> ReadMap:
     """A map of a file, features called by a property, or by their numbers in the file."""
     source = Source(1, path, "map", id_field)
     shapes, crs, is_geojson = shapes_of(source)
-    reading = Reading(source, factor, bend)
+    reading = Reading(source, factor)
     faults = list[tuple[str, FeatureFault]]()
     for shapes_of_one in features_of(shapes):
         try:
@@ -117,15 +108,12 @@ def read(path: str, factor: Fraction, id_field: str | None, bend: bool) -> ReadM
             faults.append((shapes_of_one[0].label.removeprefix(f"{path}, "), fault))
     if faults:
         raise MapFault(f"{faults[0][1]}{and_others(label for label, _ in faults[1:])}") from faults[0][1]
-    if not bend:
-        reading.longest.check(factor)
     told = reading.told
-    told.bent = reading.longest.count
-    told.features, told.points = len(reading.whole), len(reading.whole.xs)
-    told.moved = float(reading.moved)
-    usual = scales.CRS84 if is_geojson and is_in_degrees(reading.whole, factor) else None
+    whole = reading.flat.whole(factor, bend, told)
+    told.moved = max(told.moved, float(reading.moved))
+    usual = scales.CRS84 if is_geojson and is_in_degrees(whole, factor) else None
     system = crs or own_crs(source) or usual
-    return ReadMap(reading.whole, told, None if system == UNKNOWN else system)
+    return ReadMap(whole, told, None if system == UNKNOWN else system)
 
 
 def is_in_degrees(whole: WholeMap, factor: Fraction) -> bool:

@@ -1,26 +1,33 @@
-"""Brings a map of doubles into whole numbers by numpy, as grid.py says, and so as geojson_maps.py does it with a text."""
+"""Brings features of doubles into whole numbers by numpy, many at once, as grid.py says."""
 
 from __future__ import annotations
 
 from array import array
-from collections.abc import Callable, Sequence
+from collections.abc import Iterable, Sequence
+from dataclasses import dataclass, field
 from fractions import Fraction
 
 import numpy as np
 
 from .. import grid, rounding
-from .bending import EDGE_MAX, Longest, way_points
+from .bending import EDGE_MAX, too_long, way_points
 from .numpy_arrays import Numbers
-from .whole_maps import FARTHEST, MapFault, Told, WholeMap, numbers
+from .whole_maps import FARTHEST, MapFault, Told, WholeMap, and_others, numbers
 
+COARSE = 2**-6
 NEAR = 2**30  # rings that are no wider have areas of 64 bits
+POINT_BYTES = 16
+TOO_FAR = "a coordinate of more than 2^52 units; say a smaller --factor, or mend it there"
 
 
 def farthest_move(given: Numbers, whole: Numbers, factor: Fraction) -> float:
-    """How far the farthest of some doubles is off its whole number, in units; 0 where doubles cannot say so."""
+    """How far the farthest of some doubles is off its whole number, in units; 0 where products of doubles cannot tell, which
+    are off by less than COARSE: of larger numbers by fractions."""
     scaled = given * float(factor)
-    moves = np.abs(scaled - whole)
-    moves[moves <= grid.SPACINGS * np.spacing(np.abs(scaled))] = 0
+    moves, unsure = np.abs(scaled - whole), grid.SPACINGS * np.spacing(np.abs(scaled))
+    moves[moves <= unsure] = 0
+    coarse = np.flatnonzero(unsure > COARSE)
+    moves[coarse] = [abs(grid.spelled(one) * factor - there) for one, there in zip(given[coarse].tolist(), whole[coarse].tolist())]
     return float(moves.max(initial=0))
 
 
@@ -102,31 +109,76 @@ class Rings:
         self.xs, self.ys = np.insert(self.xs, places, added[:, 0]), np.insert(self.ys, places, added[:, 1])
 
 
-def whole_of_doubles(name: str, ids: Sequence[str], xs: Numbers, ys: Numbers, ring_sizes: Numbers, is_outer: Numbers,
-                     rings_of_feature: Numbers, factor: Fraction, bend: bool, told: Told) -> WholeMap:
-    """A map in whole numbers, of rings whose first point comes once more at the end. name is the file's."""
+@dataclass
+class Flat:
+    """Features one after the other: x and y of all points as doubles, the closing point of each ring among them."""
 
-    def called(feature: int) -> str:
-        return f"{name}, feature {ids[feature]}"
+    path: str
+    ids: list[str] = field(default_factory=list)
+    labels: list[str] = field(default_factory=list)  # what is said of a feature begins with it
+    rings_of_feature: list[int] = field(default_factory=list)
+    ring_sizes: list[int] = field(default_factory=list)
+    is_outer: list[bool] = field(default_factory=list)
+    points: list[bytes] = field(default_factory=list)
 
-    check_range(xs, ys, ring_sizes, rings_of_feature, factor, called)
-    whole_xs, whole_ys = grid.nearest_array(xs, factor), grid.nearest_array(ys, factor)
-    moved = max(farthest_move(xs, whole_xs, factor), farthest_move(ys, whole_ys, factor))
-    rings = Rings(whole_xs, whole_ys, ring_sizes, is_outer, rings_of_feature)
-    rings.merge()
-    twice = rings.twice_areas()
-    gone = rings.collapsed(twice)
-    told.collapsed += [called(feature) for feature in rings.feature[gone].tolist()]
-    rings.turn(twice)
-    rings.keep(~np.isin(rings.ring, gone))
-    bend_long(rings, factor, bend, told, called)
-    told.features, told.points = len(ids), len(rings.xs)
-    told.moved = moved / float(factor)
-    sizes = rings.sizes()
-    live = sizes > 0
-    per_feature = np.bincount(rings.feature[live], minlength=len(ids))
-    return WholeMap(list(ids), of_numpy(rings.xs), of_numpy(rings.ys), of_numpy(offsets(sizes[live])),
-                    of_numpy(offsets(per_feature)))
+    def add(self, name: str, label: str, rings: Iterable[tuple[bool, bytes]]) -> None:
+        """One more feature: of each ring whether it is an outer one, and its points."""
+        before = len(self.ring_sizes)
+        for is_outer, points in rings:
+            self.is_outer.append(is_outer)
+            self.points.append(points)
+            self.ring_sizes.append(len(points) // POINT_BYTES)
+        self.ids.append(name)
+        self.labels.append(label)
+        self.rings_of_feature.append(len(self.ring_sizes) - before)
+
+    def refused(self, rings: Numbers, reason: str) -> MapFault:
+        """Why rings, which go up, are refused, with the names of their features."""
+        features = np.searchsorted(np.cumsum(self.rings_of_feature), rings, "right").tolist()
+        first, *others = dict.fromkeys(self.labels[feature] for feature in features)
+        return MapFault(f"{first}: {reason}{and_others(label.removeprefix(f'{self.path}, ') for label in others)}")
+
+    def doubles(self) -> Numbers:
+        """x and y of the points. A ring that is not closed, has what is no number, or one beyond all bounds is refused."""
+        xy = np.frombuffer(b"".join(self.points), "<f8").reshape(-1, 2)
+        sizes = np.array(self.ring_sizes, np.int64)
+        ends = np.cumsum(sizes)
+        full = sizes > 0
+        wrong = np.zeros(len(sizes), bool)
+        if full.any():
+            wrong[full] = (xy[(ends - sizes)[full]] != xy[ends[full] - 1]).any(axis=1)  # also where there is no number
+            odd = np.flatnonzero(~np.isfinite(xy).all(axis=1))
+            wrong[np.searchsorted(ends, odd, "right")] = True
+        if wrong.any():
+            raise self.refused(np.flatnonzero(wrong), "a ring that is not closed, or a coordinate that is no number; mend it there")
+        return xy
+
+    def whole(self, factor: Fraction, bend: bool, told: Told) -> WholeMap:
+        """The features in whole numbers."""
+        xy = self.doubles()
+        with np.errstate(over="ignore"):  # beyond all doubles is too far as well
+            far = np.flatnonzero(np.abs(xy).max(axis=1, initial=0) * float(factor) > FARTHEST)
+        if len(far):
+            raise self.refused(np.searchsorted(np.cumsum(self.ring_sizes), far, "right"), TOO_FAR)
+        xs, ys = (np.ascontiguousarray(axis) for axis in xy.T)
+        whole_xs, whole_ys = grid.nearest_array(xs, factor), grid.nearest_array(ys, factor)
+        moved = max(farthest_move(xs, whole_xs, factor), farthest_move(ys, whole_ys, factor))
+        rings = Rings(whole_xs, whole_ys, np.array(self.ring_sizes, np.int64), np.array(self.is_outer, bool),
+                      np.array(self.rings_of_feature, np.int64))
+        rings.merge()
+        twice = rings.twice_areas()
+        gone = rings.collapsed(twice)
+        told.collapsed += [self.labels[feature] for feature in rings.feature[gone].tolist()]
+        rings.turn(twice)
+        rings.keep(~np.isin(rings.ring, gone))
+        bend_long(rings, factor, bend, told, self.labels)
+        told.features, told.points = len(self.ids), len(rings.xs)
+        told.moved = moved / float(factor)
+        sizes = rings.sizes()
+        live = sizes > 0
+        per_feature = np.bincount(rings.feature[live], minlength=len(self.ids))
+        return WholeMap(list(self.ids), of_numpy(rings.xs), of_numpy(rings.ys), of_numpy(offsets(sizes[live])),
+                        of_numpy(offsets(per_feature)))
 
 
 def of_numpy(given: Numbers) -> array[int]:
@@ -136,20 +188,7 @@ def of_numpy(given: Numbers) -> array[int]:
     return found
 
 
-def check_range(xs: Numbers, ys: Numbers, ring_sizes: Numbers, rings_of_feature: Numbers, factor: Fraction,
-                called: Callable[[int], str]) -> None:
-    """Refuses numbers that are none, or that are too large in whole units."""
-    with np.errstate(over="ignore"):  # beyond all doubles is too large as well
-        most = np.maximum(np.abs(xs), np.abs(ys)) * float(factor)
-    wrong = np.flatnonzero(~(most <= FARTHEST))
-    if len(wrong):
-        ring = int(np.searchsorted(np.cumsum(ring_sizes), wrong[0], "right"))
-        feature = int(np.searchsorted(np.cumsum(rings_of_feature), ring, "right"))
-        raise MapFault(f"{called(feature)}: a coordinate that is no number, or of more than 2^52 units; mend it there, "
-                       "or say a smaller --factor")
-
-
-def bend_long(rings: Rings, factor: Fraction, bend: bool, told: Told, called: Callable[[int], str]) -> None:
+def bend_long(rings: Rings, factor: Fraction, bend: bool, told: Told, labels: Sequence[str]) -> None:
     """Bends the edges that are too long for a slot, or refuses them."""
     if not len(rings.xs):
         return
@@ -158,7 +197,7 @@ def bend_long(rings: Rings, factor: Fraction, bend: bool, told: Told, called: Ca
     long = np.flatnonzero(lengths > EDGE_MAX)
     if len(long) and not bend:
         at = int(lengths.argmax())
-        Longest(int(lengths[at]), called(int(rings.feature[rings.ring[at]])), len(long)).check(factor)
+        raise too_long(labels[rings.feature[rings.ring[at]]], int(lengths[at]), len(long), factor)
     told.bent = len(long)
     if len(long):
         rings.bend(long)

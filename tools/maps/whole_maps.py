@@ -78,13 +78,6 @@ class WholeMap:
         self.feature_at.append(len(self.ring_at) - 1)
         self.ids.append("")
 
-    def take(self, features: Iterable[int]) -> "WholeMap":
-        """Some of the features, in the order given."""
-        found = WholeMap()
-        for feature in features:
-            found.add(self.ids[feature], self.rings(feature))
-        return found
-
     def box(self, feature: int) -> Box:
         begin, end = self.span(feature)
         if begin == end:

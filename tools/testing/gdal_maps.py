@@ -17,9 +17,9 @@ from unittest import mock
 from osgeo import gdal, ogr, osr
 
 from ..commands import overlay_maps
-from ..maps import gdal_maps, gdal_writing, running
+from ..maps import gdal_maps, gdal_writing, numpy_maps, running
 from ..maps.spooled import Names
-from ..maps.whole_maps import MapFault, ReadMap
+from ..maps.whole_maps import MapFault, ReadMap, Told
 from ..sessions import Unusable
 from . import common
 from .common import TOP, InFolder, Programs, outcome
@@ -123,23 +123,25 @@ class Reading(WithFiles):
     def test_a_ring_that_is_not_closed_is_refused(self) -> None:
         opened = f"POLYGON {text_of(RING[:-1])}"
         path = self.made(f"POLYGON {text_of(RING)}", opened, f"POLYGON {text_of(RING)}", opened)
-        self.refused(r"map\.gpkg: feature 2 \(p1\): a ring that is not closed.* 1 more to be mended: feature 4 \(p3\)",
+        self.refused(r"map\.gpkg, feature 2 \(p1\): a ring that is not closed.* 1 more to be mended: feature 4 \(p3\)$",
                      path)
 
     def test_a_coordinate_that_is_no_number_is_refused(self) -> None:
-        flat = gdal_maps.Flat()
-        for name, ring in (("p0", RING), ("p1", [(0, 0), (math.nan, 1), (1, 1), (0, 0)]), ("p2", RING)):
-            flat.add(name, f"feature ({name})", struct.pack(f"<BIII{2 * len(ring)}d", 1, 3, 1, len(ring), *sum(ring, ())))
-        with self.assertRaisesRegex(MapFault, r"feature \(p1\): .* no number"):
-            flat.arrays()
+        for odd, reason in ((math.nan, "no number"), (math.inf, "no number"), (1e16, "more than 2.52 units; say a smaller")):
+            flat = numpy_maps.Flat("map")
+            for name, ring in (("p0", RING), ("p1", [(0, 0), (odd, 1), (1, 1), (0, 0)]), ("p2", RING)):
+                wkb = struct.pack(f"<BIII{2 * len(ring)}d", 1, 3, 1, len(ring), *sum(ring, ()))
+                flat.add(name, f"map, feature ({name})", gdal_maps.rings_at(wkb, 0))
+            with self.assertRaisesRegex(MapFault, rf"^map, feature \(p1\): .*{reason}"):
+                flat.whole(Fraction(1), False, Told())
 
     def test_one_that_is_beyond_all_doubles_in_units_is_refused_in_one_line(self) -> None:
         path = self.made(f"POLYGON {text_of(RING)}", "POLYGON ((0 0, 1e300 0, 1 1, 0 0))")
         done = subprocess.run([sys.executable, common.path("overlay_maps.py"), "check", path, "--factor", "10000000000", "--program",
                                "true"], capture_output=True, text=True, timeout=60, check=False)
         self.assertEqual(done.returncode, 2)
-        self.assertRegex(done.stderr, r"^[^\n]*map\.gpkg, feature 2: a coordinate that is no number, or of more than 2\^52 units; mend "
-                                      r"it there, or say a smaller --factor\n$")
+        self.assertRegex(done.stderr, r"^[^\n]*map\.gpkg, feature 2: a coordinate of more than 2\^52 units; say a smaller --factor, "
+                                      r"or mend it there\n$")
 
     def test_nothing_is_written_beside_a_map(self) -> None:
         path = str(self.folder / "map.gml")

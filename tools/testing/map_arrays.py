@@ -2,21 +2,22 @@
 
 import random
 import unittest
-from collections.abc import Callable
 from fractions import Fraction
 
 import numpy as np
 
-from .. import grid
-from ..maps import drawing_in, geojson_maps, numpy_drawing, numpy_maps, numpy_windows, planning, windows
+from .. import grid, rounding
+from ..maps import auditing, bending, drawing_in, geojson_maps, numpy_drawing, numpy_maps, numpy_windows, planning, windows
 from ..maps.task_form import ALONE, COMMON, GAPS, Task
-from ..maps.whole_maps import FARTHEST, MapFault, ReadMap, Told
+from ..maps.whole_maps import FARTHEST, MapFault, Ring
 from .common import InFolder
 from .map_steps import sees
 from .random_maps import Maps, random_maps
 from .scales import halves
 
 MANY = 30
+FACTOR = Fraction(1000)
+Feature = list[list[list[list[float]]]]  # polygons, rings, points, coordinates
 
 
 def planned(kind: str, maps: Maps) -> list[planning.Job]:
@@ -100,12 +101,16 @@ class Rounding(InFolder):
         for factor, right in ((Fraction(1000), 0), (Fraction(100), 0.5)):
             self.assertEqual(round(numpy_maps.farthest_move(given, grid.nearest_array(given, factor), factor), 6), right)
 
-    def test_a_map_of_doubles_is_that_of_the_same_numbers_as_text(self) -> None:
+    def test_moves_of_large_numbers_are_those_of_fractions(self) -> None:
+        given, factor = np.array([2.0**51 + 0.5, 2.0**50 + 0.25, 3.0]), Fraction(1)
+        self.assertEqual(numpy_maps.farthest_move(given, grid.nearest_array(given, factor), factor), 0.5)
+
+    def test_a_map_is_what_whole_numbers_and_fractions_make_of_it(self) -> None:
         source = random.Random(8)
         for number in range(MANY):
             features = [[self.rings(source) for _ in range(source.randint(1, 2))] for _ in range(8)]
             for bend in (False, True):
-                self.assertEqual(self.by_numpy(features, bend), self.by_text(features, bend), number)
+                self.assertEqual(self.read(features, bend), plainly(features, bend), number)
 
     def rings(self, source: random.Random) -> list[list[list[float]]]:
         """A polygon of random rings, some of which collapse or have an edge that is too long."""
@@ -120,28 +125,40 @@ class Rounding(InFolder):
     def number(self, source: random.Random, size: float) -> float:
         return source.randint(-round(10000 * size), round(10000 * size)) / 10000
 
-    def by_text(self, features: list[list[list[list[list[float]]]]], bend: bool) -> object:
+    def read(self, features: list[Feature], bend: bool) -> object:
+        """The points and what was reported of them, or why the map is refused."""
         begin = '{"type": "Feature", "geometry": {"type": "MultiPolygon", "coordinates": '
         members = ",".join(begin + str(polygons) + "}}" for polygons in features)
         file = self.file("map.geojson", '{"type": "FeatureCollection", "features": [' + members + "]}")
-        return self.told(lambda: geojson_maps.read(str(file), Fraction(1000), None, bend))
-
-    def by_numpy(self, features: list[list[list[list[list[float]]]]], bend: bool) -> object:
-        rings = [(ring, at == 0) for polygons in features for polygon in polygons for at, ring in enumerate(polygon)]
-        xy = np.array([point for ring, _ in rings for point in ring])
-        counts = np.array([sum(map(len, polygons)) for polygons in features])
-        told = Told()
-        ids = [str(number + 1) for number in range(len(features))]
-        return self.told(lambda: ReadMap(numpy_maps.whole_of_doubles(
-            "map", ids, xy[:, 0].copy(), xy[:, 1].copy(), np.array([len(ring) for ring, _ in rings]),
-            np.array([outer for _, outer in rings]), counts, Fraction(1000), bend, told), told, None))
-
-    def told(self, read: Callable[[], ReadMap]) -> object:
-        """The points and what was reported of them, or that the map is refused."""
         try:
-            got = read()
+            found = geojson_maps.read(str(file), FACTOR, None, bend)
         except MapFault as fault:
-            return str(fault).split(": ", 1)[1]
-        whole, told = got.whole, got.told
-        arrays = [list(one) for one in (whole.xs, whole.ys, whole.ring_at, whole.feature_at)]
-        return arrays, whole.ids, told.features, told.points, len(told.collapsed), told.bent
+            return str(fault).split(" of more than")[0].removeprefix(f"{file}, ")
+        self.assertEqual((found.told.features, found.told.points), (len(features), len(found.whole.xs)))
+        rings = [found.whole.rings(feature) for feature in range(len(features))]
+        return rings, found.whole.ids, [one.removeprefix(f"{file}, ") for one in found.told.collapsed], found.told.bent
+
+
+def plainly(features: list[Feature], bend: bool) -> object:
+    """The same by the whole numbers of Python."""
+    rings, collapsed, long = [list[Ring]() for _ in features], list[str](), list[tuple[int, str]]()
+    for number, polygons in enumerate(features):
+        label = f"feature {number + 1}"
+        for place, positions in ((place, ring) for polygon in polygons for place, ring in enumerate(polygon)):
+            whole = [(nearest(x), nearest(y)) for x, y in positions]
+            ring = [point for at, point in enumerate(whole) if not at or point != whole[at - 1]][:-1]
+            if len(ring) < 3 or rounding.is_flat(ring):
+                collapsed.append(label)
+                continue
+            ring = ring if (auditing.plain_area([ring]) > 0) == (place == 0) else ring[::-1]
+            steps = list(zip(ring, ring[1:] + ring[:1]))
+            long += [(length, label) for length in (bending.reach(*step) for step in steps) if length > bending.EDGE_MAX]
+            rings[number].append([point for a, b in steps for point in (a, *bending.way_points(a, b))])
+    if long and not bend:
+        length, label = max(long, key=lambda one: one[0])
+        return f"{label}: an edge of {length} units, the longest of {len(long)}"
+    return rings, [str(number + 1) for number in range(len(features))], collapsed, len(long)
+
+
+def nearest(given: float) -> int:
+    return (Fraction(repr(given)) * FACTOR + Fraction(1, 2)).__floor__()

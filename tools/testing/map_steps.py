@@ -11,10 +11,10 @@ from unittest import mock
 import numpy as np
 
 from ..maps import (auditing, bending, box_pairs, cells, drawing_in, exact_area, jobs, map_checks, numpy_drawing,
-                    numpy_windows, planning, rounds, sewing, slots, tables, touching, windows)
+                    numpy_maps, numpy_windows, planning, rounds, sewing, slots, tables, touching, windows)
 from ..maps.numpy_arrays import Numbers
 from ..maps.task_form import ALONE, COMMON, Found, Row, ShapeOf, Task
-from ..maps.whole_maps import NOWHERE, Box, Point, Ring, WholeMap
+from ..maps.whole_maps import NOWHERE, Box, Point, Ring, Told, WholeMap
 from ..sessions import Piece, Unusable
 from ..testing import plain, slabs
 from .common import Programs
@@ -370,11 +370,11 @@ class Planted(WithLive):
         far = 3 * 2**19 + 1
         rings = [[(0, 0), (far, 3), (far, 2**10), (0, 2**10)], [(far, 3), (0, 0), (0, -(2**10)), (far, -(2**10))]]
         for wrong in (None, bent_by_direction):
-            with mock.patch.object(bending, "way_points", wrong or bending.way_points):
-                whole = WholeMap()
-                for number, ring in enumerate(rings):
-                    whole.add(str(number), [bending.bent(ring)])
-                made = self.checked(whole)
+            flat = numpy_maps.Flat("map")
+            for number, ring in enumerate(rings):
+                flat.add(str(number), f"feature {number}", [(True, np.array([*ring, ring[0]], "<f8").tobytes())])
+            with mock.patch.object(numpy_maps, "way_points", wrong or bending.way_points):
+                made = self.checked(flat.whole(Fraction(1), True, Told()))
             self.assertEqual(len(made.overlaps) + len(made.gaps) > 0, wrong is not None)
 
 
