@@ -57,10 +57,18 @@ def wide_ring(draw: random.Random) -> list[Point]:
     return [(left, y), (right, y), (right, top), (left, top), (left, y)]
 
 
+def leaning_ring(draw: random.Random) -> list[Point]:
+    """A ring over several columns, whose edges meet their borders at fractions and may cross each other."""
+    points = [(draw.choice(FAR[1:-1]) + draw.randrange(-9, 10), draw.randrange(-60, 61))
+              for _ in range(draw.randrange(3, 6))]
+    return points + points[:1]
+
+
 def text(draw: random.Random) -> str:
     """A base layer as Well-Known Text: how many rings it has and of which form each is (the
     functions above) is drawn."""
-    kinds: Sequence[Callable[[random.Random], list[Point]]] = [rectangle] * 5 + [random_ring] * 4 + [wide_ring]
+    kinds: Sequence[Callable[[random.Random], list[Point]]] = [rectangle] * 5 + [random_ring] * 4 + [
+        wide_ring, leaning_ring]
     rings = [draw.choice(kinds)(draw) for _ in range(draw.choice([0, 1, 1, 1, 1, 2, 2, 3]))]
     if len(rings) == 1 and draw.random() < 0.7:
         return "POLYGON ((" + ", ".join(f"{x} {y}" for x, y in rings[0]) + "))"
