@@ -1,5 +1,5 @@
 -- Division rounded down.
-use Rattle.std.proofs.Common.{◌≡◌, sym, ℕ, zero, suc, ℤ, pos, negsuc, ◌+ℤ◌, ◌-ℤ◌, ◌*ℤ◌, ◌<ℤ◌, ◌≤ℤ◌, ◌+◌, ◌*◌, ◌<◌, ◌≤◌, arith, neg_ℤ}
+use Rattle.std.proofs.Common.{◌≡◌, sym, ℕ, ℤ, pos, negsuc, ◌+ℤ◌, ◌*ℤ◌, ◌<ℤ◌, ◌≤ℤ◌, ◌+◌, ◌*◌, ◌<◌, ◌≤◌, arith, neg_ℤ}
 use Rattle.std.specs.Int.{int_div_euclid, int_rem_euclid}
 use Rattle.std.proofs.lemmas.Int.{ints, by_lt_z}
 use Rattle.overlay_terms.proofs.Difference.{split, differences, same, at_most, below, whole_is, mul_mono}
@@ -60,6 +60,12 @@ floor_is q a d h low high =
     let under = floor_low a d h in
     absurd (omega (arith, ints, more, is, under, high)))
     (λ l. omega (arith, ints, least, l))
+
+-- 1 divides as it does
+pub floor_one : (a d : ℤ) → pos 0 <ℤ d → d ≤ℤ pos 1 → int_div_euclid a d ≡ a
+floor_one a d h k =
+    let is : d ≡ pos 1 = omega (arith, ints, h, k) in
+    rw is (floor_is a a (pos 1) (omega (arith, ints)) (omega (arith, ints)) (omega (arith, ints)))
 
 added : (q k d : ℤ) → (q +ℤ k) *ℤ d ≡ (q *ℤ d) +ℤ (k *ℤ d)
 added q k d = rw (split q, split k, split d) (simp differences (same _ _ _ _ (omega arith)))

@@ -1,13 +1,13 @@
 -- What a piece sweeps over is near the exact area, and is it between whole places.
-use Rattle.std.proofs.Common.{◌≡◌, ℕ, ℤ, pos, neg_ℤ, ◌+ℤ◌, ◌-ℤ◌, ◌*ℤ◌, ◌<ℤ◌, ◌≤ℤ◌, ◌+◌, ◌/◌, List, [], ◌∷◌, fold, Bool, true, false, if◌then◌else◌, refl, ap, sym, ◌∙◌, arith, unsigned_abs}
+use Rattle.std.proofs.Common.{◌≡◌, ℕ, ℤ, pos, neg_ℤ, ◌+ℤ◌, ◌-ℤ◌, ◌*ℤ◌, ◌<ℤ◌, ◌+◌, ◌/◌, List, [], ◌∷◌, fold, Bool, true, false, if◌then◌else◌, refl, ap, sym, ◌∙◌, arith, unsigned_abs}
 use Rattle.std.specs.Prelude.{All, int_le}
 use Rattle.std.specs.Int.{int_div_euclid}
 use Rattle.std.proofs.lemmas.Int.{ints}
 use Rattle.std.proofs.lemmas.List.Elements.{All-head, All-tail}
-use Rattle.overlay_terms.specs.Plane.{WholePoint, Point, Segment, whole, height_over}
+use Rattle.overlay_terms.specs.Plane.{WholePoint, Point, Segment, whole}
 use Rattle.overlay_terms.proofs.Difference.{split, differences, same, mul_pos}
-use Rattle.swept_area.specs.Swept.{parts, in_parts, run_of, rise_of, is_flat, length_of, cross_of, turn_of, along, mark_of, swept_of, Sided, signed_of, swept_area}
-use Rattle.swept_area.specs.SweptLaws.{IsSegment, IsOnLine, Ratio, exact_of, exact_signed, ratio_sum, exact_area, slack_of, slack_sum, IsOnSupport, IsNear, AreaIsNear, WholeIsExact}
+use Rattle.swept_area.specs.Swept.{parts, in_parts, run_of, rise_of, is_flat, length_of, cross_of, turn_of, along, mark_of, swept_of, Sided, signed_of}
+use Rattle.swept_area.specs.SweptLaws.{IsSegment, IsOnLine, Ratio, exact_of, exact_signed, ratio_sum, slack_of, IsOnSupport, IsNear, AreaIsNear, WholeIsExact}
 use Rattle.swept_area.proofs.Floors.{floor_is, floor_more}
 use Rattle.swept_area.proofs.LineLemmas.{flat_length, flat_turn, rising_turn, falling_turn, length_positive}
 use Rattle.swept_area.proofs.OneLine.{steep_up, steep_down}

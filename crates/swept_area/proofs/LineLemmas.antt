@@ -1,13 +1,13 @@
 -- What holds of every segment's length and turn.
-use Rattle.std.proofs.Common.{◌≡◌, ℕ, ℤ, pos, negsuc, neg_ℤ, ◌+ℤ◌, ◌-ℤ◌, ◌*ℤ◌, ◌<ℤ◌, ◌≤ℤ◌, ◌+◌, ◌*◌, ◌^◌, ◌≤◌, unsigned_abs, Bool, true, false, inl, inr, if◌then◌else◌, ◌||◌, refl, ap, sym, ◌∙◌, arith, lit<}
+use Rattle.std.proofs.Common.{◌≡◌, ℤ, pos, negsuc, neg_ℤ, ◌+ℤ◌, ◌-ℤ◌, ◌*ℤ◌, ◌<ℤ◌, ◌≤ℤ◌, ◌*◌, ◌^◌, unsigned_abs, Bool, true, false, inl, inr, if◌then◌else◌, refl, ap, ◌∙◌, arith}
 use Rattle.std.specs.Prelude.{int_le}
 use Rattle.std.specs.Int.{int_div_euclid}
 use Rattle.std.proofs.lemmas.Int.{ints}
-use Rattle.overlay_terms.specs.Plane.{Segment, Point}
+use Rattle.overlay_terms.specs.Plane.{Segment}
 use Rattle.overlay_terms.specs.Within.{IsWithin}
 use Rattle.overlay_terms.proofs.Bounds.{within_abs, within_mul, within_sub}
 use Rattle.overlay_terms.proofs.Difference.{split, differences, same}
-use Rattle.swept_area.specs.Swept.{run_of, rise_of, is_flat, is_rising, length_of, cross_of, turn_of, along, in_parts}
+use Rattle.swept_area.specs.Swept.{run_of, rise_of, is_flat, is_rising, length_of, cross_of, turn_of}
 use Rattle.swept_area.specs.Pieces.{IsNearLine}
 use Rattle.swept_area.specs.SweptLaws.{IsSegment}
 use Rattle.overlay_terms.proofs.InputNumbers.{le_true}

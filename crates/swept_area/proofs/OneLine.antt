@@ -7,14 +7,14 @@ use Rattle.std.proofs.lemmas.Int.{ints, by_lt_z, unsigned_abs-mul}
 use Rattle.std.proofs.lemmas.Bool.{and_parts, cases_lt}
 use Rattle.std.proofs.lemmas.Bool.Decides.{Decides-int_eq}
 use Rattle.std.proofs.lemmas.Nat.{mul-le}
-use Rattle.overlay_terms.specs.Plane.{Point, Segment, whole, same_place, height_over}
+use Rattle.overlay_terms.specs.Plane.{Point, Segment}
 use Rattle.overlay_terms.proofs.Difference.{split, differences, same, mul_pos, mul_mono}
 use Rattle.overlay_terms.proofs.Ratios.{mul_less}
 use Rattle.overlay_terms.proofs.InputNumbers.{le_true, true_le}
 use Rattle.exact_point.proofs.Lexical.{Forward}
 use Rattle.exact_point.proofs.OnSegment.{leads}
-use Rattle.swept_area.specs.Swept.{parts, in_parts, run_of, rise_of, is_flat, length_of, cross_of, turn_of, along, mark_of}
-use Rattle.swept_area.specs.SweptLaws.{IsSegment, AreOnOneLine, MarkIsOfLine}
+use Rattle.swept_area.specs.Swept.{parts, in_parts, run_of, rise_of, is_flat, length_of, cross_of, turn_of, along}
+use Rattle.swept_area.specs.SweptLaws.{MarkIsOfLine}
 use Rattle.swept_area.proofs.Floors.{floor_same}
 use Rattle.swept_area.proofs.LineLemmas.{flat_length, steep_length, flat_turn, rising_turn, falling_turn, length_positive}
 

@@ -16,6 +16,9 @@ fn x_parts(p: &HPoint) -> i128
     ensures value { result ≡ in_parts (place p.now).x (place p.now).w }
     ensures small { IsWithin (2 ^ 60) result }
 {
+    if p.w <= 1 {
+        return p.x * PARTS;
+    }
     (p.x * PARTS).div_euclid(p.w)
 }
 
@@ -24,6 +27,9 @@ fn y_parts(p: &HPoint) -> i128
     ensures value { result ≡ in_parts (place p.now).y (place p.now).w }
     ensures small { IsWithin (2 ^ 60) result }
 {
+    if p.w <= 1 {
+        return p.y * PARTS;
+    }
     (p.y * PARTS).div_euclid(p.w)
 }
 

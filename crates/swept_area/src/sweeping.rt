@@ -1,5 +1,5 @@
 //! What one piece sweeps over.
-ghost use Rattle.std.specs.Prelude.{◌≡◌, ◌^◌, ◌+◌, ◌+ℤ◌, ◌-ℤ◌, ◌*ℤ◌, ◌<ℤ◌, pos};
+ghost use Rattle.std.specs.Prelude.{◌≡◌, ◌^◌, ◌+◌, ◌+ℤ◌, ◌*ℤ◌, ◌<ℤ◌, pos};
 ghost use Rattle.std.specs.Int.{int_div_euclid};
 ghost use Rattle.overlay_terms.specs.Plane.{Segment};
 ghost use Rattle.overlay_terms.specs.Within.{IsWithin};

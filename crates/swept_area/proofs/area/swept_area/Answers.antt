@@ -1,7 +1,7 @@
-use Rattle.std.proofs.Common.{◌≡◌, ℤ, ◌+ℤ◌, ◌+◌, ◌<◌, lit<, ap, sym, subst, ◌∙◌, arith, to_z-of_z, FitsSigned, map, take}
+use Rattle.std.proofs.Common.{◌≡◌, ℤ, ◌+ℤ◌, ◌+◌, lit<, ap, sym, subst, ◌∙◌, arith, to_z-of_z, FitsSigned}
 use Rattle.std.specs.Int.{w128}
 use Rattle.overlay_terms.proofs.Bounds.{read}
-use Rattle.swept_area.specs.Swept.{signed_of, swept_area}
+use Rattle.swept_area.specs.Swept.{signed_of}
 use Rattle.swept_area.specs.Pieces.{sided_from}
 use Rattle.swept_area.proofs.AreaLemmas.{one_more}
 use Rattle.swept_area.proofs.area.swept_area.Goals as goal

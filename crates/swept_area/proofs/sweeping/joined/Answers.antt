@@ -1,4 +1,4 @@
-use Rattle.std.proofs.Common.{◌≡◌, ℤ, pos, ◌^◌, ◌*◌, ◌+ℤ◌, ◌*ℤ◌, ◌<ℤ◌, lit<, ap, sym, subst, ◌∙◌, to_z, of_z}
+use Rattle.std.proofs.Common.{◌≡◌, ℤ, pos, ◌^◌, ◌<ℤ◌, lit<, ap, sym, subst, ◌∙◌, to_z, of_z}
 use Rattle.std.specs.Int.{w128, int_div_euclid}
 use Rattle.overlay_terms.specs.Within.{IsWithin}
 use Rattle.overlay_terms.proofs.Bounds.{Reads, read, reads, mul_reads}

@@ -1,4 +1,4 @@
-use Rattle.std.proofs.Common.{◌≡◌, ℤ, ◌-ℤ◌, ◌*ℤ◌, lit<, ap, sym, refl, ◌∙◌, Bool, true, false}
+use Rattle.std.proofs.Common.{◌≡◌, ℤ, ◌*ℤ◌, lit<, ap, sym, refl, ◌∙◌, true, false}
 use Rattle.std.specs.Int.{int_div_euclid}
 use Rattle.overlay_terms.specs.Plane.{Segment, Point}
 use Rattle.overlay_terms.proofs.Bounds.{read, reads, sub_reads}
