@@ -4,7 +4,7 @@ use Rattle.ring_joining.specs.declared.piece.NumberedPiece.{NumberedPiece}
 
 -- a piece that is taken where there is none
 abbrev pub no_piece : NumberedPiece
-no_piece = record { from = 0; to = 0 }
+no_piece = record { from = 0; to = 0; from_rank = 0; to_rank = 0 }
 
 -- the piece with a number
 abbrev pub piece_at : List NumberedPiece → ℕ → NumberedPiece

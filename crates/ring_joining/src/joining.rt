@@ -1,6 +1,8 @@
 //! Rings joined from pieces of which each one's next is given.
-ghost use Rattle.std.specs.Prelude.{◌≡◌, ◌+◌, ◌<◌, length, IfOk, OnOk};
+ghost use Rattle.std.specs.Prelude.{◌≡◌, ◌+◌, ◌<◌, Bool, false, get_or, length, IfErr, IfOk, OnOk};
 ghost use Rattle.ring_joining.specs.Outline.{in_ring, AreSet, IsJoined, IsOutline, IsRing};
+ghost use Rattle.ring_joining.specs.Following.{AreNexts, IsWhole};
+ghost use Rattle.ring_joining.specs.declared.fault.JoinFault.TheVariants as faults;
 
 use crate::fault::JoinFault;
 use crate::piece::NumberedPiece;
@@ -21,6 +23,10 @@ fn ring_from(
     ensures ring { IfOk result (λ ring. IsRing pieces.now ring) }
     ensures begins { IfOk result (λ ring. in_ring ring 0 ≡ start) }
     ensures passed { IfOk result (λ ring. AreSet passed.old.items passed.new.items ring) }
+    ensures closed { AreNexts pieces.now nexts.now → IsWhole pieces.now nexts.now passed.old.items
+        → ((d : Bool) → get_or passed.old.items start d ≡ false) → IfErr result (λ fault. fault ≡ faults.OutOfMemory) }
+    ensures whole { AreNexts pieces.now nexts.now → IsWhole pieces.now nexts.now passed.old.items
+        → ((d : Bool) → get_or passed.old.items start d ≡ false) → IfOk result (λ _. IsWhole pieces.now nexts.now passed.new.items) }
 {
     let mut ring = Vec::new(alloc);
     let mut at = start;
@@ -54,7 +60,11 @@ fn join_from(
     requires start { start < length pieces.now }
     requires nexts { length nexts.now ≡ length pieces.now }
     requires so_far { IsJoined pieces.now passed.old.items rings.old.items start }
-    ensures { OnOk result (IsJoined pieces.now passed.new.items rings.new.items (start + 1)) }
+    ensures joined { OnOk result (IsJoined pieces.now passed.new.items rings.new.items (start + 1)) }
+    ensures closed { AreNexts pieces.now nexts.now → IsWhole pieces.now nexts.now passed.old.items
+        → IfErr result (λ fault. fault ≡ faults.OutOfMemory) }
+    ensures whole { AreNexts pieces.now nexts.now → IsWhole pieces.now nexts.now passed.old.items
+        → OnOk result (IsWhole pieces.now nexts.now passed.new.items) }
 {
     if passed[start] {
         return Ok(());
@@ -72,6 +82,7 @@ pub fn join(
 ) -> Result<Vec<PieceRing>, JoinFault>
     requires nexts { length nexts.now ≡ length pieces.now }
     ensures outline { IfOk result (λ rings. IsOutline pieces.now rings.items) }
+    ensures closed { AreNexts pieces.now nexts.now → IfErr result (λ fault. fault ≡ faults.OutOfMemory) }
 {
     let mut passed = vec![in alloc; false; pieces.len()]?;
     let mut rings = Vec::new(alloc);
