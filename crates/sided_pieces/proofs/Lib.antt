@@ -1,0 +1,3 @@
+pub mod Supports
+pub mod RowLemmas
+pub mod Oversize
