@@ -40,7 +40,8 @@ def found_program(names: tuple[str, ...]) -> str:
     """The first of the programs in crates/*/out, where the gate builds them, or at the top, as README does, or on the
     path."""
     built = [TOP / "crates" / name / "out" / name for name in names] + [TOP / name for name in names]
-    found = [str(file) for file in built if file.is_file()] + [file for file in (shutil.which(name) for name in names) if file]
+    found = [str(file) for file in built if file.is_file()] + [file for file in (shutil.which(name) for name in names)
+                                                               if file]
     if not found:
         raise Unusable(f"no program: {missing(names)}; {how_to_build(names[0])}say --program PATH")
     return found[0]
@@ -69,7 +70,8 @@ def ran(program: str, words: list[str], script: bytes) -> bytes:
 
 
 def outcome(program: str, words: list[str], script: bytes) -> tuple[int, bytes, str]:
-    """The status of a run, its replies, and its fault: the first line alone, as the second names a file of the tool's own."""
+    """The status of a run, its replies, and its fault: the first line alone, as the second names a
+    file of the tool's own."""
     try:
         done = subprocess.run([program, *words], input=script, capture_output=True, check=False)
     except OSError as fault:
@@ -182,8 +184,8 @@ def add_layer_word(parser: argparse.ArgumentParser, many: bool) -> None:
                             help="a layer, base or derived; may be given several times (default: all)")
     else:
         parser.add_argument("--layer", metavar="NAME",
-                            help="a layer, base or derived (default: the derived one that was defined last and is not dropped;"
-                                 " of a store the last derived one that LAYERS lists)")
+                            help="a layer, base or derived (default: the derived one that was defined last and is not "
+                                 "dropped; of a store the last derived one that LAYERS lists)")
 
 
 def add_scale_words(parser: argparse.ArgumentParser) -> None:

@@ -1,7 +1,8 @@
 """Names coordinate systems: by an authority and its code where a system equals one of its, else by Well-Known Text.
 
 A system that only resembles one of an authority has no name, and its Well-Known Text goes with the map into whatever is
-written of it. A map that says nothing of its system is of UNKNOWN, a plane of its own, which no reader takes for degrees.
+written of it. A map that says nothing of its system is of UNKNOWN, a plane of its own, which no reader takes for
+degrees.
 
 Systems are compared by GDAL. A module for the tools; it is no tool of its own.
 """
@@ -98,8 +99,8 @@ def is_known(name: str) -> bool:
 
 
 def unit_of(name: str | None) -> str | None:
-    """The unit of a system's coordinates, as `metre` or `US survey foot`, also of one that has no name; None where it is not
-    known."""
+    """The unit of a system's coordinates, as `metre` or `US survey foot`, also of one that has no name; None where it
+    is not known."""
     if name is None or name == UNKNOWN:
         return None
     if name in DEGREES:
@@ -111,7 +112,8 @@ def unit_of(name: str | None) -> str | None:
     is_angle = system.IsGeographic()
     size = system.GetAngularUnits() if is_angle else system.GetLinearUnits()
     own = str(system.GetAngularUnitsName() if is_angle else system.GetLinearUnitsName())
-    names = (name for name, known in (ANGLES if is_angle else LENGTHS).items() if math.isclose(size, known, rel_tol=1e-9))
+    names = (name for name, known in (ANGLES if is_angle else LENGTHS).items()
+             if math.isclose(size, known, rel_tol=1e-9))
     return None if own in ("", "unknown") else next(names, own)
 
 
@@ -137,7 +139,8 @@ def called_by(name: str) -> str:
 
 
 def of_layer(file: Any, layer: Any) -> str:
-    """What the system of a layer is called. Of a Shapefile its .prj is asked, as GDAL takes what resembles it for it."""
+    """What the system of a layer is called. Of a Shapefile its .prj is asked, as GDAL takes what
+    resembles it for it."""
     if file.GetDriver().ShortName != SHAPEFILE:
         return called(layer.GetSpatialRef())
     with contextlib.suppress(RuntimeError):  # GDAL says once that it cannot read a .prj, and else amid the features
@@ -156,13 +159,15 @@ def of_layer(file: Any, layer: Any) -> str:
 
 
 def stem_of(path: str, layer: str) -> str:
-    """The files of a layer of a Shapefile, without their ends: of a path to one of them, to their folder or an archive."""
+    """The files of a layer of a Shapefile, without their ends: of a path to one of them, to their
+    folder or an archive."""
     if re.search(r"\.(shp|shx|dbf)$", path, re.IGNORECASE):
         return path[:-4]
     gdal, _ = modules()
     folder = f"/vsizip/{path}" if path.lower().endswith(".shz") and not path.startswith("/vsizip/") else path
     names = (name for name in gdal.ReadDirRecursive(folder) or () if name.lower().endswith(".shp"))
-    return next((f"{folder}/{name[:-4]}" for name in names if pathlib.PurePath(name).stem == layer), f"{folder}/{layer}")
+    return next((f"{folder}/{name[:-4]}" for name in names if pathlib.PurePath(name).stem == layer),
+                f"{folder}/{layer}")
 
 
 def content(name: str) -> str:

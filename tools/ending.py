@@ -21,8 +21,8 @@ TEXT_MAX = 200
 
 
 # Modules that the tools stand on, and Debian's packages of them.
-PACKAGES = {"cachetools": "python3-cachetools", "flask": "python3-flask", "numpy": "python3-numpy", "osgeo": "python3-gdal",
-            "pyproj": "python3-pyproj", "tqdm": "python3-tqdm", "waitress": "python3-waitress"}
+PACKAGES = {"cachetools": "python3-cachetools", "flask": "python3-flask", "numpy": "python3-numpy",
+            "osgeo": "python3-gdal", "pyproj": "python3-pyproj", "tqdm": "python3-tqdm", "waitress": "python3-waitress"}
 UTF8 = "iconv -f ISO-8859-1 -t UTF-8 makes it of Latin-1"
 
 

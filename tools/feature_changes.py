@@ -13,7 +13,7 @@ from decimal import Decimal
 from fractions import Fraction
 from typing import Any
 
-from . import ending, features, layering, limits, rounding, wkt
+from . import ending, features, layering, limits, rounding, wkt, writing
 from .features import Change, Feature, Held, Table
 from .map_reading import Refused
 from .rounding import Polygon, Ring
@@ -174,7 +174,7 @@ def carried_out(path: pathlib.Path, before: Table, plan: Plan, accept: Callable[
 def put(path: pathlib.Path, table: Table) -> None:
     """Writes the file of features durably."""
     try:
-        features.write_durably(path, table.text())
+        writing.write_durably(path, table.text())
     except OSError as fault:
         raise Unwritten(f"the change is not made: {ending.told(path.name, fault)}") from fault
 
@@ -249,7 +249,8 @@ def parts_of(table: Table, held: Held, layer: str) -> dict[str, list[Ring]]:
     return {part: list(held.get(part, ())) for part in table.layers.get(layer, (layer,))}
 
 
-def relaid(table: Table, held: Held, old: Feature | None, new: Feature | None, polygons: Sequence[Polygon]) -> list[str]:
+def relaid(table: Table, held: Held, old: Feature | None, new: Feature | None,
+           polygons: Sequence[Polygon]) -> list[str]:
     """The lines that take one feature's rings out of its layers and put another's into theirs."""
     check_layout(table)
     runs, lines = runs_of(polygons), []

@@ -34,7 +34,6 @@ from typing import Any
 
 from . import layering
 from .rounding import Polygon, Ring
-from .writing import write_durably as write_durably
 
 ID = re.compile(r"[A-Za-z0-9_.-]{1,64}")
 DOTS = (".", "..")  # who asks for a path takes these parts out of it first (RFC 3986, section 5.2.4)
@@ -105,7 +104,8 @@ class Table:
         lines = ",\n".join("  " + json.dumps(feature.value()) for feature in self.features)
         pending = f' "pending": {json.dumps(self.pending.value())},\n' if self.pending else ""
         return (f'{{"collection": {json.dumps(self.collection)}, "coded": {json.dumps(self.coded)}, '
-                f'"union": {json.dumps(self.union)}, "name_by": {json.dumps(self.name_by)},\n "layers": {json.dumps(layers)},\n{pending}'
+                f'"union": {json.dumps(self.union)}, "name_by": {json.dumps(self.name_by)},\n '
+                f'"layers": {json.dumps(layers)},\n{pending}'
                 f' "features": [\n{lines}\n]}}\n')
 
     def base_layers(self) -> list[str]:
@@ -298,7 +298,8 @@ def feature_of(value: Any) -> Feature:
 
 
 def is_id(given: Any) -> bool:
-    """Whether something can be the id of a feature in a file: a whole number that a double holds, or a short plain word."""
+    """Whether something can be the id of a feature in a file: a whole number that a double holds,
+    or a short plain word."""
     if isinstance(given, int) and not isinstance(given, bool):
         return 0 <= given < ID_MAX
     return isinstance(given, str) and bool(ID.fullmatch(given))
@@ -401,7 +402,8 @@ def why_places(given: Sequence[Any]) -> str | None:
         if one is None:
             return "a feature has none"
         if not is_id(one):
-            return f"{str(one)[:40]!r} is none, as a whole number below 2^53 is, or a word of letters, digits, _ . and -"
+            return (f"{str(one)[:40]!r} is none, as a whole number below 2^53 is, or a word of letters, digits, _ . "
+                    "and -")
         if one in DOTS:
             return f"{one!r} is none, as no address of the web ends with it"
         if counts[str(one)] > 1:

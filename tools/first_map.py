@@ -10,10 +10,10 @@ is a layer of its file's name then, and `both` is what all of them have in commo
 
 It works in a folder of its own, CITY.overlay in --folder (default: where it is called), and writes nothing elsewhere:
 CITY.txt, CITY.db and what goes with them lie there. A folder of that name with files in it that overlay did not make,
-or a link, is refused and left as it is. A store that is there is served as it is; --again makes it anew, unless a program has it
-open, as a running front. A store of another map of the same name, or one without the CITY.txt that it was made of, is
-refused and left as it is. Where one store does not suffice each has a front of its own. A browser is opened where there
-is a screen, but for --no-browser. Ctrl-C ends the front.
+or a link, is refused and left as it is. A store that is there is served as it is; --again makes it anew, unless a
+program has it open, as a running front. A store of another map of the same name, or one without the CITY.txt that it
+was made of, is refused and left as it is. Where one store does not suffice each has a front of its own. A browser is
+opened where there is a screen, but for --no-browser. Ctrl-C ends the front.
 
 Status 0: ended by Ctrl-C or SIGTERM, or all of it made by --only-make; 1: a feature was refused, which is reported, and
 the rest made by --only-make, a line was refused, a program is not there, another has the store, or a front ended by a
@@ -32,7 +32,6 @@ import shutil
 import signal
 import subprocess
 import sys
-import tempfile
 import threading
 import webbrowser
 from collections.abc import Iterable, Mapping
@@ -70,11 +69,13 @@ def words_of(arguments: list[str]) -> argparse.Namespace:
     parser.add_argument("--name-by", metavar="PROPERTY", help="what the features are called by")
     parser.add_argument("--crs", type=scales.crs, help="the name of the coordinates, where the files do not say it")
     parser.add_argument("--source-layer", metavar="NAME", help="the layer of files that have several, as GeoPackages")
-    parser.add_argument("--folder", type=pathlib.Path, default=pathlib.Path(), help="where the folder of the store is made")
+    parser.add_argument("--folder", type=pathlib.Path, default=pathlib.Path(),
+                        help="where the folder of the store is made")
     parser.add_argument("--again", action="store_true",
                         help="make a store anew though it is there; what was changed in it since is lost")
     parser.add_argument("--writable", action="store_true", help="let the page and HTTP change the map")
-    parser.add_argument("--port", type=int, default=8080, help="of the first front; 0 for one that is free (default 8080)")
+    parser.add_argument("--port", type=int, default=8080,
+                        help="of the first front; 0 for one that is free (default 8080)")
     parser.add_argument("--no-browser", action="store_true", help="open no browser")
     parser.add_argument("--only-make", action="store_true", help="make the store, and start no front")
     parser.add_argument("--program", metavar="PATH", help="overlay_live (default: as the other tools find it)")
@@ -138,7 +139,8 @@ def scripts_of(output: pathlib.Path) -> list[pathlib.Path]:
     """The scripts of an output: itself, or NAME.1.txt, NAME.2.txt .."""
     if output.is_file():
         return [output]
-    numbered = {int(path.stem.rpartition(".")[2]): path for path in output.parent.glob(f"{output.stem}.*{output.suffix}")
+    numbered = {int(path.stem.rpartition(".")[2]): path
+                for path in output.parent.glob(f"{output.stem}.*{output.suffix}")
                 if re.fullmatch(rf"{re.escape(output.stem)}\.[0-9]+", path.stem)}
     return [numbered[number] for number in sorted(numbered)]
 
@@ -169,7 +171,8 @@ def make_store(script: pathlib.Path, program: str) -> None:
 
 def stores_for(words: argparse.Namespace, program: str, errors: TextIO) -> tuple[list[pathlib.Path], int]:
     """The stores of a map, and the status of making them."""
-    stem = "_and_".join(re.sub(r"[^A-Za-z0-9]+", "_", path.stem).strip("_") or "map" for path in (words.map, *words.others))
+    stem = "_and_".join(re.sub(r"[^A-Za-z0-9]+", "_", path.stem).strip("_") or "map"
+                        for path in (words.map, *words.others))
     own = words.folder / f"{stem}.overlay"
     check_own(own)
     clear_left_over(words.folder, own)
@@ -179,7 +182,8 @@ def stores_for(words: argparse.Namespace, program: str, errors: TextIO) -> tuple
     if there and not words.again:
         older = any(path.stat().st_mtime > there[0].stat().st_mtime for path in (words.map, *words.others))
         age = ", older than its map" if older else ""
-        print(f"{', '.join(map(str, there))}: made before{age}, and served as it is; --again makes it anew", file=errors)
+        print(f"{', '.join(map(str, there))}: made before{age}, and served as it is; --again makes it anew",
+              file=errors)
         return there, 0
     place = own if is_own(own) else words.folder
     if not os.access(place, os.W_OK | os.X_OK):
@@ -206,7 +210,8 @@ def is_own(folder: pathlib.Path) -> bool:
 def check_own(own: pathlib.Path) -> None:
     """Refuses a folder with files in it that this did not make, what is no folder, and a link, whatever it leads to."""
     if own.is_symlink():
-        raise Unmade(2, f"{own}: it is a link, and overlay works in a folder of its own; say another --folder, or move it away")
+        raise Unmade(
+            2, f"{own}: it is a link, and overlay works in a folder of its own; say another --folder, or move it away")
     if os.path.lexists(own) and not is_own(own) and (not own.is_dir() or any(own.iterdir())):
         raise Unmade(2, f"{own}: it is there, and overlay did not make it (no {MARK} is in it); say another --folder, "
                         "or move it away")
@@ -256,7 +261,8 @@ def put(words: argparse.Namespace, folder: pathlib.Path, own: pathlib.Path, ther
         try:
             folder.rename(own)
         except OSError as fault:
-            raise Unmade(1, f"{ending.told(own, fault)}: another run has made it meanwhile; say the same again") from fault
+            raise Unmade(1,
+                         f"{ending.told(own, fault)}: another run has made it meanwhile; say the same again") from fault
         return
     made = sorted(folder.iterdir(), key=lambda path: path.suffix == ".db")
     if late := [store for store in stores_of(script_in(own)) if store not in there]:
@@ -270,11 +276,13 @@ def put(words: argparse.Namespace, folder: pathlib.Path, own: pathlib.Path, ther
 
 
 def check_maps(words: argparse.Namespace, there: list[pathlib.Path]) -> None:
-    """Refuses a map that is not there, as the store of its name may be another's, and one that the store was not made of."""
+    """Refuses a map that is not there, as the store of its name may be another's, and one that the
+    store was not made of."""
     given = (words.map, *words.others)
     for path in given:
         if not path.exists():
-            raise Unmade(2, f"{path}: no such file; the store of that name is shown by overlay_web.py --store {there[0]}")
+            raise Unmade(2,
+                         f"{path}: no such file; the store of that name is shown by overlay_web.py --store {there[0]}")
     for path, other in zip(given, maps_of(there[0].with_suffix(".txt"))):
         if other.exists() and not other.samefile(path):
             raise Unmade(2, f"{there[0]}: it was made of {other}; say another --folder, or move it away")
@@ -285,7 +293,8 @@ def maps_of(script: pathlib.Path) -> list[pathlib.Path]:
     with script.open(encoding="utf-8", errors="replace") as file:
         head = file.readline()
     try:
-        return [pathlib.Path(path) for path in json.loads(head.removeprefix(MADE_OF))] if head.startswith(MADE_OF) else []
+        return ([pathlib.Path(path) for path in json.loads(head.removeprefix(MADE_OF))] if head.startswith(MADE_OF)
+                else [])
     except (ValueError, TypeError):
         return []
 
@@ -326,7 +335,8 @@ def has_screen(environment: Mapping[str, str]) -> bool:
     return bool(environment.get("DISPLAY") or environment.get("WAYLAND_DISPLAY"))
 
 
-def started(words: argparse.Namespace, store: pathlib.Path, port: int, program: str) -> tuple[subprocess.Popen[str], str]:
+def started(words: argparse.Namespace, store: pathlib.Path, port: int,
+            program: str) -> tuple[subprocess.Popen[str], str]:
     """A front over a store, and the address that it prints when it listens."""
     given = [sys.executable, str(FRONT), "--store", str(store), "--program", program, "--port", str(port)]
     front = subprocess.Popen(given + ["--writable"] * words.writable, stdout=subprocess.PIPE, text=True,
@@ -390,5 +400,6 @@ def main(arguments: list[str], output: TextIO | None = None, errors: TextIO | No
         print(fault, file=errors)
         return fault.status
     except (sessions.Unusable, OSError) as fault:
-        print(fault if isinstance(fault, sessions.Unusable) else ending.told(fault.filename or "overlay", fault), file=errors)
+        print(fault if isinstance(fault, sessions.Unusable) else ending.told(fault.filename or "overlay", fault),
+              file=errors)
         return 1

@@ -194,8 +194,8 @@ def check_target(path: pathlib.Path) -> None:
 
 
 def told_apart(found: list[Any]) -> dict[str, str]:
-    """Calls properties of features otherwise whose names differ from others in case alone, which no columns of GDAL do; gives
-    what they are called then."""
+    """Calls properties of features otherwise whose names differ from others in case alone, which no columns of GDAL do;
+    gives what they are called then."""
     names = dict.fromkeys(name for one in found for name in one["properties"])
     taken, seen, renamed = {name.casefold() for name in names}, set[bytes](), dict[str, str]()
     for name in names:
@@ -211,8 +211,8 @@ def told_apart(found: list[Any]) -> dict[str, str]:
 
 
 def with_ids(path: pathlib.Path, found: list[Any]) -> list[str]:
-    """Makes features of a collection, and gives words for ogr2ogr, so that the file has the ids and all properties of theirs:
-    a GeoPackage has whole numbers as its own ids; other ids, and those of a FlatGeobuf, are a property more."""
+    """Makes features of a collection, and gives words for ogr2ogr, so that the file has the ids and all properties of
+    theirs: a GeoPackage has whole numbers as its own ids; other ids, and those of a FlatGeobuf, are a property more."""
     if not found or not all("id" in one for one in found):
         return []
     taken = {name.casefold() for one in found for name in one["properties"]}
@@ -222,7 +222,8 @@ def with_ids(path: pathlib.Path, found: list[Any]) -> list[str]:
         for place, one in enumerate(found, 1):  # an id that is a number, else GDAL takes a property `id` for it
             kept = one["id"] if whole else str(one["id"])
             one["id"], one["properties"] = place, {name: kept, **one["properties"]}
-    words = ["-preserve_fid", "-lco", f"FID={free_name('fid', taken)}", "-lco", f"GEOMETRY_NAME={free_name('geom', taken)}"]
+    words = ["-preserve_fid", "-lco", f"FID={free_name('fid', taken)}", "-lco",
+             f"GEOMETRY_NAME={free_name('geom', taken)}"]
     return words if is_package else []
 
 
@@ -234,8 +235,8 @@ def free_name(name: str, taken: Container[str]) -> str:
 
 
 def write(path: pathlib.Path, geojson: str, crs: str | None) -> dict[str, str]:
-    """Makes a file of GeoJSON in a coordinate system, or of a plane of its own, whole or not at all. Gives the columns that
-    are not called as the property is."""
+    """Makes a file of GeoJSON in a coordinate system, or of a plane of its own, whole or not at all. Gives the columns
+    that are not called as the property is."""
     check_target(path)
     value = json.loads(geojson)
     renamed = told_apart(value["features"])

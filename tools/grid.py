@@ -1,8 +1,8 @@
 """The one rounding of coordinates: by every way in a map becomes the same whole numbers.
 
-A coordinate is first the nearest double, as GDAL, PostGIS, QGIS and shapely read it, and a double stands for the shortest
-decimal that prints as it. So a text and the double that is read of it are one number. Of two whole numbers that are as
-near the greater one is taken.
+A coordinate is first the nearest double, as GDAL, PostGIS, QGIS and shapely read it, and a double stands for the
+shortest decimal that prints as it. So a text and the double that is read of it are one number. Of two whole numbers
+that are as near the greater one is taken.
 
 A module for the tools and web/; it uses none of them.
 """
@@ -24,8 +24,8 @@ def spelled(double: float) -> Fraction:
 
 
 def stands_for(number: Fraction) -> Fraction:
-    """The number that a coordinate stands for: what the double nearest to it is spelled as. One that no decimal spells, as
-    5/3, is itself; so is one beyond all doubles."""
+    """The number that a coordinate stands for: what the double nearest to it is spelled as. One that no decimal spells,
+    as 5/3, is itself; so is one beyond all doubles."""
     divisor = number.denominator
     for prime in (2, 5):
         while divisor % prime == 0:
@@ -57,7 +57,8 @@ def nearest(number: Fraction) -> int:
 
 
 def nearest_array(doubles: Any, factor: Fraction) -> Any:
-    """The whole numbers of an array of doubles times a factor, by numpy: those that are near a half by their decimals."""
+    """The whole numbers of an array of doubles times a factor, by numpy: those that are near a half
+    by their decimals."""
     import numpy
 
     scaled = doubles * float(factor)

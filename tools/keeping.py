@@ -46,7 +46,8 @@ def stores_of(output: pathlib.Path) -> list[pathlib.Path]:
 
 
 def scripts_of_name(output: pathlib.Path) -> list[pathlib.Path]:
-    """The files that lie where a script NAME.txt, or NAME.1.txt and so on where several stores are needed, would lie."""
+    """The files that lie where a script NAME.txt, or NAME.1.txt and so on where several stores are
+    needed, would lie."""
     named = re.compile(rf"{re.escape(output.with_suffix('').name)}(\.[0-9]+)?{re.escape(output.suffix)}")
     folder = output.parent.iterdir() if output.parent.is_dir() else ()
     return [path for path in folder if named.fullmatch(path.name) and path.is_file()]
@@ -85,24 +86,27 @@ def is_own(path: pathlib.Path) -> bool:
 
 def check_unnamed(output: pathlib.Path, beside: Mapping[pathlib.Path, bytes], scripts: Iterable[pathlib.Path],
                   named: Iterable[pathlib.Path]) -> None:
-    """Refuses to write over files that were not named: those of another form than the tools', and, where no script of the
-    output is there to which they belong, those that would be written otherwise."""
+    """Refuses to write over files that were not named: those of another form than the tools', and, where no script of
+    the output is there to which they belong, those that would be written otherwise."""
     for path in (*beside, *(script for script in scripts if script != output)):
         if path.is_file() and not is_own(path):
-            raise StoreStands(f"{path} stands, and is no file of this tool's: it was not named, and is not written over; take "
-                              "another name, or move it away")
+            raise StoreStands(
+                f"{path} stands, and is no file of this tool's: it was not named, and is not written over; take "
+                "another name, or move it away")
     if any(map(is_own, scripts_of_name(output))):
         return
     for path, data in beside.items():
         if path.is_file() and path.read_bytes() != data and not any(is_same(path, other) for other in named):
-            raise StoreStands(f"{path} stands, would be written otherwise, and belongs to no script, as {output} is not there "
-                              "as one: it was not named, and is not written over; take another name, or move it away")
+            raise StoreStands(
+                f"{path} stands, would be written otherwise, and belongs to no script, as {output} is not there "
+                "as one: it was not named, and is not written over; take another name, or move it away")
 
 
 def check(output: pathlib.Path, beside: Mapping[pathlib.Path, bytes], scripts: Iterable[pathlib.Path] = (),
           named: Iterable[pathlib.Path] = ()) -> None:
-    """Refuses to write over files beside an output that were not named, or that would say something else of a store that is
-    there under its name. scripts: those of an output that needs several stores; named: files that other words name."""
+    """Refuses to write over files beside an output that were not named, or that would say something else of a store
+    that is there under its name. scripts: those of an output that needs several stores; named: files that other words
+    name."""
     check_unnamed(output, beside, list(scripts), list(named))
     stores = stores_of(output)
     for path, data in beside.items() if stores else ():

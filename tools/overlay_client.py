@@ -13,10 +13,10 @@
             reply.first                         # many lines are sent ahead, and each has its reply
 
 `Server` starts the program and ends it, and lends its one to four sessions. A `Session` is a pair of files, so it goes
-over named pipes or a socket as well. It is used by one thread at a time. What the program refuses is raised as `Refused`,
-with the number and the text that docs/COMMANDS.md has; a program or a session that has ended, as `Ended`; a reply that
-does not come in time, as TimeoutError, and its session is lent again once it has come. A text that would be another
-line, or none, is a `ValueError` before anything is sent.
+over named pipes or a socket as well. It is used by one thread at a time. What the program refuses is raised as
+`Refused`, with the number and the text that docs/COMMANDS.md has; a program or a session that has ended, as `Ended`; a
+reply that does not come in time, as TimeoutError, and its session is lent again once it has come. A text that would be
+another line, or none, is a `ValueError` before anything is sent.
 
 In the world's coordinates, which `map.scale.json` beside `map.db` gives, and with the features of `map.features.json`:
 
@@ -310,8 +310,8 @@ class Session:
 
     lines is written to and replies read from, each a file with a descriptor. Where a reply does not come in time the
     session is late: it takes no question until `settle` has passed over what is to come, as a `Server` has it do. Where
-    a reply is broken off, as by an interrupt or the program's end, the session is closed: what comes next would be taken
-    for another answer. lost_since: when it was closed or became late, by time.monotonic; None while it is whole.
+    a reply is broken off, as by an interrupt or the program's end, the session is closed: what comes next would be
+    taken for another answer. lost_since: when it was closed or became late, by time.monotonic; None while it is whole.
     """
 
     def __init__(self, lines: BinaryIO, replies: BinaryIO, timeout: float | None = None) -> None:
@@ -356,7 +356,8 @@ class Session:
         self._late, self.lost_since = replies, time.monotonic()
 
     def settle(self) -> None:
-        """Waits for the replies that are late, for as long as it takes, and passes them over; then it is whole again."""
+        """Waits for the replies that are late, for as long as it takes, and passes them over; then
+        it is whole again."""
         timeout, self._wire.timeout = self._wire.timeout, None
         try:
             while self._late:
@@ -442,15 +443,17 @@ class Session:
         return self._exchange(request_bytes(f"EDGES {name} {column}")).pieces()
 
     def columns(self, name: str) -> list[list[Piece] | None]:
-        """Of each column of a derived layer the pieces, or None where it is pending. They may be of several versions."""
+        """Of each column of a derived layer the pieces, or None where it is pending. They may be of
+        several versions."""
         replies = list(self.answers(edges_lines(name, range(COLUMNS))))
         return [None if is_pending(reply) else reply.pieces() for reply in replies]
 
     def boundary(self, name: str, columns: Iterable[int] = range(COLUMNS)) -> Boundary:
         """Waits for a derived layer, and gives its whole boundary at one version; or what begins in some columns.
 
-        A session sees versions in their order. So where WAIT gives one number before and after the other questions, they
-        were all answered at that version. Where another session has changed something in between, all is asked again.
+        A session sees versions in their order. So where WAIT gives one number before and after the other questions,
+        they were all answered at that version. Where another session has changed something in between, all is asked
+        again.
         """
         questions = [f"WAIT {name}", "LAYERS", *edges_lines(name, columns), f"WAIT {name}"]
         while True:
@@ -468,7 +471,8 @@ class Session:
         return self.ask(f"VERIFY {name} {column}")[0]
 
     def sync(self) -> int:
-        """Waits until all that this session has seen is in the file. The number that is durable, at least that of it."""
+        """Waits until all that this session has seen is in the file. The number that is durable, at
+        least that of it."""
         return number_of(self.ask("SYNC"))
 
     def close(self) -> None:
@@ -492,8 +496,9 @@ def is_pending(reply: Reply) -> bool:
 
 
 def tools(name: str) -> Any:
-    """A module of the tools: of the package that this file is in, where that has them; else of the one that pip installs;
-    and where that is not there, of the folder of this file, which is taken for it, as with tools/ on Python's path."""
+    """A module of the tools: of the package that this file is in, where that has them; else of the one that pip
+    installs; and where that is not there, of the folder of this file, which is taken for it, as with tools/ on Python's
+    path."""
     if __package__ and importlib.util.find_spec(f"{__package__}.feature_changes"):
         return importlib.import_module(f"{__package__}.{name}")
     package, folder = "overlay_client_tools", pathlib.Path(__file__).resolve().parent
@@ -517,7 +522,8 @@ def rings_of(pieces: list[Piece]) -> list[list[Ring]]:
 
 
 class Shape:
-    """A geometry of GeoJSON, in numbers of the world; of a feature also what it is. It is taken as __geo_interface__."""
+    """A geometry of GeoJSON, in numbers of the world; of a feature also what it is. It is taken as
+    __geo_interface__."""
 
     def __init__(self, geometry: Mapping[str, Any], properties: Mapping[str, Any] | None = None) -> None:
         self.geometry, self.properties = geometry, properties
@@ -540,7 +546,8 @@ class MapFeature(Shape):
 
 
 class Features:
-    """The features of a store's map, by the file of features beside it (docs/FEATURES.md): read, and changed one by one.
+    """The features of a store's map, by the file of features beside it (docs/FEATURES.md): read,
+    and changed one by one.
 
     They are read anew by each call. A change is durable when its call returns; one that cannot be
     made is a ValueError that says why.
@@ -570,7 +577,8 @@ class Features:
     def __getitem__(self, identity: int | str) -> MapFeature:
         """The feature with an id, else the first of a name."""
         found = list(self)
-        fitting = [one for one in found if str(one.id) == str(identity)] or [one for one in found if one.name == identity]
+        fitting = ([one for one in found if str(one.id) == str(identity)]
+                   or [one for one in found if one.name == identity])
         if not fitting:
             raise KeyError(identity)
         return fitting[0]
@@ -709,7 +717,8 @@ class Server:
         self.store = None if store is None else pathlib.Path(store)
         self.program, self.read_only = os.fspath(program), read_only
         self.process, self.sessions = started(words, sessions, timeout)
-        # What may sleep (WAIT, SYNC) goes by sessions of its own where there are several, so that it holds up no LOCATE.
+        # What may sleep (WAIT, SYNC) goes by sessions of its own where there are several, so that it holds up no
+        # LOCATE.
         quick = (sessions + 1) // 2
         self.quick = Pool(self.sessions[:quick])
         self.slow = Pool(self.sessions[quick:]) if sessions > 1 else self.quick

@@ -1,4 +1,5 @@
-"""Parses the words that a command is called with, as argparse does; but an option of one value that is given twice is refused.
+"""Parses the words that a command is called with, as argparse does; but an option of one value that
+is given twice is refused.
 
 A module for the commands of tools/ and web/; it is no tool of its own.
 """
@@ -10,6 +11,7 @@ from typing import Any
 
 
 NEGATIVE = re.compile(r"-(?:\d+|\d*\.\d+|\d+/\d+)$")  # a word that is a number, and no option
+
 
 class Once(argparse.Action):
     """Keeps the value of an option, once among the words. An option that takes several says so by another action."""

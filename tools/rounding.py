@@ -21,8 +21,8 @@ OUT_OF_RANGE = "out of range after scaling"
 
 @dataclass
 class Tally:
-    """What rounding has done to some coordinates; the largest move is in the given unit. Longer ones had more digits than
-    a double."""
+    """What rounding has done to some coordinates; the largest move is in the given unit. Longer ones had more digits
+    than a double."""
 
     coordinates: int = 0
     rounded: int = 0
@@ -74,8 +74,8 @@ class Rounding:
         self.factors = scale.factor, scale.factor_y
 
     def whole(self, axis: int, given: Any) -> int:
-        """The whole number of a coordinate, as grid.py rounds it. Where it has more digits than a double, all of them count
-        for how far it moves."""
+        """The whole number of a coordinate, as grid.py rounds it. Where it has more digits than a double, all of them
+        count for how far it moves."""
         scaled = (number_of(given) - self.scale.origin[axis]) * self.factors[axis]
         nearest = grid.nearest(scaled)
         self.tally.coordinates += 1

@@ -144,8 +144,8 @@ class Scale:
         return grid.nearest(x), grid.nearest(y)
 
     def question(self, x: Fraction, y: Fraction) -> tuple[int, int, int]:
-        """The numbers of LOCATE for a point of the world: the point that its numbers stand for, as those of a map do, or
-        the nearest that can be asked."""
+        """The numbers of LOCATE for a point of the world: the point that its numbers stand for, as those of a map do,
+        or the nearest that can be asked."""
         x, y = self.stored(grid.stands_for(x), grid.stands_for(y))
         both = math.lcm(x.denominator, y.denominator)
         w = both if both <= limits.WEIGHT_MAX else limits.WEIGHT_MAX

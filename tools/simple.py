@@ -136,7 +136,8 @@ def meetings(polygons: list[Polygon], most: int | None = None) -> Iterator[tuple
     edges = edges_of(polygons)
     size = size_of_cells(edges)
     for cell, there in edges_in_cells(edges, size, most).items():
-        for ((left, low, right, high), edge), ((its_left, its_low, its_right, its_high), other) in itertools.combinations(there, 2):
+        for ((left, low, right, high), edge), ((its_left, its_low, its_right, its_high),
+                                               other) in itertools.combinations(there, 2):
             if left <= its_right and its_left <= right and low <= its_high and its_low <= high and cell == (
                     max(left, its_left) // size[0], max(low, its_low) // size[1]) and meet_wrongly(edge, other):
                 yield edge, other

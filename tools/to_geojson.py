@@ -1,5 +1,6 @@
 #!/usr/bin/env python3
-"""A command: the module of this file's name in commands/ says what it does. Each command is a file of these same lines."""
+"""A command: the module of this file's name in commands/ says what it does. Each command is a file
+of these same lines."""
 
 import pathlib
 import sys

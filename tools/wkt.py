@@ -82,7 +82,6 @@ class Reader:
             return kind, []
         return kind, self.items(self.geometry if kind == "GEOMETRYCOLLECTION" else self.nested)
 
-
     def system(self) -> None:
         """The number of a coordinate system before a geometry, where it has one; 0 is none."""
         if self.kind == 1 and self.word.upper() == "SRID":

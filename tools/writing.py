@@ -31,8 +31,8 @@ looked_in = set[pathlib.Path]()
 
 
 def beside(path: pathlib.Path, end: str = "") -> pathlib.Path:
-    """Where a file is written first: the same name each time that this thread asks, and nobody else's. The first one of a
-    folder takes away what processes that are gone have left so there."""
+    """Where a file is written first: the same name each time that this thread asks, and nobody else's. The first one of
+    a folder takes away what processes that are gone have left so there."""
     if path.parent not in looked_in:
         looked_in.add(path.parent)
         take_away_left(path.parent)

@@ -17,7 +17,8 @@ from waitress.task import ErrorTask
 
 from .front import HEADERS, Front, refusal
 from .serving import (
-    ANSWER_SECONDS, LINE_MOST, PORT_MOST, QUIET_SECONDS, REQUEST_SECONDS, THREADS, Unheard, connections_most, tell_fewer, told,
+    ANSWER_SECONDS, LINE_MOST, PORT_MOST, QUIET_SECONDS, REQUEST_SECONDS, THREADS, Unheard, connections_most,
+    tell_fewer, told,
 )
 from .pages import BODY_MOST
 
@@ -91,8 +92,8 @@ def server_of(front: Front, host: str, port: int, make_ends: Callable[[Any], End
 
 
 def serve(front: Front, host: str, port: int) -> None:
-    """Answers questions until it is ended by a signal. It prints its address on standard output when it listens; before that it says on
-    standard error where it has fewer places than usual."""
+    """Answers questions until it is ended by a signal. It prints its address on standard output when it listens; before
+    that it says on standard error where it has fewer places than usual."""
     host = "127.0.0.1" if host == "localhost" else host
     if not 0 <= port <= PORT_MOST:
         raise Unheard(host, port, f"a port is 0 to {PORT_MOST}")

@@ -1,7 +1,7 @@
 """The features of a store's map as the web shows them: found, drawn, located, and changed one by one.
 
-The file of features (docs/FEATURES.md) and the layers of one version say together which features there are. A file that is
-not of the layers answers nothing.
+The file of features (docs/FEATURES.md) and the layers of one version say together which features there are. A file that
+is not of the layers answers nothing.
 """
 
 from __future__ import annotations
@@ -14,7 +14,7 @@ from collections.abc import Callable, Iterator, Mapping, Sequence
 from dataclasses import dataclass
 from typing import NamedTuple
 
-from tools import features, layering, rounding, simple, wkt
+from tools import features, layering, rounding, simple, wkt, writing
 from tools.feature_changes import Plan, carried_out, put
 from tools.features import Feature, Held, Outline, Table
 from tools.overlay_client import Point, Refused
@@ -80,7 +80,7 @@ class FeatureStore:
                 raise Unlike(f"{path}: its collection {self.name} has the name of a layer")
             standing = self.state(view).table
         if store.writable and self._table.pending:
-            features.write_durably(path, standing.text())
+            writing.write_durably(path, standing.text())
         self._table = standing
         store.protect(self._refusal)
 

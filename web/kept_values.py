@@ -36,9 +36,10 @@ class Kept(Generic[K, V]):
         with self._lock:
             self._made[key] = value
 
-    def made(self, key: K, make: Callable[[], V], timeout: float, places: AbstractContextManager[None] | None = None) -> V:
-        """The value, by make where it is not there; another thread that makes it is waited for. places: where it is made
-        or waited for."""
+    def made(self, key: K, make: Callable[[], V], timeout: float,
+             places: AbstractContextManager[None] | None = None) -> V:
+        """The value, by make where it is not there; another thread that makes it is waited for. places: where it is
+        made or waited for."""
         found = self.get(key)
         if found is not None:
             return found

@@ -126,7 +126,8 @@ class LayerStore:
     # ---- boundaries
 
     def joined(self, name: str, revision: str | None = None) -> Joined:
-        """The polygons of a layer, at a revision that was reported before or the present one; Pending if it is not built."""
+        """The polygons of a layer, at a revision that was reported before or the present one;
+        Pending if it is not built."""
         held = self._joined.get(revision) if revision else None
         end = time.monotonic() + PATIENCE
         while held is None:

@@ -16,7 +16,8 @@ EPSG = "http://www.opengis.net/def/crs/EPSG/0/"
 
 
 def exact(text: object) -> Fraction:
-    """The number that a text spells. Its digits and its exponent are bounded, as one of 9 digits would take all memory."""
+    """The number that a text spells. Its digits and its exponent are bounded, as one of 9 digits
+    would take all memory."""
     if not isinstance(text, (str, int, float)):  # a list may be nested so deep that it has no text
         raise ValueError("a number is wanted")
     if re.fullmatch(r"[-+]?[0-9]{1,20}/[0-9]{1,20}", str(text)) and int(str(text).partition("/")[2]):
@@ -36,10 +37,12 @@ def rounded(over: int, under: int, digits: int) -> int | float:
 
 
 class MapScale:
-    """A scale as the web needs it: places as GeoJSON has them, and the names of coordinate systems as OGC API has them."""
+    """A scale as the web needs it: places as GeoJSON has them, and the names of coordinate systems
+    as OGC API has them."""
 
     def __init__(self, scale: scales.Scale) -> None:
-        if scale.crs is not None and not scales.CRS_NAME.fullmatch(scale.crs) and not coordinate_systems.is_text(scale.crs):
+        if scale.crs is not None and not scales.CRS_NAME.fullmatch(scale.crs) and not coordinate_systems.is_text(
+                scale.crs):
             raise scales.ScaleFault("crs is an authority and its code, as EPSG:25832, or Well-Known Text, and not "
                                     f"{scale.crs[:40]}")
         # Coordinates of another authority, or of none, have no name here: they are served as they are.

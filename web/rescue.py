@@ -54,7 +54,8 @@ class Rescue:
 
 
 def put_copy(store: pathlib.Path, program: str) -> None:
-    """Puts a copy in the place of a store that nobody writes, where there is room. Where that fails, only the store is left, as it was."""
+    """Puts a copy in the place of a store that nobody writes, where there is room. Where that fails, only the store is
+    left, as it was."""
     place = store.resolve()
     size, free = place.stat().st_size, shutil.disk_usage(place.parent).free
     if free < size:

@@ -108,7 +108,8 @@ SCHEMAS: dict[str, Value] = {
     "extent": every(spatial=every(bbox=array(array(NUMBER, 4, 4), 1), crs=STRING)),
     "collection": of(["id", "links", "revision"], id={"type": "string", "pattern": NAME}, title=STRING,
                      description=STRING, itemType=STRING, revision=STRING, definition=TEXT_OR_NOTHING, features=WHOLE,
-                     links=array(ref("link")), extent=ref("extent"), box=array(NUMBER, 4, 4), crs=array(STRING), storageCrs=STRING),
+                     links=array(ref("link")), extent=ref("extent"), box=array(NUMBER, 4, 4), crs=array(STRING),
+                     storageCrs=STRING),
     "collections": every(links=array(ref("link")), collections=array(ref("collection"))),
     "polygon": every(type={"type": "string", "enum": ["Polygon"]}, coordinates=array(array(POSITION, 4), 1)),
     "multiPolygon": every(type={"type": "string", "enum": ["MultiPolygon"]},
@@ -121,8 +122,9 @@ SCHEMAS: dict[str, Value] = {
     "newFeature": {
         **of(["type", "geometry"], type={"type": "string", "enum": ["Feature"]}, geometry=GIVEN_GEOMETRY,
              properties={"type": "object", "nullable": True}),
-        "description": f"Refused (422) where a list of the geometry is empty, and where it is beyond a check: that looks at "
-        f"{simple.PAIRS_MOST} pairs of edges that lie close to each other, and {simple.MEETINGS_MOST} of them may meet."},
+        "description": "Refused (422) where a list of the geometry is empty, and where it is beyond a check: that "
+        f"looks at {simple.PAIRS_MOST} pairs of edges that lie close to each other, and {simple.MEETINGS_MOST} of them "
+        "may meet."},
     "atPoint": every(id={"oneOf": [WHOLE, STRING]}, name=STRING, place=PLACE, properties=of()),
     "located": of(ASKED, **ASKED, place=PLACE, features=array(ref("atPoint"))),
     "locatedAll": of([*ASKED, "places"], **ASKED, places=by_name(PLACE), features=array(ref("atPoint"))),
@@ -130,12 +132,14 @@ SCHEMAS: dict[str, Value] = {
         column={"type": "integer", "minimum": 0, "maximum": limits.COLUMNS - 1},
         lines={**array(array(POSITION, 2, 2)), "nullable": True}))),
     "status": of(["version", "durable", "writable"], title=STRING, version=WHOLE, durable={**WHOLE, "nullable": True},
-                 writable={"type": "boolean"}, lost=array(STRING), layers={**WHOLE, "nullable": True}, map=TEXT_OR_NOTHING, map_revision=TEXT_OR_NOTHING,
-                 name_by=TEXT_OR_NOTHING, columns=array(NUMBER, limits.COLUMNS, limits.COLUMNS), crs=TEXT_OR_NOTHING,
-                 storage=TEXT_OR_NOTHING, y_first={"type": "boolean"}, unit=STRING, geographic={"type": "boolean"}, limits=array(NUMBER, 4, 4)),
+                 writable={"type": "boolean"}, lost=array(STRING), layers={**WHOLE, "nullable": True},
+                 map=TEXT_OR_NOTHING, map_revision=TEXT_OR_NOTHING, name_by=TEXT_OR_NOTHING,
+                 columns=array(NUMBER, limits.COLUMNS, limits.COLUMNS), crs=TEXT_OR_NOTHING, storage=TEXT_OR_NOTHING,
+                 y_first={"type": "boolean"}, unit=STRING, geographic={"type": "boolean"}, limits=array(NUMBER, 4, 4)),
     "changed": of(CHANGED, **CHANGED, moved=NUMBER),
     "changedFeature": every(**CHANGED, **REVISED),
     "layer": {"oneOf": [GIVEN_GEOMETRY, every(geometry=GIVEN_GEOMETRY), every(definition=STRING)]},
-    "batch": every(commands=array(of(put=STRING, define=STRING, drop=STRING, geometry=GIVEN_GEOMETRY, definition=STRING),
-                                  1, limits.BATCH_MAX)),
+    "batch": every(
+        commands=array(of(put=STRING, define=STRING, drop=STRING, geometry=GIVEN_GEOMETRY, definition=STRING),
+                       1, limits.BATCH_MAX)),
 }

@@ -23,8 +23,8 @@ class Scratch:
         return Server(program=self._program, timeout=self.seconds)
 
     def pieces(self, texts: Sequence[str], turn: float) -> list[Piece]:
-        """The boundary of what an odd number of texts have; TimeoutError where that takes too long. turn: how long it may
-        wait."""
+        """The boundary of what an odd number of texts have; TimeoutError where that takes too long.
+        turn: how long it may wait."""
         if not self._turn.acquire(timeout=turn):
             raise Busy("another base layer is being worked out: ask again")
         try:

@@ -53,4 +53,5 @@ def tell_fewer(connections: int) -> None:
     if connections < CONNECTIONS_MOST:
         allowed = resource.getrlimit(resource.RLIMIT_NOFILE)[0]
         print(f"the system lets the front have {allowed} open files: it takes {connections} connections at once; with "
-              f"{FILES_MOST} (ulimit -Hn, or LimitNOFILE of systemd) it takes {CONNECTIONS_MOST}", file=sys.stderr, flush=True)
+              f"{FILES_MOST} (ulimit -Hn, or LimitNOFILE of systemd) it takes {CONNECTIONS_MOST}", file=sys.stderr,
+              flush=True)

@@ -16,7 +16,8 @@ from tools.overlay_client import Piece, Point
 from .map_scale import MapScale, exact, rounded
 
 AREA_BITS = 96
-"""An area is summed in whole multiples of 2^-96, each term cut off; so it is right before it is written with 15 digits."""
+"""An area is summed in whole multiples of 2^-96, each term cut off; so it is right before it is written with 15
+digits."""
 
 
 class Box(NamedTuple):
@@ -56,7 +57,8 @@ def edges_of(ring: list[Point]) -> Iterable[tuple[Point, Point]]:
 
 
 def edge_meets(a: Point, b: Point, box: Box) -> bool:
-    """Whether a point of the edge lies in the box: not where x or y parts them, nor where all corners lie on one side."""
+    """Whether a point of the edge lies in the box: not where x or y parts them, nor where all
+    corners lie on one side."""
     for axis, least, most in ((0, box.left, box.right), (1, box.low, box.high)):
         ends = [(n[axis] * least.denominator, least.numerator * n[2]) for n in (a, b)]
         if all(place < bound for place, bound in ends):

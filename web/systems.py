@@ -19,8 +19,8 @@ from .shapes import Box, edge_meets, edges_of, holds, homogeneous
 DEGREE_DIGITS = 10
 """After the point of a degree: a hundredth of a millimetre."""
 WGS84 = "EPSG:4326"
-"""CRS84 but for the order of its axes. By this name PROJ goes the same way as for GDAL and QGIS: by that of CRS84 it may
-choose another transformation of the datum, a metre off."""
+"""CRS84 but for the order of its axes. By this name PROJ goes the same way as for GDAL and QGIS: by that of CRS84 it
+may choose another transformation of the datum, a metre off."""
 DENSE = 21
 """Along each side of a box so many places are transformed, to find the box round it."""
 REFINED = 2
@@ -64,12 +64,14 @@ def by_pyproj(crs: str) -> Projection:
         return there, up
 
     def inverse(xs: Places, ys: Places) -> tuple[Places, Places]:
-        """Some ways back lead a few millimetres off. So a place is moved until the way there leads where it came from."""
+        """Some ways back lead a few millimetres off. So a place is moved until the way there leads
+        where it came from."""
         first = transform(xs, ys, direction=back)
         found = first
         for _ in range(REFINED):
             again = transform(*transform(*found), direction=back)
-            xs, ys = ([place + (wanted - got) for place, wanted, got in zip(*axis)] for axis in zip(found, first, again))
+            xs, ys = ([place + (wanted - got) for place, wanted, got in zip(*axis)]
+                      for axis in zip(found, first, again))
             found = xs, ys
         return found
 

@@ -136,8 +136,8 @@ class Commands(ClientCase):
         self.assertEqual(overlay_client.LARGEST_BATCH, limits.BATCH_MAX)
 
     def test_replies_of_several_lines(self) -> None:
-        for first, count in (("layers 3", 3), ("edges 0", 0), ("grid 4 2", 2), ("ok 7", 0), ("built 3", 0), ("in", 0), ("same", 0),
-                             ("error 10 unknown layer", 0), ("refused 1 error 10 unknown layer", 0)):
+        for first, count in (("layers 3", 3), ("edges 0", 0), ("grid 4 2", 2), ("ok 7", 0), ("built 3", 0), ("in", 0),
+                             ("same", 0), ("error 10 unknown layer", 0), ("refused 1 error 10 unknown layer", 0)):
             self.assertEqual(overlay_client.lines_after(first), count, first)
 
     def test_its_file_alone_in_a_package_uses_what_pip_installs(self) -> None:

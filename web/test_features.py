@@ -1,4 +1,5 @@
-"""Tests of the features of a map: their collection, points, names of layers, changes of one, and stops amid a change."""
+"""Tests of the features of a map: their collection, points, names of layers, changes of one, and
+stops amid a change."""
 
 from __future__ import annotations
 
@@ -23,7 +24,7 @@ from collections.abc import Iterator
 from dataclasses import replace
 from typing import Any
 
-from tools import feature_changes, features, scale as scales
+from tools import feature_changes, features, scale as scales, writing
 from tools.commands import to_script
 from tools.overlay_client import Server, Session
 from . import feature_store, map_scale, rescue, testing
@@ -265,7 +266,8 @@ class Editing(Case):
         told = self.client.ask("/collections/plan/items", "POST", body)
         self.assertEqual((told.status, told.value["id"]), (201, 5))
         self.assertTrue(told.headers["Location"].endswith("/collections/plan/items/5"))
-        self.assertEqual(self.client.get("/collections/plan/items/5")["properties"], {**body["properties"], "area": 40.5})
+        self.assertEqual(self.client.get("/collections/plan/items/5")["properties"],
+                         {**body["properties"], "area": 40.5})
         numbers = [one.number for one in self.table().features]
         self.assertEqual(numbers, [1, 2, 3, 4, 5])
         for _ in range(3):
@@ -294,7 +296,7 @@ class Editing(Case):
         full = OSError(errno.ENOSPC, os.strerror(errno.ENOSPC))
         for coordinates, properties in (([MOVED], {"name": "East"}), ([EAST], {"name": "Anew"})):
             body = feature("Polygon", coordinates, properties)
-            with unittest.mock.patch("tools.features.write_durably", side_effect=full):
+            with unittest.mock.patch("tools.writing.write_durably", side_effect=full):
                 told = self.put(2, body)
             self.assertEqual((told.status, told.headers["Retry-After"]), (503, "5"))
             self.assertEqual(told.value["description"],
@@ -304,17 +306,20 @@ class Editing(Case):
 
     def test_what_is_no_feature_is_refused(self) -> None:
         before = (self.layer_texts(), features.beside(self.store).read_bytes())
-        flat, far, small = [[0, 0], [1, 1], [2, 2], [0, 0]], [[0, 0], [2e6, 0], [0, 9], [0, 0]], [[0, 0], [0.1, 0], [0, 0.1], [0, 0]]
+        flat, far, small = [[0, 0], [1, 1], [2, 2], [0, 0]], [[0, 0], [2e6, 0], [0, 9],
+                                                              [0, 0]], [[0, 0], [0.1, 0], [0, 0.1], [0, 0]]
         for body in (feature("Point", [1, 2], {}), feature("Polygon", [flat], {}),
-                     feature("Polygon", [far], {}), feature("Polygon", [small], {}), feature("Polygon", [WEST[:-1]], {}),
-                     feature("Polygon", [WEST], "x"), feature("Polygon", [[["0", 0], [9, 0], [9, 9], [0, 0]]], {}),
-                     feature("Polygon", "x", {}), feature("Polygon", [[1, 2, 3, 1]], {}), {"type": "Feature"},
+                     feature("Polygon", [far], {}), feature("Polygon", [small], {}),
+                     feature("Polygon", [WEST[:-1]], {}), feature("Polygon", [WEST], "x"),
+                     feature("Polygon", [[["0", 0], [9, 0], [9, 9], [0, 0]]], {}), feature("Polygon", "x", {}),
+                     feature("Polygon", [[1, 2, 3, 1]], {}), {"type": "Feature"},
                      feature("Polygon", [WEST], {"a": DEEP}), feature("Polygon", DEEP, {}), b"[" * 100_000,
                      MAP[0]["geometry"], [], b"", b"{", b'{"type": "Feature", "n": NaN}'):
             for path, method in (("/collections/plan/items", "POST"), ("/collections/plan/items/1", "PUT")):
                 told = self.client.ask(path, method, body)
                 self.assertEqual(told.status, 400, (method, body, told.value))
-        for path, method, status in (("/collections/plan/items/9", "PUT", 404), ("/collections/plan/items/9", "DELETE", 404),
+        for path, method, status in (("/collections/plan/items/9", "PUT", 404),
+                                     ("/collections/plan/items/9", "DELETE", 404),
                                      ("/collections/b0/items", "POST", 405), ("/collections/b0/items/1", "DELETE", 405),
                                      ("/collections/plan/items", "PUT", 405)):
             self.assertEqual(self.client.ask(path, method, MAP[0] if method != "DELETE" else None).status, status, path)
@@ -354,7 +359,8 @@ class Full(Case):
 
     def test_new_features_come_until_no_layer_has_room(self) -> None:
         for count in itertools.count():
-            told = self.client.ask("/collections/plan/items", "POST", feature("Polygon", [self.ring], {"name": str(count)}))
+            told = self.client.ask("/collections/plan/items", "POST",
+                                   feature("Polygon", [self.ring], {"name": str(count)}))
             if told.status != 201:
                 break
         self.assertEqual((told.status, "layer b0 has no room" in told.value["description"]), (409, True), told.value)
@@ -364,7 +370,8 @@ class Full(Case):
 
     def test_the_least_free_number_of_fewest_bits_is_taken(self) -> None:
         for bits in ((0, 1, 2, 3), (1, 3), (2,), ()):
-            order = sorted((sum(one) for size in range(1, 5) for one in itertools.combinations([1 << bit for bit in bits], size)),
+            order = sorted((sum(one) for size in range(1, 5)
+                            for one in itertools.combinations([1 << bit for bit in bits], size)),
                            key=lambda number: (number.bit_count(), number))
             for taken in range(len(order)):
                 self.assertEqual(feature_changes.free_number(bits, order[:taken]), order[taken])
@@ -394,8 +401,9 @@ class Empty(unittest.TestCase):
         files = store, features.beside(store)
         with opened(store) as (client, _, _):
             before = [file.read_bytes() for file in files]
-            for kind, coordinates in (("MultiPolygon", [[]]), ("MultiPolygon", []), ("MultiPolygon", [[[]]]), ("Polygon", []),
-                                      ("Polygon", [[]]), ("MultiPolygon", [[EAST], []]), ("Polygon", [WEST, []])):
+            for kind, coordinates in (("MultiPolygon", [[]]), ("MultiPolygon", []), ("MultiPolygon", [[[]]]),
+                                      ("Polygon", []), ("Polygon", [[]]), ("MultiPolygon", [[EAST], []]),
+                                      ("Polygon", [WEST, []])):
                 for path, method in (("/collections/plan/items", "POST"), ("/collections/plan/items/1", "PUT")):
                     told = client.ask(path, method, feature(kind, coordinates, {}))
                     self.assertEqual((told.status, "is empty" in told.value["description"]), (422, True), coordinates)
@@ -424,8 +432,8 @@ class Crowded(Case):
         self.assertRegex(described, "looks at 300000 pairs of edges .* 1000 of them may meet")
         before = self.layer_texts(), features.beside(self.store).read_bytes()
         slanted = [[100 * x + 300_000 * (x % 2), 300_000 * (x % 2)] for x in range(600)] + [[0, 300_009], [0, 0]]
-        for ring, reason in ((zigzag(400), "meet each other more than 1000 times"), (zigzag(2000), "too close together"),
-                             (slanted, "more than 300000 pairs of them")):
+        for ring, reason in ((zigzag(400), "meet each other more than 1000 times"),
+                             (zigzag(2000), "too close together"), (slanted, "more than 300000 pairs of them")):
             for path, method in (("/collections/plan/items", "POST"), ("/collections/plan/items/1", "PUT")):
                 told = self.client.ask(path, method, feature("Polygon", [ring], {}))
                 self.assertEqual((told.status, reason in told.value.get("description", "")), (422, True), told.value)
@@ -438,7 +446,8 @@ class Crowded(Case):
     def test_a_feature_that_cannot_be_drawn_can_be_changed(self) -> None:
         for _ in range(2):
             told = self.client.ask("/collections/plan/items/5")
-            self.assertEqual((told.status, "65536 pieces in one column" in told.value["description"]), (413, True), told)
+            self.assertEqual((told.status, "65536 pieces in one column" in told.value["description"]), (413, True),
+                             told)
         self.client.change("/collections/plan/items/5", "PUT", feature("Polygon", [MOVED], {"name": "Moved"}))
         self.assertEqual(self.items()[4]["geometry"]["coordinates"], [MOVED])
 
@@ -476,7 +485,8 @@ class Waiting(Case):
                     waiting.acquire()
                 time.sleep(0.5)  # by now they wait
                 self.assertEqual([self.client.ask(path).status for path in read], [200, 200, 200])
-                changed = pool.submit(self.client.ask, "/collections/plan/items/2", "PUT", feature("Polygon", [MOVED], {}))
+                changed = pool.submit(self.client.ask, "/collections/plan/items/2", "PUT",
+                                      feature("Polygon", [MOVED], {}))
                 self.assertEqual(changed.result(30).status, 200)
                 told = self.client.ask(bow)
                 self.assertEqual((told.status, told.headers.get("Retry-After")), (503, "1"))
@@ -486,7 +496,8 @@ class Waiting(Case):
 
 
 class Unwritten(unittest.TestCase):
-    """A front whose store is not written any more, as there is no room, while there is room for the file of features."""
+    """A front whose store is not written any more, as there is no room, while there is room for the
+    file of features."""
 
     def setUp(self) -> None:
         place = self.enterContext(folder())
@@ -623,7 +634,8 @@ class ByClient(unittest.TestCase):
 
     def test_what_cannot_be_kept_is_told(self) -> None:
         before = self.layer_texts()
-        for given in (Geometry(WEST[:3]), Geometry([[0, 0], [1, 1], [2, 2], [0, 0]]), {"type": "Point", "coordinates": [1, 2]},
+        for given in (Geometry(WEST[:3]), Geometry([[0, 0], [1, 1], [2, 2], [0, 0]]),
+                      {"type": "Point", "coordinates": [1, 2]},
                       "POLYGON", Geometry([[0, 0], [9e9, 0], [0, 1], [0, 0]])):  # type: ignore[list-item]
             with self.assertRaises(ValueError):
                 self.map.put(1, given)
@@ -714,7 +726,7 @@ class Stops(unittest.TestCase):
             return run
 
         patched = contextlib.ExitStack()
-        for of, name in ((features, "write_durably"), (LayerStore, "change")):
+        for of, name in ((writing, "write_durably"), (LayerStore, "change")):
             patched.enter_context(unittest.mock.patch.object(of, name, stopping(getattr(of, name))))
         return patched
 
@@ -742,5 +754,6 @@ class Stops(unittest.TestCase):
         self.assertEqual([one["id"] for one in after], wanted)
         if body and isinstance(body, dict):
             found = after[1 if place else 3]
-            self.assertEqual((found["geometry"], found["properties"]["name"]), (body["geometry"], body["properties"]["name"]))
+            self.assertEqual((found["geometry"], found["properties"]["name"]),
+                             (body["geometry"], body["properties"]["name"]))
         return True

@@ -164,7 +164,8 @@ class Iceland(FrontCase):
         self.assertGreater(len(sizes), 3)
 
     def test_a_box_by_a_corner_in_fractions_is_exact(self) -> None:
-        """The least corner of each polygon, most of them crossings, as a box of one point; and a box that ends before it."""
+        """The least corner of each polygon, most of them crossings, as a box of one point; and a
+        box that ends before it."""
         tried = 0
         for number, polygon in enumerate(self.polygons("one"), 1):
             x, y = polygon[0][0]
@@ -277,7 +278,8 @@ class Iceland(FrontCase):
         self.assertIn("max-age=86400", self.client.ask("/leaflet/leaflet.js").headers["Cache-Control"])
 
     def test_what_is_refused_is_told_beside_it(self) -> None:
-        """Each form of the page, and its head, has a place of its own for what is reported, and the scripts know these."""
+        """Each form of the page, and its head, has a place of its own for what is reported, and the
+        scripts know these."""
         folder = TOP / "web/page"
         parts = re.split(r"<(?=section|header|footer)", (folder / "map.html").read_text(encoding="utf-8"))
         places = {place: part for part in parts for place in re.findall(r'id="(told[a-z-]*)"', part)}

@@ -1,6 +1,7 @@
 """Tests of the front's description: it is OpenAPI 3.0, and each page answers as its schema says.
 
-The rules of OpenAPI that are looked at are written down here; where openapi_spec_validator is installed, as by pip, it judges too.
+The rules of OpenAPI that are looked at are written down here; where openapi_spec_validator is
+installed, as by pip, it judges too.
 """
 
 from __future__ import annotations
@@ -21,7 +22,8 @@ WHERE = {"query", "path", "header", "cookie"}
 OF_OPERATION = {"summary", "description", "operationId", "parameters", "requestBody", "responses", "tags", "deprecated"}
 OF_PARAMETER = {"name", "in", "description", "required", "schema", "style", "explode", "example"}
 OF_SCHEMA = {"type", "properties", "required", "items", "minItems", "maxItems", "enum", "pattern", "minimum", "maximum",
-             "nullable", "oneOf", "allOf", "additionalProperties", "description", "format", "default", "example", "$ref"}
+             "nullable", "oneOf", "allOf", "additionalProperties", "description", "format", "default", "example",
+             "$ref"}
 TYPES: dict[str, tuple[type, ...]] = {"object": (dict,), "array": (list,), "string": (str,), "boolean": (bool,),
                                       "integer": (int,), "number": (int, float)}
 
@@ -38,7 +40,8 @@ def judge() -> Any:
 def judges() -> str:
     """Who judges the descriptions, in words."""
     other = judge()
-    return "OpenAPI by the rules of test_openapi.py" + (f" and openapi_spec_validator {other.__version__}" if other else " alone")
+    return "OpenAPI by the rules of test_openapi.py" + (f" and openapi_spec_validator {other.__version__}" if other
+                                                        else " alone")
 
 
 class Document:
@@ -109,7 +112,8 @@ class Document:
             yield f"a schema with {sorted(schema)} of type {schema.get('type')}"
         if (schema.get("type") == "array") != ("items" in schema):
             yield "an array has items"
-        if "required" in schema and (not schema["required"] or set(schema["required"]) - set(schema.get("properties", {}))):
+        if "required" in schema and (not schema["required"]
+                                     or set(schema["required"]) - set(schema.get("properties", {}))):
             yield f"required: {schema['required']}"
         within = [*schema.get("properties", {}).values(), *schema.get("oneOf", []), *schema.get("allOf", []),
                   *(schema[name] for name in ("items", "additionalProperties") if name in schema)]
@@ -255,7 +259,8 @@ class Judges(unittest.TestCase):
     def test_faults_of_a_description_are_found(self) -> None:
         from . import openapi
 
-        good = openapi.document("t", "http://127.0.0.1", True, openapi.Described("m", schemas.properties_of([{"a": 1}], "area")))
+        good = openapi.document("t", "http://127.0.0.1", True,
+                                openapi.Described("m", schemas.properties_of([{"a": 1}], "area")))
         self.assertEqual(list(Document(good).faults()), [])
         spoilt = (('"operationId": "getApi"', '"operationId": "getStatus"'), ('"in": "path"', '"in": "body"'),
                   ('"required": true', '"required": false'), ('"type": "string"', '"type": "text"'),

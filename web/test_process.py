@@ -22,8 +22,8 @@ from .stressing import asked
 
 
 def started(*words: str | pathlib.Path, lacking: str = "os.no_module", by: Sequence[str] = ()) -> subprocess.Popen[str]:
-    """A front, with a free port unless words name one, in a Python that lacks a module, run by other words. An interrupt reaches it as from a
-    terminal, also where the tests run in a shell that ignores interrupts."""
+    """A front, with a free port unless words name one, in a Python that lacks a module, run by other words. An
+    interrupt reaches it as from a terminal, also where the tests run in a shell that ignores interrupts."""
     code = (
         "import signal, sys; signal.signal(signal.SIGINT, signal.default_int_handler); "
         f"sys.argv[0] = 'overlay_web.py'; sys.modules['{lacking}'] = None; "
@@ -32,7 +32,8 @@ def started(*words: str | pathlib.Path, lacking: str = "os.no_module", by: Seque
     usual = {"--program": testing.PROGRAM, "--port": "0"}
     missing = [word for option, value in usual.items() if option not in words for word in (option, value)]
     given = [*by, sys.executable, "-c", code, *missing, *map(str, words)]
-    return subprocess.Popen(given, cwd=testing.TOP, stdout=subprocess.PIPE, stderr=subprocess.PIPE, text=True, start_new_session=True)
+    return subprocess.Popen(given, cwd=testing.TOP, stdout=subprocess.PIPE, stderr=subprocess.PIPE, text=True,
+                            start_new_session=True)
 
 
 @contextlib.contextmanager
@@ -143,13 +144,15 @@ class Processes(unittest.TestCase):
         self.assertEqual(sorted(path.name for path in self.folder.glob("map.db*")), ["map.db"])
 
     def test_with_fewer_files_it_has_fewer_places_and_says_how_many(self) -> None:
-        for files, told in (("1024", "the system lets the front have 1024 open files: it takes 274 connections at once; with 3200 "
-                             "(ulimit -Hn, or LimitNOFILE of systemd) it takes 1000\n"), ("4000", "")):
+        for files, told in (
+                ("1024", "the system lets the front have 1024 open files: it takes 274 connections at once; with 3200 "
+                 "(ulimit -Hn, or LimitNOFILE of systemd) it takes 1000\n"), ("4000", "")):
             with running("--store", self.store, by=("prlimit", f"--nofile={files}:{files}")) as (run, address):
                 host, _, port = urllib.parse.urlsplit(address).netloc.partition(":")
                 with contextlib.ExitStack() as links:
                     for _ in range(270):
-                        links.enter_context(socket.create_connection((host, int(port)), 60)).sendall(b"GET /status HTTP/1.1\r\n")
+                        links.enter_context(socket.create_connection((host, int(port)), 60)).sendall(
+                            b"GET /status HTTP/1.1\r\n")
                     self.assertEqual(asked(address, "GET", "/status")[0], 200)
                 run.terminate()
                 self.assertEqual(self.ended(run), (0, told))
@@ -222,7 +225,8 @@ class Processes(unittest.TestCase):
             "--store map.db --writable --host 0.0.0.0", "--writable --host ::", "", "--create",
             "--store map.db --create", "--writable --host map.example.org", "--colour",
             "--store map.db --base map.example.org", "--store map.db --base http://[", "--store map.db --base http://",
-            "--store map.db --base https://map.example.org:port", "--store map.db --workers 9", "--store map.db --workers 0",
+            "--store map.db --base https://map.example.org:port", "--store map.db --workers 9",
+            "--store map.db --workers 0",
         ):
             with running(*line.split()) as (run, _):
                 status, text = self.ended(run)

@@ -449,7 +449,8 @@ class Failures(unittest.TestCase):
         self.store._joiners._free.get()  # the other one: all work goes to the stopped one
         found = self.client.ask("/collections/I/items")
         self.assertEqual(found.status, 413)
-        told = "I has 3 pieces that take longer, and up to 200000 pieces are joined, within 0.3 seconds: ask for its tiles"
+        told = ("I has 3 pieces that take longer, and up to 200000 pieces are joined, within 0.3 seconds: ask for its "
+                "tiles")
         self.assertEqual(found.value["description"], told)
         self.assertEqual(multiprocessing.active_children(), [])
         self.store._joiners.seconds = 60

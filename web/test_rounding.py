@@ -1,5 +1,5 @@
-"""Tests that one polygon becomes the same whole numbers by every way in: scripts of texts and of files that GDAL reads, maps
-of overlay_maps.py, requests of the front, and the client; and that LOCATE takes its numbers as they do."""
+"""Tests that one polygon becomes the same whole numbers by every way in: scripts of texts and of files that GDAL reads,
+maps of overlay_maps.py, requests of the front, and the client; and that LOCATE takes its numbers as they do."""
 
 from __future__ import annotations
 
@@ -20,8 +20,10 @@ from .test_features import Case
 Corners = tuple[tuple[str, str], ...]
 
 HALVES: Corners = (("0.285", "-0.285"), ("10.125", "0.005"), ("10.135", "9.285"), ("-4.285", "7.015"))
-LONG: Corners = (("0.28499999999999999998", "-0.2850000000000000001"), ("10.124999999999999999999", "0.0050000000000000000001"),
-                 ("10.13499999999999999999", "9.28499999999999999999"), ("-4.28500000000000000001", "7.01499999999999999999"))
+LONG: Corners = (("0.28499999999999999998", "-0.2850000000000000001"),
+                 ("10.124999999999999999999", "0.0050000000000000000001"),
+                 ("10.13499999999999999999", "9.28499999999999999999"),
+                 ("-4.28500000000000000001", "7.01499999999999999999"))
 GIVEN = {"halves": HALVES, "long": LONG}
 WHOLE = [[29, -28], [1013, 1], [1014, 929], [-428, 702], [29, -28]]
 TEXT = "((" + ", ".join(f"{x} {y}" for x, y in WHOLE) + "))"
@@ -84,14 +86,15 @@ class OnePolygon(Case):
     def test_by_overlay_maps(self) -> None:
         for name, corners in GIVEN.items():
             text = self.file(f"{name}.geojson", feature(corners))
-            words = [sys.executable, str(TOP / "tools/overlay_maps.py"), "overlay", str(text), str(self.package(text)), "--factor", "100",
-                     "--exact", "--program", testing.PROGRAM]
+            words = [sys.executable, str(TOP / "tools/overlay_maps.py"), "overlay", str(text), str(self.package(text)),
+                     "--factor", "100", "--exact", "--program", testing.PROGRAM]
             done = subprocess.run(words, capture_output=True, text=True, timeout=60, check=False)
             self.assertEqual(done.returncode, 0, done.stderr)
             _, row, *others = done.stdout.splitlines()
             self.assertEqual((others, row.split(",")[-1]), ([], str(AREA)), done.stdout)
             told = done.stderr.splitlines()
-            self.assertEqual(["of more digits than a double has" in line for line in told[:2]], [name == "long", False], told)
+            self.assertEqual(["of more digits than a double has" in line for line in told[:2]], [name == "long", False],
+                             told)
 
     def test_by_requests(self) -> None:
         for name, corners in GIVEN.items():

@@ -1,4 +1,5 @@
-"""Tests of the coordinate systems of answers: a store in a projected system, in longitude and latitude and in its own."""
+"""Tests of the coordinate systems of answers: a store in a projected system, in longitude and
+latitude and in its own."""
 
 from __future__ import annotations
 
@@ -35,9 +36,10 @@ def swapped(ring: list[list[int]]) -> list[list[int]]:
     return [[y, x] for x, y in ring]
 
 
-CITY = """PROJCRS["A city's own",BASEGEOGCRS["unknown",DATUM["Unknown based on Airy 1830 ellipsoid",ELLIPSOID["Airy 1830",\
-6377563.396,299.3249646]]],CONVERSION["unknown",METHOD["Transverse Mercator"],PARAMETER["Latitude of natural origin",51.5],\
-PARAMETER["Longitude of natural origin",-0.1],PARAMETER["Scale factor at natural origin",1],PARAMETER["False easting",50000],\
+CITY = """PROJCRS["A city's own",BASEGEOGCRS["unknown",DATUM["Unknown based on Airy 1830 ellipsoid",ELLIPSOID[\
+"Airy 1830",6377563.396,299.3249646]]],CONVERSION["unknown",METHOD["Transverse Mercator"],PARAMETER[\
+"Latitude of natural origin",51.5],PARAMETER["Longitude of natural origin",-0.1],PARAMETER[\
+"Scale factor at natural origin",1],PARAMETER["False easting",50000],\
 PARAMETER["False northing",50000]],CS[Cartesian,2],AXIS["(E)",east],AXIS["(N)",north],LENGTHUNIT["metre",1]]"""
 
 
@@ -47,7 +49,9 @@ class Names(unittest.TestCase):
         other = MapScale(scales.Scale(crs="ESRI:102003"))
         self.assertEqual((other.crs, other.uri(), other.is_geographic()), (None, None, False))
         for name in ("nonsense", "EPSG:", "a b:1"):
-            with self.assertRaisesRegex(scales.ScaleFault, f"an authority and its code, as EPSG:25832, or Well-Known Text, and not {name}"):
+            with self.assertRaisesRegex(scales.ScaleFault,
+                                        "an authority and its code, as EPSG:25832, or Well-Known Text, and not "
+                                        f"{name}"):
                 MapScale(scales.Scale(crs=name))
 
 
@@ -110,7 +114,8 @@ class Projected(Case):
         for page in ("/locate", "/collections/plan/locate"):
             told = self.client.ask(f"{page}?x=139.7&y=3e7")
             self.assertEqual((told.status, told.value["code"], told.value["description"]), (
-                400, "20", f"error 20 point out of range: it is out of the plane; x and y, in this order, are those of {OWN}"))
+                400, "20",
+                f"error 20 point out of range: it is out of the plane; x and y, in this order, are those of {OWN}"))
 
     def test_what_is_put_is_in_the_system_that_is_said(self) -> None:
         body = feature("Polygon", [degrees(MOVED)], {"name": "East"})
@@ -214,4 +219,3 @@ class ByPyproj(unittest.TestCase):
         systems = Systems(map_scale(crs="EPSG:30169"), projection)
         with self.assertRaises(Unplaced):
             systems.geometry({"type": "Polygon", "coordinates": [[[1e12, 1e12]]]}, CRS84)
-

@@ -137,7 +137,8 @@ class Client:
 
 
 class FrontCase(unittest.TestCase):
-    """A test of a front in memory, which its lines begin. Each class has one process of the program for all of its tests."""
+    """A test of a front in memory, which its lines begin. Each class has one process of the program
+    for all of its tests."""
 
     lines: tuple[str, ...] = ()
     scale: Mapping[str, object] = {}

@@ -1,5 +1,5 @@
-"""What there is at one version. The front's sessions are all that a process has, so nobody changes a layer but the front
-itself: questions share a hold, a change has it alone, and all that is asked under one hold is of one version."""
+"""What there is at one version. The front's sessions are all that a process has, so nobody changes a layer but the
+front itself: questions share a hold, a change has it alone, and all that is asked under one hold is of one version."""
 
 from __future__ import annotations
 
@@ -127,7 +127,8 @@ class View:
         return [None if is_pending(reply) else reply.pieces() for reply in replies]
 
     def extent(self, name: str) -> shapes.Box | None:
-        """The box of a layer, or None where it is empty. Of one that is not built it is the box of all that it reaches."""
+        """The box of a layer, or None where it is empty. Of one that is not built it is the box of
+        all that it reaches."""
         found = self.layer(name)
         held = self._extents.get(found.revision)
         if held is None:

@@ -158,7 +158,8 @@ def boxes_that_meet(folder: pathlib.Path) -> int:
 
     maps = [gdal_maps.read(str(folder / f"{kind}.gpkg"), Fraction(1000), None, None, False).whole
             for kind in ("parcels", "zones")]
-    return len(box_pairs.pairs_of_arrays(*map(planning.boxes_of, maps)))
+    parcels, zones = map(planning.boxes_of, maps)
+    return len(box_pairs.pairs_of_arrays(parcels, zones))
 
 
 def main() -> int:

@@ -6,8 +6,8 @@
 
 Coordinates become whole numbers once, the nearest to x * FACTOR; the largest move is reported. All after that is exact:
 whether two features overlap, only touch or do neither, and the area that they have in common, which is written as a
-decimal whose distance from the exact area is reported (--exact adds the fraction). Insides are even-odd over all rings of a
-feature. ../examples/maps.md goes through it.
+decimal whose distance from the exact area is reported (--exact adds the fraction). Insides are even-odd over all rings
+of a feature. ../examples/maps.md goes through it.
 
 pairs    features of both maps that overlap or touch
 overlay  all pieces: what a feature of A and one of B have in common, and what each has alone
@@ -63,8 +63,8 @@ def add_map_words(parser: argparse.ArgumentParser, two: bool) -> None:
                         help="whole units in one unit of the maps: 1000 for millimetres of a map in metres")
     for side in "ab" if two else "a":
         parser.add_argument(f"--{side}-id", metavar="PROPERTY",
-                            help=f"what calls the features of {side.upper()} (default: their numbers in the file, from 1 in "
-                                 "GeoJSON, else as GDAL and QGIS count: from 0 in a Shapefile, FlatGeobuf or GML)")
+                            help=f"what calls the features of {side.upper()} (default: their numbers in the file, from "
+                                 "1 in GeoJSON, else as GDAL and QGIS count: from 0 in a Shapefile, FlatGeobuf or GML)")
         parser.add_argument(f"--{side}-layer", metavar="NAME",
                             help=f"the layer of {side.upper()}, where its file has several")
     parser.add_argument("--bend", action="store_true", help="bend edges of more than 524288 units at whole points")

@@ -16,8 +16,8 @@ from ..testing.common import Programs, status_of
 
 MODULES = (
     "helps", "endings", "scales", "scripts", "layouts", "replies", "rings", "pictures", "overlays", "stores",
-    "maps", "feature_files", "first_maps", "map_steps", "map_words", "large_checks", "own_files", "map_arrays", "map_tasks", "gdal_maps", "pages", "example_maps",
-    "corners", "sidecars", "inputs", "forms", "progresses",
+    "maps", "feature_files", "first_maps", "map_steps", "map_words", "large_checks", "own_files", "map_arrays",
+    "map_tasks", "gdal_maps", "pages", "example_maps", "corners", "sidecars", "inputs", "forms", "progresses",
     "coordinate_systems",
 )
 

@@ -18,14 +18,14 @@ and with its area, which is called `area_` where the source has an `area`. An ou
 written as the boundary of its even-odd inside.
 
 --output writes the file whole or not at all: GeoJSON by the names .geojson and .json, or without an end, a GeoPackage
-(.gpkg) or a FlatGeobuf (.fgb); a name with another end is refused.
-Whole numbers are the ids of features in a GeoPackage too; other ids, and those of a FlatGeobuf, are a column `id` of it, or
-`id_` where the source has an `id`. A property whose name differs from another one's in case alone, as no two columns do, is
-a column with `_` after its name, and a line on standard error says so. What is read, and NAME.scale.json, NAME.features.json
-and NAME.names.csv of a store or a script, are not written over.
+(.gpkg) or a FlatGeobuf (.fgb); a name with another end is refused. Whole numbers are the ids of features in a
+GeoPackage too; other ids, and those of a FlatGeobuf, are a column `id` of it, or `id_` where the source has an `id`. A
+property whose name differs from another one's in case alone, as no two columns do, is a column with `_` after its name,
+and a line on standard error says so. What is read, and NAME.scale.json, NAME.features.json and NAME.names.csv of a
+store or a script, are not written over.
 
-Status 0: all layers or features are written; 1: a line of the script was refused (each is reported), a layer has no rings
-to give, or the output cannot be written; 2: a word is refused.
+Status 0: all layers or features are written; 1: a line of the script was refused (each is reported), a layer has no
+rings to give, or the output cannot be written; 2: a word is refused.
 """
 
 import argparse
@@ -35,7 +35,8 @@ import sys
 from collections.abc import Iterator
 from typing import TextIO
 
-from .. import areas, asking, coordinate_systems, ending, feature_texts, gdal_files, keeping, progress, scale as scales, sessions, writing
+from .. import areas, asking, coordinate_systems, ending, feature_texts, gdal_files, keeping, progress
+from .. import scale as scales, sessions, writing
 from ..areas import Ring
 from ..asking import Map
 from ..features import FeaturesFault, beside, held_rings, read, resolved
@@ -44,8 +45,8 @@ from . import to_rings
 
 
 def crs_member(crs: str | None) -> str:
-    """The member that names the coordinates, where they are not GeoJSON's own; GDAL and QGIS read it. A system that nobody
-    named is a plane of its own, as without the member numbers are degrees."""
+    """The member that names the coordinates, where they are not GeoJSON's own; GDAL and QGIS read it. A system that
+    nobody named is a plane of its own, as without the member numbers are degrees."""
     if crs == scales.CRS84:
         return ""
     crs = crs or coordinate_systems.UNKNOWN
@@ -147,7 +148,8 @@ def put(text: str, scale: scales.Scale, words: argparse.Namespace, output: TextI
             output.write(text)
         elif is_gdals(words.output):
             for name, column in gdal_files.write(words.output, text, scale.crs).items():
-                print(f"{words.output}: the property {name} is its column {column}, as another differs in case alone", file=errors)
+                print(f"{words.output}: the property {name} is its column {column}, as another differs in case alone",
+                      file=errors)
         else:
             writing.write_all({words.output: text.encode()})
     except gdal_files.GdalFault as fault:

@@ -7,10 +7,10 @@
 
 A coordinate x becomes the whole number nearest to (x - X) * FACTOR, the greater one of two that are as near. Of more
 digits than a double has x is the nearest double, as other programs read it, and that is reported. Standard error says
-what was rounded, by how much in the given unit, merged and refused, and of which feature or text of a file,
-counted from 1 (where nothing is written, of ten at most). Each file is a layer, or with --name-by each value of the
-property (features without it make one of the file's name). Names are cut to 32 bytes; letters lose their marks, ß becomes
-ss, other characters become `_`, and of names that are then the same the later ones get a number.
+what was rounded, by how much in the given unit, merged and refused, and of which feature or text of a file, counted
+from 1 (where nothing is written, of ten at most). Each file is a layer, or with --name-by each value of the property
+(features without it make one of the file's name). Names are cut to 32 bytes; letters lose their marks, ß becomes ss,
+other characters become `_`, and of names that are then the same the later ones get a number.
 
 Without --factor, --origin, --scale and --fit the factor is 1 where that fits: where rings collapse, or coordinates move
 by more than a 1000th of the extent, or are out of range, nothing is written, and the words to type are reported.
@@ -52,8 +52,8 @@ from fractions import Fraction
 from typing import TextIO
 
 from .. import (
-    asking, checking, coordinate_systems, describing, ending, features, fitting, keeping, layering, limits, map_reading, progress,
-    rounding, scale as scales, sessions, wkt, writing,
+    asking, checking, coordinate_systems, describing, ending, features, fitting, keeping, layering, limits, map_reading,
+    progress, rounding, scale as scales, sessions, wkt, writing,
 )
 from ..coordinate_systems import DEGREES
 from ..describing import Described, counted
@@ -179,7 +179,9 @@ def crs_for(words: argparse.Namespace, names: set[str | None], box: fitting.Box 
     crs = str(given[0])
     if crs in DEGREES and box and not box.is_round_the_earth():
         x, y = (fitting.shown(number) for number in box.greatest)
-        raise Stopped(f"{crs} is longitude and latitude, and {x} {y} is none: are x and y exchanged? Else say by --crs what it is, as EPSG:25832")
+        raise Stopped(
+            f"{crs} is longitude and latitude, and {x} {y} is none: are x and y exchanged? Else say by --crs what it "
+            "is, as EPSG:25832")
     return crs
 
 
@@ -202,8 +204,8 @@ def scale_for(words: argparse.Namespace, box: fitting.Box | None, crs: str | Non
     factor_y = words.factor_y or factor
     x, y = origin or (Fraction(0), Fraction(0))
     stem = words.output.stem if words.output else pathlib.Path(words.files[0]).stem
-    return Scale(factor, factor_y, (x, y), words.title or stem, words.unit or coordinate_systems.unit_of(crs) or "1", crs,
-                 scales.enough_digits(max(factor, factor_y)))
+    return Scale(factor, factor_y, (x, y), words.title or stem, words.unit or coordinate_systems.unit_of(crs) or "1",
+                 crs, scales.enough_digits(max(factor, factor_y)))
 
 
 def check_scale(reader: Reader, box: fitting.Box | None, scale: Scale, given: bool) -> list[str]:
@@ -291,8 +293,9 @@ class Planner:
         told = f"; LOCATE says edge on {chords} chords" if chords else ""
         names = " to ".join(dict.fromkeys([store.layouts[0].name, store.layouts[-1].name]))
         span = " to ".join(map(str, sorted({min(steps), max(steps)})))
-        self.told.append(f"{counted(len(store.features), 'feature')} in {'layers' if store.layouts[1:] else 'layer'} {names}, "
-                         f"{span} steps each, {counted(store.count(), 'layer')} in all{told}; {tally.text()}")
+        self.told.append(
+            f"{counted(len(store.features), 'feature')} in {'layers' if store.layouts[1:] else 'layer'} {names}, "
+            f"{span} steps each, {counted(store.count(), 'layer')} in all{told}; {tally.text()}")
 
 
 def one_store(stores: list[Store], refuse: Callable[[str, str], None]) -> list[Store]:
@@ -453,8 +456,8 @@ def told_area(area: Fraction) -> str:
 def words_of(arguments: list[str]) -> argparse.Namespace:
     parser = Parser(description=__doc__, formatter_class=argparse.RawDescriptionHelpFormatter)
     parser.add_argument("files", metavar="FILE", nargs="+",
-                        help="GeoJSON, Well-Known Text, a GeoPackage, a Shapefile, a FlatGeobuf, GML, or CSV with Well-Known Text; "
-                        "- is standard input")
+                        help="GeoJSON, Well-Known Text, a GeoPackage, a Shapefile, a FlatGeobuf, GML, or CSV with "
+                        "Well-Known Text; - is standard input")
     parser.add_argument("--source-layer", metavar="NAME", help="the layer of files that have several, as GeoPackages")
     parser.add_argument("--factor", type=scales.number, help="default 1")
     parser.add_argument("--factor-y", type=scales.number, help="another factor for y (default: that of x)")
@@ -474,7 +477,8 @@ def words_of(arguments: list[str]) -> argparse.Namespace:
     parser.add_argument("--output", metavar="NAME.txt", type=pathlib.Path, help="in the place of standard output")
     parser.add_argument("--title", help="for the scale's file (default: the output's name)")
     parser.add_argument("--unit", help="of the world's numbers (default: that of the coordinate system, else 1)")
-    parser.add_argument("--crs", type=scales.crs, help="the name of the world's coordinates, as EPSG:2263 (default: what the files say)")
+    parser.add_argument("--crs", type=scales.crs,
+                        help="the name of the world's coordinates, as EPSG:2263 (default: what the files say)")
     words = parser.parse_args(arguments)
     if any(factor is not None and factor <= 0 for factor in (words.factor, words.factor_y)):
         parser.error("a factor is greater than 0")

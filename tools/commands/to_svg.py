@@ -8,8 +8,8 @@ and how many pieces its tile has. With --grid N, or where the script asks for a 
 full where in, a ring where edge, small where out. Where a scale is there, a bar of it and the corners of the picture
 are reported. Coordinates of the picture are rounded to a hundredth of a unit.
 
-Status 0: the picture is whole; 1: it is not, or a line of the script was refused (each is reported), there is none, or it
-cannot be written.
+Status 0: the picture is whole; 1: it is not, or a line of the script was refused (each is reported), there is none, or
+it cannot be written.
 """
 
 import argparse

@@ -186,7 +186,8 @@ def point_of(line: str) -> Point:
     """The point that a line spells: two numbers, decimals or fractions, apart by blanks, a comma or a semicolon."""
     numbers = line.replace(",", " ").replace(";", " ").split()
     if len(numbers) != 2:
-        return Point(line, None, "two numbers are a point" + ("; 1,5 are two of them, 1.5 is one" if "," in line else ""))
+        return Point(line, None, "two numbers are a point"
+                     + ("; 1,5 are two of them, 1.5 is one" if "," in line else ""))
     try:
         x, y = (scales.number(word) if "/" in word else scales.exact(word) for word in numbers)
     except (ValueError, scales.ScaleFault) as fault:

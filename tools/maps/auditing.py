@@ -67,8 +67,8 @@ def slab_area(passing: Iterable[Step], left: Fraction, right: Fraction) -> Fract
 
 
 def deeper_area(whole: WholeMap, features: Iterable[int]) -> Fraction | None:
-    """What some features have in three of them, less what in four, and so on, by slabs of their own points: a place in d of
-    them counts (d - 1)(d - 2) / 2 times. Nothing where there are too many slabs, or steps."""
+    """What some features have in three of them, less what in four, and so on, by slabs of their own points: a place in
+    d of them counts (d - 1)(d - 2) / 2 times. Nothing where there are too many slabs, or steps."""
     if sum(end - begin for begin, end in map(whole.span, features)) > DEEP_STEPS_MAX:
         return None
     owned = sorted((step, feature) for feature in features for step in steps_of(whole.rings(feature))
@@ -98,7 +98,8 @@ def counts_over(owned: Sequence[tuple[Step, int]], passing: Iterable[int], x: Fr
     high = list[tuple[int, int]]()
     for at in passing:  # heights differ by more than 2^-HEIGHT_BITS, or are one
         (ax, ay), (bx, by) = owned[at][0]
-        high.append(((ay * (bx - ax) * bottom + (top - ax * bottom) * (by - ay) << HEIGHT_BITS) // ((bx - ax) * bottom), at))
+        high.append(((ay * (bx - ax) * bottom + (top - ax * bottom) * (by - ay) << HEIGHT_BITS) // ((bx - ax) * bottom),
+                     at))
     within, before, found = set[int](), 0, dict[int, int]()
     for _, at in sorted(high):
         within ^= {owned[at][1]}
@@ -161,8 +162,8 @@ def even_odd_areas(whole: WholeMap) -> tuple[list[Fraction], int, list[int]]:
 
 
 def by_places(rows: Sequence[tuple[int, Row]]) -> Iterator[tuple[int, Row]]:
-    """Rows in an order in which what is near follows each other: parts that meet at a crossing have its divisor, which goes
-    where they are added, so that no number of a sum grows beyond what the border of a region needs."""
+    """Rows in an order in which what is near follows each other: parts that meet at a crossing have its divisor, which
+    goes where they are added, so that no number of a sum grows beyond what the border of a region needs."""
     boxes = np.array([(row.x, row.y, row.x, row.y) for _, row in rows], np.int64).reshape(-1, 4)
     return (rows[at] for at in np.argsort(places(boxes), kind="stable").tolist())
 

@@ -31,8 +31,9 @@ def nearest(a: Point, b: Point, part: int, count: int) -> Point:
 
 def too_long(feature: str, length: int, count: int, factor: Fraction) -> MapFault:
     """Why a map is refused whose longest edge, of a feature, is too long, and how many are."""
-    return MapFault(f"{feature}: an edge of {length} units, the longest of {count} of more than {EDGE_MAX}; say --factor "
-                    f"{fitting(factor, length)}, or --bend")
+    return MapFault(
+        f"{feature}: an edge of {length} units, the longest of {count} of more than {EDGE_MAX}; say --factor "
+        f"{fitting(factor, length)}, or --bend")
 
 
 def fitting(factor: Fraction, length: int) -> str:

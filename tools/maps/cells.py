@@ -104,8 +104,8 @@ def in_common(features: list[list[Ring]], core: Box) -> list[list[Ring]]:
 
 
 class Seen(NamedTuple):
-    """What a core sees of a feature: of each step that meets it the line, and the ends that lie in the core; and whether the
-    core's low corner lies inside. Features of which it sees the same are the same within it."""
+    """What a core sees of a feature: of each step that meets it the line, and the ends that lie in the core; and
+    whether the core's low corner lies inside. Features of which it sees the same are the same within it."""
 
     steps: frozenset[object]
     is_inside: bool
@@ -115,8 +115,8 @@ NOTHING, WHOLE = Seen(frozenset(), False), Seen(frozenset(), True)
 
 
 def seen_within(rings: Sequence[Ring], core: Box) -> Seen:
-    """A step that lies in no half-plane off the core, and whose line meets it, has all of the core that the line has, as far
-    as its ends are off it."""
+    """A step that lies in no half-plane off the core, and whose line meets it, has all of the core that the line has,
+    as far as its ends are off it."""
     left, under, right, over = core
     steps = Counter[object]()
     for ring in rings:
@@ -169,8 +169,8 @@ def near_features(kind: str, near: Drawn) -> list[list[Ring]]:
 class Parting:
     """Jobs as they are asked: laid out for slots, whole or in cells, and cells that lie in the answer as a whole.
 
-    What is too large for a slot waits until many halves can be drawn in at once. `dense` takes the cells of each job that
-    have no answer."""
+    What is too large for a slot waits until many halves can be drawn in at once. `dense` takes the cells of each job
+    that have no answer."""
 
     def __init__(self, kind: str, drawing: Plain, dense: dict[int, list[Box]]) -> None:
         self.kind, self.drawing, self.dense = kind, drawing, dense

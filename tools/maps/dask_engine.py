@@ -28,8 +28,9 @@ WORKERS_WITHIN = 30  # seconds
 TOP = pathlib.Path(__file__).resolve().parents[2]
 # What a worker elsewhere needs.
 SENT = ("tools/*.py", "tools/maps/*.py", "tools/commands/__init__.py", "tools/commands/to_rings.py")
-NEEDED = ("--dask needs Dask: apt-get install python3-distributed python3-cryptography, and run this by /usr/bin/python3; "
-          "--jobs N needs nothing")
+NEEDED = (
+    "--dask needs Dask: apt-get install python3-distributed python3-cryptography, and run this by /usr/bin/python3; "
+    "--jobs N needs nothing")
 
 
 class DaskFault(Exception):

@@ -27,7 +27,8 @@ from .work import ByProgram
 
 INPUTS = ("first", "second")  # the words that name maps
 # What no task knows of.
-ELSEWHERE = ("jobs", "dask", "work", "program", "window", "no_window", "out", "exact", "a_id", "b_id", "stage", "say", "unanswered")
+ELSEWHERE = ("jobs", "dask", "work", "program", "window", "no_window", "out", "exact", "a_id", "b_id", "stage", "say",
+             "unanswered")
 RELEASED_AFTER = 100  # tasks
 OUTPUTS = ("pieces", "gaps")  # of these tasks know whether they are wanted
 
@@ -113,7 +114,8 @@ def found_of(stage: str, made: Iterable[Task], words: argparse.Namespace) -> Ite
 def drawn_told(by_window: int, count: int) -> str:
     """By what features were drawn in, so that it is known what the table rests on."""
     others = "what is too large for a window" if by_window == count else "the others and what is too large for a window"
-    return f"features drawn in by overlay_window in {by_window} of {count} tasks; {others} by Python, tested and not proved"
+    return (f"features drawn in by overlay_window in {by_window} of {count} tasks; {others} by Python, tested and not "
+            "proved")
 
 
 def written(made: Iterable[Task]) -> Iterator[bytes]:

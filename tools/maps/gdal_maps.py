@@ -57,7 +57,8 @@ class Source:
     def _table(self) -> Any:
         names = [self.file.GetLayer(number).GetName() for number in range(self.file.GetLayerCount())]
         if self.layer is None and len(names) != 1:
-            raise MapFault(f"{self.path}: {len(names)} layers, {named(names)}; name one by --a-layer, or of B by --b-layer")
+            raise MapFault(
+                f"{self.path}: {len(names)} layers, {named(names)}; name one by --a-layer, or of B by --b-layer")
         found = self.file.GetLayer(0) if self.layer is None else self.file.GetLayerByName(self.layer)
         if found is None:
             raise MapFault(f"{self.path}: no layer {self.layer}; say one of: {named(names)}")
@@ -96,8 +97,9 @@ class Source:
             self.told.skipped.append(f"{label}: a feature without a geometry")
             return
         if self.place >= 0 and not feature.IsFieldSetAndNotNull(self.place):
-            raise MapFault(f"{self.path}: feature {feature.GetFID()}: no {self.id_field}; say another property, that each "
-                           "feature has")
+            raise MapFault(
+                f"{self.path}: feature {feature.GetFID()}: no {self.id_field}; say another property, that each "
+                "feature has")
         if not isinstance(name, str) or map_reading.HALVES.search(name):  # GDAL hands on the bytes that are no UTF-8
             raise MapFault(f"{self.path}: feature {feature.GetFID()}: {gdal_files.not_utf8(pathlib.Path(self.path))}")
         wkb = bytes(shape.ExportToWkb(self.ogr.wkbNDR))
@@ -111,8 +113,8 @@ class Source:
 
 
 def rings_at(wkb: bytes, at: int) -> Generator[tuple[bool, bytes], None, int]:
-    """The rings of the polygon or multipolygon that begins at a byte, of each whether it is an outer one, and its points; where
-    it ends."""
+    """The rings of the polygon or multipolygon that begins at a byte, of each whether it is an outer one, and its
+    points; where it ends."""
     kind, count = struct.unpack_from("<II", wkb, at + 1)
     at += 9
     for number in range(count):

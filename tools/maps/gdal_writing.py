@@ -113,11 +113,13 @@ class Writing:
         under these names goes last."""
         index = self.path.with_suffix(".vrt")
         earlier = named_by(index, self.path)
-        foreign = [path for path in (index, *(part.path for part in self.parts)) if path.exists() and path not in earlier
+        foreign = [path for path in (index, *(part.path for part in self.parts)) if path.exists()
+                   and path not in earlier
                    and not (earlier and path == index)] if len(self.parts) > 1 else []
         if foreign:
-            raise MapFault(f"{foreign[0]} stands, and was not named: {self.path} has {len(self.parts)} parts of such names; "
-                           "move it away, or take another name")
+            raise MapFault(
+                f"{foreign[0]} stands, and was not named: {self.path} has {len(self.parts)} parts of such names; "
+                "move it away, or take another name")
         if len(self.parts) == 1:
             writing.take_places({self.parts[0].beside: self.path})
             for old in (index, *earlier) if earlier else ():

@@ -127,8 +127,8 @@ def run(task: Task, program: Program, drawing: Plain | None = None) -> Found:
 
 
 def add_found(found: Found, task: Task, job: int, answers: Answers) -> None:
-    """Adds what one job has found. Of one with cells that have no answer that is nothing; but gaps are those of the other
-    cells."""
+    """Adds what one job has found. Of one with cells that have no answer that is nothing; but gaps
+    are those of the other cells."""
     if job in answers.dense:
         found.unanswered.append(unanswered(task, job, answers.dense[job]))
         if task.kind != GAPS:

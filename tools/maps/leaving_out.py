@@ -1,4 +1,5 @@
-"""Says what of a question is not answered, since more features lie on each other in one place than the program takes."""
+"""Says what of a question is not answered, since more features lie on each other in one place than
+the program takes."""
 
 import argparse
 from collections.abc import Mapping
@@ -15,7 +16,8 @@ ADVICE = "say a greater --factor, or take features out there"
 
 
 class Side(NamedTuple):
-    """Of what maps the features of jobs are, the own one and the others, and what is left out where one has no answer."""
+    """Of what maps the features of jobs are, the own one and the others, and what is left out where
+    one has no answer."""
 
     own_path: str
     own: WholeMap
@@ -40,5 +42,6 @@ def line(one: Unanswered, side: Side, factor: Fraction) -> str:
     others = f"{side.other_path}: features {some([side.other.ids[other] for other in one.others])}"
     x, y = (float(Fraction(number) / factor) for number in (one.x, one.y))
     more = f" and in {one.cells - 1} more cells" if one.cells > 1 else ""
-    return (f"{', '.join([*own, others])}: more than {LAYERS_OF_JOB} that lie on each other, or {limits.STEPS_MAX} edges, "
-            f"meet a square of one unit at {x!r} {y!r}{more}: {side.left_out}; {ADVICE}")
+    return (
+        f"{', '.join([*own, others])}: more than {LAYERS_OF_JOB} that lie on each other, or {limits.STEPS_MAX} edges, "
+        f"meet a square of one unit at {x!r} {y!r}{more}: {side.left_out}; {ADVICE}")

@@ -167,8 +167,8 @@ def deeper_parts(made: Check, words: argparse.Namespace, say: Say) -> list[tuple
 
 
 def piles(after: dict[int, set[int]]) -> Iterator[set[int]]:
-    """Features that overlap, directly or by others, where more than MANY_SETS sets that begin with one of them may lie on
-    each other."""
+    """Features that overlap, directly or by others, where more than MANY_SETS sets that begin with one of them may lie
+    on each other."""
     deep = [feature for feature in after
             if sum(1 for _ in islice(larger_sets(after, feature), MANY_SETS + 1)) > MANY_SETS]
     near: dict[int, set[int]] = {}

@@ -154,7 +154,8 @@ class Points:
 
 
 class Plain:
-    """Draws in by this module, and parts of jobs by drawing_in.py; windows.py has another form, with the same answers."""
+    """Draws in by this module, and parts of jobs by drawing_in.py; windows.py has another form,
+    with the same answers."""
 
     told = "by Python"
 

@@ -21,13 +21,14 @@ TOO_FAR = "a coordinate of more than 2^52 units; say a smaller --factor, or mend
 
 
 def farthest_move(given: Numbers, whole: Numbers, factor: Fraction) -> float:
-    """How far the farthest of some doubles is off its whole number, in units; 0 where products of doubles cannot tell, which
-    are off by less than COARSE: of larger numbers by fractions."""
+    """How far the farthest of some doubles is off its whole number, in units; 0 where products of doubles cannot tell,
+    which are off by less than COARSE: of larger numbers by fractions."""
     scaled = given * float(factor)
     moves, unsure = np.abs(scaled - whole), grid.SPACINGS * np.spacing(np.abs(scaled))
     moves[moves <= unsure] = 0
     coarse = np.flatnonzero(unsure > COARSE)
-    moves[coarse] = [abs(grid.spelled(one) * factor - there) for one, there in zip(given[coarse].tolist(), whole[coarse].tolist())]
+    moves[coarse] = [abs(grid.spelled(one) * factor - there)
+                     for one, there in zip(given[coarse].tolist(), whole[coarse].tolist())]
     return float(moves.max(initial=0))
 
 
@@ -139,7 +140,8 @@ class Flat:
         return MapFault(f"{first}: {reason}{and_others(label.removeprefix(f'{self.path}, ') for label in others)}")
 
     def doubles(self) -> Numbers:
-        """x and y of the points. A ring that is not closed, has what is no number, or one beyond all bounds is refused."""
+        """x and y of the points. A ring that is not closed, has what is no number, or one beyond
+        all bounds is refused."""
         xy = np.frombuffer(b"".join(self.points), "<f8").reshape(-1, 2)
         sizes = np.array(self.ring_sizes, np.int64)
         ends = np.cumsum(sizes)
@@ -150,7 +152,8 @@ class Flat:
             odd = np.flatnonzero(~np.isfinite(xy).all(axis=1))
             wrong[np.searchsorted(ends, odd, "right")] = True
         if wrong.any():
-            raise self.refused(np.flatnonzero(wrong), "a ring that is not closed, or a coordinate that is no number; mend it there")
+            raise self.refused(np.flatnonzero(wrong),
+                               "a ring that is not closed, or a coordinate that is no number; mend it there")
         return xy
 
     def whole(self, factor: Fraction, bend: bool, told: Told) -> WholeMap:

@@ -174,7 +174,8 @@ def counted_twice(side: Side, features: set[int], factor: Fraction, words: argpa
     for feature, other, _ in side.shared:
         if feature in features:
             near[feature].append(other)
-    groups: list[tuple[int, ...]] = [(feature, *pair) for feature, others in near.items() for pair in overlapping(side, feature, others)]
+    groups: list[tuple[int, ...]] = [(feature, *pair) for feature, others in near.items()
+                                     for pair in overlapping(side, feature, others)]
     rows, sign, found = list[Row](), 1, list[tuple[int, Row]]()
     crowded: set[int] = set()
     while groups:
@@ -207,7 +208,8 @@ def larger(rows: list[Row]) -> list[tuple[int, ...]]:
             if not first or (own, (*first[1:], i, j)) in had]
 
 
-def part_rows(side: Side, groups: Iterable[tuple[int, ...]], factor: Fraction, words: argparse.Namespace, crowded: set[int]
+def part_rows(side: Side, groups: Iterable[tuple[int, ...]], factor: Fraction, words: argparse.Namespace,
+              crowded: set[int]
               ) -> list[Row]:
     """What a feature and some of the other map have in common, of each group that has anything; crowded takes the
     features of those that are not answered."""

@@ -122,7 +122,8 @@ def jobs_of_pairs(a: Numbers, b: Numbers, pairs: Numbers, own_places: Numbers) -
     for at in range(0, len(pairs), AT_ONCE):
         i, j = pairs[at : at + AT_ONCE].T
         cores = np.concatenate([np.maximum(a[i, :2], b[j, :2]), np.minimum(a[i, 2:], b[j, 2:])], axis=1)
-        yield from (Job(as_box(core), own, (other,)) for core, own, other in zip(cores.tolist(), i.tolist(), j.tolist()))
+        yield from (Job(as_box(core), own, (other,))
+                    for core, own, other in zip(cores.tolist(), i.tolist(), j.tolist()))
 
 
 def alone_jobs(a: Numbers, b: Numbers) -> Iterator[Job]:
@@ -167,8 +168,8 @@ def gap_jobs(whole: WholeMap, boxes: Numbers) -> Iterator[Job]:
 
 
 def is_less(total: int, halves: Sequence[int]) -> bool:
-    """Whether a cell is worth halving by boxes: one half at least has a tenth less. Within a feature's box no half has less,
-    down to a unit square; what is drawn in for the job has, and is halved by that."""
+    """Whether a cell is worth halving by boxes: one half at least has a tenth less. Within a feature's box no half has
+    less, down to a unit square; what is drawn in for the job has, and is halved by that."""
     return any(10 * half <= 9 * total for half in halves)
 
 

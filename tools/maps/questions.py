@@ -26,7 +26,8 @@ def pairs(words: argparse.Namespace, output: TextIO, say: Say) -> int:
     with written(words.out, output) as file:
         tables.write(named(rows, first.whole.ids, second.whole.ids), counted.units, words.exact, file)
     say(counted.told())
-    side = leaving_out.Side(words.first, first.whole, words.second, second.whole, "what they have in common is left out")
+    side = leaving_out.Side(words.first, first.whole, words.second, second.whole,
+                            "what they have in common is left out")
     return leaving_out.told(words, {question.label: side})
 
 
@@ -52,5 +53,6 @@ class Counted:
             yield row
 
     def told(self) -> str:
-        return (f"{self.overlaps} pairs overlap, {self.touches} touch; areas sum to {self.units.text(self.sum)}; each is "
-                f"off by at most {self.units.bound()}")
+        return (
+            f"{self.overlaps} pairs overlap, {self.touches} touch; areas sum to {self.units.text(self.sum)}; each is "
+            f"off by at most {self.units.bound()}")

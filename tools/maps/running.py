@@ -20,7 +20,8 @@ NAMED_MAX = 10  # so many features are named where something is reported of them
 
 
 def read_map(path: str, id_field: str | None, words: argparse.Namespace, say: Say, layer: str | None = None) -> ReadMap:
-    """A map, and what reading did to it is reported. What begins neither as GeoJSON nor as Well-Known Text is read by GDAL."""
+    """A map, and what reading did to it is reported. What begins neither as GeoJSON nor as
+    Well-Known Text is read by GDAL."""
     if form_of(path):
         read = gdal_maps.read(path, words.factor, id_field, layer, words.bend)
     elif layer is not None:
@@ -29,7 +30,8 @@ def read_map(path: str, id_field: str | None, words: argparse.Namespace, say: Sa
         read = geojson_maps.read(path, words.factor, id_field, words.bend)
     if not len(read.whole):
         skipped = read.told.skipped
-        raise MapFault(f"{path}: no polygon in it" + (f"; left out, {len(skipped)}: {some(skipped)}" if skipped else ""))
+        raise MapFault(f"{path}: no polygon in it"
+                       + (f"; left out, {len(skipped)}: {some(skipped)}" if skipped else ""))
     for line in told_lines(path, read.told):
         say(line)
     if read.crs is None and form_of(path):

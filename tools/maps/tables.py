@@ -15,8 +15,8 @@ HEADS = ["a", "b", "area", "width", "relation"]
 
 
 class Units:
-    """How areas of whole units are reported in those of the world: with digits after the point that spell a thousandth of a
-    square unit."""
+    """How areas of whole units are reported in those of the world: with digits after the point that spell a thousandth
+    of a square unit."""
 
     def __init__(self, factor: Fraction) -> None:
         self.factor, self.digits = factor, 3

@@ -151,8 +151,9 @@ class ShapeOf:
 
 @dataclass(frozen=True)
 class Unanswered:
-    """A job with cells in which more features lie on each other than the program takes: the numbers in whole maps of its own
-    feature (or NOBODY) and of the others there, the low corner of the first cell, and how many cells there are."""
+    """A job with cells in which more features lie on each other than the program takes: the numbers in whole maps of
+    its own feature (or NOBODY) and of the others there, the low corner of the first cell, and how many cells there
+    are."""
 
     own: int
     others: tuple[int, ...]

@@ -206,7 +206,8 @@ def do_numbers(work: Work, path: pathlib.Path, numbers: Iterable[int]) -> None:
 
 
 # Files that hold a part of a map, by the end of its name; SQLite keeps changes beside any of its stores.
-PARTS = {".shp": (".dbf", ".shx", ".prj", ".cpg"), ".tab": (".dat", ".map", ".id"), ".mif": (".mid",), ".gml": (".xsd", ".gfs")}
+PARTS = {".shp": (".dbf", ".shx", ".prj", ".cpg"), ".tab": (".dat", ".map", ".id"), ".mif": (".mid",),
+         ".gml": (".xsd", ".gfs")}
 
 
 def stamp(path: str | os.PathLike[str]) -> list[Any]:

@@ -88,8 +88,8 @@ class WholeMap:
 
 @dataclass
 class Told:
-    """What reading has done to a map, to be reported: how far the farthest coordinate moved, in the map's unit, how many had
-    more digits than a double, and the names of what was left out or changed."""
+    """What reading has done to a map, to be reported: how far the farthest coordinate moved, in the map's unit, how
+    many had more digits than a double, and the names of what was left out or changed."""
 
     features: int = 0
     points: int = 0
@@ -102,8 +102,8 @@ class Told:
 
 @dataclass(frozen=True)
 class ReadMap:
-    """A map in whole numbers, what reading did to it, and what coordinate_systems.py calls its system: None where that is
-    unknown."""
+    """A map in whole numbers, what reading did to it, and what coordinate_systems.py calls its
+    system: None where that is unknown."""
 
     whole: WholeMap
     told: Told

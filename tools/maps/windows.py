@@ -24,8 +24,8 @@ TOO_MANY_STEPS = 6  # of a layer
 
 @dataclass(frozen=True)
 class Part:
-    """Rings without their first point once more at the end, as all of the tools have them. The frame has to be wider than
-    the core on each side, and to have both ends of each step that lies in no half-plane off the core."""
+    """Rings without their first point once more at the end, as all of the tools have them. The frame has to be wider
+    than the core on each side, and to have both ends of each step that lies in no half-plane off the core."""
 
     core: Box
     frame: Box

@@ -51,7 +51,8 @@ def on_file(tool: ModuleType, text: str | bytes, *words: object) -> tuple[int, s
 def status_of(suite: unittest.TestSuite) -> int:
     """Runs tests, prints how many were left out and why, and how many passed and failed; the exit status."""
     result = unittest.TextTestRunner(stream=sys.stdout, verbosity=1).run(suite)
-    failed = len({getattr(test, "test_case", test).id() for test, _ in result.failures + result.errors})  # of its parts once
+    # Of its parts once.
+    failed = len({getattr(test, "test_case", test).id() for test, _ in result.failures + result.errors})
     for reason, count in collections.Counter(reason for _, reason in result.skipped).items():
         print(f"left out: {count} tests: {reason}")
     print(f"{result.testsRun - failed - len(result.skipped)} passed, {failed} failed")
@@ -95,6 +96,7 @@ class WithProgram(InFolder):
         """A new store with the layers of a script, all of whose lines are accepted."""
         made = self.folder / name
         text = script if isinstance(script, bytes) else script.encode()
-        done = subprocess.run([self.program, "--store", made, "--create"], input=text, capture_output=True, check=True, timeout=SECONDS)
+        done = subprocess.run([self.program, "--store", made, "--create"], input=text, capture_output=True, check=True,
+                              timeout=SECONDS)
         self.assertEqual([line for line in done.stdout.splitlines() if line.startswith((b"error", b"refused"))], [])
         return made

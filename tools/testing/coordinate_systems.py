@@ -14,8 +14,8 @@ from .forms import WithGdal
 
 SHAPE = "POLYGON ((1 1, 9.5 1, 9.5 9, 1 9, 1 1))"
 USUAL = [f"EPSG:{code}" for code in (
-    4258, 4269, 4267, 4674, 3857, 25832, 25833, 32618, 27700, 2154, 2056, 3035, 28992, 31370, 3006, 2263, 5070, 28355, 2193,
-    31467, 5880, 3067, 31287)] + [f"ESRI:{code}" for code in (102003, 102008, 54009, 54030)]
+    4258, 4269, 4267, 4674, 3857, 25832, 25833, 32618, 27700, 2154, 2056, 3035, 28992, 31370, 3006, 2263, 5070, 28355,
+    2193, 31467, 5880, 3067, 31287)] + [f"ESRI:{code}" for code in (102003, 102008, 54009, 54030)]
 # A map of Olinda as r-cran-sf has it, and what R and others write that is no authority's.
 OLINDA = ('GEOGCS["GRS 1980(IUGG, 1980)",DATUM["D_unknown",SPHEROID["GRS80",6378137,298.257222101]],'
           'PRIMEM["Greenwich",0],UNIT["Degree",0.017453292519943295]]')
@@ -24,7 +24,8 @@ NAMELESS = {
     "Britain by its ellipsoid": TRANSVERSE.format(49, -2, 0.9996012717, 400000, -100000, "+ellps=airy"),
     "Britain, a digit less": TRANSVERSE.format(49, -2, 0.999601272, 400000, -100000, "+datum=OSGB36"),
     "South America by its ellipsoid": "+proj=longlat +ellps=aust_SA +no_defs",
-    "Brazil by its ellipsoid": "+proj=poly +lat_0=0 +lon_0=-54 +x_0=5000000 +y_0=10000000 +ellps=aust_SA +units=m +no_defs",
+    "Brazil by its ellipsoid": "+proj=poly +lat_0=0 +lon_0=-54 +x_0=5000000 +y_0=10000000 +ellps=aust_SA +units=m "
+                               "+no_defs",
     "a city": TRANSVERSE.format(51.5, -0.1, 1, 50000, 50000, "+ellps=airy"),
     "another city": TRANSVERSE.format(0, 33, 0.99995, -3500000, 200000, "+ellps=intl"),
     "Airy's degrees": "+proj=longlat +ellps=airy +no_defs",
@@ -34,7 +35,8 @@ NAMELESS = {
 
 UNITS = {  # of a system with a name, and of one that no authority has
     "degree": ("EPSG:4258", OLINDA), "metre": ("EPSG:25832", NAMELESS["a city"]),
-    "US survey foot": ("EPSG:2263", TRANSVERSE.replace("units=m", "units=us-ft").format(40, -74, 0.9999, 100000, 0, "+ellps=GRS80")),
+    "US survey foot": ("EPSG:2263",
+                       TRANSVERSE.replace("units=m", "units=us-ft").format(40, -74, 0.9999, 100000, 0, "+ellps=GRS80")),
 }
 
 
@@ -46,8 +48,8 @@ def text_of(system: str, form: str = "WKT1_ESRI") -> str:
 class WithSystems(WithGdal):
     def ran(self, tool: str, *words: object) -> str:
         """What a command says on standard error."""
-        done = subprocess.run([sys.executable, path(tool), *map(str, words)], capture_output=True, text=True, timeout=SECONDS,
-                              check=False)
+        done = subprocess.run([sys.executable, path(tool), *map(str, words)], capture_output=True, text=True,
+                              timeout=SECONDS, check=False)
         self.assertEqual(done.returncode, 0, done.stderr)
         return done.stderr
 
@@ -87,7 +89,8 @@ class WithSystems(WithGdal):
         if not Programs.live:
             self.skipTest("no overlay_live was given")
         path = self.folder / f"pieces{end}"
-        words = ["overlay", first, second, "--factor", 10, "--pieces", path, "--program", Programs.live, "--jobs", 1, "--no-audit"]
+        words = ["overlay", first, second, "--factor", 10, "--pieces", path, "--program", Programs.live, "--jobs", 1,
+                 "--no-audit"]
         status, _, errors = outcome(overlay_maps, *words)
         self.assertEqual(status, 0, errors)
         return self.system(path)
@@ -111,7 +114,8 @@ class Named(WithSystems):
                 with self.subTest(name, form=form):
                     self.assertEqual(self.script(self.shapefile(text_of(name, form)))[0], name)
         lied = text_of("EPSG:25832", "WKT1_GDAL").replace('"false_easting",500000', '"false_easting",400000')
-        ours = text_of("EPSG:25832", "WKT2_2019").replace('ID["EPSG",25832]', 'ID["OURS",7]').replace("0.9996,", "0.9997,")
+        ours = text_of("EPSG:25832", "WKT2_2019").replace('ID["EPSG",25832]',
+                                                          'ID["OURS",7]').replace("0.9996,", "0.9997,")
         for text in (lied, ours):
             found = self.script(self.shapefile(text))[0]
             self.assertTrue(found and found.startswith("PROJCRS["), found)
@@ -174,8 +178,8 @@ class Nameless(WithSystems):
                "other, as by ogr2ogr -t_srs"))
         status, _, errors = outcome(to_script, first, second)
         self.assertEqual((status, errors), (2, (
-            'files of different coordinates: EPSG:4674, "GRS 1980(IUGG, 1980)"; bring them to one, as by ogr2ogr -t_srs, or '
-            "say by --crs which one all of them have\n")))
+            'files of different coordinates: EPSG:4674, "GRS 1980(IUGG, 1980)"; bring them to one, as by ogr2ogr '
+            "-t_srs, or say by --crs which one all of them have\n")))
 
 
 class Units(WithSystems):
@@ -230,8 +234,9 @@ class Unknown(WithSystems):
     def test_a_name_in_geojson_that_is_none_is_unknown(self) -> None:
         self.shapefile(None)
         value = json.loads((self.folder / "map.geojson").read_text())
-        for name, wanted in (("My plan", None), ("PROJCS[broken", None), ("urn:ogc:def:crs:ESRI::102003", "ESRI:102003"),
-                             (text_of("EPSG:2154"), "EPSG:2154")):
+        for name, wanted in (("My plan", None), ("PROJCS[broken", None),
+                             ("urn:ogc:def:crs:ESRI::102003", "ESRI:102003"), (text_of("EPSG:2154"), "EPSG:2154")):
             crs = {"type": "name", "properties": {"name": name}}
-            file = self.file("named.geojson", json.dumps({"type": "FeatureCollection", "crs": crs, "features": [value]}))
+            file = self.file("named.geojson",
+                             json.dumps({"type": "FeatureCollection", "crs": crs, "features": [value]}))
             self.assertEqual(self.script(file)[0], wanted, name)

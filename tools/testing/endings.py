@@ -55,11 +55,13 @@ class Endings(InFolder):
 
     def test_output_is_kept_where_notes_cannot_be_told(self) -> None:
         square = self.file("a.wkt", SQUARE + "\n")
-        plain = subprocess.run([sys.executable, path("to_script.py"), str(square)], capture_output=True, check=True, timeout=SECONDS)
+        plain = subprocess.run([sys.executable, path("to_script.py"), str(square)], capture_output=True, check=True,
+                               timeout=SECONDS)
         self.assertTrue(plain.stdout and plain.stderr)
         for stream, status in (("2>/dev/full", 1), ("2>&-", 0)):
             call = shlex.join([sys.executable, str(path("to_script.py")), str(square)])
-            done = subprocess.run(["bash", "-c", f"{call} {stream}"], stdout=subprocess.PIPE, check=False, timeout=SECONDS)
+            done = subprocess.run(["bash", "-c", f"{call} {stream}"], stdout=subprocess.PIPE, check=False,
+                                  timeout=SECONDS)
             self.assertEqual((done.returncode, done.stdout), (status, plain.stdout), stream)
 
     def test_a_full_device(self) -> None:
@@ -76,7 +78,8 @@ class Endings(InFolder):
         name, *words = self.calls()[1]
         call = f"{sys.executable} {path(name)} {' '.join(words)}"
         for streams, status in ((">/dev/full 2>&1", 1), (">&- 2>/dev/null", 1), (">/dev/null", 0)):
-            done = subprocess.run(["bash", "-c", f"{call} {streams}"], capture_output=True, text=True, check=False, timeout=SECONDS)
+            done = subprocess.run(["bash", "-c", f"{call} {streams}"], capture_output=True, text=True, check=False,
+                                  timeout=SECONDS)
             self.assertEqual((done.returncode, done.stdout, done.stderr), (status, "", ""), streams)
 
 

@@ -1,4 +1,5 @@
-"""What ../../examples/maps.md says, worked out a second time: by slabs of fractions and a plain overlay, without maps/."""
+"""What ../../examples/maps.md says, worked out a second time: by slabs of fractions and a plain
+overlay, without maps/."""
 
 import json
 import math
@@ -22,7 +23,8 @@ def features_of(name: str, called: str) -> dict[str, Rings]:
     text = pathlib.Path(TOP, "examples", "maps", name).read_text()
     found: dict[str, Rings] = {}
     for feature in json.loads(text, parse_float=Decimal)["features"]:
-        rings = [[(FACTOR * Fraction(x), FACTOR * Fraction(y)) for x, y in ring] for ring in feature["geometry"]["coordinates"]]
+        rings = [[(FACTOR * Fraction(x), FACTOR * Fraction(y)) for x, y in ring]
+                 for ring in feature["geometry"]["coordinates"]]
         assert all(number.denominator == 1 for ring in rings for point in ring for number in point)
         found[feature["properties"][called]] = [[(int(x), int(y)) for x, y in ring[:-1]] for ring in rings]
     return found
@@ -77,7 +79,8 @@ class Example(unittest.TestCase):
         self.assertIn(f"2 gaps, and sum to {float(sum(parts[1:]) / FACTOR**2)}; the largest has {gaps[0]}", self.page)
 
     def test_all_pieces(self) -> None:
-        alone = [row_of("", name, "alone", [zone, *self.parcels.values()], lambda states: states[0] and not any(states[1:]))
+        alone = [row_of("", name, "alone", [zone, *self.parcels.values()],
+                        lambda states: states[0] and not any(states[1:]))
                  for name, zone in self.zones.items()]
         wanted = self.placed(alone)
         self.assertEqual(re.findall("^,.*,alone$", self.page, re.M), wanted)

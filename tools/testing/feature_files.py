@@ -58,8 +58,9 @@ class Plain(unittest.TestCase):
         cases = (
             ([rings(WEST)], True), ([rings(WEST, LAKE)], True), ([rings(WEST), rings(ISLE)], True),
             ([rings(WEST), rings(EAST)], False), ([rings(BOW)], False), ([rings(WEST, ISLE)], False),
-            ([rings(WEST), rings(LAKE)], False), ([rings(WEST, LAKE, inner)], True), ([rings(WEST, LAKE, island)], False),
-            ([rings([[0, 0], [9, 0], [4, 0], [4, 5], [0, 0]])], False), ([rings([[0, 0], [8, 0], [0, 0], [0, 0]])], False),
+            ([rings(WEST), rings(LAKE)], False), ([rings(WEST, LAKE, inner)], True),
+            ([rings(WEST, LAKE, island)], False), ([rings([[0, 0], [9, 0], [4, 0], [4, 5], [0, 0]])], False),
+            ([rings([[0, 0], [8, 0], [0, 0], [0, 0]])], False),
             ([rings([[0, 0], [30, 0], [30, 30], [0, 0]], [[9, 1], [20, 1], [20, 11], [9, 1]]),
               rings([[15, 2], [18, 2], [18, 5], [15, 2]])], True),
         )
@@ -100,11 +101,13 @@ class Files(InFolder):
 
     def test_ids_are_the_sources_where_each_feature_has_one(self) -> None:
         for given, told in ((("a.1", 7), None), ((7, 7), "several features have 7"), ((7, None), "a feature has none"),
-                            ((7, "7"), "several features have 7"), ((True, 3), "'True' is none"), ((-1, 3), "'-1' is none"),
-                            ((None, None), None), ((3, "a/b"), "'a/b' is none, as a whole number below 2^53 is, or a word"),
+                            ((7, "7"), "several features have 7"), ((True, 3), "'True' is none"),
+                            ((-1, 3), "'-1' is none"), ((None, None), None),
+                            ((3, "a/b"), "'a/b' is none, as a whole number below 2^53 is, or a word"),
                             (("..a", "..."), None), ((3, "."), "'.' is none, as no address of the web ends with it"),
                             (("..", 3), "'..' is none, as no address of the web ends with it")):
-            made = self.file("plan.geojson", collection(*(feature([ring], {}, one) for ring, one in zip((WEST, EAST), given))))
+            made = self.file("plan.geojson",
+                             collection(*(feature([ring], {}, one) for ring, one in zip((WEST, EAST), given))))
             status, _, errors = outcome(to_script, made, "--factor", 1, "--output", self.folder / "plan.txt", "--coded")
             found = [one.id for one in features.read(self.folder / "plan.features.json").features]
             self.assertEqual((status, found), (0, [1, 2] if told or given[0] is None else [*given]), errors)
@@ -118,7 +121,8 @@ class Files(InFolder):
         self.assertEqual([one.id for one in features.read(path).features], [".", ".."])
 
     def test_features_of_one_name_have_one_number_and_stay_apart(self) -> None:
-        text = collection(feature([WEST], {"n": 1, "a": 1}), feature([ISLE], {"n": 1, "a": 2}), feature([EAST], {"n": 2}))
+        text = collection(feature([WEST], {"n": 1, "a": 1}), feature([ISLE], {"n": 1, "a": 2}),
+                          feature([EAST], {"n": 2}))
         table = self.table(text, "--coded", "--name-by", "n")
         self.assertEqual([(one.number, one.name, one.properties.get("a")) for one in table.features],
                          [(1, "1", 1), (1, "1", 2), (2, "2", None)])
@@ -140,7 +144,8 @@ class Files(InFolder):
     def test_without_features_of_geojson_no_file_is_written(self) -> None:
         self.file("plan.wkt", "POLYGON ((0 0, 4 0, 4 4, 0 0))")
         outcome(to_script, self.folder / "plan.wkt", "--output", self.folder / "plan.txt")
-        self.assertEqual(sorted(path.name for path in self.folder.iterdir()), ["plan.scale.json", "plan.txt", "plan.wkt"])
+        self.assertEqual(sorted(path.name for path in self.folder.iterdir()),
+                         ["plan.scale.json", "plan.txt", "plan.wkt"])
 
     def test_a_file_of_another_form_is_told_in_one_line(self) -> None:
         good = self.table(MAP, "--coded").text()
@@ -240,8 +245,9 @@ class InStores(WithProgram):
         store = self.made(MAP, "--coded")
         other = self.store("other.db", "PUT b0 POLYGON ((0 0, 9 0, 9 9, 0 0))\nPUT b1 POLYGON ((0 0, 9 0, 9 9, 0 0))\n")
         (self.folder / "other.features.json").write_bytes((self.folder / "plan.features.json").read_bytes())
-        told = ("other.features.json: not the features of this store: layer b0 lacks 3 of its features' rings and layer b0 "
-                "has 1 rings that none of its features has; the first is of")
+        told = (
+            "other.features.json: not the features of this store: layer b0 lacks 3 of its features' rings and layer b0 "
+            "has 1 rings that none of its features has; the first is of")
         for tool, *words in ((which, "--store", other, 1, 1), (to_geojson, "--store", other, "--features"),
                              (dump_store, other, "--output", self.folder / "again.txt")):
             status, output, errors = outcome(tool, *words, "--program", self.program)
@@ -286,7 +292,8 @@ class InStores(WithProgram):
             self.assertEqual((self.folder / f"again{end}").read_bytes(), (self.folder / f"plan{end}").read_bytes())
         made = self.store("again.db", again.read_bytes())
         self.assertEqual(self.written(made, self.program), self.written(store, self.program))
-        self.assertEqual(outcome(dump_store, store, "--program", self.program, "--output", self.folder / "plan.txt")[0], 0)
+        self.assertEqual(outcome(dump_store, store, "--program", self.program, "--output", self.folder / "plan.txt")[0],
+                         0)
         status, _, errors = outcome(dump_store, store, "--program", self.program, "--output", store)
         self.assertEqual((status, "is not written over" in errors), (1, True))
 

@@ -23,7 +23,8 @@ OVER = [[5, 5], [25, 5], [25, 6], [5, 6], [5, 5]]
 class Names(unittest.TestCase):
     def test_features_are_called_by_a_name_or_by_what_tells_them_apart(self) -> None:
         for rows, wanted in (
-            ([{"name": "a"}, {"name": "a"}], "name"), ([{"NAME": "a", "code": "1"}, {"NAME": "b", "code": "2"}], "NAME"),
+            ([{"name": "a"}, {"name": "a"}], "name"),
+            ([{"NAME": "a", "code": "1"}, {"NAME": "b", "code": "2"}], "NAME"),
             ([{"code": "1", "ward_name": "x"}, {"code": "2", "ward_name": "y"}], "ward_name"),
             ([{"code": "1"}, {"code": "2"}], "code"), ([{"code": "1"}, {"code": "1"}], None),
             ([{"name": None, "n": 1}, {"name": "b", "n": 2}], None), ([{}, {"name": "b"}], None), ([], None),
@@ -55,7 +56,8 @@ class FirstMaps(WithProgram):
 
     def names(self, name: str = "city") -> list[str]:
         """What is in it beside its mark; nothing where it is not there."""
-        return sorted({one.name for one in self.own(name).iterdir()} - {first_map.MARK}) if self.own(name).is_dir() else []
+        return (sorted({one.name for one in self.own(name).iterdir()} - {first_map.MARK}) if self.own(name).is_dir()
+                else [])
 
     def asked(self, address: str, page: str) -> Any:
         with urllib.request.urlopen(address + page, timeout=30) as answer:
@@ -65,7 +67,8 @@ class FirstMaps(WithProgram):
         given = self.file("my city.geojson", MAP)
         status, _, errors = self.made(given)
         self.assertEqual((status, self.names("my_city")), (0, [f"my_city.{end}" for end in
-                                                               ("db", "features.json", "names.csv", "scale.json", "txt")]), errors)
+                                                               ("db", "features.json", "names.csv", "scale.json",
+                                                                "txt")]), errors)
         store = self.own("my_city") / "my_city.db"
         before = store.read_bytes()
         given.write_text(collection(feature([WEST], {"name": "West"})))
@@ -89,14 +92,17 @@ class FirstMaps(WithProgram):
 
     def test_a_feature_that_is_refused_is_told_with_file_number_and_name(self) -> None:
         for text, told in (
-            (collection(feature([WEST], {"name": "West"}), feature([[[0, 0], [9, 0], [9, 9], [1, 1]]], {"name": "Open"})),
+            (collection(feature([WEST], {"name": "West"}),
+                        feature([[[0, 0], [9, 0], [9, 9], [1, 1]]], {"name": "Open"})),
              "feature 2 (Open): a ring whose last point is not its first"),
-            (collection(feature([WEST], {"name": "West"}), feature([[[0, 0], [9, "x"], [9, 9], [0, 0]]], {"name": "T"})),
+            (collection(feature([WEST], {"name": "West"}),
+                        feature([[[0, 0], [9, "x"], [9, 9], [0, 0]]], {"name": "T"})),
              "feature 2 (T): a coordinate that is no number: 'x'"),
         ):
             given = self.file("city.geojson", text)
             status, _, errors = self.made(given, "--again")
-            self.assertEqual((status, f"refused: {given}, {told}" in errors, "city.db" in self.names()), (1, True, True), errors)
+            self.assertEqual((status, f"refused: {given}, {told}" in errors, "city.db" in self.names()),
+                             (1, True, True), errors)
 
     def test_a_name_that_begins_with_a_dash_is_no_option(self) -> None:
         self.file("-city.geojson", MAP)
@@ -144,13 +150,17 @@ class FirstMaps(WithProgram):
     def test_where_nothing_can_be_written_the_folder_is_named(self) -> None:
         given, folder = self.file("city.geojson", MAP), self.folder / "maps"
         with unittest.mock.patch("os.access", return_value=False):
-            self.assertEqual(self.made(given), (1, "", f"{folder}: nothing can be written in it; say another --folder\n"))
+            self.assertEqual(self.made(given),
+                             (1, "", f"{folder}: nothing can be written in it; say another --folder\n"))
 
     def test_a_device_that_fails_is_told_with_the_room_that_is_left(self) -> None:
-        given, failing = self.file("city.geojson", MAP), self.file("failing", "#!/bin/sh\necho error 30 device\nexit 1\n", 0o700)
-        status, _, errors = outcome(first_map, given, "--folder", self.folder / "maps", "--program", failing, "--only-make")
+        given, failing = self.file("city.geojson", MAP), self.file("failing",
+                                                                   "#!/bin/sh\necho error 30 device\nexit 1\n", 0o700)
+        status, _, errors = outcome(first_map, given, "--folder", self.folder / "maps", "--program", failing,
+                                    "--only-make")
         self.assertEqual(status, 1)
-        self.assertRegex(errors, rf"city.txt: error 30 device; the disk of {self.folder}/maps has [0-9,]+ bytes free\n$")
+        self.assertRegex(errors,
+                         rf"city.txt: error 30 device; the disk of {self.folder}/maps has [0-9,]+ bytes free\n$")
 
     def test_of_stores_one_of_which_went_the_others_stay(self) -> None:
         given, folder = self.file("city.geojson", MAP), self.claimed()
@@ -195,11 +205,13 @@ class FirstMaps(WithProgram):
 
     def test_files_of_the_user_s_stay_as_they_are(self) -> None:
         given = self.file("city.geojson", MAP)
-        own = [self.file(f"city.{end}", "my own notes") for end in ("txt", "db", "names.csv", "scale.json", "features.json")]
+        own = [self.file(f"city.{end}", "my own notes")
+               for end in ("txt", "db", "names.csv", "scale.json", "features.json")]
         kept = self.file(".city.geojson.new", "mine")
         words = [sys.executable, TOP / "overlay", given.name, "--program", self.live, "--only-make"]
         for again in ([], [], ["--again"]):
-            done = subprocess.run([str(word) for word in (*words, *again)], cwd=self.folder, capture_output=True, text=True)
+            done = subprocess.run([str(word) for word in (*words, *again)], cwd=self.folder, capture_output=True,
+                                  text=True)
             self.assertEqual(done.returncode, 0, done.stderr)
             self.assertEqual({one.read_text() for one in own}, {"my own notes"})
         self.assertEqual({one.name for one in self.folder.iterdir()},
@@ -211,8 +223,9 @@ class FirstMaps(WithProgram):
         given, own = self.file("city.geojson", MAP), self.own()
         own.mkdir(parents=True)
         (own / "notes.txt").write_text("mine")
-        told = (f"{own}: it is there, and overlay did not make it (no made-by-overlay is in it); say another --folder, or "
-                "move it away\n")
+        told = (
+            f"{own}: it is there, and overlay did not make it (no made-by-overlay is in it); say another --folder, or "
+            "move it away\n")
         for words in ([], ["--again"]):
             self.assertEqual((*self.made(given, *words), self.names()), (2, "", told, ["notes.txt"]))
         (own / "notes.txt").rename(self.folder / "notes.txt")
@@ -246,10 +259,11 @@ class FirstMaps(WithProgram):
         self.assertEqual(self.made(given)[0], 0)
         self.assertEqual([one.name for one in maps.iterdir()], ["city.overlay"])
         before = self.names()
-        self.assertEqual(subprocess.run([str(word) for word in (*words, slow, "--again")], capture_output=True).returncode, -9)
+        self.assertEqual(subprocess.run([str(word) for word in (*words, slow, "--again")],
+                                        capture_output=True).returncode, -9)
         new = writing.beside(self.own() / "city.features.json")
-        for path in (new, self.own() / "city.db.x1y2.copy"):
-            path.write_text("half of it")
+        for half in (new, self.own() / "city.db.x1y2.copy"):
+            half.write_text("half of it")
         self.assertEqual(len(self.names()), len(before) + 3)
         with (self.own() / "city.db").open("rb") as file:
             fcntl.flock(file, fcntl.LOCK_EX)  # a front that has it may be writing
@@ -275,7 +289,8 @@ class FirstMaps(WithProgram):
                          [["PUT", "city"], ["PUT", "zone"], ["DEFINE", "both"]])
         self.assertTrue(script.endswith("DEFINE both = city & zone\n"))
         self.assertEqual(self.made(city, "--with", zone, "--with", far)[0], 0)
-        self.assertIn("DEFINE both = city & zone & far\n", (self.own("city_and_zone_and_far") / "city_and_zone_and_far.txt").read_text())
+        self.assertIn("DEFINE both = city & zone & far\n",
+                      (self.own("city_and_zone_and_far") / "city_and_zone_and_far.txt").read_text())
 
     def test_the_word_starts_a_front_that_ends_by_a_signal(self) -> None:
         given = self.file("city.geojson", MAP)
@@ -295,7 +310,8 @@ class FirstMaps(WithProgram):
                             ([path("data", "README.md")], "README.md: not read: no token of a text")):
             status, _, errors = self.made(*words)
             self.assertEqual((status, self.names(), told in errors), (2, [], True), errors)
-        for words, told in ((["--port", "x", "a"], "--port"), (["a", "--with", "b", "--name-by", "n"], "--with makes each map")):
+        for words, told in ((["--port", "x", "a"], "--port"),
+                            (["a", "--with", "b", "--name-by", "n"], "--with makes each map")):
             with self.assertRaises(SystemExit) as ended, unittest.mock.patch("sys.stderr") as errors:
                 self.made(*words)
             self.assertEqual(ended.exception.code, 2)

@@ -58,7 +58,8 @@ class FilesOfGdal(WithGdal):
     def test_a_file_is_what_it_has_whatever_it_is_called(self) -> None:
         plan = str(self.file("plan.geojson", FIRST))
         wanted = outcome(to_script, plan, "--factor", 2, "--name", "a")[1]
-        for made in (self.made("a.gpkg", plan), self.made("a.fgb", plan), self.made("b.csv", plan, "-lco", "GEOMETRY=AS_WKT")):
+        for made in (self.made("a.gpkg", plan), self.made("a.fgb", plan),
+                     self.made("b.csv", plan, "-lco", "GEOMETRY=AS_WKT")):
             for name in ("odd.json", "odd.txt", "odd"):
                 made = made.rename(self.folder / name)
                 self.assertEqual(outcome(to_script, made, "--factor", 2, "--name", "a")[:2], (0, wanted), made)
@@ -115,7 +116,8 @@ class FilesOfGdal(WithGdal):
         plan = self.file("plan.geojson", FIRST.replace('"a"', '"ä"'))
         latin = self.file("latin.geojson", plan.read_text().encode("latin-1"))
         self.assertEqual(outcome(to_script, latin), (
-            2, "", f"{latin}: not read: no UTF-8, by its byte 0xe4; iconv -f ISO-8859-1 -t UTF-8 makes it of Latin-1\n"))
+            2, "",
+            f"{latin}: not read: no UTF-8, by its byte 0xe4; iconv -f ISO-8859-1 -t UTF-8 makes it of Latin-1\n"))
         table = self.file("latin.csv", b'WKT,n\n"POLYGON ((0 0, 9 0, 0 9, 0 0))",\xe4\n')
         self.assertIn("no UTF-8; iconv -f ISO-8859-1", outcome(to_script, table)[2])
         shape = self.made("latin.shp", str(plan), "-lco", "ENCODING=ISO-8859-1")
@@ -140,7 +142,8 @@ class FilesOfGdal(WithGdal):
         (self.folder / "plan.scale.json").unlink()
         plane = self.folder / "plane.gpkg"
         self.assertEqual(outcome(to_geojson, script, "--program", program, "--output", plane)[:2], (0, ""))
-        self.assertEqual(json.loads(gdal_files.as_geojson(plane))["crs"]["properties"]["name"], coordinate_systems.UNKNOWN)
+        self.assertEqual(json.loads(gdal_files.as_geojson(plane))["crs"]["properties"]["name"],
+                         coordinate_systems.UNKNOWN)
 
     def test_a_name_that_begins_with_a_dash_is_no_option(self) -> None:
         with contextlib.chdir(self.folder):
@@ -175,7 +178,8 @@ class FilesOfGdal(WithGdal):
             words = [script, "--program", self.model(), "--features", "--output", file]
             with contextlib.redirect_stderr(io.StringIO()) as errors:
                 self.assertEqual(to_geojson.main([str(word) for word in words]), 0)
-            told = [f"{file}: the property {name} is its column {name}_, as another differs in case alone" for name in "NM"]
+            told = [f"{file}: the property {name} is its column {name}_, as another differs in case alone"
+                    for name in "NM"]
             self.assertEqual(errors.getvalue().splitlines()[1:], told)
 
     def rows_of(self, file: pathlib.Path) -> list[str]:
@@ -186,7 +190,8 @@ class FilesOfGdal(WithGdal):
             found = [dict(row) for row in store.execute("SELECT * FROM ids")]
         if package is not file:
             found = [{name: value for name, value in row.items() if name != "fid"} for row in found]
-        return [" ".join(f"{name} {value}" for name, value in row.items() if value is not None and not isinstance(value, bytes))
+        return [" ".join(f"{name} {value}" for name, value in row.items() if value is not None
+                         and not isinstance(value, bytes))
                 for row in found]
 
 
@@ -196,8 +201,8 @@ class OwnTexts(InFolder):
     def test_outputs_that_are_refused(self) -> None:
         script = self.file("plan.txt", f"PUT A {SQUARE}\n")
         ends = ": written are .geojson, .json, .gpkg, .fgb"
-        for name, told in (("a.shp", ends), ("a.csv", ends), ("a.xyz", ends), ("a.json.dxf", ends), ("a.geojson.gz", ends),
-                           (".", "is a folder")):
+        for name, told in (("a.shp", ends), ("a.csv", ends), ("a.xyz", ends), ("a.json.dxf", ends),
+                           ("a.geojson.gz", ends), (".", "is a folder")):
             with self.assertRaises(SystemExit) as ended, contextlib.redirect_stderr(io.StringIO()) as errors:
                 to_geojson.main([str(script), "--output", name])
             self.assertEqual((ended.exception.code, told in errors.getvalue()), (2, True), errors.getvalue())
@@ -243,7 +248,8 @@ class OwnTexts(InFolder):
 
     def test_what_gzip_compressed_is_called_so_whatever_its_name(self) -> None:
         told = "it is compressed by gzip: unpack it first (gunzip)"
-        for name, text in (("a.geojson.gz", FIRST), ("b.json", SECOND), ("c.gpkg", "SQLite format 3"), ("d.wkt.gz", SQUARE)):
+        for name, text in (("a.geojson.gz", FIRST), ("b.json", SECOND), ("c.gpkg", "SQLite format 3"),
+                           ("d.wkt.gz", SQUARE)):
             file = self.file(name, gzip.compress(text.encode()))
             for words in ((), ("--source-layer", "one")):
                 self.assertEqual(outcome(to_script, file, *words), (2, "", f"{file}: not read: {told}\n"))

@@ -71,7 +71,8 @@ class Reading(WithFiles):
             read = self.read(self.made(*shapes, suffix=suffix), Fraction(10))
             rings = {name: sorted(map(frozenset, read.whole.rings(place))) for place, name in enumerate(read.whole.ids)}
             found[suffix] = rings
-            self.assertEqual((read.crs, read.told.features, read.told.points, read.told.moved), ("EPSG:25832", 2, 15, 0))
+            self.assertEqual((read.crs, read.told.features, read.told.points, read.told.moved),
+                             ("EPSG:25832", 2, 15, 0))
         square = frozenset((10 * x, 10 * y) for x, y in RING)
         self.assertEqual(set(found["gpkg"]["p1"]), {square, frozenset([(200, 0), (300, 0), (200, 90)])})
         self.assertEqual(set(found["gpkg"]["p0"]), {square, frozenset((10 * x, 10 * y) for x, y in HOLE)})
@@ -85,7 +86,8 @@ class Reading(WithFiles):
             made = pathlib.Path(self.made(f"POLYGON {text_of(RING)}", suffix=suffix))
             for name in ("map.json", "map.csv", "map.shp", "map"):
                 other = made.rename(self.folder / name)
-                self.assertEqual((self.read(str(other)).whole.ids, running.form_of(str(other)) is None), (["p0"], False))
+                self.assertEqual((self.read(str(other)).whole.ids, running.form_of(str(other)) is None),
+                                 (["p0"], False))
                 made = other
         for name in ("a.csv", "a.txt", "a.geojson", "a"):
             table = self.file(name, f'"nr",WKT\np0,"POLYGON {text_of(RING)}"\n')
@@ -127,7 +129,8 @@ class Reading(WithFiles):
                      path)
 
     def test_a_coordinate_that_is_no_number_is_refused(self) -> None:
-        for odd, reason in ((math.nan, "no number"), (math.inf, "no number"), (1e16, "more than 2.52 units; say a smaller")):
+        for odd, reason in ((math.nan, "no number"), (math.inf, "no number"),
+                            (1e16, "more than 2.52 units; say a smaller")):
             flat = numpy_maps.Flat("map")
             for name, ring in (("p0", RING), ("p1", [(0, 0), (odd, 1), (1, 1), (0, 0)]), ("p2", RING)):
                 wkb = struct.pack(f"<BIII{2 * len(ring)}d", 1, 3, 1, len(ring), *sum(ring, ()))
@@ -137,11 +140,12 @@ class Reading(WithFiles):
 
     def test_one_that_is_beyond_all_doubles_in_units_is_refused_in_one_line(self) -> None:
         path = self.made(f"POLYGON {text_of(RING)}", "POLYGON ((0 0, 1e300 0, 1 1, 0 0))")
-        done = subprocess.run([sys.executable, common.path("overlay_maps.py"), "check", path, "--factor", "10000000000", "--program",
-                               "true"], capture_output=True, text=True, timeout=60, check=False)
+        done = subprocess.run([sys.executable, common.path("overlay_maps.py"), "check", path, "--factor", "10000000000",
+                               "--program", "true"], capture_output=True, text=True, timeout=60, check=False)
         self.assertEqual(done.returncode, 2)
-        self.assertRegex(done.stderr, r"^[^\n]*map\.gpkg, feature 2: a coordinate of more than 2\^52 units; say a smaller --factor, "
-                                      r"or mend it there\n$")
+        self.assertRegex(done.stderr,
+                         r"^[^\n]*map\.gpkg, feature 2: a coordinate of more than 2\^52 units; say a smaller --factor, "
+                         r"or mend it there\n$")
 
     def test_nothing_is_written_beside_a_map(self) -> None:
         path = str(self.folder / "map.gml")
@@ -162,7 +166,8 @@ class Reading(WithFiles):
         self.refused("odd.gpkg: ", str(self.file("odd.gpkg", "no map")))
 
     def test_a_file_that_was_cut_is_refused_with_a_reason(self) -> None:
-        cut = pathlib.Path(self.made(*["POLYGON ((0 0, 10 0, 10 10, 0 10, 0 0))"] * 1000, suffix="shp", layers=("map",)))
+        cut = pathlib.Path(self.made(*["POLYGON ((0 0, 10 0, 10 10, 0 10, 0 0))"] * 1000, suffix="shp",
+                                     layers=("map",)))
         cut.write_bytes(cut.read_bytes()[:100_000])
         self.refused(r"map.shp: \w", str(cut))
 
@@ -300,7 +305,8 @@ class Missing(WithFiles):
         for module, package in (("numpy", "python3-numpy"), ("osgeo", "python3-gdal")):
             text = (f"import sys; sys.modules['{module}'] = None; from tools import ending; "
                     "ending.run_module('tools.commands.overlay_maps')")
-            done = subprocess.run([sys.executable, "-c", text, *words], cwd=TOP, capture_output=True, text=True, check=False)
+            done = subprocess.run([sys.executable, "-c", text, *words], cwd=TOP, capture_output=True, text=True,
+                                  check=False)
             self.assertEqual((done.returncode, done.stdout, done.stderr), (
                 1, "", f"-c: {package} is missing: apt-get install {package}, and run this by /usr/bin/python3\n"))
 

@@ -18,7 +18,8 @@ class Helps(unittest.TestCase):
         commands = [TOP / "overlay", *COMMANDS]
         self.assertEqual(len(commands), 9)
         for file in commands:
-            done = subprocess.run([sys.executable, file, "--help"], capture_output=True, text=True, check=False, timeout=SECONDS)
+            done = subprocess.run([sys.executable, file, "--help"], capture_output=True, text=True, check=False,
+                                  timeout=SECONDS)
             self.assertEqual((done.returncode, done.stderr), (0, ""), file.name)
             self.assertTrue(done.stdout.startswith("usage: "), file.name)
             self.assertGreater(len(done.stdout.split()), 20, file.name)
@@ -26,12 +27,13 @@ class Helps(unittest.TestCase):
     def test_an_option_of_one_value_that_is_given_twice_is_refused(self) -> None:
         for name, *words in (
             ("overlay", "m.json", "--folder"), ("tools/dump_store.py", "m.db", "--output"),
-            ("tools/overlay_maps.py", "pairs", "a.json", "b.json", "--factor"), ("tools/overlay_maps.py", "task", "--program"),
-            ("tools/to_geojson.py", "--store"), ("tools/to_rings.py", "--scale"), ("tools/to_script.py", "m.json", "--factor"),
+            ("tools/overlay_maps.py", "pairs", "a.json", "b.json", "--factor"),
+            ("tools/overlay_maps.py", "task", "--program"), ("tools/to_geojson.py", "--store"),
+            ("tools/to_rings.py", "--scale"), ("tools/to_script.py", "m.json", "--factor"),
             ("tools/to_svg.py", "--store"), ("tools/which.py", "--scale"), ("web/overlay_web.py", "--store"),
         ):
-            done = subprocess.run([sys.executable, TOP / name, *words, "1", *words[-1:], "1"], capture_output=True, text=True,
-                                  check=False, timeout=SECONDS)
+            done = subprocess.run([sys.executable, TOP / name, *words, "1", *words[-1:], "1"], capture_output=True,
+                                  text=True, check=False, timeout=SECONDS)
             told = f" error: argument {words[-1]}: given twice\n"
             self.assertEqual((done.returncode, done.stdout, done.stderr.endswith(told)), (2, "", True), done.stderr)
 
@@ -43,26 +45,31 @@ class Helps(unittest.TestCase):
         parser.add_argument("files", nargs="*")
         given = ["a", "--name", "b", "--name", "b", "--exact", "--exact", "--origin", "1", "1"]
         for _ in range(2):  # what is parsed anew is given anew
-            self.assertEqual(vars(parser.parse_args(given)), {"name": ["b", "b"], "origin": ["1", "1"], "exact": True, "files": ["a"]})
+            self.assertEqual(vars(parser.parse_args(given)),
+                             {"name": ["b", "b"], "origin": ["1", "1"], "exact": True, "files": ["a"]})
 
     def test_each_file_is_told_once(self) -> None:
         page = (TOOLS / "README.md").read_text()
         rows = re.findall(r"^\| `(\w+\.py)` \|", page, re.M)
         told = re.findall(r"`(\w+\.py)`", page[page.index("Modules, no tools"):page.index("`data/`")])
         modules = [name for name in told if name not in rows]
-        self.assertEqual(sorted([*rows, *modules]), sorted(path.name for path in TOOLS.glob("*.py") if path.name != "__init__.py"))
+        self.assertEqual(sorted([*rows, *modules]),
+                         sorted(path.name for path in TOOLS.glob("*.py") if path.name != "__init__.py"))
 
     def test_each_command_is_a_file_of_the_same_lines(self) -> None:
         commands = [*COMMANDS, TOP / "web" / "overlay_web.py", TOP / "web" / "tests.py"]
-        self.assertEqual({(file.read_bytes(), os.access(file, os.X_OK)) for file in commands}, {(COMMANDS[0].read_bytes(), True)})
-        self.assertEqual([path for folder in (TOOLS, TOP / "web") for path in folder.rglob("*") if path.is_symlink()], [])
+        self.assertEqual({(file.read_bytes(), os.access(file, os.X_OK)) for file in commands},
+                         {(COMMANDS[0].read_bytes(), True)})
+        self.assertEqual([path for folder in (TOOLS, TOP / "web") for path in folder.rglob("*") if path.is_symlink()],
+                         [])
 
     def test_a_command_is_found_from_anywhere(self) -> None:
         with tempfile.TemporaryDirectory() as made:
             folder = pathlib.Path(made)
             (folder / "tree").symlink_to(TOP)
             for name in ("tools", "web"):
-                shutil.copytree(TOP / name, folder / "copy" / name, ignore=shutil.ignore_patterns("__pycache__", "data", "fixtures"))
+                shutil.copytree(TOP / name, folder / "copy" / name,
+                                ignore=shutil.ignore_patterns("__pycache__", "data", "fixtures"))
             shutil.copy(TOP / "overlay", folder / "copy" / "overlay")
             for path, usage in (("overlay", "[-h] [--with MAP]"), ("tools/which.py", "[-h] --store FILE"),
                                 ("web/overlay_web.py", "[-h] [--store FILE] [--create]")):
@@ -70,7 +77,8 @@ class Helps(unittest.TestCase):
                 second.symlink_to(TOP / path)
                 first.symlink_to("second")
                 for called in (first, folder / "tree" / path, folder / "copy" / path):
-                    words: list[str | pathlib.Path] = [sys.executable, *(["-P"] if path != "overlay" else []), called, "--help"]
+                    words: list[str | pathlib.Path] = [sys.executable, *(["-P"] if path != "overlay" else []), called,
+                                                       "--help"]
                     done = subprocess.run(words, cwd=made, capture_output=True, text=True, check=True, timeout=SECONDS)
                     self.assertTrue(done.stdout.startswith(f"usage: {called.name} {usage}"), done.stdout)
                 first.unlink()

@@ -92,8 +92,8 @@ class Unforeseen(InFolder):
                 "argparse.ArgumentParser.parse_args = broken\n"
                 f"sys.argv = [{str(tool)!r}]\n"
                 f"runpy.run_path({str(tool)!r}, run_name='__main__')\n")
-        return subprocess.run([sys.executable, *options, "-c", code], cwd=TOP, capture_output=True, text=True, check=False,
-                              timeout=SECONDS)
+        return subprocess.run([sys.executable, *options, "-c", code], cwd=TOP, capture_output=True, text=True,
+                              check=False, timeout=SECONDS)
 
     def test_one_line_and_status_1(self) -> None:
         self.assertGreater(len(COMMANDS), 7)
@@ -110,10 +110,12 @@ class Unforeseen(InFolder):
                 "importlib.import_module = stopped\n"
                 "sys.argv = ['tools/which.py']\n"
                 "runpy.run_path('tools/which.py', run_name='__main__')\n")
-        done = subprocess.run([sys.executable, "-c", code], cwd=TOP, capture_output=True, text=True, check=False, timeout=SECONDS)
+        done = subprocess.run([sys.executable, "-c", code], cwd=TOP, capture_output=True, text=True, check=False,
+                              timeout=SECONDS)
         self.assertEqual((done.returncode, done.stdout, done.stderr), (ending.INTERRUPTED, "", ""))
 
     def test_a_tool_that_is_stopped_from_the_keyboard(self) -> None:
         code = "from tools import ending\ndef main(words): raise KeyboardInterrupt\nending.run(main)\n"
-        done = subprocess.run([sys.executable, "-c", code], cwd=TOP, capture_output=True, text=True, check=False, timeout=SECONDS)
+        done = subprocess.run([sys.executable, "-c", code], cwd=TOP, capture_output=True, text=True, check=False,
+                              timeout=SECONDS)
         self.assertEqual((done.returncode, done.stdout, done.stderr), (ending.INTERRUPTED, "", ""))

@@ -1,5 +1,5 @@
-"""Tests of overlay_maps.py check, as a user runs it, over maps of which a box says little: a feature with more points than a
-cell of gaps may have, and more features over one place than the program has layers."""
+"""Tests of overlay_maps.py check, as a user runs it, over maps of which a box says little: a feature with more points
+than a cell of gaps may have, and more features over one place than the program has layers."""
 
 import csv
 import math
@@ -19,7 +19,8 @@ def coast(points: int, reach: int) -> list[list[float]]:
     """A ring with nine bays."""
     turns = [2 * math.pi * at / points for at in range(points)]
     far = [reach * (1 + 0.3 * math.cos(9 * turn)) for turn in turns]
-    ring: list[list[float]] = [[round(out * math.cos(turn)), round(out * math.sin(turn))] for out, turn in zip(far, turns)]
+    ring: list[list[float]] = [[round(out * math.cos(turn)), round(out * math.sin(turn))]
+                               for out, turn in zip(far, turns)]
     return [*ring, ring[0]]
 
 
@@ -28,7 +29,8 @@ class Checks(WithMaps):
         """The status, the rows of the table and what is reported, by the command; it ends in time."""
         begin = time.monotonic()
         done = subprocess.run([sys.executable, TOOLS / "overlay_maps.py", "check", *map(str, words), "--a-id", "nr",
-                               "--program", str(Programs.live)], capture_output=True, text=True, timeout=4 * ENDS, check=False)
+                               "--program", str(Programs.live)], capture_output=True, text=True, timeout=4 * ENDS,
+                              check=False)
         self.assertLess(time.monotonic() - begin, ENDS)
         return done.returncode, list(csv.reader(done.stdout.splitlines()))[1:], done.stderr
 
@@ -64,6 +66,8 @@ class Checks(WithMaps):
         status, rows, errors = self.checked(self.map("a", {**fan, **beside}), "--factor", 1)
         self.assertEqual((status, len(rows)), (1, 60 * 59 // 2 + 1), errors)
         self.assertIn(["left", "right", "10"], [row[:3] for row in rows])
-        self.assertRegex(errors, "a.geojson: features f[0-9]+; .*: more than 14 that lie on each other, or 2048 edges, meet a "
-                         "square of one unit at .*: no gap is looked for there; say a greater --factor, or take features out")
+        self.assertRegex(errors,
+                         "a.geojson: features f[0-9]+; .*: more than 14 that lie on each other, or 2048 edges, meet a "
+                         "square of one unit at .*: no gap is looked for there; say a greater --factor, or take "
+                         "features out")
         self.assertIn("audit: left out, since not all overlaps and gaps are known\n", errors)

@@ -116,21 +116,25 @@ class Fitting(InFolder):
         ):
             told = self.sidecar(text, "--factor", 100)
             self.assertEqual((told["crs"], told["unit"]), (crs, unit))
-        for word, crs in (("EPSG:4258", "EPSG:4258"), ("epsg:4258", "EPSG:4258"), ("urn:ogc:def:crs:EPSG::4258", "EPSG:4258"),
-                          ("ESRI:102003", "ESRI:102003"), ("IGNF:LAMB93", "IGNF:LAMB93")):
+        for word, crs in (("EPSG:4258", "EPSG:4258"), ("epsg:4258", "EPSG:4258"),
+                          ("urn:ogc:def:crs:EPSG::4258", "EPSG:4258"), ("ESRI:102003", "ESRI:102003"),
+                          ("IGNF:LAMB93", "IGNF:LAMB93")):
             self.assertEqual(self.sidecar(lonlat, "--factor", 100, "--crs", word)["crs"], crs)
 
     def test_coordinates_that_are_none_or_others_are_refused(self) -> None:
         metres = self.file("metres.geojson", geojson(("b", [[square(500000, 5800000, 9)]]), crs="EPSG:25832"))
-        for word, told in (("nonsense", "as EPSG:25832\n"), ("25832", "as EPSG:25832; EPSG:25832?\n"), ("EPSG:", "as EPSG:25832\n")):
+        for word, told in (("nonsense", "as EPSG:25832\n"), ("25832", "as EPSG:25832; EPSG:25832?\n"),
+                           ("EPSG:", "as EPSG:25832\n")):
             errors = io.StringIO()
             with self.assertRaises(SystemExit) as ended, unittest.mock.patch("sys.stderr", errors):
                 outcome(to_script, metres, "--crs", word)
             self.assertEqual((ended.exception.code, errors.getvalue().endswith(told)), (2, True), errors.getvalue())
-        none = ("is longitude and latitude, and 500009 5800009 is none: are x and y exchanged? Else say by --crs what it is, as "
-                "EPSG:25832")
+        none = (
+            "is longitude and latitude, and 500009 5800009 is none: are x and y exchanged? Else say by --crs what it "
+            "is, as EPSG:25832")
         self.assertEqual(outcome(to_script, metres, "--fit", "--crs", "EPSG:4326"), (2, "", f"EPSG:4326 {none}\n"))
-        called = self.file("called.geojson", geojson(("b", [[square(500000, 5800000, 9)]]), crs="urn:ogc:def:crs:OGC:1.3:CRS84"))
+        called = self.file("called.geojson",
+                           geojson(("b", [[square(500000, 5800000, 9)]]), crs="urn:ogc:def:crs:OGC:1.3:CRS84"))
         self.assertEqual(outcome(to_script, called, "--fit"), (2, "", f"OGC:CRS84 {none}\n"))
         beyond = self.file("beyond.geojson", geojson(("b", [[square(179, 7, 9)]]), crs="EPSG:4326"))
         self.assertEqual(outcome(to_script, beyond, "--fit")[0], 0)
@@ -151,11 +155,14 @@ class Fitting(InFolder):
     def test_degrees_beside_coordinates_of_another_name_are_refused(self) -> None:
         lonlat = geojson(("a", [[square(5, 7, 9)]])).replace("[5, 7]", "[5.25, 7]")
         metres = self.file("metres.geojson", geojson(("b", [[square(500000, 5800000, 9)]]), crs="EPSG:25832"))
-        for text, words, status in ((lonlat, [], 2), (lonlat, ["--crs", "EPSG:25832"], 0), (geojson(("a", [[square(5, 7, 9)]])), [], 0),
+        for text, words, status in ((lonlat, [], 2), (lonlat, ["--crs", "EPSG:25832"], 0),
+                                    (geojson(("a", [[square(5, 7, 9)]])), [], 0),
                                     (geojson(("a", [[square(500001, 5800000, 9)]])), [], 0)):
             found = outcome(to_script, metres, self.file("a.geojson", text), "--fit", *words)
-            self.assertEqual((found[0], "different coordinates: EPSG:25832, OGC:CRS84; bring" in found[2]), (status, status == 2), found)
-        near = self.file("near.geojson", geojson(("b", [[square(1, 2, 9)]]), crs="EPSG:4326").replace("[1, 2]", "[1.5, 2]"))
+            self.assertEqual((found[0], "different coordinates: EPSG:25832, OGC:CRS84; bring" in found[2]),
+                             (status, status == 2), found)
+        near = self.file("near.geojson",
+                         geojson(("b", [[square(1, 2, 9)]]), crs="EPSG:4326").replace("[1, 2]", "[1.5, 2]"))
         self.assertEqual(outcome(to_script, near, self.file("a.geojson", lonlat), "--fit")[0], 0)
 
     def test_a_store_is_not_written_over(self) -> None:

@@ -7,7 +7,8 @@ from fractions import Fraction
 import numpy as np
 
 from .. import grid, rounding
-from ..maps import auditing, bending, drawing_in, geojson_maps, numpy_drawing, numpy_maps, numpy_windows, planning, windows
+from ..maps import (auditing, bending, drawing_in, geojson_maps, numpy_drawing, numpy_maps, numpy_windows, planning,
+                    windows)
 from ..maps.task_form import ALONE, COMMON, GAPS, Task
 from ..maps.whole_maps import FARTHEST, MapFault, Ring
 from .common import InFolder
@@ -38,11 +39,13 @@ def tasks_of(source: random.Random, kind: str) -> list[Task]:
 
 class Tasks(unittest.TestCase):
     def test_drawing_in(self) -> None:
-        """Each place of a core sees the same of what is drawn in and of what is given, and all of that is in the frame."""
+        """Each place of a core sees the same of what is drawn in and of what is given, and all of
+        that is in the frame."""
         source = random.Random(3)
         for task in (task for _ in range(MANY) for kind in (COMMON, ALONE, GAPS) for task in tasks_of(source, kind)):
             jobs = range(len(task))
-            for given, near in zip(drawing_in.wanted_of(task, jobs), numpy_drawing.Plain().of_task(task, jobs), strict=True):
+            for given, near in zip(drawing_in.wanted_of(task, jobs), numpy_drawing.Plain().of_task(task, jobs),
+                                   strict=True):
                 self.assertEqual((near.core, near.frame, near.is_plain), (given.core, *drawing_in.framed(given)))
                 left, under, right, over = near.frame
                 for rings in near.features:
@@ -56,18 +59,21 @@ class Tasks(unittest.TestCase):
     def test_windows(self) -> None:
         """The bytes of parts and the layers of texts are those that windows.py has one by one."""
         source = random.Random(9)
-        texts = b"MULTIPOLYGON EMPTY\nMULTIPOLYGON (((0 1, 2 3, 4 -5, 0 1), (1 1, 2 2, 2 2, 1 1)), ((7 7, 8 8, 9 7, 7 7)))\n"
+        texts = (b"MULTIPOLYGON EMPTY\nMULTIPOLYGON (((0 1, 2 3, 4 -5, 0 1), (1 1, 2 2, 2 2, 1 1)), "
+                 b"((7 7, 8 8, 9 7, 7 7)))\n")
         origins = np.array([[5, 6], [10, -10]])
         for given in (texts, texts[:19], texts[19:], b"", texts + b"error 6 too many steps\n"):
             lines = [windows.Refused(line) if line[0] == "e" else line for line in given.decode().splitlines()]
             own = origins[1:] if given == texts[19:] else np.concatenate([origins, [[0, 0]]])[: len(lines)]
             self.assertEqual(list(numpy_windows.layers_of(given, own)),
-                             [windows.layer_of(line, tuple(origin)) for line, origin in zip(lines, own.tolist(), strict=True)])
+                             [windows.layer_of(line, tuple(origin))
+                              for line, origin in zip(lines, own.tolist(), strict=True)])
         for task in (task for _ in range(MANY) for kind in (COMMON, ALONE, GAPS) for task in tasks_of(source, kind)):
             points = numpy_drawing.Points(numpy_drawing.Flat(task), range(len(task)))
             frames, plain = points.frames(points.halves())
             wanted = list(drawing_in.wanted_of(task, range(len(task))))
-            self.assertEqual(list(zip(map(tuple, frames.tolist()), plain.tolist())), list(map(drawing_in.framed, wanted)))
+            self.assertEqual(list(zip(map(tuple, frames.tolist()), plain.tolist())),
+                             list(map(drawing_in.framed, wanted)))
             parts = np.flatnonzero(~plain[points.job_of_part])
             asked = [windows.Part(one.core, tuple(frame), windows.middle_of(frame), windows.padded(rings))
                      for one, frame, is_plain in zip(wanted, frames.tolist(), plain.tolist()) if not is_plain
@@ -99,7 +105,8 @@ class Rounding(InFolder):
     def test_a_move_that_is_none_is_none(self) -> None:
         given = np.array([source.randint(-10**9, 10**9) / 1000 for source in [random.Random(1)] for _ in range(10_000)])
         for factor, right in ((Fraction(1000), 0), (Fraction(100), 0.5)):
-            self.assertEqual(round(numpy_maps.farthest_move(given, grid.nearest_array(given, factor), factor), 6), right)
+            self.assertEqual(round(numpy_maps.farthest_move(given, grid.nearest_array(given, factor), factor), 6),
+                             right)
 
     def test_moves_of_large_numbers_are_those_of_fractions(self) -> None:
         given, factor = np.array([2.0**51 + 0.5, 2.0**50 + 0.25, 3.0]), Fraction(1)
@@ -152,7 +159,8 @@ def plainly(features: list[Feature], bend: bool) -> object:
                 continue
             ring = ring if (auditing.plain_area([ring]) > 0) == (place == 0) else ring[::-1]
             steps = list(zip(ring, ring[1:] + ring[:1]))
-            long += [(length, label) for length in (bending.reach(*step) for step in steps) if length > bending.EDGE_MAX]
+            long += [(length, label) for length in (bending.reach(*step) for step in steps)
+                     if length > bending.EDGE_MAX]
             rings[number].append([point for a, b in steps for point in (a, *bending.way_points(a, b))])
     if long and not bend:
         length, label = max(long, key=lambda one: one[0])

@@ -65,7 +65,8 @@ class Steps(unittest.TestCase):
                         self.assertEqual(box_pairs.pairs([], b, touching_too), [])
 
     def box(self, source: random.Random) -> tuple[int, int, int, int]:
-        x, y, size = source.randint(-50, 50), source.randint(-50, 50), source.choice([0, 1, 3, 20, 100, 1000, 2**33, 2**53])
+        x, y, size = source.randint(-50, 50), source.randint(-50,
+                                                             50), source.choice([0, 1, 3, 20, 100, 1000, 2**33, 2**53])
         return x, y, x + source.randint(-1, size), y + source.randint(0, size)
 
     def test_steps_meet_where_they_have_a_common_point(self) -> None:
@@ -136,11 +137,13 @@ class Planned(unittest.TestCase):
         self.assertGreater(len(areas), 20)
         order = sorted((i for i, box in enumerate(self.boxes[0]) if box_pairs.has_area(box)),
                        key=lambda i: (place_of(self.boxes[0], i), i))
-        alone = [planning.Job(self.boxes[0][i], i, tuple(job.others[0] for job in areas if job.own == i)) for i in order]
+        alone = [planning.Job(self.boxes[0][i], i, tuple(job.others[0] for job in areas if job.own == i))
+                 for i in order]
         for at_once in (17, 1000):
             with mock.patch.object(planning, "FEATURES_AT_ONCE", at_once):
                 for points_too in (False, True):
-                    self.assertEqual(list(planning.common_jobs(a, b, points_too)), self.wanted(self.boxes[1], points_too))
+                    self.assertEqual(list(planning.common_jobs(a, b, points_too)),
+                                     self.wanted(self.boxes[1], points_too))
                 self.assertEqual(list(planning.within_jobs(a)),
                                  [job for job in self.wanted(self.boxes[0]) if job.own < job.others[0]])
                 self.assertEqual(list(planning.alone_jobs(a, b)), alone)
@@ -153,7 +156,8 @@ class Planned(unittest.TestCase):
         real = [box for box in self.boxes[0] if box != NOWHERE]
         frame = (min(box[0] for box in real) - 1, min(box[1] for box in real) - 1,
                  max(box[2] for box in real) + 1, max(box[3] for box in real) + 1)
-        self.assertEqual((planning.frame_of(self.arrays[0]), planning.frame_of(self.arrays[0][:0])), (frame, (-1, -1, 1, 1)))
+        self.assertEqual((planning.frame_of(self.arrays[0]), planning.frame_of(self.arrays[0][:0])),
+                         (frame, (-1, -1, 1, 1)))
         with mock.patch.object(planning, "CELL_POINTS", 12):
             cells_of = list(planning.gap_jobs(whole, self.arrays[0]))
         areas = [(job.core[2] - job.core[0]) * (job.core[3] - job.core[1]) for job in cells_of]
@@ -220,7 +224,8 @@ class Beside(WithLive):
         for points in (5, 1000):
             with mock.patch.object(planning, "CELL_POINTS", points):
                 made = self.checked(whole)
-            self.assertEqual(([row.area for row in made.gaps], [row.area for row in made.outside]), ([100], [32 * 32 - 500]))
+            self.assertEqual(([row.area for row in made.gaps], [row.area for row in made.outside]),
+                             ([100], [32 * 32 - 500]))
 
     def test_a_gap_is_found_with_its_hole(self) -> None:
         whole = WholeMap()
@@ -257,8 +262,9 @@ class ByWindows(WithLive):
         wholes = [WholeMap(), WholeMap()]
         wholes[0].add("comb", [comb])
         wholes[0].add("wide", [wide])
-        wholes[1].add("box", [[(-5, -5), (2**19, -5), (far + 5, -5), (far + 5, 2**19), (far + 5, 2**19 + 9), (2**19, 2**19 + 9),
-                               (-5, 2**19 + 9), (-5, 2**19)]])
+        wholes[1].add(
+            "box", [[(-5, -5), (2**19, -5), (far + 5, -5), (far + 5, 2**19), (far + 5, 2**19 + 9), (2**19, 2**19 + 9),
+                     (-5, 2**19 + 9), (-5, 2**19)]])
         question = planning.Question("", COMMON, *wholes, Fraction(1))
         for drawing in (numpy_drawing.Plain(), numpy_windows.ByWindows(program)):
             planned = planning.common_jobs(*map(planning.boxes_of, wholes))
@@ -268,9 +274,11 @@ class ByWindows(WithLive):
                              {0: abs(auditing.plain_area([comb])), 1: abs(auditing.plain_area([wide]))})
 
     def test_a_text_s_rings_come_back(self) -> None:
-        self.assertEqual(windows.rings_of("MULTIPOLYGON (((0 1, 2 3, 4 -5, 0 1), (1 1, 2 2, 2 2, 1 1)), ((7 7, 8 8, 9 7, 7 7)))",
-                                          (10, -10)),
-                         [[(10, -9), (12, -7), (14, -15)], [(11, -9), (12, -8), (12, -8)], [(17, -3), (18, -2), (19, -3)]])
+        self.assertEqual(
+            windows.rings_of("MULTIPOLYGON (((0 1, 2 3, 4 -5, 0 1), (1 1, 2 2, 2 2, 1 1)), ((7 7, 8 8, 9 7, 7 7)))",
+                             (10, -10)),
+            [[(10, -9), (12, -7), (14, -15)], [(11, -9), (12, -8), (12, -8)],
+             [(17, -3), (18, -2), (19, -3)]])
         self.assertEqual(windows.rings_of("MULTIPOLYGON EMPTY", (1, 2)), [])
 
 
@@ -414,7 +422,8 @@ class TooMany(WithLive):
     def test_a_place_that_no_slot_has_room_for_is_told(self) -> None:
         with mock.patch.object(rounds.Program, "boundaries", told_up_to(0)):
             found = self.found(3)
-        self.assertEqual([(one.rows, one.unanswered[0].own, one.unanswered[0].others) for one in found], [([], 0, (0,))])
+        self.assertEqual([(one.rows, one.unanswered[0].own, one.unanswered[0].others) for one in found],
+                         [([], 0, (0,))])
 
 
 class Audits(unittest.TestCase):

@@ -46,7 +46,8 @@ class InTasks(InFolder):
 
     def words(self, seconds: str, engine: str = "processes", deaths: str = "0") -> list[str]:
         """The call of a run in a process of its own."""
-        return [sys.executable, "-m", "tools.testing.map_works", str(self.work), str(self.marks), seconds, engine, deaths]
+        return [sys.executable, "-m", "tools.testing.map_works", str(self.work), str(self.marks), seconds, engine,
+                deaths]
 
     def begun(self, names: list[bytes] = NAMES, **run: object) -> TaskFolder:
         return tasks.begin(self.work, {"asks": "names", **run}, names)
@@ -127,7 +128,8 @@ class Folders(InTasks):
         for text in plans:
             self.work.mkdir(exist_ok=True)
             (self.work / "run.json").write_text(text, "latin-1")
-            with self.subTest(text[:40]), self.assertRaisesRegex(FolderFault, "run.json: .*; remove the folder, and begin"):
+            with self.subTest(text[:40]), self.assertRaisesRegex(FolderFault,
+                                                                 "run.json: .*; remove the folder, and begin"):
                 self.begun()
 
     def test_files_that_were_cut_or_altered_are_named_with_what_to_do(self) -> None:
@@ -136,9 +138,11 @@ class Folders(InTasks):
             tasks.do(Reversing(self.marks), folder, number)
         result = folder.result(4)
         whole = result.read_bytes()
-        for wrong in (b"", whole[:-1], whole[: whole.index(b"\n") + 1], whole[1:], whole + b"\n", b"x" + whole[1:], whole * 2):
+        for wrong in (b"", whole[:-1], whole[: whole.index(b"\n") + 1], whole[1:], whole + b"\n", b"x" + whole[1:],
+                      whole * 2):
             result.write_bytes(wrong)
-            with self.subTest(wrong), self.assertRaisesRegex(FolderFault, "000004.result: damaged, .*; remove it and say"):
+            with self.subTest(wrong), self.assertRaisesRegex(FolderFault,
+                                                             "000004.result: damaged, .*; remove it and say"):
                 list(folder.results())
         result.unlink()
         result.mkdir()
@@ -157,7 +161,8 @@ class Folders(InTasks):
             tasks.do(Reversing(self.marks), folder, number)
         self.assertEqual(list(folder.results()), ENDS)
         folder.result(4).write_bytes(folder.result(5).read_bytes())
-        with self.assertRaisesRegex(FolderFault, "000004.result: it came of another task; remove it and say the same again"):
+        with self.assertRaisesRegex(FolderFault,
+                                    "000004.result: it came of another task; remove it and say the same again"):
             list(folder.results())
         folder.result(4).unlink()
         tasks.do(Reversing(self.marks), folder, 4)
@@ -207,8 +212,8 @@ class Folders(InTasks):
 
     def test_a_part_of_an_input_that_changed_makes_it_another(self) -> None:
         (self.folder / "a.gdb").mkdir()
-        for name, part in (("a.shp", "a.dbf"), ("A.SHP", "A.DBF"), ("a.gpkg", "a.gpkg-wal"), ("a.gdb", "a.gdb/a1.gdbtable"),
-                           ("a.gml", "a.gfs"), ("a.mif", "a.mid"), ("a.tab", "a.dat")):
+        for name, part in (("a.shp", "a.dbf"), ("A.SHP", "A.DBF"), ("a.gpkg", "a.gpkg-wal"),
+                           ("a.gdb", "a.gdb/a1.gdbtable"), ("a.gml", "a.gfs"), ("a.mif", "a.mid"), ("a.tab", "a.dat")):
             with self.subTest(part):
                 one = self.folder / name if name == "a.gdb" else self.file(name, "map")
                 alone = tasks.stamp(one)
@@ -270,7 +275,8 @@ class Engines(WithProcesses):
 
     def test_an_interrupt_while_workers_begin_is_not_told_by_these(self) -> None:
         for seconds in (0.05, 0.15, 0.3):
-            with subprocess.Popen(self.words("0.5"), cwd=TOP, stderr=subprocess.PIPE, text=True, start_new_session=True) as run:
+            with subprocess.Popen(self.words("0.5"), cwd=TOP, stderr=subprocess.PIPE, text=True,
+                                  start_new_session=True) as run:
                 self.addCleanup(run.kill)
                 wait_for(lambda: (self.work / "run.json").exists())
                 time.sleep(seconds)
@@ -344,10 +350,12 @@ class OverTool(InTasks):
             self.assertEqual(self.table("--jobs", 1, "--window", window, "--work", self.work)[:2], (0, table))
             status, again, told = self.table("--jobs", 1, "--no-window", "--work", self.work)
             self.assertEqual((status, again), (0, table))
-            self.assertRegex(told, r"drawn in by overlay_window in (\d+) of \1 tasks; what is too large for a window by Python")
+            self.assertRegex(
+                told, r"drawn in by overlay_window in (\d+) of \1 tasks; what is too large for a window by Python")
         for wrong in (self.folder, self.folder / "none", ""):
-            self.assertEqual(self.table("--window", wrong), (2, "", f"--window {wrong}: no program; leave the word out, or "
-                                                             "say --no-window\n"))
+            self.assertEqual(self.table("--window", wrong),
+                             (2, "", f"--window {wrong}: no program; leave the word out, or "
+                              "say --no-window\n"))
 
     def test_a_window_program_that_ends_is_asked_again_and_one_that_fails_is_named(self) -> None:
         window = windows.found(str(Programs.live))
@@ -362,8 +370,8 @@ class OverTool(InTasks):
 
     @unittest.skipUnless(HAS_DASK, "python3-distributed is not installed")
     def test_dask_has_the_same_table(self) -> None:
-        words = [sys.executable, TOOLS / "overlay_maps.py", "pairs", self.folder / "a.geojson", self.folder / "b.geojson",
-                 "--factor", "1", "--program", Programs.live, "--jobs", "2", "--dask"]
+        words = [sys.executable, TOOLS / "overlay_maps.py", "pairs", self.folder / "a.geojson",
+                 self.folder / "b.geojson", "--factor", "1", "--program", Programs.live, "--jobs", "2", "--dask"]
         run = subprocess.run(words, capture_output=True, text=True, timeout=2 * WAIT, check=False)
         self.assertEqual((run.returncode, run.stdout), (0, self.table("--jobs", 1)[1]), run.stderr)
 
@@ -396,7 +404,8 @@ class OverTool(InTasks):
         status, table, _ = self.table("--jobs", 1, "--work", self.work)
         result = self.work / "1" / "000002.result"
         result.write_bytes(b"".join(result.read_bytes().splitlines(True)[:3]))
-        told = f"{result}: damaged, as it has not the digest of what was written; remove it and say the same again, which does"
+        told = (f"{result}: damaged, as it has not the digest of what was written; remove it and say the same again, "
+                "which does")
         for words in ((), ("--out", self.folder / "out.csv")):
             status, again, errors = self.table("--jobs", 1, "--work", self.work, *words)
             self.assertEqual((status, again), (2, ""))
@@ -454,8 +463,8 @@ class Addresses(unittest.TestCase):
         with tempfile.TemporaryDirectory() as folder:
             sent = dask_engine.packed(pathlib.Path(folder))
             words = [sys.executable, "-c", "from tools.maps import running, work; print(work.__file__)"]
-            done = subprocess.run(words, cwd=folder, env={"PYTHONPATH": str(sent)}, capture_output=True, text=True, check=True,
-                                  timeout=SECONDS)
+            done = subprocess.run(words, cwd=folder, env={"PYTHONPATH": str(sent)}, capture_output=True, text=True,
+                                  check=True, timeout=SECONDS)
             self.assertIn(".zip", done.stdout)
 
     def test_without_dask_or_keys_the_refusal_has_the_line_to_type(self) -> None:

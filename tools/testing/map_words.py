@@ -236,7 +236,8 @@ class Refusals(WithMaps):
 
     def test_a_text_s_srid_is_its_system(self) -> None:
         text = "SRID={};POLYGON ((0 0, 1 0, 0 1, 0 0))\n"
-        utm, parted, degrees, none = (self.file(f"{name}.wkt", "".join(map(text.format, numbers))) for name, numbers in (
+        utm, parted, degrees, none = (self.file(f"{name}.wkt", "".join(map(text.format, numbers)))
+                                      for name, numbers in (
             ("utm", (25832, 25832)), ("parted", (25832, 25833)), ("degrees", (4326,)), ("none", (0, "00"))))
         for other, reason in ((self.good, f"{self.good} has coordinates of OGC:CRS84, {utm} of EPSG:25832"),
                               (degrees, f"{degrees} has coordinates of EPSG:4326, {utm} of EPSG:25832")):
@@ -254,12 +255,14 @@ class Refusals(WithMaps):
 
     def test_features_that_are_called_alike_are_told(self) -> None:
         rings = [[[x, 0], [x + 9, 0], [x, 9], [x, 0]] for x in (0, 10, 20, 30)]
-        features = [{"type": "Feature", "properties": {"nr": name}, "geometry": {"type": "Polygon", "coordinates": [ring]}}
+        features = [{"type": "Feature", "properties": {"nr": name},
+                     "geometry": {"type": "Polygon", "coordinates": [ring]}}
                     for name, ring in zip("ABAA", rings)]
         whole = self.file("a.json", json.dumps({"type": "FeatureCollection", "features": features}))
         for words, wanted in ((["--a-id", "nr"], True), ([], False)):
             status, _, errors = self.asked("check", whole, "--factor", 1, *words)
-            self.assertEqual((status, f"{whole}: the same nr several times, 1: A (3 times)\n" in errors), (0, wanted), errors)
+            self.assertEqual((status, f"{whole}: the same nr several times, 1: A (3 times)\n" in errors), (0, wanted),
+                             errors)
             self.assertNotIn(" of 0 tasks", errors)
 
     def test_what_is_left_out_is_told(self) -> None:
@@ -280,7 +283,8 @@ class Refusals(WithMaps):
                 ("", "b.json: no polygon in it"),
                 ('{"type": "Topology", "objects": {}}', "left out, 1: b.json: no polygon: TOPOLOGY"),
                 (json.dumps({"type": "FeatureCollection", "features": [None] * 12}), "; and 2 more"),
-                ('{"type": "Feature", "geometry": null}', "1: b.json, feature 1: no polygon: a feature without a geom")):
+                ('{"type": "Feature", "geometry": null}',
+                 "1: b.json, feature 1: no polygon: a feature without a geom")):
             with self.subTest(text):
                 file = self.file("b.json", text)
                 self.assertIn(reason, self.line(file))
@@ -289,9 +293,10 @@ class Refusals(WithMaps):
     def test_a_collection_with_a_point_has_its_polygons(self) -> None:
         point: dict[str, Any] = {"type": "Point", "coordinates": [0, 0]}
         polygons = [{"type": "Polygon", "coordinates": [square(at, 0, 2)]} for at in (0, 5)]
-        file = self.map("b", {"two": {"type": "GeometryCollection", "geometries": [polygons[0], point, polygons[1], point]},
-                              "none": {"type": "GeometryCollection", "geometries": [point, point]},
-                              "last": square(8, 0, 1)})
+        file = self.map("b",
+                        {"two": {"type": "GeometryCollection", "geometries": [polygons[0], point, polygons[1], point]},
+                         "none": {"type": "GeometryCollection", "geometries": [point, point]},
+                         "last": square(8, 0, 1)})
         status, rows, errors = self.asked("pairs", self.good, file, "--factor", 1)
         self.assertEqual((status, [row[1:3] for row in rows[1:]]), (0, [["1", "8"], ["3", "1"]]))
         self.assertIn("left out, 4: ", errors)
@@ -308,7 +313,8 @@ class Refusals(WithMaps):
             for begin in (b"SQLite format 3\0", b"fgb\3", b"\0\0\x27\x0a"):
                 told = self.refused("check", self.file(name, begin + b"\0" * 200), "--factor", 1)
                 self.assertNotIn("a map is GeoJSON", told)
-        self.assertIn("and Well-Known Text have no layers", self.refused("check", self.good, "--factor", 1, "--a-layer", "x"))
+        self.assertIn("and Well-Known Text have no layers",
+                      self.refused("check", self.good, "--factor", 1, "--a-layer", "x"))
 
     def test_a_name_of_no_letter_and_a_folder(self) -> None:
         for words in (("", self.good), (self.good, "")):
@@ -373,7 +379,8 @@ class Outputs(WithMaps):
         store = self.file("o.db", b"\0" * 16 + b"OVLSTORE")
         self.assertEqual(self.check("--out", store), "--out o.db: a store of layers; take another name")
         self.file("p.gpkg-journal", b"pages")
-        self.assertEqual(self.check("--gaps", self.folder / "p.gpkg"), "--gaps p.gpkg: p.gpkg-journal has changes of it "
+        self.assertEqual(self.check("--gaps", self.folder / "p.gpkg"),
+                         "--gaps p.gpkg: p.gpkg-journal has changes of it "
                          "that a program has in hand; end that one, or take another name")
         self.assertEqual(self.check("--out", ""), "--out : no name of a file")
         self.assertEqual(self.check("--gaps", self.folder / "x"), "--gaps x: a folder; say a file in it")

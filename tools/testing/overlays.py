@@ -67,7 +67,6 @@ class PlainOverlay(unittest.TestCase):
             inside = OPERATIONS["&|-^"[number % 4]]
             check(self, layers, inside, to_rings.polygons_of(overlay(layers, inside)))
 
-
     def test_random_layers_in_a_status_of_short_blocks(self) -> None:
         source = random.Random(22)
         with unittest.mock.patch("tools.sweeping.BLOCK_MAX", 2):

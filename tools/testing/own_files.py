@@ -1,4 +1,5 @@
-"""Tests that tools write over no file that was not named to them, by the commands, and that a kill leaves nothing for good."""
+"""Tests that tools write over no file that was not named to them, by the commands, and that a kill
+leaves nothing for good."""
 
 import pathlib
 import signal
@@ -12,8 +13,8 @@ MINE = "mine\n"
 
 class OwnFiles(InFolder):
     def ran(self, tool: str, *words: object) -> tuple[int, str]:
-        done = subprocess.run([sys.executable, path(tool), *map(str, words)], capture_output=True, text=True, timeout=SECONDS,
-                              check=False)
+        done = subprocess.run([sys.executable, path(tool), *map(str, words)], capture_output=True, text=True,
+                              timeout=SECONDS, check=False)
         return done.returncode, done.stderr
 
     def test_files_beside_an_output_that_are_the_users(self) -> None:
@@ -32,19 +33,23 @@ class OwnFiles(InFolder):
         """They are of the tool's form, and belong to no script where none of the output's name is there."""
         source, output = self.file("plan.wkt", SQUARE), self.folder / "out.txt"
         made = {self.folder / f"out{end}": edit for end, edit in ((".names.csv", ("plan.wkt, text 1", "town hall")),
-                                                                  (".scale.json", ('"factor"', '"title": "Mine", "factor"')))}
+                                                                  (".scale.json",
+                                                                   ('"factor"', '"title": "Mine", "factor"')))}
         for mine, edit in made.items():
             self.assertEqual(self.ran("to_script.py", source, "--coded", "--output", output)[0], 0)
             self.assertEqual(self.ran("to_script.py", source, "--coded", "--output", output)[0], 0)
             output.unlink()
-            self.assertEqual(self.ran("to_script.py", source, "--coded", "--output", output)[0], 0)  # the same are no loss
+            # The same are no loss.
+            self.assertEqual(self.ran("to_script.py", source, "--coded", "--output", output)[0], 0)
             output.unlink()
             edited = mine.read_text().replace(*edit)
             mine.write_text(edited)
             status, told = self.ran("to_script.py", source, "--coded", "--output", output)
             self.assertEqual((status, mine.read_text() == edited, output.exists()), (2, True, False), told)
-            self.assertIn(f"--output: {mine} stands, would be written otherwise, and belongs to no script, as {output} is not "
-                          "there as one: it was not named, and is not written over; take another name, or move it away", told)
+            self.assertIn(
+                f"--output: {mine} stands, would be written otherwise, and belongs to no script, as {output} is not "
+                "there as one: it was not named, and is not written over; take another name, or move it away",
+                told)
             output.write_text("PUT plan POLYGON ((0 0, 1 0, 1 1, 0 0))\n")
             self.assertEqual(self.ran("to_script.py", source, "--coded", "--output", output)[0], 0)
             self.assertNotEqual(mine.read_text(), edited)

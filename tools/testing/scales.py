@@ -13,10 +13,12 @@ from .common import InFolder
 
 
 def halves(count: int) -> list[str]:
-    """Decimals of at most 15 digits, two to nine of them after the point, the last a 5: times a power of ten they are halves."""
+    """Decimals of at most 15 digits, two to nine of them after the point, the last a 5: times a
+    power of ten they are halves."""
     source = random.Random(count)
     return [f"{source.choice(['', '-'])}{source.randrange(10**source.randint(1, 6))}"
-            f".{source.randrange(10**(digits - 1)):0{digits - 1}}5" for digits in (source.randint(2, 9) for _ in range(count))]
+            f".{source.randrange(10**(digits - 1)):0{digits - 1}}5"
+            for digits in (source.randint(2, 9) for _ in range(count))]
 
 
 class Coordinates(unittest.TestCase):
@@ -35,15 +37,16 @@ class Coordinates(unittest.TestCase):
 
     def test_digits_that_a_double_has_are_none_too_many(self) -> None:
         for text, is_longer in (("0.28499999999999998", False), ("0.1000000000000000000000", False), ("3", False),
-                                ("0.28499999999999999998", True), ("100000000000000000000", False), ("123456789012345678", True),
-                                ("-0.1000000000000000055511151231257827", True)):
+                                ("0.28499999999999999998", True), ("100000000000000000000", False),
+                                ("123456789012345678", True), ("-0.1000000000000000055511151231257827", True)):
             self.assertEqual(grid.is_longer(Decimal(text)), is_longer, text)
 
     def test_what_no_decimal_spells_is_itself(self) -> None:
         for number in (Fraction(5, 3), Fraction(-1, 7), Fraction(10) ** 400):
             self.assertEqual(grid.stands_for(number), number)
         self.assertEqual(grid.stands_for(Fraction("0.28499999999999999998")), Fraction("0.285"))
-        self.assertEqual(Scale(Fraction(3), Fraction(3)).question(Fraction(5, 3), Fraction("1.66666666666666666667")), (5120, 5120, 1024))
+        self.assertEqual(Scale(Fraction(3), Fraction(3)).question(Fraction(5, 3), Fraction("1.66666666666666666667")),
+                         (5120, 5120, 1024))
 
 
 class Numbers(unittest.TestCase):
@@ -113,7 +116,8 @@ class Places(InFolder):
         with self.assertRaises(scales.ScaleFault):
             scales.read(self.folder / "absent")
         absent = self.folder / "absent.scale.json"
-        for path, told in ((self.file("half.scale.json", '{"factor"'), "no scale, as to_script.py writes it: Expecting"),
+        for path, told in ((self.file("half.scale.json", '{"factor"'),
+                            "no scale, as to_script.py writes it: Expecting"),
                            (self.file("list.scale.json", "[]"), "no scale, as to_script.py writes it: no object"),
                            (absent, "No such file or directory")):
             with self.assertRaises(scales.ScaleFault) as fault:

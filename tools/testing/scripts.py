@@ -33,8 +33,9 @@ class ToScript(unittest.TestCase):
         text = "POLYGON ((0.49999999999999999999 0, 9 0, 9 9, 0.49999999999999999999 0))"
         _, output, errors = on_file(to_script, text, "--factor", 1)
         self.assertIn("((1 0, 9 0, 9 9, 1 0))", output)
-        self.assertIn("2 of 8 coordinates rounded, largest move 0.5, 0 equal points merged, 2 coordinates of more digits than a "
-                      "double has, each taken for the nearest one", errors)
+        self.assertIn(
+            "2 of 8 coordinates rounded, largest move 0.5, 0 equal points merged, 2 coordinates of more digits than a "
+            "double has, each taken for the nearest one", errors)
 
     def test_equal_points_are_merged(self) -> None:
         text = "POLYGON ((0 0, 0.2 0.1, 10 0, 10 10, 10.3 9.8, 0.4 0.4, 0 0))"
@@ -154,14 +155,15 @@ def feature(name: str, shift: int = 0, kind: str = "Polygon") -> str:
 def collection(*features: str) -> str:
     return '{"type": "FeatureCollection", "features": [' + ", ".join(features) + "]}"
 
-
     def test_of_a_map_that_is_out_of_range_the_first_few_are_told(self) -> None:
-        text = "".join(f"POLYGON (({x} 5400000, {x} 5400009, {x + 9} 5400009, {x} 5400000))\n" for x in range(0, 1500, 100))
+        text = "".join(f"POLYGON (({x} 5400000, {x} 5400009, {x + 9} 5400009, {x} 5400000))\n"
+                       for x in range(0, 1500, 100))
         status, output, errors = on_file(to_script, text, "--factor", 1000)
         self.assertEqual((status, output), (1, ""))
         self.assertEqual([line[:5] for line in errors.splitlines()], ["refus"] * 10 + ["and 5", "at fa", "no la"])
-        self.assertIn("and 5 more\nat factor 1000, origin 0 0: 15 shapes are out of range; to be fitted: --factor 1000 --origin",
-                      errors)
+        self.assertIn(
+            "and 5 more\nat factor 1000, origin 0 0: 15 shapes are out of range; to be fitted: --factor 1000 --origin",
+            errors)
 
 
 class Names(unittest.TestCase):

@@ -117,7 +117,8 @@ class Dumps(WithProgram):
     def test_a_scale_that_belongs_to_no_script_is_not_written_over(self) -> None:
         mine = self.file("again.scale.json", '{"title": "Mine", "factor": 10}')
         status, _, told = outcome(dump_store, *self.words)
-        self.assertEqual((status, mine.read_text(), len(list(self.folder.glob("again.*")))), (1, '{"title": "Mine", "factor": 10}', 1))
+        self.assertEqual((status, mine.read_text(), len(list(self.folder.glob("again.*")))),
+                         (1, '{"title": "Mine", "factor": 10}', 1))
         self.assertIn(f"--output: {mine} stands, would be written otherwise, and belongs to no script", told)
         self.file("again.txt", f"PUT plan {SQUARE}\n")
         self.assertEqual(outcome(dump_store, *self.words), (0, "", ""))

@@ -297,12 +297,14 @@ class ProgramsThatAreFound(InFolder):
             for place in places:
                 self.assertEqual(asking.found_program((asking.LIVE, asking.BATCHED)), str(place))
                 place.unlink()
-            with self.assertRaisesRegex(sessions.Unusable, "neither overlay_live nor overlayd is built in .*; say --program"):
+            with self.assertRaisesRegex(sessions.Unusable,
+                                        "neither overlay_live nor overlayd is built in .*; say --program"):
                 asking.found_program((asking.LIVE, asking.BATCHED))
             builder = top / "bench" / "unproved.py"
             builder.parent.mkdir()
             builder.touch()
-            with self.assertRaisesRegex(sessions.Unusable, "overlay_live is neither built in .* nor on the path; build it there"
+            with self.assertRaisesRegex(sessions.Unusable,
+                                        "overlay_live is neither built in .* nor on the path; build it there"
                                         " by `.* crates/overlay_live/src ./overlay_live`, or say --program PATH"):
                 asking.found_program((asking.LIVE,))
 
@@ -324,4 +326,3 @@ class OfAnswers(InFolder):
             which.read_table(pathlib.Path("/absent/names.csv"))
         table = self.file("names.csv", "\ufeffstore,number,name\r\n2,3,Ash\r\n")
         self.assertEqual(which.read_table(table), {2: {3: "Ash"}})
-

@@ -53,7 +53,8 @@ def words_of(arguments: Sequence[str]) -> argparse.Namespace:
     )
     parser.add_argument(
         "--features", metavar="FILE", type=pathlib.Path,
-        help="the features of the map that its layers hold (default: NAME.features.json beside the store, if it is there)",
+        help="the features of the map that its layers hold (default: NAME.features.json beside the store, if it is "
+        "there)",
     )
     parser.add_argument("--no-features", action="store_true", help="serve layers alone")
     parser.add_argument("--as-stored", action="store_true", help="transform nothing")

@@ -1,4 +1,5 @@
-"""Tests of web/ over a built overlay_live: the client, exact shapes, and the front called as a function and as a process.
+"""Tests of web/ over a built overlay_live: the client, exact shapes, and the front called as a
+function and as a process.
 
     python3 web/tests.py crates/overlay_live/out/overlay_live [NAME]..
 
@@ -13,13 +14,13 @@ import unittest
 
 from tools.testing.common import status_of
 from .. import (
-    test_client, test_features, test_front, test_kept_values, test_openapi, test_process, test_refusals, test_rescue, test_rounding,
-    test_serving, test_shapes, test_stress, test_systems, testing,
+    test_client, test_features, test_front, test_kept_values, test_openapi, test_process, test_refusals, test_rescue,
+    test_rounding, test_serving, test_shapes, test_stress, test_systems, testing,
 )
 
 MODULES = (
-    test_shapes, test_kept_values, test_client, test_front, test_refusals, test_features, test_openapi, test_systems, test_rounding, test_stress,
-    test_rescue, test_serving, test_process,
+    test_shapes, test_kept_values, test_client, test_front, test_refusals, test_features, test_openapi, test_systems,
+    test_rounding, test_stress, test_rescue, test_serving, test_process,
 )
 
 
