@@ -115,7 +115,7 @@ def whole(number: Decimal) -> int:
 
 
 class Session:
-    """The layers after a script, and the last answers of EDGES and GRID that still hold."""
+    """The layers after a script, and what was answered to a tool's questions after it."""
 
     def __init__(self) -> None:
         self.order: list[str] = []  # all names, as LAYERS has them
@@ -149,16 +149,10 @@ class Session:
         return [name for name in self.order if name not in named]
 
     def stands(self, name: str) -> None:
-        """Takes in that there is a layer, after all others where it is new, and gives up answers that it changes."""
+        """Takes in that there is a layer, after all others where it is new."""
         if name not in self.order:
             self.order.append(name)
         self.recent = [layer for layer in self.recent if layer != name] + [name]
-        stale = [layer for layer in self.definitions if name in self.reach(layer)]
-        self.forget(stale)
-
-    def forget(self, stale: list[str]) -> None:
-        self.edges = {place: pieces for place, pieces in self.edges.items() if place[0] not in stale}
-        self.grids = {layer: grid for layer, grid in self.grids.items() if layer not in stale}
 
     def put(self, rest: str) -> None:
         name, text = matched(r"([^ \t]+)[ \t]+(.*)", rest)
@@ -172,7 +166,6 @@ class Session:
         self.stands(name)
 
     def drop(self, name: str) -> None:
-        self.forget([name])
         self.base.pop(name, None)
         self.definitions.pop(name, None)
         self.order = [layer for layer in self.order if layer != name]
@@ -222,7 +215,7 @@ class Session:
         if word == "EDGES":
             name, column = rest.split()
             self.edges[name, int(column)] = [piece_of(line) for line in reply[1:]]
-        elif word == "GRID":
+        elif word == "GRID" and self.asking:
             name, x, y, step, _, _ = rest.split()
             self.grids[name] = (int(x), int(y), int(step), reply[1:])
         elif word == "LAYERS":
@@ -337,7 +330,7 @@ def pieces_of(session: Session, layer: str) -> tuple[list[Piece], list[tuple[int
     pieces: list[Piece] = []
     missing: list[tuple[int, str]] = []
     for column in range(COLUMNS):
-        answer = session.edges.get((layer, column), "not asked, or asked before a change")
+        answer = session.edges.get((layer, column), "not asked")
         if isinstance(answer, str):
             missing.append((column, answer))
         else:

@@ -4,9 +4,9 @@
     python3 tools/to_svg.py script.txt --layer I > picture.svg
 
 The base layers are those that the layer's definition reaches, filled by even-odd. Above each column is its number
-and how many pieces its tile has. With --grid N, or where the script asks for a GRID of the layer, its points are drawn:
-full where in, a ring where edge, small where out. Where a scale is there, a bar of it and the corners of the picture
-are reported. Coordinates of the picture are rounded to a hundredth of a unit.
+and how many pieces its tile has. With --grid N points are drawn: full where in, a ring where edge, small where out.
+Where a scale is there, a bar of it and the corners of the picture are reported. Coordinates of the picture are rounded
+to a hundredth of a unit.
 
 Status 0: the picture is whole; 1: it is not, or a line of the script was refused (each is reported), there is none, or
 it cannot be written.
@@ -225,7 +225,7 @@ def main(arguments: list[str], output: TextIO | None = None, errors: TextIO | No
         told: list[str] = []
         layer = found.layers[0]
         if count and layer not in found.session.grids:
-            told.append(f"{layer}: no grid was asked for")
+            told.append(f"{layer}: it gave no grid")
         scale = found.scale if found.scaled_by or words.factor or words.origin else None
         target.write(picture(found.session, layer, words.width, told.append, scale))
         for text in told:

@@ -27,7 +27,7 @@ class ToSvg(unittest.TestCase):
             self.assertIn(column, text)
 
     def test_what_lacks_is_told(self) -> None:
-        text, told = self.picture("Gone")
+        text, told = self.picture("A")
         self.assertEqual(len(told), limits.COLUMNS)
         xml.etree.ElementTree.fromstring(text)
 
@@ -50,12 +50,13 @@ class ToSvg(unittest.TestCase):
     def test_a_grid(self) -> None:
         script = b"PUT A " + SQUARE.encode() + b"\nDEFINE I = A\nGRID I 4 4 2 4 4\n"
         replies = b"ok 1\nok 2\ngrid 4 4\n...+\n.##+\n.##+\n++++\n"
-        text = to_svg.picture(sessions.read(script, replies), "I", 800, lambda told: None)
+        text = to_svg.picture(sessions.read(script, replies, 2), "I", 800, lambda told: None)
         self.assertEqual([text.count(f'r="{size}"') for size in ("2", "2.2", "0.7")], [4, 7, 5])
 
     def test_a_grid_that_is_wider_than_high(self) -> None:
-        session = sessions.read(b"GRID I 0 0 1 3 1\nLAYERS", b"grid 3 1\n.#+\nlayers 0\n")
-        self.assertEqual(session.grids["I"], (0, 0, 1, [".#+"]))
+        asked = b"GRID I 0 0 1 3 1\nLAYERS", b"grid 3 1\n.#+\nlayers 0\n"
+        self.assertEqual(sessions.read(*asked, 0).grids, {"I": (0, 0, 1, [".#+"])})
+        self.assertEqual(sessions.read(*asked).grids, {})  # what a script asks itself is no question of the tool
 
     def test_the_grid_that_is_asked_for(self) -> None:
         session = sessions.Session()

@@ -67,10 +67,6 @@ class ToRings(InFolder):
         self.assertEqual(rings_of(self.session, "Far"),
                          [[outer((far - 1, far - 1), (far, far - 1), (far, far), (far - 1, far))]])
 
-    def test_stale_answers_are_given_up(self) -> None:
-        with self.assertRaisesRegex(sessions.Unusable, "Gone: column 0: not asked, or asked before a change"):
-            to_rings.layer_polygons(self.session, "Gone")
-
     def words(self, layer: str) -> tuple[object, ...]:
         """A script of the layers alone, and the plain model of bench/ for the program."""
         lines = content("fixtures", "shapes.txt").splitlines(True)
