@@ -12,7 +12,7 @@ from typing import Any
 from .common import TOOLS, Programs
 from .map_words import WithMaps, square
 
-ENDS = 60  # seconds: before it was mended the first of these took hours
+ENDS = 300  # seconds, on a busy machine too: before it was mended the first of these took hours
 
 
 def coast(points: int, reach: int) -> list[list[float]]:
