@@ -16,7 +16,7 @@ Cell = tuple[int, int]
 Box = tuple[int, int, int, int]
 
 
-PAIRS_MOST, MEETINGS_MOST = 300_000, 1_000
+PAIRS_MOST, MEETINGS_MOST = 500_000, 1_000
 """How many pairs of edges that lie in one cell a check looks at, and how many of these may meet."""
 
 

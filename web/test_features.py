@@ -429,11 +429,11 @@ class Crowded(Case):
 
     def test_what_is_beyond_a_check_is_refused_when_it_comes(self) -> None:
         described = self.client.get("/api")["components"]["schemas"]["newFeature"]["description"]
-        self.assertRegex(described, "looks at 300000 pairs of edges .* 1000 of them may meet")
+        self.assertRegex(described, "looks at 500000 pairs of edges .* 1000 of them may meet")
         before = self.layer_texts(), features.beside(self.store).read_bytes()
         slanted = [[100 * x + 300_000 * (x % 2), 300_000 * (x % 2)] for x in range(600)] + [[0, 300_009], [0, 0]]
         for ring, reason in ((zigzag(400), "meet each other more than 1000 times"),
-                             (zigzag(2000), "too close together"), (slanted, "more than 300000 pairs of them")):
+                             (zigzag(2000), "too close together"), (slanted, "more than 500000 pairs of them")):
             for path, method in (("/collections/plan/items", "POST"), ("/collections/plan/items/1", "PUT")):
                 told = self.client.ask(path, method, feature("Polygon", [ring], {}))
                 self.assertEqual((told.status, reason in told.value.get("description", "")), (422, True), told.value)
