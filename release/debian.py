@@ -20,7 +20,7 @@ Maintainer: {maintainer}
 Installed-Size: {room}
 Depends: libc6 (>= {library}), python3 (>= {python}), python3-cachetools, python3-flask, \
 python3-gdal, python3-numpy, python3-pyproj, python3-tqdm, python3-waitress
-Recommends: gdal-bin, libjs-leaflet
+Recommends: libjs-leaflet
 Suggests: bash-completion, qgis
 Section: science
 Priority: optional

@@ -323,7 +323,7 @@ class Package(unittest.TestCase):
         self.assertRegex(fields["Depends"],
                          r"^libc6 \(>= 2\.[0-9]+\), python3 \(>= 3\.11\), python3-cachetools, "
                          r"python3-flask, python3-gdal, python3-numpy, python3-pyproj, python3-tqdm, python3-waitress$")
-        self.assertIn("gdal-bin", fields["Recommends"])
+        self.assertEqual(fields["Recommends"], "libjs-leaflet")
         self.assertGreater(int(fields["Installed-Size"]), 1000)
 
     def test_the_library_is_the_oldest_that_has_all(self) -> None:
