@@ -5,12 +5,12 @@ from __future__ import annotations
 
 import json
 import pathlib
-import shutil
 import subprocess
 import sys
 from fractions import Fraction
 from typing import Any
 
+from tools import gdal_files
 from tools.commands import to_script, which
 from tools.overlay_client import Server
 from tools.testing.common import TOP, outcome
@@ -55,11 +55,10 @@ class OnePolygon(Case):
         return made
 
     def package(self, source: pathlib.Path) -> pathlib.Path:
-        """The same map as a GeoPackage, by GDAL's own program."""
-        if not shutil.which("ogr2ogr"):
-            self.skipTest("ogr2ogr is not installed")
+        """The same map as a GeoPackage, by GDAL itself."""
         made = source.with_suffix(".gpkg")
-        subprocess.run(["ogr2ogr", "-a_srs", "EPSG:4326", made, source], check=True, capture_output=True, timeout=60)
+        with gdal_files.by_gdal() as gdal:
+            gdal.VectorTranslate(str(made), str(source), format="GPKG", dstSRS="EPSG:4326", reproject=False)
         return made
 
     def script(self, source: pathlib.Path) -> tuple[str, str]:
