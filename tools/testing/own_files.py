@@ -1,14 +1,21 @@
 """Tests that tools write over no file that was not named to them, by the commands, and that a kill
 leaves nothing for good."""
 
+import functools
 import pathlib
 import signal
 import subprocess
 import sys
+from unittest import mock
 
-from .common import SECONDS, SQUARE, InFolder, path
+from .. import keeping
+from ..commands import overlay_maps
+from ..maps import gdal_writing
+from .common import SECONDS, SQUARE, InFolder, Programs, outcome, path
 
 MINE = "mine\n"
+PLAN = ('{"type": "Feature", "properties": {"name": "plan"}, "geometry": {"type": "Polygon", '
+        '"coordinates": [[[0, 0], [10, 0], [10, 10], [0, 10], [0, 0]]]}}')
 
 
 class OwnFiles(InFolder):
@@ -18,8 +25,8 @@ class OwnFiles(InFolder):
         return done.returncode, done.stderr
 
     def test_files_beside_an_output_that_are_the_users(self) -> None:
-        source = self.file("plan.wkt", SQUARE)
-        for end in (".scale.json", ".names.csv"):
+        source = self.file("plan.geojson", PLAN)
+        for end in keeping.ENDS:
             mine = self.file(f"out{end}", MINE)
             status, told = self.ran("to_script.py", source, "--coded", "--output", self.folder / "out.txt")
             self.assertEqual((status, mine.read_text()), (2, MINE), told)
@@ -28,6 +35,7 @@ class OwnFiles(InFolder):
             mine.unlink()
         for _ in range(2):  # what it has written itself it replaces
             self.assertEqual(self.ran("to_script.py", source, "--coded", "--output", self.folder / "out.txt")[0], 0)
+            self.assertEqual([end for end in keeping.ENDS if not (self.folder / f"out{end}").is_file()], [])
 
     def test_names_and_a_scale_that_the_user_has_edited(self) -> None:
         """They are of the tool's form, and belong to no script where none of the output's name is there."""
@@ -93,3 +101,48 @@ class OwnFiles(InFolder):
         others = self.file(f".out.txt.{'0' * 32}.{killed.pid}.1.new", MINE)  # of another machine
         self.assertEqual(self.ran("to_script.py", source, "--output", self.folder / "out.txt")[0], 0)
         self.assertEqual(list(self.folder.glob(".*.new")), [others])
+
+
+class OwnPieces(InFolder):
+    """Of `overlay_maps.py overlay --pieces`: two maps of a square each, of which three pieces come."""
+
+    def setUp(self) -> None:
+        super().setUp()
+        if Programs.live is None:
+            self.skipTest("no program was given")
+        self.first = self.file("a.wkt", SQUARE)
+        self.second = self.file("b.wkt", "POLYGON ((5 5, 15 5, 15 15, 5 15, 5 5))")
+        self.inputs = {"a.wkt", "b.wkt"}
+
+    def overlaid(self, part_max: int) -> tuple[int, str]:
+        """Where a file takes so many pieces."""
+        words = "--factor", 1, "--program", Programs.live, "--jobs", 1, "--pieces", self.folder / "pieces.gpkg"
+        write = functools.partial(gdal_writing.write, part_max=part_max)
+        with mock.patch.object(gdal_writing, "write", write):
+            status, _, told = outcome(overlay_maps, "overlay", self.first, self.second, *words)
+        return status, told
+
+    def names(self) -> set[str]:
+        return {one.name for one in self.folder.iterdir()} - self.inputs
+
+    def test_parts_and_an_index_that_are_the_users(self) -> None:
+        for name in ("pieces-001.gpkg", "pieces-002.gpkg", "pieces.vrt"):
+            mine = self.file(name, MINE)
+            status, told = self.overlaid(2)
+            self.assertEqual((status, mine.read_text(), self.names()), (2, MINE, {name}), told)
+            self.assertIn(f"{mine} stands, and was not named", told)
+            mine.unlink()
+
+    def test_of_an_earlier_run_its_own_parts_alone_go(self) -> None:
+        mine = self.file("pieces-009.gpkg", MINE)
+        parts = {mine.name, "pieces-001.gpkg", "pieces-002.gpkg", "pieces.vrt"}
+        for part_max, wanted in ((2, parts), (2, parts), (3, {mine.name, "pieces.gpkg"}), (2, parts)):
+            status, told = self.overlaid(part_max)
+            self.assertEqual((status, self.names(), mine.read_text()), (0, wanted, MINE), told)
+
+    def test_an_index_of_other_files_and_what_lies_beside_it_stay(self) -> None:
+        index = self.file("pieces.vrt", "<OGRVRTDataSource><SrcDataSource>../zones.gpkg</SrcDataSource>")
+        mine, before = self.file("pieces-002.gpkg", MINE), index.read_text()
+        status, told = self.overlaid(3)
+        self.assertEqual((status, self.names()), (0, {index.name, mine.name, "pieces.gpkg"}), told)
+        self.assertEqual((index.read_text(), mine.read_text()), (before, MINE))
