@@ -18,17 +18,17 @@ pub record IsGoing (pieces : List NumberedPiece) (start at : ℕ) (ring : List �
   pub none : length ring ≡ 0 → at ≡ start
   pub link : 0 < length ring → (piece_at pieces (in_ring ring (length ring - 1))).to ≡ (piece_at pieces at).from
 
-longer : (ring : List ℕ) (at : ℕ) → length (ring ++ at ∷ []) ≡ length ring + 1
+pub longer : (ring : List ℕ) (at : ℕ) → length (ring ++ at ∷ []) ≡ length ring + 1
 longer ring at = length-append ring (at ∷ [])
 
 -- a piece in its place, and the last one
-old_place : (ring : List ℕ) (at k : ℕ) → k < length ring → in_ring (ring ++ at ∷ []) k ≡ in_ring ring k
+pub old_place : (ring : List ℕ) (at k : ℕ) → k < length ring → in_ring (ring ++ at ∷ []) k ≡ in_ring ring k
 old_place ring at k h = get_or_append_left ring (at ∷ []) 0 k h
 
-last_place : (ring : List ℕ) (at k : ℕ) → length ring ≡ k → in_ring (ring ++ at ∷ []) k ≡ at
+pub last_place : (ring : List ℕ) (at k : ℕ) → length ring ≡ k → in_ring (ring ++ at ∷ []) k ≡ at
 last_place ring at k h = get_or_push ring at 0 k h
 
-end_place : (ring : List ℕ) (at : ℕ) → in_ring (ring ++ at ∷ []) (length (ring ++ at ∷ []) - 1) ≡ at
+pub end_place : (ring : List ℕ) (at : ℕ) → in_ring (ring ++ at ∷ []) (length (ring ++ at ∷ []) - 1) ≡ at
 end_place ring at = last_place ring at (length (ring ++ at ∷ []) - 1) (omega (arith, longer ring at))
 
 pub begins : (pieces : List NumberedPiece) (start at : ℕ) (ring : List ℕ) → IsGoing pieces start at ring → in_ring (ring ++ at ∷ []) 0 ≡ start
@@ -44,7 +44,7 @@ meet_by pieces start at ring h k (inr e) =
     rw (old_place ring at k (omega arith), last_place ring at (k + 1) (sym e))
     (subst (λ j. (piece_at pieces (in_ring ring j)).to ≡ (piece_at pieces at).from) (sym is) (h.link (omega arith)))
 
-which : (k n : ℕ) → k + 1 < n + 1 → (k + 1 < n) ⊎ (k + 1 ≡ n)
+pub which : (k n : ℕ) → k + 1 < n + 1 → (k + 1 < n) ⊎ (k + 1 ≡ n)
 which k zero h = absurd (omega arith)
 which zero (suc zero) h = inr refl
 which zero (suc (suc n)) h = inl (omega arith)

@@ -1,9 +1,9 @@
 -- Which piece follows which: the first by its end is followed by the first by its beginning, and so on.
-use Rattle.std.specs.Prelude.{◌≡◌, ℕ, ◌+◌, ◌<◌, ◌==◌, Bool, true, false, List, [], ◌∷◌, length, get_or, count_by, if◌then◌else◌}
+use Rattle.std.specs.Prelude.{◌≡◌, ℕ, ◌+◌, ◌-◌, ◌<◌, ◌==◌, Bool, true, false, List, [], ◌∷◌, length, get_or, count_by, All, if◌then◌else◌}
 use Rattle.std.specs.List.Sorted.{IsPermutation, IsSortedByKey}
 use Rattle.std.specs.Ordering.{ordering_then, nat_cmp}
 use Rattle.std.specs.declared.cmp.Ordering.{Ordering}
-use Rattle.ring_joining.specs.Outline.{piece_at}
+use Rattle.ring_joining.specs.Outline.{piece_at, in_ring}
 use Rattle.ring_joining.specs.declared.piece.NumberedPiece.{NumberedPiece}
 use Rattle.ring_joining.specs.declared.ending.PieceEnd.{PieceEnd}
 
@@ -14,6 +14,11 @@ IsBalanced pieces = (place : ℕ) → count_by (λ p. p.from == place) pieces �
 -- the number of the piece that follows one
 abbrev pub next_of : List ℕ → ℕ → ℕ
 next_of nexts i = get_or nexts i 0
+
+-- a ring goes on from each piece to its next, and from the last to the first
+pub record Follows (nexts ring : List ℕ) : Type 0 where
+  pub on : (k : ℕ) → k + 1 < length ring → in_ring ring (k + 1) ≡ next_of nexts (in_ring ring k)
+  pub back : in_ring ring 0 ≡ next_of nexts (in_ring ring (length ring - 1))
 
 -- for each piece one that begins where it ends, and for each another one
 pub record AreNexts (pieces : List NumberedPiece) (nexts : List ℕ) : Type 0 where
@@ -71,6 +76,12 @@ pub record IsInOrder (pieces : List NumberedPiece) (nexts : List ℕ) : Type 0 w
   pub starts_are : AreSortedEnds true pieces starts
   pub ends_are : AreSortedEnds false pieces ends
   pub paired : ArePaired starts ends nexts
+
+-- rings that go on from each piece to the one after it in the order of ends and beginnings
+pub record AreByOrder (pieces : List NumberedPiece) (rings : List (List ℕ)) : Type 0 where
+  pub nexts : List ℕ
+  pub in_order : IsInOrder pieces nexts
+  pub follow : All (Follows nexts) rings
 
 -- pieces are passed by whole rings: a piece whose next was passed was passed too
 abbrev pub IsWhole : List NumberedPiece → List ℕ → List Bool → Type 0

@@ -1,6 +1,6 @@
 //! Which piece follows which.
 ghost use Rattle.std.specs.Prelude.{◌≡◌, length, IfOk, IfErr};
-ghost use Rattle.ring_joining.specs.Following.{ArePaired, AreNexts, AreDistinct, IsBalanced, IsInOrder};
+ghost use Rattle.ring_joining.specs.Following.{ArePaired, AreNexts, AreByOrder, AreDistinct, IsBalanced, IsInOrder};
 ghost use Rattle.ring_joining.specs.Outline.{IsOutline};
 ghost use Rattle.ring_joining.specs.declared.fault.JoinFault.TheVariants as faults;
 
@@ -35,9 +35,11 @@ pub fn successors(alloc: Global, pieces: &[NumberedPiece]) -> Result<Vec<usize>,
     paired(alloc, &starts, &ends)
 }
 
-/// The rings of some pieces. They are never refused where each place has as many beginnings as ends.
+/// The rings of some pieces, each from a piece to its successor. They are never refused where each place has as many
+/// beginnings as ends.
 pub fn outline(alloc: Global, pieces: &[NumberedPiece]) -> Result<Vec<PieceRing>, JoinFault>
     ensures outline { IfOk result (λ rings. IsOutline pieces.now rings.items) }
+    ensures order { IfOk result (λ rings. AreByOrder pieces.now rings.items) }
     ensures balanced { IsBalanced pieces.now → IfErr result (λ fault. fault ≡ faults.OutOfMemory) }
 {
     let nexts = successors(alloc, pieces)?;

@@ -1,7 +1,7 @@
 //! Rings joined from pieces of which each one's next is given.
-ghost use Rattle.std.specs.Prelude.{◌≡◌, ◌+◌, ◌<◌, Bool, false, get_or, length, IfErr, IfOk, OnOk};
+ghost use Rattle.std.specs.Prelude.{◌≡◌, ◌+◌, ◌<◌, Bool, false, get_or, length, All, IfErr, IfOk, OnOk};
 ghost use Rattle.ring_joining.specs.Outline.{in_ring, AreSet, IsJoined, IsOutline, IsRing};
-ghost use Rattle.ring_joining.specs.Following.{AreNexts, IsWhole};
+ghost use Rattle.ring_joining.specs.Following.{AreNexts, Follows, IsWhole};
 ghost use Rattle.ring_joining.specs.declared.fault.JoinFault.TheVariants as faults;
 
 use crate::fault::JoinFault;
@@ -21,6 +21,7 @@ fn ring_from(
     requires nexts { length nexts.now ≡ length pieces.now }
     requires flags { length passed.old.items ≡ length pieces.now }
     ensures ring { IfOk result (λ ring. IsRing pieces.now ring) }
+    ensures follows { IfOk result (λ ring. Follows nexts.now ring) }
     ensures begins { IfOk result (λ ring. in_ring ring 0 ≡ start) }
     ensures passed { IfOk result (λ ring. AreSet passed.old.items passed.new.items ring) }
     ensures closed { AreNexts pieces.now nexts.now → IsWhole pieces.now nexts.now passed.old.items
@@ -60,7 +61,9 @@ fn join_from(
     requires start { start < length pieces.now }
     requires nexts { length nexts.now ≡ length pieces.now }
     requires so_far { IsJoined pieces.now passed.old.items rings.old.items start }
+    requires follow { All (Follows nexts.now) rings.old.items }
     ensures joined { OnOk result (IsJoined pieces.now passed.new.items rings.new.items (start + 1)) }
+    ensures follow { OnOk result (All (Follows nexts.now) rings.new.items) }
     ensures closed { AreNexts pieces.now nexts.now → IsWhole pieces.now nexts.now passed.old.items
         → IfErr result (λ fault. fault ≡ faults.OutOfMemory) }
     ensures whole { AreNexts pieces.now nexts.now → IsWhole pieces.now nexts.now passed.old.items
@@ -82,6 +85,7 @@ pub fn join(
 ) -> Result<Vec<PieceRing>, JoinFault>
     requires nexts { length nexts.now ≡ length pieces.now }
     ensures outline { IfOk result (λ rings. IsOutline pieces.now rings.items) }
+    ensures follows { IfOk result (λ rings. All (Follows nexts.now) rings.items) }
     ensures closed { AreNexts pieces.now nexts.now → IfErr result (λ fault. fault ≡ faults.OutOfMemory) }
 {
     let mut passed = vec![in alloc; false; pieces.len()]?;

@@ -6,12 +6,13 @@ pub returns : goal.returns
 returns c =
     record {
       outline = finished c.args.pieces.now c.loop-start.passed.items c.loop-start.rings.items c.loop-start.start c.loop-start-test.false c.loop-start.invariant.joined;
+      follows = c.loop-start.invariant.follow;
       closed = λ n. tt;
     }
 
 pub loop-start-preserved : goal.loop-start-preserved
 loop-start-preserved c =
-    record { joined = c.in_ok-join_from.ensures.joined; whole = λ n. c.in_ok-join_from.ensures.whole n (c.loop-start.invariant.whole n) }
+    record { joined = c.in_ok-join_from.ensures.joined; follow = c.in_ok-join_from.ensures.follow; whole = λ n. c.in_ok-join_from.ensures.whole n (c.loop-start.invariant.whole n) }
 
 pub returns-in_err-join_from-clause-closed : goal.returns-in_err-join_from-clause-closed
 returns-in_err-join_from-clause-closed c =
