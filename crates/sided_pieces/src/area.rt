@@ -8,7 +8,7 @@ ghost use Rattle.sided_pieces.specs.Sided.{sided_of, IsNearArea, IsOnItsSupport}
 use swept_area::{Shift, SidedPiece, area_is_near, swept_area};
 
 /// Twice the area that pieces enclose which lie on their supports, seen from the origin, in parts of a unit square: the sum
-/// of what each sweeps over. None where 128 bits do not hold it.
+/// of what each sweeps over. None only where the sum over the first so many does not fit 128 bits.
 pub fn enclosed_area(pieces: &[SidedPiece], by: &Shift) -> Option<i128>
     requires { All IsOnItsSupport (map sided_of pieces.now) }
     ensures value { IfSome result (λ total. total ≡ terms.swept_area (map (sided_from by.now) pieces.now)) }

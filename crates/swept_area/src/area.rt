@@ -7,7 +7,8 @@ ghost use Rattle.swept_area.specs.Pieces.{sided_from};
 use crate::piece::{Shift, SidedPiece};
 use crate::sweeping::swept;
 
-/// Twice the area that some pieces enclose, in parts of a unit square. None where 128 bits do not hold the sum.
+/// Twice the area that some pieces enclose, in parts of a unit square. None only where the sum over the first so many does
+/// not fit 128 bits.
 pub fn swept_area(pieces: &[SidedPiece], by: &Shift) -> Option<i128>
     ensures value { IfSome result (λ total. total ≡ area_of (map (sided_from by.now) pieces.now)) }
     ensures none { result ≡ None →
