@@ -21,14 +21,13 @@ import time
 
 from bench import TOP
 from bench.counting import Words
-from bench.trials.map_geos import shape
-from shapely.geometry import Polygon
+from shapely.geometry import MultiPolygon, Polygon
 from shapely.ops import unary_union
 from shapely.validation import make_valid
 
 from tools.commands import overlay_maps
-from tools.maps import box_pairs, planning, running
-from tools.maps.whole_maps import WholeMap
+from tools.maps import auditing, box_pairs, planning, running
+from tools.maps.whole_maps import Ring, WholeMap
 
 CLOSE, MINUTE, SMALL = 1e-6, 60.0, 1.0
 REACH, AMONG, WIDE = 10_000_000, 1000, 32
@@ -52,9 +51,20 @@ def coast(points: int) -> str:
     return '{"type": "FeatureCollection", "features": [' + ",\n".join(found) + "]}"
 
 
+def shape(rings: list[Ring]) -> MultiPolygon:
+    """A feature as GEOS has it: counter-clockwise rings are outer ones, and the clockwise ones after each its holes."""
+    polygons: list[tuple[Ring, list[Ring]]] = []
+    for ring in rings:
+        if auditing.plain_area([ring]) > 0 or not polygons:
+            polygons.append((ring, []))
+        else:
+            polygons[-1][1].append(ring)
+    return MultiPolygon([Polygon(outer, holes) for outer, holes in polygons])
+
+
 def by_geos(whole: WholeMap) -> tuple[dict[tuple[int, int], float], list[float]]:
     """The areas of overlaps, and those of gaps."""
-    shapes = [make_valid(shape(whole.rings(feature), (0, 0), 1.0)) for feature in range(len(whole))]
+    shapes = [make_valid(shape(whole.rings(feature))) for feature in range(len(whole))]
     boxes = planning.boxes_of(whole)
     pairs = [(i, j) for i, j in box_pairs.pairs_of_arrays(boxes, boxes).tolist() if i < j]
     areas = {(i, j): shapes[i].intersection(shapes[j]).area for i, j in pairs}

@@ -38,7 +38,6 @@ from shapely import geometry, wkb
 from bench import TOP, web_front
 from bench.counting import Tries, Words
 from bench.reference import read_store
-from bench.trials.maps import loaded
 from bench.web_front import asked, sent
 from tools import overlay_client
 from tools.limits import COLUMN_WIDTH, COORDINATE_MAX
@@ -101,6 +100,17 @@ def ran(*words: str | pathlib.Path) -> str:
     if done.returncode:
         sys.exit(f"{words}: status {done.returncode}, {done.stderr}")
     return done.stderr
+
+
+def loaded(package: str, folder: pathlib.Path) -> pathlib.Path:
+    """The folder of a package of Debian, which is loaded and unpacked there."""
+    made = folder / package
+    if not made.exists():
+        done = subprocess.run(["apt-get", "download", package], cwd=folder, capture_output=True, text=True, check=False)
+        if done.returncode:
+            sys.exit(f"apt-get download {package}: {done.stderr}")
+        ran("dpkg-deb", "-x", next(folder.glob(f"{package}_*.deb")), made)
+    return made
 
 
 # ---- what each client has
