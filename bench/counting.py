@@ -7,10 +7,8 @@ import argparse
 import os
 import pathlib
 import shutil
-import sys
 import tempfile
-from collections.abc import Callable, Iterable
-from typing import Any
+from collections.abc import Callable
 
 
 def absolute(path: str) -> str:
@@ -19,34 +17,16 @@ def absolute(path: str) -> str:
 
 
 class Words(argparse.ArgumentParser):
-    """The words of a program, told with its page as it stands; --test alone tests the program itself."""
+    """The words of a program, told with its page as it stands."""
 
-    def __init__(self, page: str | None, test: Callable[[], int | None] | None = None) -> None:
+    def __init__(self, page: str | None) -> None:
         super().__init__(description=page, formatter_class=argparse.RawDescriptionHelpFormatter)
-        self.test = test
-        if test:
-            self.add_argument("--test", action="store_true", help="test the script itself, and nothing else")
-
-    def words(self) -> argparse.Namespace:
-        """The words of the call; a test ends it with its status."""
-        if self.test and sys.argv[1:] == ["--test"]:
-            sys.exit(self.test())
-        return self.parse_args()
 
 
 def counted(passed: int, failed: int) -> int:
     """Prints the last line, and gives the exit status."""
     print(f"{passed} passed, {failed} failed")
     return 1 if failed else 0
-
-
-def checked(checks: Iterable[tuple[Any, ...]]) -> int:
-    """Compares the last two of each row, what was found and what is wanted; prints rows that differ, and counts."""
-    rows = list(checks)
-    wrong = [row for row in rows if row[-2] != row[-1]]
-    for *names, found, wanted in wrong:
-        print(*names, f"{found!r}, not {wanted!r}")
-    return counted(len(rows) - len(wrong), len(wrong))
 
 
 class Tries:

@@ -1,7 +1,6 @@
 """Counts the instructions of a WAIT and of EDGES of all columns by several programs, with QEMU, and those of peers.
 
 python3 -m bench.measures.instructions PROGRAM.. [--peers] [--only NAME]..
-python3 -m bench.measures.instructions --test
 
 PROGRAM is built by `python3 bench/unproved.py --unchecked crates/overlayd/src PROGRAM`, an older one by the same in a
 worktree of its commit. Told are millions of instructions, which hang little on what else the machine does, and how many
@@ -24,7 +23,7 @@ import tempfile
 from collections.abc import Iterator, Sequence
 
 from bench import tile_texts
-from bench.counting import Words, checked
+from bench.counting import Words
 from bench.measures import peers, tiles
 from bench.tile_texts import Layer, closed
 from tools.limits import COLUMNS
@@ -122,28 +121,12 @@ def measure(programs: list[pathlib.Path], folder: pathlib.Path, names: list[str]
             print(row(name, counts, [counter.peer(one, layers) for one in others]), flush=True)
 
 
-def test() -> int:
-    """Looks at scripts and at a line of the table."""
-    layers = dict(cases(SHAPES))
-    asked = script(SQUARES, 2, 3, 17)
-    checks = [
-        (len(layers), len(SHAPES) + 1), (len([line for line in asked if line.startswith("WAIT ")]), 2),
-        (asked.count("EDGES I0 16"), 3), ("EDGES I0 17" in asked, False),
-        (row("x", [(1000000, 500000), (2000000, 250000)]), "| x | 1.000, 2.000 | 0.500, 0.250 | 1.50 times |"),
-        (row("x", [(1000000, 500000)]), "| x | 1.000 | 0.500 |  |"),
-        (row("x", [(1000000, 500000)], [3000000]), "| x | 1.000 | 0.500 |  | 3.000: 0.50 |"),
-        (row("x", [(1000000, 500000), (500000, 0)], [2000000]),
-         "| x | 1.000, 0.500 | 0.500, 0.000 | 0.33 times | 2.000: 0.75, 0.25 |"),
-    ]
-    return checked(checks)
-
-
 def main() -> int:
-    parser = Words(__doc__, test)
+    parser = Words(__doc__)
     parser.add_argument("programs", type=pathlib.Path, nargs="+")
     parser.add_argument("--peers", action="store_true", help="beside CGAL and Clipper, of more layers")
     parser.add_argument("--only", action="append", default=[], help="as `star of 64`, `two squares in one column`")
-    words = parser.words()
+    words = parser.parse_args()
     with tempfile.TemporaryDirectory() as place:
         measure([program.resolve() for program in words.programs], pathlib.Path(place), words.only, words.peers)
     return 0

@@ -1,7 +1,6 @@
 """Measures the live program beside what else a user would take, and prints a table in Markdown.
 
 python3 -m bench.measures.live PROGRAM [--quick] [--folder FOLDER] [--install]
-python3 -m bench.measures.live --test
 
 PROGRAM is overlay_live. A client in C (live.c) sends a line when the reply to the one before has come.
 
@@ -27,7 +26,7 @@ import time
 from collections.abc import Iterator, Sequence
 from typing import Any, NamedTuple
 
-from bench.counting import Words, absolute, counted
+from bench.counting import Words, absolute
 from bench.measures import serving
 
 HERE = pathlib.Path(__file__).resolve().parent
@@ -318,28 +317,13 @@ def measure(words: argparse.Namespace, folder: pathlib.Path) -> int:
     return 0
 
 
-def test() -> int:
-    """Asks the bare pipe, by one session and by four."""
-    with tempfile.TemporaryDirectory() as place:
-        client = Client(pathlib.Path(place))
-        with served([client.program, "echo"]) as (_, [pair]):
-            times = client.ask(pair, ["LOCATE A 1 1", "LOCATE A 2 2", "x" * 60000])
-            taken = client.together([pair], ["LOCATE A 1 1"], 3)
-        with contextlib.ExitStack() as stack:
-            pairs = [stack.enter_context(served([client.program, "echo"]))[1][0] for _ in range(SESSIONS)]
-            taken = min(taken, client.together(pairs, ["LOCATE A 1 1"] * 9, 2))
-        checks = [times.replies == ["out"] * 3, min(times.taken) > 0, taken > 0]
-        checks.append(Times([4, 1, 3, 2], []).share(0.5) == 3 and Times([4, 1, 3, 2], []).share(0.99) == 4)
-    return counted(sum(checks), len(checks) - sum(checks))
-
-
 def main() -> int:
-    parser = Words(__doc__, test)
+    parser = Words(__doc__)
     parser.add_argument("program", type=absolute)
     parser.add_argument("--quick", action="store_true")
     parser.add_argument("--install", action="store_true", help="gets SpatiaLite and PostGIS by apt-get first")
     parser.add_argument("--folder", help="where the store is made")
-    words = parser.words()
+    words = parser.parse_args()
     if words.install:
         options = ["-y", "-q", "--no-upgrade", "--no-install-recommends"]
         subprocess.run(["apt-get", "install", *options, *PACKAGES], stdout=sys.stderr, check=True)

@@ -171,7 +171,7 @@ def main() -> int:
     parser.add_argument("--folder", type=pathlib.Path, help="keeps maps and tables there")
     parser.add_argument("--only", action="append", choices=[*READERS, "PostGIS"])
     parser.add_argument("--peer", nargs=2, help=argparse.SUPPRESS)
-    words = parser.words()
+    words = parser.parse_args()
     if words.peer:
         peer(words.peer[0], words.folder, pathlib.Path(words.peer[1]))
         return 0

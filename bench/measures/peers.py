@@ -152,7 +152,7 @@ def main() -> None:
     parser.add_argument("programs", type=pathlib.Path, nargs="+")
     parser.add_argument("--edges", type=int, action="append")
     parser.add_argument("--only", action="append", help="star, parcels, self-crossing, comb, sliver, points")
-    words = parser.words()
+    words = parser.parse_args()
     programs = [program.resolve() for program in words.programs]
     with tempfile.TemporaryDirectory() as place:
         folder = pathlib.Path(place)

@@ -1,7 +1,6 @@
 """Measures the program as a server with a store, and prints a table in Markdown.
 
 python3 -m bench.measures.serving PROGRAM [--quick] [--folder FOLDER]
-python3 -m bench.measures.serving --test
 
 - A commit of one changed layer, alone, beside 16 others and beside 29 derived ones with all their tiles: 200 times PUT
   and SYNC less the same script with none, beside the same writes and syncs in C (sync.c).
@@ -204,24 +203,12 @@ def measure(words: argparse.Namespace, folder: pathlib.Path) -> int:
     return 0
 
 
-def test() -> int:
-    """Builds and runs the C part, and looks at a ring."""
-    with tempfile.TemporaryDirectory() as place:
-        folder = pathlib.Path(place)
-        subprocess.run(["gcc", "-O2", "-Wall", "-o", str(folder / "sync"), str(HERE / "sync.c")], check=True)
-        took = Runs("", folder).commit_of_c(3, 2)
-        size = (folder / "plain.db").stat().st_size
-    is_right = took > 0 and size == 64 * 4096 and ring(4, 0, 0, 10) == "POLYGON ((10 0, 0 10, -10 0, 0 -10, 10 0))"
-    print(f"three syncs {milliseconds(took)}, a file of {size} bytes: {'right' if is_right else 'wrong'}")
-    return 0 if is_right else 1
-
-
 def main() -> int:
-    parser = Words(__doc__, test)
+    parser = Words(__doc__)
     parser.add_argument("program", type=absolute)
     parser.add_argument("--quick", action="store_true")
     parser.add_argument("--folder", help="where the store is made")
-    words = parser.words()
+    words = parser.parse_args()
     with tempfile.TemporaryDirectory(prefix="serving", dir=words.folder) as place:
         return measure(words, pathlib.Path(place))
 

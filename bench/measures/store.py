@@ -1,7 +1,6 @@
 """Measures the store: records to bytes and back, what a commit writes, and opening a big file.
 
     python3 -m bench.measures.store [PROGRAM]..
-    python3 -m bench.measures.store --test
 
 Builds the program of bench/measures/store over the store's crates, unproved (minutes); PROGRAM is one that was built
 before. Of several the reading and writing of records is reported side by side, all else of the first. The files and
@@ -217,20 +216,10 @@ def beginnings(program: pathlib.Path, folder: pathlib.Path) -> None:
     )
 
 
-def test() -> int:
-    """Looks whether the reader of files takes one that is written here, with all its tiles."""
-    tile = {c: tile_record(c, 3, short_piece) for c in range(COLUMNS)} | {9: tile_record(9, 3, crossed_piece)}
-    lines = read_store.told(store([(b"A", zigzag(4), None), (b"I", b"A", tile)]))
-    wanted = [f"tile I {c} 3" for c in range(COLUMNS)]
-    is_right = lines[0] == "version 2" and [line for line in lines if line.startswith("tile ")] == wanted
-    print(f"a file of {len(wanted)} tiles is read as {lines[0]}: {'right' if is_right else 'wrong'}")
-    return 0 if is_right else 1
-
-
 def main() -> int:
-    parser = Words(__doc__, test)
+    parser = Words(__doc__)
     parser.add_argument("programs", type=pathlib.Path, nargs="*")
-    words = parser.words()
+    words = parser.parse_args()
     with tempfile.TemporaryDirectory() as folder:
         programs = turns.programs_of(words.programs, "store", pathlib.Path(folder))
         program = programs[0]

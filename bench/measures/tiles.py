@@ -183,7 +183,7 @@ def measure(programs: list[pathlib.Path], folder: pathlib.Path) -> None:
 def main() -> None:
     parser = Words(__doc__)
     parser.add_argument("programs", type=pathlib.Path, nargs="*", default=[])
-    words = parser.words()
+    words = parser.parse_args()
     with tempfile.TemporaryDirectory() as name:
         folder = pathlib.Path(name)
         measure(turns.programs_of(words.programs, "tiles", folder), folder)

@@ -118,7 +118,7 @@ def main() -> int:
     parser.add_argument("--python", default=web_front.DEBIAN_PYTHON, help="the Python that runs the front")
     parser.add_argument("--clients", type=int, default=6, help="how many ask at once (default 6)")
     parser.add_argument("--seconds", type=float, default=8, help="how long each load lasts (default 8)")
-    words = parser.words()
+    words = parser.parse_args()
     web_front.need("/usr/lib/python3/dist-packages/waitress", "python3-waitress")
     with tempfile.TemporaryDirectory() as place:
         store = web_front.iceland(pathlib.Path(place), words.program)

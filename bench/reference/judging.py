@@ -1,7 +1,6 @@
 """Judges the replies of sessions that ran side by side over one book, by the plain model.
 
-python3 -m bench.reference.judging OUTPUT SCRIPT..
-python3 -m bench.reference.judging --test
+    python3 -m bench.reference.judging OUTPUT SCRIPT..
 
 OUTPUT is what the program wrote for the scripts. The numbers after `ok` give each accepted command its place in the
 one history: each number from 1 on stands just once, and its command is accepted there. Every other reply is right at
@@ -20,7 +19,7 @@ import sys
 from collections.abc import Callable, Iterable, Iterator, Sequence
 from typing import Any
 
-from bench.counting import Words, counted
+from bench.counting import Words
 from bench.reference import model
 from tools.limits import COLUMNS
 
@@ -497,92 +496,12 @@ def judge_session(session: Session, number: int, judged: Judged) -> None:
     judged.seen.append(session.seen)
 
 
-# ---- self-test
-
-SQUARE = b"POLYGON ((0 0, 10 0, 10 10, 0 10, 0 0))"
-OTHER = b"POLYGON ((5 5, 15 5, 15 15, 5 15, 5 5))"
-FIRST = b"PUT A " + SQUARE + b"\nLOCATE A 12 12\nDEFINE I = A\nWAIT I\nEDGES I 16\nSYNC\nLAYERS\nHELLO\n"
-SECOND = b"LOCATE A 2 2\nPUT A " + OTHER + b"\nDROP A\nLOCATE A 2 2\n"
-RIGHT = """# script 1
-ok 1
-out
-ok 3
-built 3
-edges 4
-5 5 1 5 15 1
-5 5 1 15 5 1
-5 15 1 15 15 1
-15 5 1 15 15 1
-durable 3
-layers 2
-A MULTIPOLYGON (((5 5, 15 5, 15 15, 5 15, 5 5)))
-I = A
-error 41 command syntax
-# script 2
-error 10 unknown layer
-ok 2
-error 14 in use
-out
-"""
-# Each: what is changed, to what, and how many replies are wrong then (None: the output as a whole).
-CHANGED = [
-    ("", "", 0),
-    ("out\nok 3", "in\nok 3", 0),  # so it is at version 2, which it may have seen
-    ("out\nok 3", "edge\nok 3", 1),
-    ("durable 3", "durable 2", 1),
-    ("durable 3", "durable 4", 1),
-    ("built 3", "built 2", 1),
-    ("15 5 1 15 15 1", "15 5 1 15 16 1", 1),
-    ("error 14 in use", "error 10 unknown layer", 1),
-    ("error 14 in use\nout", "error 14 in use\nin", 1),
-    ("error 10 unknown layer", "in", 0),
-    ("error 10 unknown layer", "edge", 1),
-    ("error 41 command syntax", "error 41 syntax", 1),
-    ("ok 3", "ok 4", None),
-    ("ok 3", "ok 2", None),
-    ("I = A\n", "I = B\n", 1),
-    ("ok 2", "error 11 not a base layer", None),
-]
-
-# Each: scripts whose sessions were cut off, what they wrote, and how many replies are wrong (None: the output as a
-# whole).
-CUT_OFF = [
-    ([b"DROP A\n", b"PUT A " + SQUARE, b"PUT B " + OTHER], "# script 1\n# script 2\n# script 3\nok 2\n", 0),
-    ([b"PUT A " + SQUARE, b"DROP A\n", b"PUT B " + OTHER], "# script 1\n# script 2\n# script 3\nok 3\n", 0),
-    ([b"DROP A\n", b"PUT B " + OTHER], "# script 1\n# script 2\nok 2\n", None),
-]
-
-
-def found_wrong(scripts: list[bytes], output: str, is_cut: bool = False) -> int | None:
-    """How many replies are wrong, or None where the output is as a whole."""
-    try:
-        return len(judge(scripts, output, is_cut=is_cut).wrong)
-    except Wrong:
-        return None
-
-
-def test() -> int:
-    """Judges the outputs above, and gives the exit status."""
-    wrong = 0
-    for scripts, output, count in CUT_OFF:
-        found = found_wrong(scripts, output, is_cut=True)
-        if found != count:
-            print(f"{scripts!r} cut off: {found} wrong replies, not {count}")
-            wrong += 1
-    for old, new, count in CHANGED:
-        found = found_wrong([FIRST, SECOND], RIGHT.replace(old, new, 1) if old else RIGHT)
-        if found != count:
-            print(f"{old!r} as {new!r}: {found} wrong replies, not {count}")
-            wrong += 1
-    return counted(len(CHANGED) + len(CUT_OFF) - wrong, wrong)
-
-
 def main() -> int:
-    """Judges an output, or tests the judge."""
-    parser = Words(__doc__, test)
+    """Judges an output."""
+    parser = Words(__doc__)
     parser.add_argument("output", type=pathlib.Path, metavar="OUTPUT")
     parser.add_argument("scripts", type=pathlib.Path, nargs="+", metavar="SCRIPT")
-    words = parser.words()
+    words = parser.parse_args()
     judged = judge([script.read_bytes() for script in words.scripts], words.output.read_text())
     print("\n".join(judged.wrong))
     print(f"{sum(judged.replies.values())} replies, {judged.history.last()} accepted, {len(judged.wrong)} wrong")

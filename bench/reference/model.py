@@ -1,11 +1,9 @@
 """A plain, slow model of the book of layers, as docs/COMMANDS.md has it: beside the program, not of it.
 
-python3 -m bench.reference.model SCRIPT
-python3 -m bench.reference.model --test
+    python3 -m bench.reference.model SCRIPT
 
-The first prints the replies of one script over an empty book without a store, where all tiles are finished at once:
-SYNC is refused by 46, and EDGES and VERIFY never by 21. The second runs the scripts of examples/ and compares (but for
-`error 21 pending`, which is of tiles alone, and the tiles of the dense grid, which are too large for counting).
+Prints the replies of one script over an empty book without a store, where all tiles are finished at once: SYNC is
+refused by 46, and EDGES and VERIFY never by 21.
 
 All is by counting over all segments, in whole numbers and fractions. What was once worked out for a layer's meaning is
 kept under a key.
@@ -22,7 +20,6 @@ import sys
 from collections.abc import Callable, Iterable, Sequence, Set
 from typing import Any, NamedTuple
 
-from bench import TOP
 from bench.counting import Words
 from tools.limits import (
     BATCH_MAX, COLUMN_WIDTH, COLUMNS, COORDINATE_MAX, GRID_MAX, LAYERS_MAX, LINE_MAX, NAME_MAX, PIECES_MAX, STEP_MAX,
@@ -834,39 +831,11 @@ def split_replies(lines: list[str]) -> list[list[str]]:
     return replies
 
 
-def is_modelled(script: pathlib.Path) -> bool:
-    """Whether an example is one session in memory, and soon done."""
-    alone = not script.read_text(errors="replace").startswith("# overlayd ")
-    return alone and script.with_suffix(".expected").exists() and script.name != "dense-grid.txt"
-
-
-def test() -> int:
-    """Runs the scripts of the examples, and gives the exit status."""
-    folder = TOP / "examples"
-    count_of = {"replies": 0, "wrong": 0, "pending": 0}
-    for script in sorted(filter(is_modelled, folder.glob("*.txt"))):
-        wanted = split_replies(script.with_suffix(".expected").read_text().splitlines())
-        given = replies_of(script.read_bytes())
-        if len(wanted) != len(given):
-            print(f"{script.name}: {len(given)} replies, not {len(wanted)}")
-            count_of["wrong"] += 1
-        for place, (reply, right) in enumerate(zip(given, wanted)):
-            count_of["replies"] += 1
-            if right == ["error 21 pending"]:
-                count_of["pending"] += 1
-            elif reply != right:
-                print(f"{script.name}: reply {place + 1}: {reply}, not {right}")
-                count_of["wrong"] += 1
-    passed = count_of["replies"] - count_of["wrong"]
-    print(f"{passed} passed, {count_of['wrong']} failed, {count_of['pending']} of the replies pending")
-    return 1 if count_of["wrong"] or not count_of["replies"] else 0
-
-
 def main() -> int:
-    """Prints the replies of a script, or runs the examples."""
-    parser = Words(__doc__, test)
+    """Prints the replies of a script."""
+    parser = Words(__doc__)
     parser.add_argument("script", type=pathlib.Path, metavar="SCRIPT")
-    words = parser.words()
+    words = parser.parse_args()
     for reply in replies_of(words.script.read_bytes()):
         print("\n".join(reply))
     return 0

@@ -1,13 +1,10 @@
 """Reads a store's file as docs/FORMAT.md says it: beside the program, not of it. Expressions and texts are model.py's.
 
-python3 -m bench.reference.read_store FILE
-python3 -m bench.reference.read_store --test
+    python3 -m bench.reference.read_store FILE
 
-The first prints what the file stands for: `version N`; a line `layer NAME TEXT` or `layer NAME = EXPRESSION` for each
+Prints what the file stands for: `version N`; a line `layer NAME TEXT` or `layer NAME = EXPRESSION` for each
 layer in order; a line `tile NAME COLUMN PIECES` or `tile NAME COLUMN oversize` for each finished tile, by layer and
-column. Of a file with a fault it prints the first one, `32` or `33 CODE`, and ends with status 1. The second reads the
-vectors of docs/FORMAT.md and the damaged files that stand there, and looks whether each gives what the page says; it
-makes the longest record of each form, too.
+column. Of a file with a fault it prints the first one, `32` or `33 CODE`, and ends with status 1.
 """
 
 from __future__ import annotations
@@ -15,15 +12,14 @@ from __future__ import annotations
 import fractions
 import pathlib
 import re
-import struct
 import sys
 from collections.abc import Callable
 from typing import Any, NamedTuple, Union
 
 from bench import TOP
-from bench.counting import Words, checked
+from bench.counting import Words
 from bench.reference import model
-from tools.limits import COLUMNS, COLUMN_WIDTH, COORDINATE_MAX, LAYERS_MAX, NAME_MAX, PIECES_MAX, STEPS_MAX, TOKENS_MAX
+from tools.limits import COLUMNS, COLUMN_WIDTH, COORDINATE_MAX, LAYERS_MAX, PIECES_MAX, STEPS_MAX
 
 BLOCK = 4096
 GATE_OPEN = 0xA7
@@ -414,12 +410,6 @@ def changed(file: bytes, changes: list[str]) -> bytes:
     return bytes(data)
 
 
-def file_of_a_row(data: bytes, cell: str) -> bytes:
-    """The file of a row: cut, or with other bytes."""
-    length = re.search(r"cut to (\d+) bytes", cell)
-    return data[: int(length.group(1))] if length else changed(data, codes(cell))
-
-
 def vectors_of(page: str) -> list[bytes]:
     """The bytes that the page gives for a new store, for a layer and for a tile."""
     return [bytes.fromhex(codes(row[-1])[0]) for row in table_behind(page, "## Vectors")]
@@ -433,104 +423,11 @@ def six_blocks(vectors: list[bytes]) -> bytes:
     return b"".join(block.ljust(BLOCK, b"\0") for block in blocks)
 
 
-def point_text(data: bytes) -> str:
-    """A named point as the page writes it."""
-    try:
-        return " ".join(str(value) for value in named_point(Bytes(data)))
-    except NotOfTheForm:
-        return "none"
-
-
-def vector_checks(vectors: list[bytes]) -> list[tuple[Any, ...]]:
-    """What was read of each vector of a record, and what the page says that it is."""
-    square = [[(0, 0), (10, 0), (10, 10), (0, 10), (0, 0)]]
-    return [
-        (read_catalog(vectors[1]), []), (read_base(vectors[2]), square),
-        (read_catalog(vectors[3]), [Listed(b"A", Extent(3, 44), None)]), (read_definition(vectors[5]), ("&", "A", "B")),
-        (read_tile(vectors[6], 32), 1),
-    ]
-
-
-def page_checks(page: str) -> list[tuple[Any, ...]]:
-    """What is read of each vector and of each file of the page, and what the page says."""
-    vectors = vectors_of(page)
-    checks = vector_checks(vectors)
-    for _, name, point in table_behind(page, "The prover computes these seven."):
-        checks.append((name, point_text(bytes.fromhex(codes(name)[0])), point))
-    plain = six_blocks(vectors)
-    for head in ("A **file of six blocks**", "A **file with a derived layer**", "A **file of format 1**"):
-        told_so = re.split(r"\n\n", page[page.index(head) :])[0].replace("\n", " ")
-        data = changed(plain, codes(told_so))
-        for cell, gives in table_behind(page, head):
-            lines = told(file_of_a_row(data, cell))
-            wanted = codes(gives)
-            checks.append((cell, lines[:1] + lines[-1:] if len(wanted) == 2 else lines[:1], wanted))
-    return checks
-
-
-# ---- the longest record of each form
-
-
-def catalog_of(count: int) -> bytes:
-    """A catalog of layers with the longest names and all tiles finished: no layer takes more bytes."""
-    extent = struct.pack(">QI", 2, 1)
-    one = b"\xff" + bytes(255) + b"\1" + extent + (b"\1" + extent) * COLUMNS
-    return struct.pack(">H", count) + one * count
-
-
-def longest_base() -> bytes:
-    """As many rings as there can be, each of which takes bytes beside those of its steps, with all steps."""
-    count = STEPS_MAX // 3
-    sizes = [3] * (count - 1) + [STEPS_MAX - 3 * (count - 1)]
-    rings = [struct.pack(">H", steps + 1) + bytes(8 * (steps + 1)) for steps in sizes]
-    return struct.pack(">H", count) + b"".join(rings)
-
-
-def longest_definition() -> bytes:
-    """As many of the longest names as there can be: an operator and a name take more than any number of brackets."""
-    return b" & ".join([b"A" * NAME_MAX] * ((TOKENS_MAX + 1) // 2))
-
-
-def tile_of(count: int) -> bytes:
-    """A tile of column 16 with pieces of one support, whose left ends are at each whole x, all ends named as crossings:
-    no name takes more bytes, and there is room for as many pieces as a tile may have."""
-    support = (0, 0, COLUMN_WIDTH, 0)
-
-    def name(x: int) -> bytes:
-        return struct.pack(">B8i", 1, *support, x, -1, x, 1)
-
-    pieces = [struct.pack(">4i", *support) + name(x) + name(x + 1) for x in range(count)]
-    return struct.pack(">BBI", 0, 16, count) + b"".join(pieces)
-
-
-def length_checks(page: str) -> list[tuple[Any, ...]]:
-    """The lengths of the longest records and those of the page; a reader takes them, of catalog and
-    tile shorter ones."""
-    catalog, tile = (2 + 65535 * (len(catalog_of(1)) - 2), 6 + PIECES_MAX * (len(tile_of(1)) - 6))
-    found = re.search(r"a\s+catalog ([\d,]+) bytes, a base record ([\d,]+), a definition ([\d,]+), a tile ([\d,]+)",
-                      page)
-    told = [int(number.replace(",", "")) for number in found.groups()] if found else []
-    steps = sum(len(ring) - 1 for ring in read_base(longest_base()))
-    return [
-        ("the longest records", [catalog, len(longest_base()), len(longest_definition()), tile], told),
-        ("layers", len(read_catalog(catalog_of(40))), 40), ("pieces", read_tile(tile_of(40), 16), 40),
-        ("steps", steps, STEPS_MAX), ("lengths of several", (len(catalog_of(40)), len(tile_of(40))),
-                                      (2 + 40 * (catalog - 2) // 65535, 6 + 40 * (tile - 6) // PIECES_MAX)),
-        ("a definition", model.spelled(read_definition(longest_definition())).encode(), longest_definition()),
-    ]
-
-
-def test() -> int:
-    """Looks whether the page's vectors and lengths are what it says, and gives the exit status."""
-    page = FORMAT_PAGE.read_text(encoding="utf-8")
-    return checked(page_checks(page) + length_checks(page))
-
-
 def main() -> int:
     """Reads a file, or the page."""
-    parser = Words(__doc__, test)
+    parser = Words(__doc__)
     parser.add_argument("file", type=pathlib.Path)
-    words = parser.words()
+    words = parser.parse_args()
     lines = told(words.file.read_bytes())
     print("\n".join(lines))
     return 0 if lines[0].startswith("version") else 1

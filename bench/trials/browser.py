@@ -529,7 +529,7 @@ def main() -> int:
     parser.add_argument("--program", default=str(web_front.PROGRAM), help="the built overlay_live")
     parser.add_argument("--python", default=web_front.DEBIAN_PYTHON, help="the Python that runs the front")
     parser.add_argument("--pictures", type=pathlib.Path, help="a folder for pictures of the page")
-    words = parser.words()
+    words = parser.parse_args()
     web_front.need("chromium", "chromium", "fonts-dejavu-core")
     web_front.need("/usr/share/javascript/leaflet", "libjs-leaflet")
     tries = Tries()

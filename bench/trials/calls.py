@@ -35,7 +35,7 @@ def are_told(line: str) -> bool:
 def main() -> int:
     parser = Words(__doc__)
     parser.add_argument("program", type=pathlib.Path, nargs="?")
-    words = parser.words()
+    words = parser.parse_args()
     with tempfile.TemporaryDirectory() as folder:
         program = unproved.program_of(words.program, HERE / "calls", folder)
         done = subprocess.run([program], stdout=subprocess.PIPE, text=True)

@@ -165,7 +165,7 @@ def words_of(page: str | None) -> argparse.Namespace:
     parser.add_argument("--programs", metavar="FOLDER", type=pathlib.Path,
                         help="where the programs are (default: those of the gate)")
     parser.add_argument("--base", metavar="FOLDER", type=pathlib.Path, help="a root that debootstrap made")
-    return parser.words()
+    return parser.parse_args()
 
 
 def copied_root(base: pathlib.Path | None, folder: pathlib.Path) -> pathlib.Path:

@@ -1,7 +1,6 @@
 """Asks of random pairs of triangles whether A covers A & B: of GEOS by shapely, and of the program.
 
     python3 -m bench.trials.covers [--pairs N] [--seed N] [--limit N] [PROGRAM]
-    python3 -m bench.trials.covers --test
 
 GEOS rounds the corners of A & B, so it may deny it. The program is asked for the boundary of (A & B) - A, which is
 empty exactly where A covers A & B. Without PROGRAM it is not asked, without shapely GEOS is not. Status 1: the program
@@ -73,24 +72,14 @@ def denied_by_geos(drawn: list[tuple[Triangle, Triangle]]) -> tuple[str, int, in
     return ".".join(map(str, geos_version)), meet, denied
 
 
-def test() -> None:
-    """Pairs are the same for a seed, and corners are on no line."""
-    drawn = pairs(20, 1, 10)
-    assert drawn == pairs(20, 1, 10) != pairs(20, 2, 10)
-    assert all(len(set(corners)) == 3 for pair in drawn for corners in pair)
-    assert script(drawn[:1]).count("\n") == 3 + 4 + COLUMNS
-    assert text(((0, 0), (1, 0), (0, 1))) == "POLYGON ((0 0, 1 0, 0 1, 0 0))"
-    print("4 passed, 0 failed")
-
-
 def main() -> int:
     """Draws the pairs, asks, and prints what was said."""
-    parser = Words(__doc__, test)
+    parser = Words(__doc__)
     parser.add_argument("program", nargs="?", metavar="PROGRAM")
     parser.add_argument("--pairs", type=int, default=2000)
     parser.add_argument("--seed", type=int, default=1)
     parser.add_argument("--limit", type=int, default=1_000_000, help="the greatest coordinate")
-    words = parser.words()
+    words = parser.parse_args()
     drawn = pairs(words.pairs, words.seed, words.limit)
     said = denied_by_geos(drawn)
     if said:

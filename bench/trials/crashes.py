@@ -27,7 +27,7 @@ def main() -> int:
     parser.add_argument("--lists", type=int, default=200, metavar="N", help="how many lists (200)")
     parser.add_argument("--steps", type=int, default=60, metavar="N", help="steps of a list (60)")
     parser.add_argument("--lives", type=int, default=2, metavar="N", help="how often an engine goes on (2)")
-    words = parser.words()
+    words = parser.parse_args()
     with tempfile.TemporaryDirectory() as place:
         folder = pathlib.Path(place)
         program = unproved.program_of(words.program, HERE / "crashes", folder)

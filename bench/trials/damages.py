@@ -1,7 +1,6 @@
 """Stops, failing calls and damaged files: what a store is recovered as after each.
 
 python3 -m bench.trials.damages [PROGRAM SESSIONS]
-python3 -m bench.trials.damages --test
 
 Builds its two programs, unproved (minutes), or takes built ones. In memory a store is made, opened and committed to,
 one of format 1 too (old_files.py), while the disk stops at each call or one call fails: 30 comes exactly there, and
@@ -21,7 +20,7 @@ import tempfile
 from collections.abc import Callable, Iterable, Iterator, Sequence
 
 from bench import unproved
-from bench.counting import Words, checked
+from bench.counting import Words
 from bench.reference import model, read_store
 from bench.trials import old_files, stress
 
@@ -281,30 +280,11 @@ def of_format_1(program: pathlib.Path, folder: pathlib.Path) -> int:
     return wrong
 
 
-def test() -> int:
-    """Looks at the files of format 1 by the reader that stands by itself, and at the alterations of one."""
-    six, released = old_files.in_six_blocks(), old_files.released()
-    layers = {name: read_by_itself(data) for name, data in (("six", six), ("released", released))}
-    one = "MULTIPOLYGON (((0 0, 10 0, 10 10, 0 10, 0 0)))"
-    two = "MULTIPOLYGON (((5 5, 15 5, 15 15, 5 15, 5 5)))"
-    checks = [
-        ("six", layers["six"], ("version 2", f"layers 2;A {one};I = A;")),
-        ("released", layers["released"], ("version 3", f"layers 3;A {one};B {two};I = A & B;")),
-        ("tiles of released", len(old_files.tiles_of(released)), read_store.OLD_COLUMNS),
-        ("bytes of six", len(offsets_of(six)), 2 * SLOT + 61 + 44 + 1 + 142),
-    ]
-    checks += [
-        (name, read_by_itself(apply(data, len(data), changes))[0], wanted)
-        for name, data, changes, wanted in named_old(six)
-    ]
-    return checked(checks)
-
-
 def main() -> int:
-    parser = Words(__doc__, test)
+    parser = Words(__doc__)
     parser.add_argument("program", type=pathlib.Path, nargs="?")
     parser.add_argument("sessions", type=pathlib.Path, nargs="?")
-    words = parser.words()
+    words = parser.parse_args()
     given = [one for one in (words.program, words.sessions) if one]
     if len(given) == 1:
         parser.error("a program without sessions")

@@ -1,7 +1,6 @@
 """Refuses each growth of the program in turn: the first, the second and so on, until a run meets no refusal.
 
 python3 -m bench.trials.growths PROGRAM [--live] [--step N] [--seconds N] [--every]
-python3 -m bench.trials.growths --test
 
 The program loads growths.c, which refuses a call for memory or a thread (it sees none of a static program). Each run
 ends; its replies are the model's, but that one growth may be reported once (refusing.py); the store holds a version no
@@ -11,15 +10,13 @@ wrong.
 """
 
 import argparse
-import os
 import pathlib
-import subprocess
 import sys
 import tempfile
 from collections.abc import Iterator
 
 from bench.counting import counted
-from bench.trials import refusal_cases, refusal_tables, refused_runs, refusing
+from bench.trials import refusal_tables, refused_runs, refusing
 from bench.trials.refusing import many_growths, one_growth
 
 
@@ -70,36 +67,12 @@ def refuse(words: argparse.Namespace, folder: pathlib.Path) -> tuple[int, int]:
     return right, wrong
 
 
-FOUR = """
-import ctypes, os
-library = ctypes.CDLL(os.environ["LIBRARY"])
-library.malloc.restype = ctypes.c_void_p
-print("".join("1" if library.malloc(8) else "0" for _ in range(4)))
-"""
-
-
-def test() -> int:
-    """Looks whether the shim refuses the call that it is given, of four, and what refusals may be reported."""
-    with tempfile.TemporaryDirectory() as place:
-        folder = pathlib.Path(place)
-        given = {"LIBRARY": str(refused_runs.compiled("growths", folder)), "REFUSE_FIRST": "1", "REFUSE_EACH": "3"}
-        given["REFUSE_COUNTS"] = place + "/counts"
-        words = [sys.executable, "-c", FOUR]
-        done = subprocess.run(words, env={**os.environ, **given}, capture_output=True, check=True, text=True)
-        counts = (folder / "counts").read_bytes()
-        numbers = [int.from_bytes(counts[at : at + 8], "little") for at in (0, 8)]
-    is_right = done.stdout == "0110\n" and numbers == [4, 2]
-    print(f"four growths: {done.stdout.strip()}, counted {numbers}: {'right' if is_right else 'wrong'}")
-    passed, failed = refusal_cases.test(one_growth, many_growths)
-    return counted(passed + is_right, failed + (not is_right))
-
-
 def main() -> int:
-    """Refuses growths, or tests what does."""
-    parser = refused_runs.parser_of(__doc__, test)
+    """Refuses growths."""
+    parser = refused_runs.parser_of(__doc__)
     parser.add_argument("--step", type=int, default=1)
     parser.add_argument("--every", action="store_true", help="also refuses many growths of a run")
-    words = parser.words()
+    words = parser.parse_args()
     with tempfile.TemporaryDirectory(prefix="growths") as place:
         return counted(*refuse(words, pathlib.Path(place)))
 

@@ -1,7 +1,6 @@
 """Stresses the live program: four sessions over one store, each reply judged by the plain model while they run.
 
 python3 -m bench.trials.live_stress PROGRAM [--seconds N] [--seed N] [--keep FOLDER]
-python3 -m bench.trials.live_stress --test
 
 PROGRAM is overlay_live. It runs again and again on one store, over pipes with and without names; the sessions share
 layers. Each reply is judged as it comes. Two of three runs end by kill -9, the others by the end of all lines. The file
@@ -566,83 +565,13 @@ def stressed(words: argparse.Namespace, folder: pathlib.Path) -> tuple[int, int]
     return passed, failed
 
 
-# ---- self-test
-
-A, B = b"PUT A POLYGON ((0 0, 10 0, 10 10, 0 10, 0 0))", b"PUT A POLYGON ((5 5, 15 5, 15 15, 5 15, 5 5))"
-LAYER = "A MULTIPOLYGON (((5 5, 15 5, 15 15, 5 15, 5 5)))"
-OLD = "A MULTIPOLYGON (((0 0, 10 0, 10 10, 0 10, 0 0)))"
-# Each: what happens in order, as (session, line) asked or (session, line, 1) read; then the store's version and layers
-# where the program is killed, or None; whether it is right.
-CASES: list[tuple[list[tuple[Any, ...]], tuple[int, list[str]] | None, bool]] = [
-    ([(0, A), (0, "ok 1", 1), (1, b"LOCATE A 2 2"), (1, "in", 1)], None, True),
-    # An older version may be answered to whom nothing newer was reported, but not a version still to be sent.
-    ([(0, A), (0, "ok 1", 1), (1, b"LOCATE A 2 2"), (1, "error 10 unknown layer", 1)], None, True),
-    ([(0, A), (0, "ok 1", 1), (0, b"LOCATE A 2 2"), (0, "error 10 unknown layer", 1)], None, False),
-    ([(1, b"LOCATE A 2 2"), (1, "in", 1), (0, A), (0, "ok 1", 1)], None, False),
-    # A reply that says of a command waits for that command's own reply.
-    ([(0, A), (1, b"LOCATE A 2 2"), (1, "in", 1), (0, "ok 1", 1)], None, True),
-    ([(0, A), (1, b"LOCATE A 2 2"), (1, "edge", 1), (0, "ok 1", 1)], None, False),
-    ([(0, A), (1, b"LOCATE A 2 2"), (1, "in", 1), (0, "error 15 too many layers", 1)], None, False),
-    ([(0, A), (1, B), (1, "ok 2", 1), (1, b"LOCATE A 12 12"), (1, "in", 1), (0, "ok 1", 1)], None, True),
-    ([(0, A), (1, B), (1, "ok 1", 1), (1, b"LOCATE A 12 12"), (1, "in", 1), (0, "ok 1", 1)], None, False),
-    # Batches, as one version or none.
-    ([(0, b"BATCH 2", A, b"DEFINE I = A"), (0, "ok 1", 1), (0, b"LOCATE I 2 2"), (0, "in", 1)], None, True),
-    ([(0, b"BATCH 2", A, b"DEFINE I = A"), (0, "ok 2", 1)], None, False),
-    ([(0, b"BATCH 2", A, b"DROP I"), (0, "refused 1 error 10 unknown layer", 1)], None, True),
-    ([(0, b"BATCH 2", A, b"DROP I"), (0, "refused 0 error 10 unknown layer", 1)], None, False),
-    ([(0, b"BATCH 2", A, b"LAYERS"), (0, "refused 1 error 41 command syntax", 1)], None, True),
-    ([(0, b"BATCH 65"), (0, "error 17 batch size", 1)], None, True),
-    ([(0, b"BATCH 2", A, B), (1, b"LOCATE A 2 2"), (0, "ok 1", 1), (1, "in", 1)], None, False),
-    ([(0, b"SYNC"), (0, "durable 0", 1), (0, A), (0, "ok 1", 1), (0, b"SYNC"), (0, "durable 0", 1)], None, False),
-    # Killed: what was reported durable is there; what was cut off may be, if all replies are right then.
-    ([(0, A), (0, "ok 1", 1), (0, B), (0, "ok 2", 1)], (1, [OLD]), True),
-    ([(0, A), (0, "ok 1", 1), (0, b"SYNC"), (0, "durable 1", 1)], (0, []), False),
-    ([(0, A), (0, "ok 1", 1), (0, B)], (2, [LAYER]), True),
-    ([(0, A), (0, "ok 1", 1), (0, B)], (2, [OLD]), False),
-    ([(0, A), (0, "ok 1", 1), (0, b"LAYERS", B)], (2, [LAYER]), False),
-    ([(0, A), (1, B), (1, "ok 2", 1), (1, b"LOCATE A 12 12"), (1, "in", 1)], (2, [LAYER]), True),
-    ([(0, A), (1, B), (1, "ok 2", 1), (1, b"LOCATE A 12 12"), (1, "in", 1)], (3, [OLD]), False),
-    ([(0, A), (1, b"LOCATE A 2 2"), (1, "in", 1)], (0, []), True),
-    ([(0, b"LAYERS"), (1, b"LOCATE A 2 2"), (1, "in", 1)], (0, []), False),
-]
-
-
-def is_right(events: list[tuple[Any, ...]], left: tuple[int, list[str]] | None) -> bool:
-    """Whether events are judged as right."""
-    judge = Judge(judging.History(model.Meanings()))
-    try:
-        for place, *rest in events:
-            if rest[-1] == 1:
-                judge.read(place, rest[0].split("\n"))
-            else:
-                judge.ask(place, rest)
-            judge.judge(1)
-        if left:
-            judge.cut_off(*left)
-            return judge.history.last() == left[0]
-        judge.finish()
-        return True
-    except judging.Wrong:
-        return False
-
-
-def test() -> int:
-    """Judges the cases above."""
-    failed = 0
-    for events, left, wanted in CASES:
-        if is_right(events, left) != wanted:
-            print(f"{events}, left {left}: not {wanted}")
-            failed += 1
-    return counted(len(CASES) - failed, failed)
-
-
 def main() -> int:
-    parser = Words(__doc__, test)
+    parser = Words(__doc__)
     parser.add_argument("program", help="overlay_live")
     parser.add_argument("--seconds", type=float, default=60, help="how long runs begin (60)")
     parser.add_argument("--seed", type=int, default=1)
     parser.add_argument("--keep", metavar="FOLDER", help="keeps the store here")
-    words = parser.words()
+    words = parser.parse_args()
     kept = Kept(words.keep, "live_stress")
     passed, kept.wrong = stressed(words, kept.folder)
     kept.end()

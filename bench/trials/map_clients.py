@@ -480,7 +480,7 @@ def main() -> int:
     parser.add_argument("--program", default=str(web_front.PROGRAM))
     parser.add_argument("--folder", type=pathlib.Path, help="where packages with maps are loaded, and kept")
     parser.add_argument("--map", action="append", choices=[one.name for one in SOURCES], help="of these maps alone")
-    words = parser.words()
+    words = parser.parse_args()
     gdal.UseExceptions()
     tries = Tries()
     with tempfile.TemporaryDirectory() as made, contextlib.ExitStack() as ends:

@@ -258,7 +258,7 @@ def main() -> int:
     parser.add_argument("--zones", type=int, default=2_000)
     parser.add_argument("--times", type=int, default=1)
     parser.add_argument("--only", action="append", choices=[*CASES])
-    words = parser.words()
+    words = parser.parse_args()
     with tempfile.TemporaryDirectory() as made:
         folder = pathlib.Path(made)
         folder.chmod(0o711)

@@ -126,7 +126,7 @@ def main() -> int:
     parser.add_argument("--program", default=str(web_front.PROGRAM))
     parser.add_argument("--changes", type=int, default=200)
     parser.add_argument("--seed", type=int, default=1)
-    words = parser.words()
+    words = parser.parse_args()
     tries = Tries()
     with tempfile.TemporaryDirectory() as made:
         try_changes(tries, pathlib.Path(made), words.program, random.Random(words.seed), words.changes)

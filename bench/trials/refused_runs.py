@@ -8,7 +8,7 @@ import pathlib
 import re
 import subprocess
 import tempfile
-from collections.abc import Callable, Sequence
+from collections.abc import Sequence
 from typing import Any
 
 from bench import unproved
@@ -217,9 +217,9 @@ class LiveRunner(Runner):
         return lines[1] if lines and lines[2] in (None, *self.words(store)) else text
 
 
-def parser_of(page: str | None, test: Callable[[], int | None]) -> Words:
+def parser_of(page: str | None) -> Words:
     """The words of a script that refuses something to a program."""
-    parser = Words(page, test)
+    parser = Words(page)
     parser.add_argument("program", type=absolute)
     parser.add_argument("--live", action="store_true", help="the program is overlay_live")
     parser.add_argument("--seconds", type=int, default=20, help="how long a run may take (20)")

@@ -96,7 +96,7 @@ def main() -> int:
     parser.add_argument("--python", default=web_front.DEBIAN_PYTHON, metavar="PATH",
                         help="the Python that runs the front")
     parser.add_argument("--clients", type=int, default=900, metavar="N", help="how many are slow (default 900)")
-    words, tries = parser.words(), Tries()
+    words, tries = parser.parse_args(), Tries()
     with tempfile.TemporaryDirectory() as folder:
         store = web_front.iceland(pathlib.Path(folder), words.program)
         with web_front.front("--store", store, "--writable", program=words.program, python=words.python) as address:

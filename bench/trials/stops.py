@@ -1,7 +1,6 @@
 """Tries every file that a stop of the machine could leave of a store that the program wrote.
 
 python3 -m bench.trials.stops PROGRAM [--most N] [--forget N] [--keep FOLDER]
-python3 -m bench.trials.stops --test
 
 Runs the program twice on one new store under strace, line by line. Between two syncs the writes may have come to the
 disk in any order, whole, in part or not at all: each such file is made (files_of). By read_store.py and by the program
@@ -28,7 +27,7 @@ import time
 from collections.abc import Iterable, Iterator
 from typing import IO, Any, Optional, Union
 
-from bench.counting import Kept, Words, absolute, checked
+from bench.counting import Kept, Words, absolute
 from bench.reference import judging, model, read_store
 from bench.trials import stress
 
@@ -407,32 +406,13 @@ def replay(words: argparse.Namespace, folder: pathlib.Path) -> int:
     return 1 if wrong else 0
 
 
-def test() -> int:
-    """Small tables of what is worked out by hand."""
-    trace = "\n".join([
-        r'7 openat(AT_FDCWD, "\x61", O_RDWR|O_CREAT, 0666) = 4', r'7 pwrite64(4, "\x01\x02", 2, 3) = 2',
-        r"8 fdatasync(4 <unfinished ...>", r'7 read(0, "\x0a", 65536) = 1', r"8 <... fdatasync resumed>) = 0",
-        r'7 pwrite64(5, "\x01", 1, 0) = 1', r"7 close(4) = 0", r"7 fdatasync(4) = 0",
-    ])
-    events = [("write", 3, b"\x01\x02"), ("read", b"\n"), ("sync",)]
-    made = files_of(b"ab", [(1, b"x"), (2, b"yz")], random.Random(1))
-    files = {laid(b"ab", writes).ljust(length, b"\0") for writes, length in made}
-    kept = {b"ab", b"ax", b"abyz", b"axyz", b"ab\0\0", b"ax\0\0", b"aby", b"axy", b"ab\0z", b"ax\0z"}
-    checks = [
-        ("events", events_of(trace, "a"), events), ("laid", laid(b"ab", [(3, b"x")]), b"ab\0x"),
-        ("files", kept <= files, True), ("sets", len(sets_of(6, random.Random(1))), 64),
-        ("parts", [len(list(parts_of(0, bytes(n)))) for n in (1, 48, 4096)], [5, 5, 17]),
-    ]
-    return checked(checks)
-
-
 def main() -> int:
-    parser = Words(__doc__, test)
+    parser = Words(__doc__)
     parser.add_argument("program", type=absolute)
     parser.add_argument("--most", type=int, help="how many files the program opens (all)")
     parser.add_argument("--forget", type=int, metavar="N", help="leaves the Nth sync out")
     parser.add_argument("--keep", metavar="FOLDER", help="keeps the traces, the store and the wrong files here")
-    words = parser.words()
+    words = parser.parse_args()
     return Kept(words.keep, "stops").run(lambda folder: replay(words, folder), judging.Wrong, subprocess.TimeoutExpired)
 
 

@@ -351,7 +351,7 @@ def main() -> int:
     parser.add_argument("--seed", type=int, default=1)
     parser.add_argument("--without", metavar="WORD", help="draws no lines with this word")
     parser.add_argument("--keep", metavar="FOLDER", help="keeps the scripts, replies and store here")
-    words = parser.words()
+    words = parser.parse_args()
     return Kept(words.keep, "stress").run(lambda folder: stress(words, folder), judging.Wrong,
                                           subprocess.TimeoutExpired)
 

@@ -201,7 +201,7 @@ def compare(program: pathlib.Path, folder: pathlib.Path) -> int:
 def main() -> int:
     parser = Words(__doc__)
     parser.add_argument("program", type=pathlib.Path, nargs="?")
-    words = parser.words()
+    words = parser.parse_args()
     with tempfile.TemporaryDirectory() as name:
         folder = pathlib.Path(name)
         return compare(unproved.program_of(words.program, HERE / "tiles", folder), folder)

@@ -31,7 +31,7 @@ def main() -> int:
     parser.add_argument("--python", default=web_front.DEBIAN_PYTHON, metavar="PATH",
                         help="the Python that runs the front")
     parser.add_argument("--seconds", type=float, default=60, metavar="N", help="how long they ask (default 60)")
-    words = parser.words()
+    words = parser.parse_args()
     with tempfile.TemporaryDirectory() as folder:
         given = ("--store", pathlib.Path(folder) / "map.db", "--create", "--writable")
         with web_front.front(*given, program=words.program, python=words.python) as address:

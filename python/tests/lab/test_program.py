@@ -1,7 +1,4 @@
-#!/usr/bin/env python3
-"""Tests of the built program: what its words, files, scripts and faults do. The last line is 'N passed, M failed'.
-
-    .ci/program-tests PROGRAM [--only TEST]
+"""What the words, files, scripts and faults of the built overlayd do.
 
 An example is a script of examples/ with the replies that it is to have beside it. Its first line says by which words
 it is run, as '# overlayd WORD..', and names the script again; without such a line it is standard input. The examples
@@ -11,7 +8,6 @@ expected replies is run by another one's words.
 
 from __future__ import annotations
 
-import argparse
 import gzip
 import os
 import pathlib
@@ -21,16 +17,15 @@ import shutil
 import signal
 import struct
 import subprocess
-import sys
 import time
-from collections.abc import Callable
 from typing import Any
 
-from trying import Test, counted, same
+import pytest
 
-EXAMPLES = pathlib.Path(__file__).resolve().parent.parent / "examples"
-# A store that the program wrote when its files were of format 1.
-RELEASED = pathlib.Path(__file__).resolve().parent / "fixtures" / "format-1.store.gz"
+from bench import TOP
+from bench.trials.old_files import RELEASED
+
+EXAMPLES = TOP / "examples"
 SECONDS = 110
 A = "PUT A POLYGON ((0 0, 10 0, 10 10, 0 10, 0 0))\n"
 D = "PUT D POLYGON ((-10 -10, 10 -10, 10 10, -10 10, -10 -10))\nDEFINE E = D\nWAIT E\nSYNC\n"
@@ -63,22 +58,38 @@ class Program:
         return self.folder / name
 
 
-def example(program: Program, script: pathlib.Path) -> None:
-    """One example, by the words in its first line."""
+@pytest.fixture
+def program(overlayd: str, tmp_path: pathlib.Path) -> Program:
+    return Program(overlayd, tmp_path)
+
+
+@pytest.fixture(scope="module")
+def examples(overlayd: str, tmp_path_factory: pytest.TempPathFactory) -> Program:
+    """The program in a folder with all scripts."""
+    folder = tmp_path_factory.mktemp("examples")
+    for script in EXAMPLES.glob("*.txt"):
+        shutil.copy(script, folder)
+    return Program(overlayd, folder)
+
+
+@pytest.mark.parametrize("expected", sorted(EXAMPLES.glob("*.expected")), ids=lambda one: one.stem)
+def test_an_example(examples: Program, expected: pathlib.Path) -> None:
+    """By the words in its first line."""
+    program, script = examples, expected.with_suffix(".txt")
     first = script.read_text(errors="replace").split("\n", 1)[0]
-    text = script.with_suffix(".expected").read_bytes()
+    text = expected.read_bytes()
     words = first.removeprefix("# overlayd ").split() if first.startswith("# overlayd ") else []
     with open(script, "rb") as source:
         ran = subprocess.run(
             [program.path, *words], stdin=source, stdout=subprocess.PIPE, stderr=subprocess.PIPE,
             cwd=program.folder, timeout=SECONDS,
         )
-    same((ran.returncode, ran.stdout, ran.stderr), (0, text, b""))
+    assert (ran.returncode, ran.stdout, ran.stderr) == (0, text, b"")
 
 
 # ---- words
 
-def wrong_words(program: Program) -> None:
+def test_wrong_words(program: Program) -> None:
     for words in (
         ["--help"], ["-h"], ["--version"], ["--"], ["-x"], ["--store"], ["--store", "a", "--store", "b"], ["--store=a"],
         ["--create"], ["--create", "a"], ["--store", "a", "--create", "--create"], ["--store", "--create"],
@@ -86,42 +97,42 @@ def wrong_words(program: Program) -> None:
         ["--workers", "00000001"], ["--max-blocks", "0"], ["--max-blocks", "1048577"], ["--max-blocks", "1.5"],
         ["a", "b", "c", "d", "e"],
     ):
-        same((words, *program.run(*words)), (words, 2, "", "error 50 words\n"))
-    same(program.run(b"\xff"), (2, "", "error 50 words\n"))
+        assert (words, *program.run(*words)) == (words, 2, "", "error 50 words\n")
+    assert program.run(b"\xff") == (2, "", "error 50 words\n")
 
 
-def right_words(program: Program) -> None:
+def test_right_words(program: Program) -> None:
     program.file("one").write_text("HELLO\n")
     hello = "error 41 command syntax\n"
-    same(program.run("one"), (0, hello, ""))
-    same(program.run("one", "--workers", "0000008"), (0, hello, ""))
-    same(program.run("--workers", "1", "one", "--max-blocks", "1048576"), (0, hello, ""))
-    same(program.run("--create", "one", "--store", "words.db"), (0, hello, ""))
+    assert program.run("one") == (0, hello, "")
+    assert program.run("one", "--workers", "0000008") == (0, hello, "")
+    assert program.run("--workers", "1", "one", "--max-blocks", "1048576") == (0, hello, "")
+    assert program.run("--create", "one", "--store", "words.db") == (0, hello, "")
     program.file("-").write_text("LOCATE Z 1 1\n")
-    same(program.run("-"), (0, "error 10 unknown layer\n", ""))
-    same(program.run(script=A), (0, "ok 1\n", ""))
+    assert program.run("-") == (0, "error 10 unknown layer\n", "")
+    assert program.run(script=A) == (0, "ok 1\n", "")
 
 
 # ---- scripts
 
-def scripts_in_their_order(program: Program) -> None:
+def test_scripts_in_their_order(program: Program) -> None:
     names = ["first", "second", "third", "fourth"]
     for number, name in enumerate(names):
         program.file(name).write_text("HELLO\n" * number)
     wanted = "".join(f"# script {n + 1}\n" + "error 41 command syntax\n" * n for n in range(4))
-    same(program.run(*names), (0, wanted, ""))
+    assert program.run(*names) == (0, wanted, "")
 
 
-def scripts_that_cannot_be_read(program: Program) -> None:
+def test_scripts_that_cannot_be_read(program: Program) -> None:
     program.file("there").write_text(A)
     # All scripts are opened before a store is made.
-    same(program.run("there", "absent", "--store", "none.db", "--create"), (1, "", "error 48 read\n"))
-    same(program.file("none.db").exists(), False)
+    assert program.run("there", "absent", "--store", "none.db", "--create") == (1, "", "error 48 read\n")
+    assert not program.file("none.db").exists()
     program.file("folder").mkdir()
-    same(program.run("folder", "there"), (1, "# script 1\nerror 48 read\n# script 2\nok 1\n", ""))
+    assert program.run("folder", "there") == (1, "# script 1\nerror 48 read\n# script 2\nok 1\n", "")
 
 
-def sessions_side_by_side(program: Program) -> None:
+def test_sessions_side_by_side(program: Program) -> None:
     """Four sessions over one map: the numbers are shared, each once and rising in a session, the rest is each one's."""
     names = ["a", "b", "c", "d"]
     for name in names:
@@ -133,105 +144,105 @@ def sessions_side_by_side(program: Program) -> None:
         )
         program.file(name).write_text(lines + f"SYNC\nLOCATE {name}0 99 99\n")
     status, text, errors = program.run("--store", "four.db", "--create", "--workers", "8", *names)
-    same((status, errors), (0, ""))
+    assert (status, errors) == (0, "")
     parts = re.split(r"# script \d\n", text)
-    same(parts[0], "")
+    assert parts[0] == ""
     numbers = []
     for name, part in zip(names, parts[1:], strict=True):
         side = 10 + names.index(name)
         own = [int(number) for number in re.findall(r"^ok (\d+)$", part, re.M)]
-        same(own, sorted(own))
+        assert own == sorted(own)
         numbers += own
         wanted = "".join(
             f"ok N\nok N\nbuilt N\nedges 4\n0 0 1 0 {k + 1} 1\n0 0 1 {side} 0 1\n0 {k + 1} 1 {side} {k + 1} 1\n"
             f"{side} 0 1 {side} {k + 1} 1\nin\n"
             for k in range(4)
         )
-        same(re.sub(r"^(ok|built|durable) \d+$", r"\1 N", part, flags=re.M), wanted + "durable N\nout\n")
-    same(sorted(numbers), list(range(1, 33)))
-    same(program.run("--store", "four.db", script="SYNC\n"), (0, "durable 32\n", ""))
+        assert re.sub(r"^(ok|built|durable) \d+$", r"\1 N", part, flags=re.M) == wanted + "durable N\nout\n"
+    assert sorted(numbers) == list(range(1, 33))
+    assert program.run("--store", "four.db", script="SYNC\n") == (0, "durable 32\n", "")
 
 
-def too_long_a_script(program: Program) -> None:
+def test_too_long_a_script(program: Program) -> None:
     program.file("long").write_bytes(b"\n" * 16777217)
-    same(program.run("long"), (1, "error 47 read limit\n", ""))
+    assert program.run("long") == (1, "error 47 read limit\n", "")
     program.file("just").write_bytes(b"\n" * 16777211 + b"HELLO")
-    same(program.run("just"), (0, "error 41 command syntax\n", ""))
-    same(program.run("long", "just"),
-         (1, "# script 1\nerror 47 read limit\n# script 2\nerror 41 command syntax\n", ""))
+    assert program.run("just") == (0, "error 41 command syntax\n", "")
+    assert program.run("long", "just") == \
+        (1, "# script 1\nerror 47 read limit\n# script 2\nerror 41 command syntax\n", "")
 
 
-def the_longest_reply_to_layers(program: Program) -> None:
+def test_the_longest_reply_to_layers(program: Program) -> None:
     """Of 32 layers with the longest names, each of as many rings as 2,048 steps make and of corners with the most
     digits: it has as many bytes as docs/COMMANDS.md says."""
     corners = ["-1048576 -1048576", "-1000000 -1048576", "-1000000 -1000000"]
     ring, last = corners + corners[:1], corners * 2
     rings = [ring] * (2048 // 3 - 1) + [last[:5] + corners[:1]]
-    same(sum(len(one) - 1 for one in rings), 2048)
+    assert sum(len(one) - 1 for one in rings) == 2048
     text = "MULTIPOLYGON (" + ", ".join("((" + ", ".join(one) + "))" for one in rings) + ")"
     script = "".join(f"PUT {'N' * 30}{number} {text}\n" for number in range(10, 42)) + "LAYERS\n"
     status, output, errors = program.run(script=script)
     longest = "layers 32\n" + "".join(line.removeprefix("PUT ") + "\n" for line in script.splitlines()[:-1])
-    same((status, errors, output == "".join(f"ok {number}\n" for number in range(1, 33)) + longest), (0, "", True))
+    assert (status, errors, output == "".join(f"ok {number}\n" for number in range(1, 33)) + longest) == (0, "", True)
     page = (EXAMPLES.parent / "docs" / "COMMANDS.md").read_text(encoding="utf-8")
-    same(re.findall(r"one LAYERS line, 7 bytes, for up to ([0-9,]+) bytes", page), [f"{len(longest):,}"])
+    assert re.findall(r"one LAYERS line, 7 bytes, for up to ([0-9,]+) bytes", page) == [f"{len(longest):,}"]
 
 
-def output_that_is_refused(program: Program) -> None:
+def test_output_that_is_refused(program: Program) -> None:
     with open("/dev/full", "w") as full:
-        same(program.run(script="HELLO\n", stdout=full), (1, "", "error 49 write\n"))
+        assert program.run(script="HELLO\n", stdout=full) == (1, "", "error 49 write\n")
 
 
 # ---- stores
 
-def a_layer_outlives_the_program(program: Program) -> None:
-    same(program.run("--store", "map", "--create", script=A), (0, "ok 1\n", ""))
-    same(program.run("--store", "map", script="LOCATE A 2 2\nSYNC\n"), (0, "in\ndurable 1\n", ""))
-    same(program.run("--store", "map", "--create"), (1, "", "error 34 not empty\n"))
-    same(program.run("--store", "map", script="LOCATE A 2 2\n"), (0, "in\n", ""))
-    same(program.run(script=A + "SYNC\n"), (0, "ok 1\nerror 46 no store\n", ""))
+def test_a_layer_outlives_the_program(program: Program) -> None:
+    assert program.run("--store", "map", "--create", script=A) == (0, "ok 1\n", "")
+    assert program.run("--store", "map", script="LOCATE A 2 2\nSYNC\n") == (0, "in\ndurable 1\n", "")
+    assert program.run("--store", "map", "--create") == (1, "", "error 34 not empty\n")
+    assert program.run("--store", "map", script="LOCATE A 2 2\n") == (0, "in\n", "")
+    assert program.run(script=A + "SYNC\n") == (0, "ok 1\nerror 46 no store\n", "")
 
 
-def bytes_of_a_store(program: Program) -> None:
+def test_bytes_of_a_store(program: Program) -> None:
     """The vectors of the format: a new store, and one layer in a store of five blocks."""
-    same(program.run("--store", "new", "--create"), (0, "", ""))
+    assert program.run("--store", "new", "--create") == (0, "", "")
     new = program.file("new").read_bytes()
     body = "4f564c53544f5245 00000002 0000000000000000 0000000000000000 0000000000000002 00000002 0000000000000000"
-    same((len(new), new[0], new[BLOCK], new[16:64].hex()), (3 * BLOCK, OPEN, 0, body.replace(" ", "")))
-    same(program.run("--store", "five", "--create", "--max-blocks", "5", script=A + "SYNC\n"),
-         (0, "ok 1\ndurable 1\n", ""))
+    assert (len(new), new[0], new[BLOCK], new[16:64].hex()) == (3 * BLOCK, OPEN, 0, body.replace(" ", ""))
+    assert program.run("--store", "five", "--create", "--max-blocks", "5", script=A + "SYNC\n") == \
+        (0, "ok 1\ndurable 1\n", "")
     five = program.file("five").read_bytes()
     body = "4f564c53544f5245 00000002 0000000000000001 0000000000000001 0000000000000004 00000011 0000000000000000"
     record = struct.pack(">HH10i", 1, 5, 0, 0, 10, 0, 10, 10, 0, 10, 0, 0)
     catalog = bytes.fromhex("0001 01 41 00 0000000000000003 0000002c")
-    same(five[3 * BLOCK :], record.ljust(BLOCK, b"\0") + catalog.ljust(BLOCK, b"\0"))
-    same((len(five), five[BLOCK], five[BLOCK + 16 : BLOCK + 64].hex()), (5 * BLOCK, OPEN, body.replace(" ", "")))
+    assert five[3 * BLOCK :] == record.ljust(BLOCK, b"\0") + catalog.ljust(BLOCK, b"\0")
+    assert (len(five), five[BLOCK], five[BLOCK + 16 : BLOCK + 64].hex()) == (5 * BLOCK, OPEN, body.replace(" ", ""))
 
 
-def a_full_store(program: Program) -> None:
-    same(program.run("--store", "two", "--create", "--max-blocks", "2"), (1, "", "error 31 full\n"))
-    same(program.run("--store", "four", "--create", "--max-blocks", "4", script=A + "SYNC\nLOCATE A 2 2\n"),
-         (1, "ok 1\nerror 31 full\nin\n", "error 31 full\n"))
+def test_a_full_store(program: Program) -> None:
+    assert program.run("--store", "two", "--create", "--max-blocks", "2") == (1, "", "error 31 full\n")
+    assert program.run("--store", "four", "--create", "--max-blocks", "4", script=A + "SYNC\nLOCATE A 2 2\n") == \
+        (1, "ok 1\nerror 31 full\nin\n", "error 31 full\n")
     # What was not stored is not there; in more blocks it is.
-    same(program.run("--store", "four", "--max-blocks", "5", script="LAYERS\n" + A + "SYNC\n"),
-         (0, "layers 0\nok 1\ndurable 1\n", ""))
+    assert program.run("--store", "four", "--max-blocks", "5", script="LAYERS\n" + A + "SYNC\n") == \
+        (0, "layers 0\nok 1\ndurable 1\n", "")
 
 
-def a_limit_of_file_size(program: Program) -> None:
+def test_a_limit_of_file_size(program: Program) -> None:
     """A file that may not grow: the signal ends the program, or the write is refused where the signal is ignored."""
     def limit() -> None:
         resource.setrlimit(resource.RLIMIT_FSIZE, (3 * BLOCK, 3 * BLOCK))
 
-    same(program.run("--store", "ended", "--create", script=A, preexec_fn=limit), (-signal.SIGXFSZ, "", ""))
+    assert program.run("--store", "ended", "--create", script=A, preexec_fn=limit) == (-signal.SIGXFSZ, "", "")
     # The interpreter ignores the signal, and so does what it starts and does not restore it.
-    same(program.run("--store", "told", "--create", script=A + "SYNC\n", preexec_fn=limit, restore_signals=False),
-         (1, "ok 1\nerror 30 device\n", "error 30 device\n"))
+    assert program.run("--store", "told", "--create", script=A + "SYNC\n", preexec_fn=limit, restore_signals=False) == \
+        (1, "ok 1\nerror 30 device\n", "error 30 device\n")
     # Without the limit both open as they were made.
     for store in ("ended", "told"):
-        same(program.run("--store", store, script="LAYERS\n" + A + "SYNC\n"), (0, "layers 0\nok 1\ndurable 1\n", ""))
+        assert program.run("--store", store, script="LAYERS\n" + A + "SYNC\n") == (0, "layers 0\nok 1\ndurable 1\n", "")
 
 
-def closed_streams(program: Program) -> None:
+def test_closed_streams(program: Program) -> None:
     """Streams that are closed when the program begins: the store gets none of their numbers, and what cannot be read or
     printed is the status."""
     program.file("asking").write_text("LOCATE A 2 2\n" * 3000)
@@ -242,17 +253,17 @@ def closed_streams(program: Program) -> None:
         read = 0 not in closed
         made = (1, "", print_fault) if 1 in closed else \
             (0, "ok 1\ndurable 1\n", "") if read else (1, "error 48 read\n", "")
-        same(run_without(program, closed, "--store", "m", "--create", script=A + "SYNC\n"), made)
-        same(program.run("--store", "m", script="LAYERS\n")[1].split("\n")[0], "layers 1" if read else "layers 0")
-        same(program.run("--store", "m", script=A + "SYNC\n")[0], 0)
+        assert run_without(program, closed, "--store", "m", "--create", script=A + "SYNC\n") == made
+        assert program.run("--store", "m", script="LAYERS\n")[1].split("\n")[0] == ("layers 1" if read else "layers 0")
+        assert program.run("--store", "m", script=A + "SYNC\n")[0] == 0
         before = program.file("m").read_bytes()
         asked = (1, "", print_fault) if 1 in closed else (0, "in\n" * 3000, "")
-        same(run_without(program, closed, "--store", "m", "asking"), asked)
-        same(program.file("m").read_bytes(), before)
+        assert run_without(program, closed, "--store", "m", "asking") == asked
+        assert program.file("m").read_bytes() == before
         # A fault of the program's own.
         faults = run_without(program, closed, "--store", "m", "--max-blocks", "3", "new")
-        same((faults[0], faults[2]), (1, "" if 2 in closed else "error 48 read\n"))
-        same(program.file("m").read_bytes(), before)
+        assert (faults[0], faults[2]) == (1, "" if 2 in closed else "error 48 read\n")
+        assert program.file("m").read_bytes() == before
 
 
 def run_without(program: Program, closed: list[int], *words: str, script: str = "") -> Ran:
@@ -260,7 +271,7 @@ def run_without(program: Program, closed: list[int], *words: str, script: str = 
     return program.run(*words, script=script, preexec_fn=lambda: [os.close(number) for number in closed])
 
 
-def lengths_that_no_record_has(program: Program) -> None:
+def test_lengths_that_no_record_has(program: Program) -> None:
     """A small file whose root names records of 4 GB: what they are not is reported, and no memory
     of that length is asked for."""
     extent = struct.Struct(">QI")
@@ -275,15 +286,15 @@ def lengths_that_no_record_has(program: Program) -> None:
             file.write(records)
         ran = program.run("--store", "m", script="LAYERS\n",
                           preexec_fn=lambda: resource.setrlimit(resource.RLIMIT_AS, (2**29, 2**29)))
-        same((code, ran), (code, (1, "", f"error 33 damaged {code}\n")))
+        assert (code, ran) == (code, (1, "", f"error 33 damaged {code}\n"))
         program.file("m").unlink()
 
 
-def threads_that_are_refused(program: Program) -> None:
+def test_threads_that_are_refused(program: Program) -> None:
     """Where the address space has room for some of the threads alone, 40 is reported; where it has room for all of
     them, but not for all that they ask for, the replies or the program's end say so; the store has all that it had, and
     more by the scripts alone."""
-    same(program.run("--store", "m", "--create", script=A + "SYNC\n"), (0, "ok 1\ndurable 1\n", ""))
+    assert program.run("--store", "m", "--create", script=A + "SYNC\n") == (0, "ok 1\ndurable 1\n", "")
     names = ["P", "Q", "R", "S"]
     for name in names:
         program.file(name).write_text(f"PUT {name} POLYGON ((0 0, 1 0, 1 1, 0 1, 0 0))\n")
@@ -293,11 +304,11 @@ def threads_that_are_refused(program: Program) -> None:
                           preexec_fn=lambda: resource.setrlimit(resource.RLIMIT_AS, (size, size)))
         began = ran != (1, "", "error 40 out of memory\n")
         if began:
-            same((size, ran, say_what_was_refused(ran)), (size, ran, True))
+            assert (size, ran, say_what_was_refused(ran)) == (size, ran, True)
         refused += not began
         layers = [line.split()[0] for line in program.run("--store", "m", script="LAYERS\n")[1].splitlines()[1:]]
-        same((size, "A" in layers, set(layers) <= {"A", *names}), (size, True, True))
-    same(refused > 0, True)
+        assert (size, "A" in layers, set(layers) <= {"A", *names}) == (size, True, True)
+    assert refused > 0
 
 
 def say_what_was_refused(ran: Ran) -> bool:
@@ -313,7 +324,7 @@ def say_what_was_refused(ran: Ran) -> bool:
     return (status, faults) in ((1, "error 40 out of memory\n"), (1, "error 49 write\n"))
 
 
-def files_that_are_no_store(program: Program) -> None:
+def test_files_that_are_no_store(program: Program) -> None:
     program.file("empty").write_bytes(b"")
     program.file("byte").write_bytes(b"x")
     for words, error in (
@@ -323,20 +334,20 @@ def files_that_are_no_store(program: Program) -> None:
         (["--store", "/dev/full", "--create"], "30 device"), (["--store", "absent/map", "--create"], "30 device"),
         (["--store", "byte/map", "--create"], "30 device"), (["--store", "", "--create"], "30 device"),
     ):
-        same((words, *program.run(*words)), (words, 1, "", f"error {error}\n"))
-    same(program.file("byte").read_bytes(), b"x")
+        assert (words, *program.run(*words)) == (words, 1, "", f"error {error}\n")
+    assert program.file("byte").read_bytes() == b"x"
 
 
-def links_to_stores(program: Program) -> None:
+def test_links_to_stores(program: Program) -> None:
     program.file("link").symlink_to("target")
-    same(program.run("--store", "link"), (1, "", "error 30 device\n"))
-    same(program.run("--store", "link", "--create", script=A), (0, "ok 1\n", ""))
-    same(program.run("--store", "target", script="LOCATE A 2 2\n"), (0, "in\n", ""))
+    assert program.run("--store", "link") == (1, "", "error 30 device\n")
+    assert program.run("--store", "link", "--create", script=A) == (0, "ok 1\n", "")
+    assert program.run("--store", "target", script="LOCATE A 2 2\n") == (0, "in\n", "")
     program.file("nowhere").symlink_to("absent/target")
-    same(program.run("--store", "nowhere", "--create"), (1, "", "error 30 device\n"))
+    assert program.run("--store", "nowhere", "--create") == (1, "", "error 30 device\n")
 
 
-def a_second_program(program: Program) -> None:
+def test_a_second_program(program: Program) -> None:
     """Refused while another has the file, and changes nothing; let in when that has ended, however it ended."""
     refused = (1, "", "error 30 device\n")
     for number, (words, end) in enumerate(((["--create"], "input"), ([], "input"), ([], "kill")), 1):
@@ -350,17 +361,17 @@ def a_second_program(program: Program) -> None:
             deadline = time.monotonic() + SECONDS
             while time.monotonic() < deadline and not is_changed(program.file("map"), before):
                 time.sleep(0.01)
-            same(is_changed(program.file("map"), before), True)
+            assert is_changed(program.file("map"), before)
             held = program.file("map").read_bytes()
             for others in ([], ["--create"]):
-                same((end, others, *program.run("--store", "map", *others, script=A + "SYNC\n")),
-                     (end, others, *refused))
-            same(program.file("map").read_bytes(), held)
+                assert (end, others, *program.run("--store", "map", *others, script=A + "SYNC\n")) == \
+                    (end, others, *refused)
+            assert program.file("map").read_bytes() == held
             if end == "kill":
                 first.kill()
             text = first.communicate(timeout=SECONDS)[0].decode()
-            same((end, text), (end, f"ok {number}\ndurable {number}\n" if end == "input" else ""))
-        same(program.run("--store", "map", script="LOCATE A 2 2\n"), (0, "in\n", ""))
+            assert (end, text) == (end, f"ok {number}\ndurable {number}\n" if end == "input" else "")
+        assert program.run("--store", "map", script="LOCATE A 2 2\n") == (0, "in\n", "")
 
 
 def is_changed(file: pathlib.Path, before: bytes) -> bool:
@@ -373,8 +384,8 @@ def slot(sequence: int, version: int, catalog: int, length: int, written: int = 
     return bytes([OPEN]) + bytes(15) + struct.pack(BODY, b"OVLSTORE", written, sequence, version, catalog, length)
 
 
-def damaged_stores(program: Program) -> None:
-    same(program.run("--store", "good", "--create", "--max-blocks", "5", script=A), (0, "ok 1\n", ""))
+def test_damaged_stores(program: Program) -> None:
+    assert program.run("--store", "good", "--create", "--max-blocks", "5", script=A) == (0, "ok 1\n", "")
     good = program.file("good").read_bytes()
 
     def changed(at: int, new: bytes, old: bytes = good) -> bytes:
@@ -382,7 +393,7 @@ def damaged_stores(program: Program) -> None:
 
     one = BLOCK + 16
     # Two layers of the same rings: the second's record is said to lie where the first's is.
-    same(program.run("--store", "pair", "--create", script=A + A.replace("A", "C") + "SYNC\n")[0], 0)
+    assert program.run("--store", "pair", "--create", script=A + A.replace("A", "C") + "SYNC\n")[0] == 0
     pair = program.file("pair").read_bytes()
     catalog = pair.rindex(bytes.fromhex("0002 01 41 00"))
     for number, damage in (
@@ -395,47 +406,48 @@ def damaged_stores(program: Program) -> None:
         (9, changed(catalog + 20, pair[catalog + 5 : catalog + 13], pair)),
     ):
         program.file("bad").write_bytes(damage)
-        same((number, *program.run("--store", "bad")), (number, 1, "", f"error 33 damaged {number}\n"))
+        assert (number, *program.run("--store", "bad")) == (number, 1, "", f"error 33 damaged {number}\n")
     for damage in (good[:8191], changed(0, b"\0")[:BLOCK] + bytes(BLOCK), changed(one, b"X")):
         program.file("bad").write_bytes(damage)
-        same(program.run("--store", "bad"), (1, "", "error 32 not a store\n"))
+        assert program.run("--store", "bad") == (1, "", "error 32 not a store\n")
 
 
-def last_numbers(program: Program) -> None:
+def test_last_numbers(program: Program) -> None:
     catalog = bytes(2)
     for name, version in (("version", LIMIT), ("sequence", 0)):
         blocks = [slot(LIMIT, version, 2, len(catalog)), b"", catalog]
         program.file(name).write_bytes(b"".join(block.ljust(BLOCK, b"\0") for block in blocks))
-    same(program.run("--store", "version", script=A + "SYNC\n"), (0, f"error 16 version limit\ndurable {LIMIT}\n", ""))
-    same(program.run("--store", "sequence", script=A + "SYNC\nLOCATE A 2 2\n"),
-         (1, "ok 1\nerror 36 sequence limit\nin\n", "error 36 sequence limit\n"))
+    assert program.run("--store", "version", script=A + "SYNC\n") == \
+        (0, f"error 16 version limit\ndurable {LIMIT}\n", "")
+    assert program.run("--store", "sequence", script=A + "SYNC\nLOCATE A 2 2\n") == \
+        (1, "ok 1\nerror 36 sequence limit\nin\n", "error 36 sequence limit\n")
 
 
-def a_tile_of_other_pieces(program: Program) -> None:
+def test_a_tile_of_other_pieces(program: Program) -> None:
     """A tile that is rewritten as one of no pieces: it opens, VERIFY finds it, and the tile beside it is as it was. One
     of another column is damage."""
-    same(program.run("--store", "tiles", "--create", script=D)[0], 0)
+    assert program.run("--store", "tiles", "--create", script=D)[0] == 0
     data = bytearray(program.file("tiles").read_bytes())
     roots = [(struct.unpack_from(BODY, data, at + 16), at) for at in (0, BLOCK) if data[at] == OPEN]
     (_, _, _, _, block, length), _ = max(roots, key=lambda root: root[0][2])
     at = block * BLOCK
-    same(data[at : at + 2], b"\0\2")
+    assert data[at : at + 2] == b"\0\2"
     at += 2 + 3 + 12  # the catalog's first layer: D
     at += 3 + 12  # the second: E, with its definition
     for column in range(33):
         state = data[at]
-        same(state, 1)
+        assert state == 1
         if column == 16:
             place = struct.unpack_from(">Q", data, at + 1)[0] * BLOCK
             data[at + 9 : at + 13] = struct.pack(">I", 6)
             data[place : place + 6] = bytes([0, 16, 0, 0, 0, 0])
         at += 13
     program.file("tiles").write_bytes(data)
-    same(program.run("--store", "tiles", script="VERIFY E 15\nVERIFY E 16\nEDGES E 16\n"),
-         (0, "same\ndifferent\nedges 0\n", ""))
+    assert program.run("--store", "tiles", script="VERIFY E 15\nVERIFY E 16\nEDGES E 16\n") == \
+        (0, "same\ndifferent\nedges 0\n", "")
     data[place + 1] = 17
     program.file("tiles").write_bytes(data)
-    same(program.run("--store", "tiles"), (1, "", "error 33 damaged 8\n"))
+    assert program.run("--store", "tiles") == (1, "", "error 33 damaged 8\n")
 
 
 def old_file() -> bytes:
@@ -461,7 +473,7 @@ def newest(data: bytes) -> tuple[int, int]:
     return written, version
 
 
-def files_of_format_1(program: Program) -> None:
+def test_files_of_format_1(program: Program) -> None:
     """They open with their layers, whatever stands for their tiles; these are built anew, and what is committed then is
     of format 2. One is a store of the program that wrote format 1."""
     old, released = old_file(), gzip.decompress(RELEASED.read_bytes())
@@ -475,50 +487,14 @@ def files_of_format_1(program: Program) -> None:
         ("in_a_record", put(old, entry, b"\3"), 2, one), ("released", released, 3, two),
     ):
         program.file(name).write_bytes(data)
-        same((name, newest(data)), (name, (1, version)))
-        same((name, *program.run("--store", name, script="LAYERS\nWAIT I\nEDGES I 16\nVERIFY I 16\nSYNC\n")),
-             (name, 0, f"{layers}built {version}\nedges 4\n{edges}same\ndurable {version}\n", ""))
-        same((name, newest(program.file(name).read_bytes())), (name, (2, version)))
-        same((name, *program.run("--store", name, script="LAYERS\nVERIFY I 16\n")), (name, 0, f"{layers}same\n", ""))
+        assert (name, newest(data)) == (name, (1, version))
+        assert (name, *program.run("--store", name, script="LAYERS\nWAIT I\nEDGES I 16\nVERIFY I 16\nSYNC\n")) == \
+            (name, 0, f"{layers}built {version}\nedges 4\n{edges}same\ndurable {version}\n", "")
+        assert (name, newest(program.file(name).read_bytes())) == (name, (2, version))
+        assert (name, *program.run("--store", name, script="LAYERS\nVERIFY I 16\n")) == (name, 0, f"{layers}same\n", "")
     for number, damage in (
         (1, put(old, BLOCK + 27, b"\3")), (4, put(old, BLOCK + 27, b"\2")), (4, put(old, 5 * BLOCK + 40, b"\2")),
         (4, put(old, BLOCK + 55, b"\x3e")), (5, put(old, 5 * BLOCK + 12, b"\1")), (6, put(old, 4 * BLOCK, b"9")),
     ):
         program.file("bad").write_bytes(damage)
-        same((number, *program.run("--store", "bad")), (number, 1, "", f"error 33 damaged {number}\n"))
-
-
-TESTS = [
-    wrong_words, right_words, scripts_in_their_order, scripts_that_cannot_be_read, sessions_side_by_side,
-    too_long_a_script, the_longest_reply_to_layers, output_that_is_refused, a_layer_outlives_the_program,
-    bytes_of_a_store, a_full_store, a_limit_of_file_size, closed_streams, lengths_that_no_record_has,
-    threads_that_are_refused, files_that_are_no_store, links_to_stores, a_second_program, damaged_stores, last_numbers,
-    a_tile_of_other_pieces, files_of_format_1,
-]
-
-
-def main() -> int:
-    parser = argparse.ArgumentParser(description=__doc__, formatter_class=argparse.RawDescriptionHelpFormatter)
-    parser.add_argument("program", type=pathlib.Path)
-    parser.add_argument("--only", metavar="TEST", help="run this test alone, or the example of this name")
-    words = parser.parse_args()
-    path, scripts = str(words.program.resolve()), sorted(EXAMPLES.glob("*.txt"))
-
-    def copied(folder: pathlib.Path) -> Program:
-        for script in scripts:
-            if not (folder / script.name).is_file():
-                shutil.copy(script, folder)
-        return Program(path, folder)
-
-    def tried(test: Callable[[Program], None]) -> Test:
-        return test.__name__, lambda folder: test(Program(path, folder))
-
-    def shown(script: pathlib.Path) -> Test:
-        return script.name, lambda folder: example(copied(folder), script)
-
-    expected = [script for script in scripts if script.with_suffix(".expected").is_file()]
-    return counted([*map(shown, expected), *map(tried, TESTS)], words.only)
-
-
-if __name__ == "__main__":
-    sys.exit(main())
+        assert (number, *program.run("--store", "bad")) == (number, 1, "", f"error 33 damaged {number}\n")

@@ -1,16 +1,10 @@
-#!/usr/bin/env python3
-"""Tests of the built live program: replies at once, pairs of paths, stores, faults. The last line
-is 'N passed, M failed'.
+"""What the built overlay_live does: replies at once, pairs of paths, stores, faults.
 
-    .ci/live-tests PROGRAM OVERLAYD
-
-PROGRAM is overlay_live. OVERLAYD runs the scripts of examples/ beside it, which have to give the same bytes by both,
-and reads what it kept.
+overlayd runs the scripts of examples/ beside it, which have to give the same bytes by both, and reads what it kept.
 """
 
 from __future__ import annotations
 
-import argparse
 import contextlib
 import os
 import pathlib
@@ -18,13 +12,15 @@ import resource
 import select
 import shutil
 import subprocess
-import sys
+import tempfile
 import time
-from collections.abc import Callable, Iterator
+from collections.abc import Iterator
 
-from trying import Test, counted, same
+import pytest
 
-EXAMPLES = pathlib.Path(__file__).resolve().parent.parent / "examples"
+from bench import TOP
+
+EXAMPLES = TOP / "examples"
 SECONDS = 100  # that a reply, or the end of a run, may take
 SOON = 4  # the seconds within which what waits for no tile is answered
 SQUARE = "POLYGON ((0 0, 10 0, 10 10, 0 10, 0 0))"
@@ -160,10 +156,19 @@ def watched(running: Running) -> Iterator[Running]:
                         os.close(fd)
 
 
+@pytest.fixture
+def place(overlay_live: str, overlayd: str) -> Iterator[Place]:
+    """A folder that every user may enter."""
+    with tempfile.TemporaryDirectory() as made:
+        folder = pathlib.Path(made)
+        folder.chmod(0o755)
+        yield Place(overlay_live, overlayd, folder)
+
+
 # ---- words
 
 
-def wrong_words(place: Place) -> None:
+def test_wrong_words(place: Place) -> None:
     for words in (
         ["-h"], ["--"], ["-x"], ["--help", "--version"], ["--help", "--store", "a"], ["--store", "a", "--version"],
         ["--store"], ["--store", "a", "--store", "b"], ["--store=a"], ["--create"], ["--read-only"],
@@ -172,23 +177,23 @@ def wrong_words(place: Place) -> None:
         ["--max-blocks", "1048577"], ["a"], ["a", "b", "c"], ["a", "b", "c", "d", "e", "f", "g", "h", "i"],
         ["a", "b", "c", "d", "e", "f", "g", "h", "i", "j"],
     ):
-        same((words, *place.run(*words)), (words, 2, "", "error 50 words\n"))
-    same(place.run(b"\xff"), (2, "", "error 50 words\n"))
-    same(sorted(place.folder.iterdir()), [])
+        assert (words, *place.run(*words)) == (words, 2, "", "error 50 words\n")
+    assert place.run(b"\xff") == (2, "", "error 50 words\n")
+    assert sorted(place.folder.iterdir()) == []
 
 
-def right_words(place: Place) -> None:
+def test_right_words(place: Place) -> None:
     place.file("in").write_text("LOCATE Z 1 1\n")
-    same(place.run("--workers", "0000008", "in", "out", "--max-blocks", "1048576"), (0, "", ""))
-    same(place.file("out").read_text(), "error 10 unknown layer\n")
-    same(place.run("--create", "in", "--store", "map", "other"), (0, "", ""))
-    same(place.file("other").read_text(), "error 10 unknown layer\n")
-    same(place.run("--store", "map", script=A), (0, "ok 1\n", ""))
-    same(place.run("--read-only", "--store", "map", script="LOCATE A 2 2\n"), (0, "in\n", ""))
+    assert place.run("--workers", "0000008", "in", "out", "--max-blocks", "1048576") == (0, "", "")
+    assert place.file("out").read_text() == "error 10 unknown layer\n"
+    assert place.run("--create", "in", "--store", "map", "other") == (0, "", "")
+    assert place.file("other").read_text() == "error 10 unknown layer\n"
+    assert place.run("--store", "map", script=A) == (0, "ok 1\n", "")
+    assert place.run("--read-only", "--store", "map", script="LOCATE A 2 2\n") == (0, "in\n", "")
     place.file("-").write_text("LAYERS\n")
-    same(place.run("-", "other"), (0, "", ""))
+    assert place.run("-", "other") == (0, "", "")
     # What stood in a file of replies is gone, as behind a shell's `>`.
-    same(place.file("other").read_text(), "layers 0\n")
+    assert place.file("other").read_text() == "layers 0\n"
 
 
 def told(error: str, file: str, reason: str = "") -> str:
@@ -196,44 +201,44 @@ def told(error: str, file: str, reason: str = "") -> str:
     return f"error {error}\n{file}{': ' if reason else ''}{reason}\n"
 
 
-def texts(place: Place) -> None:
-    same(place.run("--version", script=A), (0, VERSION, ""))
+def test_texts(place: Place) -> None:
+    assert place.run("--version", script=A) == (0, VERSION, "")
     status, text, errors = place.run("--help")
-    same((status, errors, text.endswith("\n"), max(map(len, text.splitlines())) <= 80), (0, "", True, True))
+    assert (status, errors, text.endswith("\n"), max(map(len, text.splitlines())) <= 80) == (0, "", True, True)
     for word in ("--store FILE", "--create", "--read-only", "--workers N", "--max-blocks N", "IN OUT"):
-        same((word, word in text), (word, True))
+        assert (word, word in text) == (word, True)
     with open("/dev/full", "w", encoding="utf-8") as full:
         ran = subprocess.run([place.live, "--help"], stdout=full, stderr=subprocess.PIPE, timeout=SECONDS, check=False)
-    same((ran.returncode, ran.stderr), (1, b"error 49 write\n"))
+    assert (ran.returncode, ran.stderr) == (1, b"error 49 write\n")
 
 
 # ---- replies
 
 
-def a_reply_before_the_input_ends(place: Place) -> None:
+def test_a_reply_before_the_input_ends(place: Place) -> None:
     with place.started("--store", "map", "--create") as run:
         one = run.sessions[0]
-        same(one.ask(A.strip()), "ok 1")
-        same(one.ask("LOCATE A 2 2"), "in")
-        same(one.ask("SYNC"), "durable 1")
+        assert one.ask(A.strip()) == "ok 1"
+        assert one.ask("LOCATE A 2 2") == "in"
+        assert one.ask("SYNC") == "durable 1"
         # Half a line has no reply, nor has a batch before its last line.
         one.send("LOCATE A ")
-        same(one.is_silent(), True)
-        same(one.ask("10 5"), "edge")
+        assert one.is_silent()
+        assert one.ask("10 5") == "edge"
         one.send(f"BATCH 2\n{A}")
-        same(one.is_silent(), True)
-        same(one.ask("DEFINE B = A"), "ok 2")
-        same(one.ask("WAIT B"), "built 2")
+        assert one.is_silent()
+        assert one.ask("DEFINE B = A") == "ok 2"
+        assert one.ask("WAIT B") == "built 2"
         # Replies that come from many lines at once stand in their order.
         one.send("HELLO\nLOCATE B 5 5\nLOCATE B 50 50\n# none\n\nVERIFY B 16\n")
-        same([one.reply() for _ in range(4)], ["error 41 command syntax", "in", "out", "same"])
+        assert [one.reply() for _ in range(4)] == ["error 41 command syntax", "in", "out", "same"]
         # A last line may lack its LF.
         one.send("LOCATE A 0 0")
         os.close(one.lines)
         one.lines = -1
-        same(one.reply(), "edge")
-        same(run.end(), (0, ""))
-    same(place.run("--store", "map", script="SYNC\nVERIFY B 16\n"), (0, "durable 2\nsame\n", ""))
+        assert one.reply() == "edge"
+        assert run.end() == (0, "")
+    assert place.run("--store", "map", script="SYNC\nVERIFY B 16\n") == (0, "durable 2\nsame\n", "")
 
 
 def four_pairs(run: Running) -> None:
@@ -245,27 +250,27 @@ def four_pairs(run: Running) -> None:
             one.send(f"PUT L{k} POLYGON ((0 0, {10 + k} 0, {10 + k} 10, 0 10, 0 0))\nLOCATE L{k} {10 + k} 5\n")
         for k, one in enumerate(run.sessions):
             word, number = one.reply().split()
-            same((word, one.reply()), ("ok", "edge"))
+            assert (word, one.reply()) == ("ok", "edge")
             numbers.append(int(number))
-        same(sorted(numbers), list(range(1, 4 * round_number + 5)))
+        assert sorted(numbers) == list(range(1, 4 * round_number + 5))
     for one in run.sessions:
-        same([one.ask(f"LOCATE L{k} 5 5") for k in range(4)], ["in"] * 4)
+        assert [one.ask(f"LOCATE L{k} 5 5") for k in range(4)] == ["in"] * 4
     # One session ends; the others go on.
     os.close(run.sessions[1].lines)
     run.sessions[1].lines = -1
-    same(run.sessions[2].ask("DROP L1"), "ok 13")
-    same(run.sessions[0].ask("LAYERS"), "layers 3")
-    same(sorted(run.sessions[0].reply().split()[0] for _ in range(3)), ["L0", "L2", "L3"])
-    same(run.end(), (0, ""))
+    assert run.sessions[2].ask("DROP L1") == "ok 13"
+    assert run.sessions[0].ask("LAYERS") == "layers 3"
+    assert sorted(run.sessions[0].reply().split()[0] for _ in range(3)) == ["L0", "L2", "L3"]
+    assert run.end() == (0, "")
 
 
-def four_pairs_without_names(place: Place) -> None:
+def test_four_pairs_without_names(place: Place) -> None:
     with place.started_with_pairs(4, "--store", "map", "--create") as run:
         four_pairs(run)
-    same(place.run("--store", "map", script="SYNC\n"), (0, "durable 13\n", ""))
+    assert place.run("--store", "map", script="SYNC\n") == (0, "durable 13\n", "")
 
 
-def four_pairs_of_named_pipes(place: Place) -> None:
+def test_four_pairs_of_named_pipes(place: Place) -> None:
     paths = [place.file(f"{end}{k}") for k in range(4) for end in ("in", "out")]
     for path in paths:
         os.mkfifo(path)
@@ -280,38 +285,38 @@ def four_pairs_of_named_pipes(place: Place) -> None:
         four_pairs(run)
 
 
-def a_reader_that_goes_away(place: Place) -> None:
+def test_a_reader_that_goes_away(place: Place) -> None:
     with place.started_with_pairs(2, "--store", "map", "--create") as run:
         gone, other = run.sessions
-        same(gone.ask(A.strip()), "ok 1")
+        assert gone.ask(A.strip()) == "ok 1"
         os.close(gone.replies)
         gone.replies = -1
         gone.send("LOCATE A 2 2\n")
-        same(other.ask("LOCATE A 2 2"), "in")
-        same(other.ask(A.strip().replace("A", "B", 1)), "ok 2")
+        assert other.ask("LOCATE A 2 2") == "in"
+        assert other.ask(A.strip().replace("A", "B", 1)) == "ok 2"
         status, errors = run.end()
-        same((status, errors.startswith("error 49 write\n/dev/fd/")), (1, True))
+        assert (status, errors.startswith("error 49 write\n/dev/fd/")) == (1, True)
     # The others' layers are there, and what it had put before.
-    same(place.run("--store", "map", script="LOCATE A 2 2\nLOCATE B 2 2\nSYNC\n"), (0, "in\nin\ndurable 2\n", ""))
+    assert place.run("--store", "map", script="LOCATE A 2 2\nLOCATE B 2 2\nSYNC\n") == (0, "in\nin\ndurable 2\n", "")
 
 
-def a_long_session(place: Place) -> None:
+def test_a_long_session(place: Place) -> None:
     """More than a script may have, through one session; nothing of it is kept."""
     comment = "#" + "x" * 65_534 + "\n"
     with place.started() as run:
         one = run.sessions[0]
-        same(one.ask(A.strip()), "ok 1")
+        assert one.ask(A.strip()) == "ok 1"
         sent, sizes = 0, []
         for k in range(320):
             one.send(comment)
             sent += len(comment)
             if k % 16 == 0:
-                same(one.ask(f"LOCATE A {k % 10} 5 1"), "edge" if k % 10 == 0 else "in")
+                assert one.ask(f"LOCATE A {k % 10} 5 1") == ("edge" if k % 10 == 0 else "in")
                 sizes.append(resident(run.process.pid))
-        same(sent > SCRIPT_LIMIT + 4_000_000, True)
-        same(one.ask("LOCATE A 5 5"), "in")
-        same((sizes, max(sizes[1:]) - sizes[1] < 500), (sizes, True))
-        same(run.end(), (0, ""))
+        assert sent > SCRIPT_LIMIT + 4_000_000
+        assert one.ask("LOCATE A 5 5") == "in"
+        assert (sizes, max(sizes[1:]) - sizes[1] < 500) == (sizes, True)
+        assert run.end() == (0, "")
 
 
 def resident(pid: int) -> int:
@@ -320,18 +325,18 @@ def resident(pid: int) -> int:
     return int(next(line for line in lines if line.startswith("VmRSS")).split()[1])
 
 
-def examples_by_both_programs(place: Place) -> None:
+def test_examples_by_both_programs(place: Place) -> None:
     scripts = sorted(EXAMPLES.glob("*.txt"))
-    same(len(scripts) > 20, True)
+    assert len(scripts) > 20
     for script in scripts:
         data = script.read_bytes()
-        same((script.name, *place.run(script=data)), (script.name, *place.run(script=data, program=place.overlayd)))
+        assert (script.name, *place.run(script=data)) == (script.name, *place.run(script=data, program=place.overlayd))
 
 
 # ---- stores
 
 
-def killed_and_opened_again(place: Place) -> None:
+def test_killed_and_opened_again(place: Place) -> None:
     """What a session read to be durable is there after the program was killed amid further lines."""
     place.run("--store", "map", "--create")
     told = 0
@@ -339,14 +344,14 @@ def killed_and_opened_again(place: Place) -> None:
         with place.started("--store", "map") as run:
             one = run.sessions[0]
             number = int(one.ask("SYNC").split()[1])
-            same((round_number, number >= told), (round_number, True))
+            assert (round_number, number >= told) == (round_number, True)
             # Version n has a layer that is n wide.
-            same(one.ask(f"LOCATE A {number} 5"), "edge" if number else "error 10 unknown layer")
+            assert one.ask(f"LOCATE A {number} 5") == ("edge" if number else "error 10 unknown layer")
             for width in range(number + 1, number + 6):
-                same(one.ask(f"PUT A POLYGON ((0 0, {width} 0, {width} 10, 0 10, 0 0))"), f"ok {width}")
+                assert one.ask(f"PUT A POLYGON ((0 0, {width} 0, {width} 10, 0 10, 0 0))") == f"ok {width}"
                 if width % 2:
                     told = int(one.ask("SYNC").split()[1])
-                    same(told, width)
+                    assert told == width
             last = number + 5
             one.send("".join(f"PUT A POLYGON ((0 0, {w} 0, {w} 10, 0 10, 0 0))\nSYNC\n"
                              for w in range(last + 1, last + 40)))
@@ -355,10 +360,10 @@ def killed_and_opened_again(place: Place) -> None:
                 told = max(told, int(durable)) if word == "durable" else told
             run.kill()
     status, text, errors = place.run("--store", "map", script="SYNC\n", program=place.overlayd)
-    same((status, errors, int(text.split()[1]) >= told), (0, "", True))
+    assert (status, errors, int(text.split()[1]) >= told) == (0, "", True)
 
 
-def stores_that_are_refused(place: Place) -> None:
+def test_stores_that_are_refused(place: Place) -> None:
     """A store's fault is reported before anybody waits at a pair."""
     os.mkfifo(place.file("in"))
     os.mkfifo(place.file("out"))
@@ -370,48 +375,50 @@ def stores_that_are_refused(place: Place) -> None:
         (["in", "--read-only"], "30 device", NOT_PLAIN), (["/dev/null", "--read-only"], "30 device", NOT_PLAIN),
         (["byte", "--read-only"], "32 not a store", ""),
     ):
-        same((words, *place.run("--store", *words, "in", "out")), (words, 1, "", told(error, words[0], reason)))
-    same(place.file("absent").exists(), False)
+        assert (words, *place.run("--store", *words, "in", "out")) == (words, 1, "", told(error, words[0], reason))
+    assert not place.file("absent").exists()
 
 
-def damaged_stores(place: Place) -> None:
-    same(place.run("--store", "map", "--create", "--max-blocks", "5", script=A), (0, "ok 1\n", ""))
+def test_damaged_stores(place: Place) -> None:
+    assert place.run("--store", "map", "--create", "--max-blocks", "5", script=A) == (0, "ok 1\n", "")
     whole = place.file("map").read_bytes()
     # The format's number in the open slot of block 1, and a file that ends before its catalog.
     for number, damage in ((1, whole[:4120] + b"\0\0\0\3" + whole[4124:]), (3, whole[: 4 * 4096])):
         place.file("map").write_bytes(damage)
         for words in ([], ["--read-only"]):
-            same((number, *place.run("--store", "map", *words)), (number, 1, "", told(f"33 damaged {number}", "map")))
-        same(place.file("map").read_bytes(), damage)
+            assert (number, *place.run("--store", "map", *words)) == \
+                (number, 1, "", told(f"33 damaged {number}", "map"))
+        assert place.file("map").read_bytes() == damage
 
 
-def pairs_that_cannot_be_opened(place: Place) -> None:
+def test_pairs_that_cannot_be_opened(place: Place) -> None:
     place.file("in").write_text(A)
-    same(place.run("absent", "out"), (1, "", told("48 read", "absent", ABSENT)))
-    same(place.run("in", "absent/out"), (1, "", told("48 read", "absent/out", ABSENT)))
-    same(place.run("in", "out", "in", "."), (1, "", told("48 read", ".", FOLDER)))
-    same(place.run("in", "/dev/full"), (1, "", told("49 write", "/dev/full")))
-    same(place.run("in", "out", "in", "/dev/full", "in", "last"), (1, "", told("49 write", "/dev/full")))
+    assert place.run("absent", "out") == (1, "", told("48 read", "absent", ABSENT))
+    assert place.run("in", "absent/out") == (1, "", told("48 read", "absent/out", ABSENT))
+    assert place.run("in", "out", "in", ".") == (1, "", told("48 read", ".", FOLDER))
+    assert place.run("in", "/dev/full") == (1, "", told("49 write", "/dev/full"))
+    assert place.run("in", "out", "in", "/dev/full", "in", "last") == (1, "", told("49 write", "/dev/full"))
     # A folder opens, and cannot be read: its session ends so, and says so.
     place.file("folder").mkdir()
-    same(place.run("--store", "map", "--create", "folder", "first", "in", "second"), (1, "", ""))
-    same((place.file("first").read_text(), place.file("second").read_text()), ("error 48 read\n", "ok 1\n"))
-    same(place.run("--store", "map", script="SYNC\n"), (0, "durable 1\n", ""))
+    assert place.run("--store", "map", "--create", "folder", "first", "in", "second") == (1, "", "")
+    assert (place.file("first").read_text(), place.file("second").read_text()) == ("error 48 read\n", "ok 1\n")
+    assert place.run("--store", "map", script="SYNC\n") == (0, "durable 1\n", "")
 
 
-def files_in_use(place: Place) -> None:
+def test_files_in_use(place: Place) -> None:
     """Replies go into no file that somebody has: the store, a file that is read, another pair's."""
     whole = made(place)
     place.file("in").write_text(A)
     for words in ([], ["--read-only"]):
-        same((words, *place.run("--store", "map", *words, "in", "map")), (words, 1, "", told("48 read", "map", IN_USE)))
-    same(place.run("--store", "map", "map", "out"), (1, "", told("48 read", "map", IN_USE)))
-    same(place.run("in", "in"), (1, "", told("48 read", "in", IN_USE)))
-    same(place.run("in", "out", "in", "out"), (1, "", told("48 read", "out", IN_USE)))
-    same((place.file("map").read_bytes(), place.file("in").read_text()), (whole, A))
+        assert (words, *place.run("--store", "map", *words, "in", "map")) == \
+            (words, 1, "", told("48 read", "map", IN_USE))
+    assert place.run("--store", "map", "map", "out") == (1, "", told("48 read", "map", IN_USE))
+    assert place.run("in", "in") == (1, "", told("48 read", "in", IN_USE))
+    assert place.run("in", "out", "in", "out") == (1, "", told("48 read", "out", IN_USE))
+    assert (place.file("map").read_bytes(), place.file("in").read_text()) == (whole, A)
 
 
-def replies_go_into_no_store(place: Place) -> None:
+def test_replies_go_into_no_store(place: Place) -> None:
     """A store that is given where replies go is refused and left as it is, also one that a crash
     left or that is damaged."""
     whole = made(place)
@@ -420,46 +427,46 @@ def replies_go_into_no_store(place: Place) -> None:
     torn, cut = whole[:16] + bytes(48) + whole[64:], b"\0" + whole[1:4096] + b"\0" + whole[4097:]
     for store in (whole, torn, cut, whole[:4096]):
         place.file("map").write_bytes(store)
-        same(place.run("in", "map"), refused)
-        same(place.run("--store", "other", "--create", "in", "map"), refused)
+        assert place.run("in", "map") == refused
+        assert place.run("--store", "other", "--create", "in", "map") == refused
         place.file("other").unlink()
-        same(place.file("map").read_bytes(), store)
+        assert place.file("map").read_bytes() == store
     # Each other file is written from its beginning, as before.
     for text in (b"", b"x" * 10000, whole[16:]):
         place.file("out").write_bytes(text)
-        same((place.run("in", "out"), place.file("out").read_bytes()), ((0, "", ""), b"ok 1\n"))
+        assert (place.run("in", "out"), place.file("out").read_bytes()) == ((0, "", ""), b"ok 1\n")
 
 
-def a_full_store(place: Place) -> None:
+def test_a_full_store(place: Place) -> None:
     with place.started("--store", "map", "--create", "--max-blocks", "4") as run:
         one = run.sessions[0]
-        same([one.ask(A.strip()), one.ask("SYNC"), one.ask("LOCATE A 2 2")], ["ok 1", "error 31 full", "in"])
-        same(run.end(), (1, told("31 full", "map")))
-    same(place.run("--store", "map", "--max-blocks", "5", script="LAYERS\n" + A + "SYNC\n"),
-         (0, "layers 0\nok 1\ndurable 1\n", ""))
+        assert [one.ask(A.strip()), one.ask("SYNC"), one.ask("LOCATE A 2 2")] == ["ok 1", "error 31 full", "in"]
+        assert run.end() == (1, told("31 full", "map"))
+    assert place.run("--store", "map", "--max-blocks", "5", script="LAYERS\n" + A + "SYNC\n") == \
+        (0, "layers 0\nok 1\ndurable 1\n", "")
 
 
-def output_that_is_refused(place: Place) -> None:
+def test_output_that_is_refused(place: Place) -> None:
     with open("/dev/full", "w", encoding="utf-8") as full:
         ran = subprocess.run(
             [place.live, "--store", "map", "--create"], input=A.encode(), stdout=full, stderr=subprocess.PIPE,
             cwd=place.folder, timeout=SECONDS, check=False,
         )
-    same((ran.returncode, ran.stderr), (1, b"error 49 write\n"))
+    assert (ran.returncode, ran.stderr) == (1, b"error 49 write\n")
     # The command was run before its reply failed, and is in the store.
-    same(place.run("--store", "map", script="SYNC\n"), (0, "durable 1\n", ""))
+    assert place.run("--store", "map", script="SYNC\n") == (0, "durable 1\n", "")
 
 
-def committed_once_more(place: Place) -> None:
+def test_committed_once_more(place: Place) -> None:
     """What was built after the last SYNC is in the file at the end."""
     with place.started("--store", "map", "--create") as run:
         one = run.sessions[0]
-        same([one.ask(A.strip()), one.ask("DEFINE B = A"), one.ask("WAIT B")], ["ok 1", "ok 2", "built 2"])
-        same(run.end(), (0, ""))
+        assert [one.ask(A.strip()), one.ask("DEFINE B = A"), one.ask("WAIT B")] == ["ok 1", "ok 2", "built 2"]
+        assert run.end() == (0, "")
     # Nothing of it has to be built, so nothing has to be written.
     before = place.file("map").read_bytes()
-    same(place.run("--store", "map", "--read-only", script="WAIT B\nSYNC\n"), (0, "built 2\ndurable 2\n", ""))
-    same(place.file("map").read_bytes(), before)
+    assert place.run("--store", "map", "--read-only", script="WAIT B\nSYNC\n") == (0, "built 2\ndurable 2\n", "")
+    assert place.file("map").read_bytes() == before
 
 
 # ---- reading alone
@@ -467,35 +474,35 @@ def committed_once_more(place: Place) -> None:
 
 def made(place: Place) -> bytes:
     """A store of two versions, and its bytes."""
-    same(place.run("--store", "map", "--create", script=A + "SYNC\nDEFINE B = A\nWAIT B\nSYNC\n")[0], 0)
+    assert place.run("--store", "map", "--create", script=A + "SYNC\nDEFINE B = A\nWAIT B\nSYNC\n")[0] == 0
     return place.file("map").read_bytes()
 
 
-def read_by_several_at_once(place: Place) -> None:
+def test_read_by_several_at_once(place: Place) -> None:
     before = made(place)
     with contextlib.ExitStack() as stack:
         runs = [stack.enter_context(place.started("--store", "map", "--read-only")) for _ in range(3)]
         for one in (run.sessions[0] for run in runs):
-            same([one.ask("LOCATE B 5 5"), one.ask("SYNC")], ["in", "durable 2"])
+            assert [one.ask("LOCATE B 5 5"), one.ask("SYNC")] == ["in", "durable 2"]
         # Each puts layers of its own, which nobody else sees, and which cannot be durable.
         for k, one in enumerate(run.sessions[0] for run in runs):
-            same(one.ask(f"PUT C{k} {SQUARE}"), "ok 3")
-            same([one.ask(f"DEFINE D = C{k} & B"), one.ask("WAIT D"), one.ask("LOCATE D 5 5")],
-                 ["ok 4", "built 4", "in"])
-            same([one.ask("SYNC"), one.ask("LAYERS")], ["error 30 device", "layers 4"])
-            same([one.reply().split()[0] for _ in range(4)], ["A", "B", f"C{k}", "D"])
+            assert one.ask(f"PUT C{k} {SQUARE}") == "ok 3"
+            assert [one.ask(f"DEFINE D = C{k} & B"), one.ask("WAIT D"), one.ask("LOCATE D 5 5")] == \
+                ["ok 4", "built 4", "in"]
+            assert [one.ask("SYNC"), one.ask("LAYERS")] == ["error 30 device", "layers 4"]
+            assert [one.reply().split()[0] for _ in range(4)] == ["A", "B", f"C{k}", "D"]
         # Nobody writes to it meanwhile.
-        same(place.run("--store", "map"), (1, "", told("30 device", "map", IN_USE)))
-        same(place.run("--store", "map", program=place.overlayd), (1, "", "error 30 device\n"))
-        same([run.end() for run in runs], [(0, "")] * 3)
-    same(place.file("map").read_bytes(), before)
+        assert place.run("--store", "map") == (1, "", told("30 device", "map", IN_USE))
+        assert place.run("--store", "map", program=place.overlayd) == (1, "", "error 30 device\n")
+        assert [run.end() for run in runs] == [(0, "")] * 3
+    assert place.file("map").read_bytes() == before
     with place.started("--store", "map") as run:
-        same(run.sessions[0].ask("SYNC"), "durable 2")
-        same(place.run("--store", "map", "--read-only"), (1, "", told("30 device", "map", IN_USE)))
-        same(run.end(), (0, ""))
+        assert run.sessions[0].ask("SYNC") == "durable 2"
+        assert place.run("--store", "map", "--read-only") == (1, "", told("30 device", "map", IN_USE))
+        assert run.end() == (0, "")
 
 
-def read_where_nothing_can_be_written(place: Place) -> None:
+def test_read_where_nothing_can_be_written(place: Place) -> None:
     """A file, in a folder, of which a user may read alone."""
     before = made(place)
     user = None
@@ -509,71 +516,72 @@ def read_where_nothing_can_be_written(place: Place) -> None:
     place.folder.chmod(0o555)
     try:
         with own.started("--store", "map", user=user) as run:
-            same(run.end(), (1, told("30 device", "map", "Permission denied (os error 13)")))
+            assert run.end() == (1, told("30 device", "map", "Permission denied (os error 13)"))
         with own.started("--store", "map", "--read-only", user=user) as run:
             one = run.sessions[0]
-            same([one.ask("LOCATE B 5 5"), one.ask(f"PUT C {SQUARE}"), one.ask("SYNC")],
-                 ["in", "ok 3", "error 30 device"])
-            same(run.end(), (0, ""))
+            assert [one.ask("LOCATE B 5 5"), one.ask(f"PUT C {SQUARE}"), one.ask("SYNC")] == \
+                ["in", "ok 3", "error 30 device"]
+            assert run.end() == (0, "")
     finally:
         place.folder.chmod(0o755)
-    same(place.file("map").read_bytes(), before)
+    assert place.file("map").read_bytes() == before
 
 
-def an_opening_that_has_to_write(place: Place) -> None:
+def test_an_opening_that_has_to_write(place: Place) -> None:
     """A commit that was cut off, or is still to come, is prepared by the opening: not where the file is read alone."""
     whole = made(place)
     for gate in (0, 4096):
         cut = whole[:gate] + b"\0" + whole[gate + 1 :]
         place.file("map").write_bytes(cut)
-        same((gate, *place.run("--store", "map", "--read-only")), (gate, 1, "", told("30 device", "map")))
-        same(place.file("map").read_bytes(), cut)
-    same(place.run("--store", "map", script="DROP B\n"), (0, "ok 3\n", ""))
-    same(place.run("--store", "map", "--read-only", script="LAYERS\n")[0], 0)
-    same(place.run("--store", "new", "--create"), (0, "", ""))
-    same(place.run("--store", "new", "--read-only"), (1, "", told("30 device", "new")))
+        assert (gate, *place.run("--store", "map", "--read-only")) == (gate, 1, "", told("30 device", "map"))
+        assert place.file("map").read_bytes() == cut
+    assert place.run("--store", "map", script="DROP B\n") == (0, "ok 3\n", "")
+    assert place.run("--store", "map", "--read-only", script="LAYERS\n")[0] == 0
+    assert place.run("--store", "new", "--create") == (0, "", "")
+    assert place.run("--store", "new", "--read-only") == (1, "", told("30 device", "new"))
 
 
 # ---- one program a file
 
 
-def a_second_program(place: Place) -> None:
+def test_a_second_program(place: Place) -> None:
     """Refused while another has the file, and changes nothing; let in when that has ended, however it ended."""
     with place.started("--store", "map", "--create") as run:
         one = run.sessions[0]
-        same([one.ask(A.strip()), one.ask("SYNC")], ["ok 1", "durable 1"])
+        assert [one.ask(A.strip()), one.ask("SYNC")] == ["ok 1", "durable 1"]
         before = place.file("map").read_bytes()
         for program, refused in ((place.live, told("30 device", "map", IN_USE)), (place.overlayd, "error 30 device\n")):
             for words in ([], ["--create"]):
-                same((words, *place.run("--store", "map", *words, script=A, program=program)), (words, 1, "", refused))
-        same(place.file("map").read_bytes(), before)
-        same([one.ask("DEFINE B = A"), one.ask("SYNC")], ["ok 2", "durable 2"])
-        same(run.end(), (0, ""))
+                assert (words, *place.run("--store", "map", *words, script=A, program=program)) == \
+                    (words, 1, "", refused)
+        assert place.file("map").read_bytes() == before
+        assert [one.ask("DEFINE B = A"), one.ask("SYNC")] == ["ok 2", "durable 2"]
+        assert run.end() == (0, "")
     with place.started("--store", "map") as run:
-        same(run.sessions[0].ask("SYNC"), "durable 2")
+        assert run.sessions[0].ask("SYNC") == "durable 2"
         run.kill()
-        same(place.run("--store", "map", script="SYNC\n", program=place.overlayd), (0, "durable 2\n", ""))
+        assert place.run("--store", "map", script="SYNC\n", program=place.overlayd) == (0, "durable 2\n", "")
 
 
-def a_lock_after_a_failure(place: Place) -> None:
+def test_a_lock_after_a_failure(place: Place) -> None:
     """No other program is let in once a write has failed, until the program has ended."""
     ignoring = "trap '' XFSZ; exec \"$0\" \"$@\""
     with place.started("-c", ignoring, place.live, "--store", "map", "--create", program="/bin/sh") as run:
         one = run.sessions[0]
-        same([one.ask(A.strip()), one.ask("SYNC")], ["ok 1", "durable 1"])
+        assert [one.ask(A.strip()), one.ask("SYNC")] == ["ok 1", "durable 1"]
         resource.prlimit(run.process.pid, resource.RLIMIT_FSIZE, (4096, 4096))
-        same([one.ask("DROP A"), one.ask("SYNC")], ["ok 2", "error 30 device"])
-        same(place.run("--store", "map", script="SYNC\n", program=place.overlayd), (1, "", "error 30 device\n"))
+        assert [one.ask("DROP A"), one.ask("SYNC")] == ["ok 2", "error 30 device"]
+        assert place.run("--store", "map", script="SYNC\n", program=place.overlayd) == (1, "", "error 30 device\n")
         for words in ([], ["--read-only"]):
-            same((words, *place.run(*words, "--store", "map", script="SYNC\n")),
-                 (words, 1, "", told("30 device", "map", IN_USE)))
-        same(run.end(), (1, told("30 device", "map")))
-    same(place.run("--store", "map", script="SYNC\n"), (0, "durable 1\n", ""))
+            assert (words, *place.run(*words, "--store", "map", script="SYNC\n")) == \
+                (words, 1, "", told("30 device", "map", IN_USE))
+        assert run.end() == (1, told("30 device", "map"))
+    assert place.run("--store", "map", script="SYNC\n") == (0, "durable 1\n", "")
 
 
-def closed_streams(place: Place) -> None:
+def test_closed_streams(place: Place) -> None:
     """The store gets no number of a stream that is closed when the program begins."""
-    same(place.run("--store", "map", "--create", script=A + "SYNC\n"), (0, "ok 1\ndurable 1\n", ""))
+    assert place.run("--store", "map", "--create", script=A + "SYNC\n") == (0, "ok 1\ndurable 1\n", "")
     before = place.file("map").read_bytes()
     place.file("in").write_text("LOCATE A 2 2\n" * 3000, encoding="utf-8")
     for closed in ([0], [1], [2], [0, 1], [0, 2], [1, 2], [0, 1, 2]):
@@ -581,12 +589,12 @@ def closed_streams(place: Place) -> None:
         for words in ([], ["--read-only"]):
             wanted = ((1, "", fault) if 1 in closed else (1, "error 48 read\n", "") if 0 in closed
                       else (0, "in\n" * 3000, ""))
-            same(run_without(place, closed, "--store", "map", *words), wanted)
-            same(run_without(place, closed, "--store", "map", *words, "in", "out"), (0, "", ""))
-            same(place.file("out").read_text(encoding="utf-8"), "in\n" * 3000)
-            same(run_without(place, closed, "--store", "map", *words, "in", "/dev/full"),
-                 (1, "", fault and fault + "/dev/full\n"))
-            same(place.file("map").read_bytes(), before)
+            assert run_without(place, closed, "--store", "map", *words) == wanted
+            assert run_without(place, closed, "--store", "map", *words, "in", "out") == (0, "", "")
+            assert place.file("out").read_text(encoding="utf-8") == "in\n" * 3000
+            assert run_without(place, closed, "--store", "map", *words, "in", "/dev/full") == \
+                (1, "", fault and fault + "/dev/full\n")
+            assert place.file("map").read_bytes() == before
 
 
 def run_without(place: Place, closed: list[int], *words: str) -> tuple[int, str, str]:
@@ -614,11 +622,11 @@ def zigzag(number: int) -> str:
 def quickly(one: Session, *lines: str) -> None:
     """Asks lines, each of which is accepted, and soon."""
     began = time.monotonic()
-    same([reply for reply in map(one.ask, lines) if reply.split()[0] not in ("ok", "built")], [])
-    same(time.monotonic() - began < SOON, True)
+    assert [reply for reply in map(one.ask, lines) if reply.split()[0] not in ("ok", "built")] == []
+    assert time.monotonic() - began < SOON
 
 
-def tiles_that_are_left(place: Place) -> None:
+def test_tiles_that_are_left(place: Place) -> None:
     """A worker leaves a tile that takes long once its layer is dropped, its input is another, or the program ends."""
     crossing = [f"PUT L{k} {zigzag(k)}" for k in range(8)]
     others = "\n".join(["BATCH 8", *(f"PUT L{k} {SQUARE}" for k in range(8))])
@@ -635,37 +643,9 @@ def tiles_that_are_left(place: Place) -> None:
         quickly(one, *crossing)
         time.sleep(0.5)
         began = time.monotonic()
-        same(run.end(), (0, ""))
-        same(time.monotonic() - began < SOON, True)
+        assert run.end() == (0, "")
+        assert time.monotonic() - began < SOON
     began = time.monotonic()
     status, replies, errors = place.run("--store", "map", script="EDGES D 15\nEDGES D 16\n")
-    same((status, replies[:17], errors), (0, "edges 0\nerror 21 ", ""))
-    same(time.monotonic() - began < SOON, True)
-
-
-TESTS: list[Callable[[Place], None]] = [
-    wrong_words, right_words, texts, a_reply_before_the_input_ends, four_pairs_without_names, four_pairs_of_named_pipes,
-    a_reader_that_goes_away, a_long_session, examples_by_both_programs, killed_and_opened_again,
-    stores_that_are_refused, damaged_stores, pairs_that_cannot_be_opened, files_in_use, replies_go_into_no_store,
-    a_full_store, output_that_is_refused, committed_once_more, read_by_several_at_once,
-    read_where_nothing_can_be_written, an_opening_that_has_to_write, a_second_program, a_lock_after_a_failure,
-    closed_streams, tiles_that_are_left,
-]
-
-
-def main() -> int:
-    parser = argparse.ArgumentParser(description=__doc__, formatter_class=argparse.RawDescriptionHelpFormatter)
-    parser.add_argument("program", type=pathlib.Path)
-    parser.add_argument("overlayd", type=pathlib.Path)
-    parser.add_argument("--only", metavar="TEST", help="run this test alone")
-    words = parser.parse_args()
-    live, overlayd = (str(path.resolve()) for path in (words.program, words.overlayd))
-
-    def tried(test: Callable[[Place], None]) -> Test:
-        return test.__name__, lambda folder: test(Place(live, overlayd, folder))
-
-    return counted(map(tried, TESTS), words.only)
-
-
-if __name__ == "__main__":
-    sys.exit(main())
+    assert (status, replies[:17], errors) == (0, "edges 0\nerror 21 ", "")
+    assert time.monotonic() - began < SOON

@@ -1,11 +1,17 @@
-"""A module of growths.py and faults.py: runs that are right or wrong, for the tests of what judges them."""
+"""What growths.py and faults.py take as right of runs in which something is refused, and what they refuse by."""
 
 from __future__ import annotations
 
-import itertools
+import os
+import pathlib
+import subprocess
+import sys
 from typing import Any
 
+import pytest
+
 from bench.reference import judging, read_store
+from bench.trials import refused_runs
 from bench.trials.refused_runs import OTHER, SQUARE, Outcome, Runner, Scenario
 from bench.trials.refusing import Allows, device, judge, judge_output, many_growths, one_growth
 
@@ -44,8 +50,6 @@ CASES: dict[Allows, list[tuple[Any, int, str | None, bool]]] = {
         (EARLY, 1, OUT, False), (EARLY, 0, DEVICE, False), (LATE, 1, DEVICE, False),
     ],
 }
-
-
 # Two scripts, and what may be reported of them: how many replies each has (None: nothing is printed), what is on
 # standard error, and whether that is right.
 PAIR = Scenario("two", [[f"PUT A {SQUARE}", "HELLO"], ["HELLO", "HELLO"]], 1)
@@ -59,8 +63,6 @@ PAIRS = [
     (device, (2, 2), DEVICE, True), (device, (2, 1), DEVICE, False), (device, (2, 0), DEVICE, False),
     (device, None, DEVICE, False),
 ]
-
-
 # Two scripts of overlay_live, the second of which has no thread in most: which replies of the first differ, how many
 # the second has, what is on standard error, and whether that is right.
 CLOSED = [[f"PUT A {SQUARE}", "DEFINE I = A", "LOCATE A 2 2", "WAIT I", f"PUT B {OTHER}", "SYNC", "DROP A"], ["HELLO"]]
@@ -79,8 +81,6 @@ CLOSED_CASES = [
     (STORED, CLOSES_FIRST | {1: UNKNOWN}, 0, OUT, False), (UNSTORED, NO_STORE, 1, "", True),
     (UNSTORED, {5: OUT}, 1, "", False), (UNSTORED, CLOSES | NO_STORE, 0, OUT, True), (UNSTORED, CLOSES, 0, OUT, False),
 ]
-
-
 # Runs of lines in which something was refused: what they leave, of version 1 with a layer of this name.
 STORES = [
     (TOLD, device, {4: DEVICE}, DEVICE, "A", True), (TOLD, device, {2: DEVICE, 4: DEVICE}, DEVICE, "A", True),
@@ -152,27 +152,87 @@ def is_store_right(scenario: Scenario, allows: Allows, changed: Any, fault: str 
     return judge(Opening(scenario), outcome, allows) is None
 
 
-def test(*kinds: Allows) -> tuple[int, int]:
-    """Judges the runs above; how many are judged as they have to be, and how many are not."""
-    checks: list[tuple[Any, ...]] = []
-    for allows in kinds:
-        for changed, refused, fault, wanted in CASES[allows]:
-            found = is_right(allows, TOLD, outcome_of(changed, refused, fault))
-            checks.append((found, wanted, allows.__name__, changed, fault))
-    for allows, counts, fault, wanted in PAIRS:
-        if allows in kinds:
-            found = is_right(allows, PAIR, outcome_of_pair(counts, fault))
-            checks.append((found, wanted, allows.__name__, counts, fault))
-    for scenario, changed, count, fault, wanted in CLOSED_CASES:
-        for allows, is_live in itertools.product({one_growth, many_growths}.intersection(kinds), (True, False)):
-            found = is_right(allows, scenario, outcome_closed(changed, count, fault, is_live))
-            is_wanted = wanted and (is_live or CLOSING not in changed.values())
-            checks.append((found, is_wanted, allows.__name__, changed, count, fault, is_live))
-    for scenario, allows, changed, fault, name, wanted in STORES:
-        if allows in kinds:
-            found = is_store_right(scenario, allows, changed, fault, name)
-            checks.append((found, wanted, allows.__name__, changed, fault, f"version 1 with {name} is left"))
-    failed = [check for check in checks if check[0] != check[1]]
-    for _, wanted, *what in failed:
-        print(*what, "is not taken as", "right" if wanted else "wrong")
-    return len(checks) - len(failed), len(failed)
+@pytest.mark.parametrize("allows, changed, refused, fault, wanted",
+                         [(allows, *case) for allows, cases in CASES.items() for case in cases])
+def test_a_run_of_one_script(allows: Allows, changed: Any, refused: int, fault: str | None, wanted: bool) -> None:
+    assert is_right(allows, TOLD, outcome_of(changed, refused, fault)) == wanted
+
+
+@pytest.mark.parametrize("allows, counts, fault, wanted", PAIRS)
+def test_a_run_of_two_scripts(allows: Allows, counts: tuple[int, int] | None, fault: str, wanted: bool) -> None:
+    assert is_right(allows, PAIR, outcome_of_pair(counts, fault)) == wanted
+
+
+@pytest.mark.parametrize("is_live", [True, False])
+@pytest.mark.parametrize("allows", [one_growth, many_growths])
+@pytest.mark.parametrize("scenario, changed, count, fault, wanted", CLOSED_CASES)
+def test_a_run_without_a_thread(scenario: Scenario, changed: dict[Any, Any], count: int, fault: str, wanted: bool,
+                                allows: Allows, is_live: bool) -> None:
+    found = is_right(allows, scenario, outcome_closed(changed, count, fault, is_live))
+    assert found == (wanted and (is_live or CLOSING not in changed.values()))
+
+
+@pytest.mark.parametrize("scenario, allows, changed, fault, name, wanted", STORES)
+def test_a_store_that_is_left(scenario: Scenario, allows: Allows, changed: Any, fault: str | None, name: str,
+                              wanted: bool) -> None:
+    assert is_store_right(scenario, allows, changed, fault, name) == wanted
+
+
+# ---- the libraries that programs load
+
+FOUR = """
+import ctypes, os
+library = ctypes.CDLL(os.environ["LIBRARY"])
+library.malloc.restype = ctypes.c_void_p
+print("".join("1" if library.malloc(8) else "0" for _ in range(4)))
+"""
+
+
+def test_growths_are_refused(tmp_path: pathlib.Path) -> None:
+    """Of four growths, by the settings, two."""
+    library, counts = refused_runs.compiled("growths", tmp_path), tmp_path / "counts"
+    given = {"LIBRARY": str(library), "REFUSE_FIRST": "1", "REFUSE_EACH": "3", "REFUSE_COUNTS": str(counts)}
+    done = subprocess.run([sys.executable, "-c", FOUR], env={**os.environ, **given}, capture_output=True, check=True)
+    numbers = [int.from_bytes(counts.read_bytes()[at : at + 8], "little") for at in (0, 8)]
+    assert (done.stdout, numbers) == (b"0110\n", [4, 2])
+
+
+# A writer that syncs its folder, goes on after each call that fails, and prints those.
+CALLS = """
+import os, sys
+def told(call, *words):
+    try:
+        return call(*words) or True
+    except OSError:
+        print(call.__name__)
+file = told(os.open, sys.argv[1], os.O_RDWR | os.O_CREAT)
+folder = os.open(os.path.dirname(sys.argv[1]), os.O_RDONLY)
+if file and told(os.fsync, folder):
+    told(os.pwrite, file, b"four", 0)
+    told(os.fdatasync, file)
+    told(os.pwrite, file, b"less", 3)
+    told(os.fdatasync, file)
+"""
+# The number of the call that fails and how, what fails for the writer, and what it leaves.
+LEFT = [
+    (0, 0, "", b"fouless"), (1, 0, "open", None), (3, 0, "fsync", None), (3, 2, "", b"fouless"),
+    (4, 0, "pwrite", bytes(3) + b"less"), (4, 1, "pwrite", b"fo" + bytes(1) + b"less"),
+    (4, 2, "", b"fo" + bytes(1) + b"less"), (5, 0, "fdatasync", bytes(3) + b"less"),
+    (5, 1, "fdatasync", b"fo" + bytes(1) + b"less"), (5, 2, "", b"fouless"), (6, 0, "pwrite", b"four"),
+    (6, 1, "pwrite", b"foule"), (7, 0, "fdatasync", b"four"), (7, 1, "fdatasync", b"foule" + bytes(2)),
+    (7, 2, "", b"fouless"), (7, 3, "fdatasync", b"four"), (8, 0, "", b"fouless"),
+]
+
+
+@pytest.mark.parametrize("first, kind, fails, leaves", LEFT)
+def test_calls_fail(tmp_path: pathlib.Path, first: int, kind: int, fails: str, leaves: bytes | None) -> None:
+    """The call of the writer above that is to fail fails, and what was not synced is lost."""
+    folder = tmp_path / "own"
+    folder.mkdir()
+    store = folder / "file"
+    given: dict[str, Any] = {
+        "LD_PRELOAD": refused_runs.compiled("faults", tmp_path), "FAIL_STORE": store, "FAIL_FOLDER": folder,
+        "FAIL_COUNTS": folder / "counts", "FAIL_FIRST": first, "FAIL_KIND": kind}
+    environment = {**os.environ, **{name: str(value) for name, value in given.items()}}
+    done = subprocess.run([sys.executable, "-c", CALLS, store], env=environment, stdout=subprocess.PIPE, check=True)
+    assert (done.stdout.decode().strip(), store.read_bytes() if store.exists() else None) == (fails, leaves)

@@ -1,0 +1,196 @@
+"""What trials and measures do by themselves, without a program: what they draw, judge, read of traces, and print."""
+
+from __future__ import annotations
+
+import contextlib
+import pathlib
+import random
+import shutil
+import subprocess
+from typing import Any
+
+import pytest
+
+from bench import read_programs, unproved
+from bench.measures import instructions, live, serving, store
+from bench.reference import judging, model, read_store
+from bench.trials import covers, damages, live_stress, old_files, stops
+from tools.limits import COLUMNS
+
+needs_gcc = pytest.mark.skipif(not shutil.which("gcc"), reason="no gcc")
+
+
+# ---- live_stress.py
+
+A, B = b"PUT A POLYGON ((0 0, 10 0, 10 10, 0 10, 0 0))", b"PUT A POLYGON ((5 5, 15 5, 15 15, 5 15, 5 5))"
+LAYER = "A MULTIPOLYGON (((5 5, 15 5, 15 15, 5 15, 5 5)))"
+OLD = "A MULTIPOLYGON (((0 0, 10 0, 10 10, 0 10, 0 0)))"
+# Each: what happens in order, as (session, line) asked or (session, line, 1) read; then the store's version and layers
+# where the program is killed, or None; whether it is right.
+CASES: list[tuple[list[tuple[Any, ...]], tuple[int, list[str]] | None, bool]] = [
+    ([(0, A), (0, "ok 1", 1), (1, b"LOCATE A 2 2"), (1, "in", 1)], None, True),
+    # An older version may be answered to whom nothing newer was reported, but not a version still to be sent.
+    ([(0, A), (0, "ok 1", 1), (1, b"LOCATE A 2 2"), (1, "error 10 unknown layer", 1)], None, True),
+    ([(0, A), (0, "ok 1", 1), (0, b"LOCATE A 2 2"), (0, "error 10 unknown layer", 1)], None, False),
+    ([(1, b"LOCATE A 2 2"), (1, "in", 1), (0, A), (0, "ok 1", 1)], None, False),
+    # A reply that says of a command waits for that command's own reply.
+    ([(0, A), (1, b"LOCATE A 2 2"), (1, "in", 1), (0, "ok 1", 1)], None, True),
+    ([(0, A), (1, b"LOCATE A 2 2"), (1, "edge", 1), (0, "ok 1", 1)], None, False),
+    ([(0, A), (1, b"LOCATE A 2 2"), (1, "in", 1), (0, "error 15 too many layers", 1)], None, False),
+    ([(0, A), (1, B), (1, "ok 2", 1), (1, b"LOCATE A 12 12"), (1, "in", 1), (0, "ok 1", 1)], None, True),
+    ([(0, A), (1, B), (1, "ok 1", 1), (1, b"LOCATE A 12 12"), (1, "in", 1), (0, "ok 1", 1)], None, False),
+    # Batches, as one version or none.
+    ([(0, b"BATCH 2", A, b"DEFINE I = A"), (0, "ok 1", 1), (0, b"LOCATE I 2 2"), (0, "in", 1)], None, True),
+    ([(0, b"BATCH 2", A, b"DEFINE I = A"), (0, "ok 2", 1)], None, False),
+    ([(0, b"BATCH 2", A, b"DROP I"), (0, "refused 1 error 10 unknown layer", 1)], None, True),
+    ([(0, b"BATCH 2", A, b"DROP I"), (0, "refused 0 error 10 unknown layer", 1)], None, False),
+    ([(0, b"BATCH 2", A, b"LAYERS"), (0, "refused 1 error 41 command syntax", 1)], None, True),
+    ([(0, b"BATCH 65"), (0, "error 17 batch size", 1)], None, True),
+    ([(0, b"BATCH 2", A, B), (1, b"LOCATE A 2 2"), (0, "ok 1", 1), (1, "in", 1)], None, False),
+    ([(0, b"SYNC"), (0, "durable 0", 1), (0, A), (0, "ok 1", 1), (0, b"SYNC"), (0, "durable 0", 1)], None, False),
+    # Killed: what was reported durable is there; what was cut off may be, if all replies are right then.
+    ([(0, A), (0, "ok 1", 1), (0, B), (0, "ok 2", 1)], (1, [OLD]), True),
+    ([(0, A), (0, "ok 1", 1), (0, b"SYNC"), (0, "durable 1", 1)], (0, []), False),
+    ([(0, A), (0, "ok 1", 1), (0, B)], (2, [LAYER]), True),
+    ([(0, A), (0, "ok 1", 1), (0, B)], (2, [OLD]), False),
+    ([(0, A), (0, "ok 1", 1), (0, b"LAYERS", B)], (2, [LAYER]), False),
+    ([(0, A), (1, B), (1, "ok 2", 1), (1, b"LOCATE A 12 12"), (1, "in", 1)], (2, [LAYER]), True),
+    ([(0, A), (1, B), (1, "ok 2", 1), (1, b"LOCATE A 12 12"), (1, "in", 1)], (3, [OLD]), False),
+    ([(0, A), (1, b"LOCATE A 2 2"), (1, "in", 1)], (0, []), True),
+    ([(0, b"LAYERS"), (1, b"LOCATE A 2 2"), (1, "in", 1)], (0, []), False),
+]
+
+
+def is_right(events: list[tuple[Any, ...]], left: tuple[int, list[str]] | None) -> bool:
+    """Whether events are judged as right."""
+    judge = live_stress.Judge(judging.History(model.Meanings()))
+    try:
+        for place, *rest in events:
+            if rest[-1] == 1:
+                judge.read(place, rest[0].split("\n"))
+            else:
+                judge.ask(place, rest)
+            judge.judge(1)
+        if left:
+            judge.cut_off(*left)
+            return judge.history.last() == left[0]
+        judge.finish()
+        return True
+    except judging.Wrong:
+        return False
+
+
+@pytest.mark.parametrize("events, left, wanted", CASES)
+def test_a_live_run_is_judged(events: list[tuple[Any, ...]], left: tuple[int, list[str]] | None, wanted: bool) -> None:
+    assert is_right(events, left) == wanted
+
+
+# ---- stops.py
+
+
+def test_calls_are_read_of_a_trace() -> None:
+    trace = "\n".join([
+        r'7 openat(AT_FDCWD, "\x61", O_RDWR|O_CREAT, 0666) = 4', r'7 pwrite64(4, "\x01\x02", 2, 3) = 2',
+        r"8 fdatasync(4 <unfinished ...>", r'7 read(0, "\x0a", 65536) = 1', r"8 <... fdatasync resumed>) = 0",
+        r'7 pwrite64(5, "\x01", 1, 0) = 1', r"7 close(4) = 0", r"7 fdatasync(4) = 0",
+    ])
+    events = [("write", 3, b"\x01\x02"), ("read", b"\n"), ("sync",)]
+    assert stops.events_of(trace, "a") == events
+
+
+def test_files_that_a_stop_may_leave() -> None:
+    made = stops.files_of(b"ab", [(1, b"x"), (2, b"yz")], random.Random(1))
+    files = {stops.laid(b"ab", writes).ljust(length, b"\0") for writes, length in made}
+    kept = {b"ab", b"ax", b"abyz", b"axyz", b"ab\0\0", b"ax\0\0", b"aby", b"axy", b"ab\0z", b"ax\0z"}
+    assert kept <= files and stops.laid(b"ab", [(3, b"x")]) == b"ab\0x"
+    assert len(stops.sets_of(6, random.Random(1))) == 64
+    assert [len(list(stops.parts_of(0, bytes(n)))) for n in (1, 48, 4096)] == [5, 5, 17]
+
+
+# ---- damages.py: the files of format 1, by the reader that stands by itself
+
+
+def test_files_of_format_1() -> None:
+    one, two = (f"MULTIPOLYGON ((({n} {n}, {n + 10} {n}, {n + 10} {n + 10}, {n} {n + 10}, {n} {n})))" for n in (0, 5))
+    six, released = old_files.in_six_blocks(), old_files.released()
+    assert damages.read_by_itself(six) == ("version 2", f"layers 2;A {one};I = A;")
+    assert damages.read_by_itself(released) == ("version 3", f"layers 3;A {one};B {two};I = A & B;")
+    assert len(old_files.tiles_of(released)) == read_store.OLD_COLUMNS
+    assert len(damages.offsets_of(six)) == 2 * damages.SLOT + 61 + 44 + 1 + 142
+
+
+@pytest.mark.parametrize("name, data, changes, wanted", damages.named_old(old_files.in_six_blocks()))
+def test_an_alteration_is_read(name: str, data: bytes, changes: damages.Changes, wanted: str) -> None:
+    assert damages.read_by_itself(damages.apply(data, len(data), changes))[0] == wanted
+
+
+# ---- covers.py, read_programs.py
+
+
+def test_pairs_of_triangles() -> None:
+    drawn = covers.pairs(20, 1, 10)
+    assert drawn == covers.pairs(20, 1, 10) != covers.pairs(20, 2, 10)
+    assert all(len(set(corners)) == 3 for pair in drawn for corners in pair)
+    assert covers.script(drawn[:1]).count("\n") == 3 + 4 + COLUMNS
+    assert covers.text(((0, 0), (1, 0), (0, 1))) == "POLYGON ((0 0, 1 0, 0 1, 0 0))"
+
+
+def test_programs_stand_side_by_side() -> None:
+    main = read_programs.placed("a_b", "main", "//! x\n#![tactic(auto)]\n\nfn main(rt: R) {}\n")
+    assert main == ("a_b.rt", "//! x\n\n#[test]\nfn main(rt: R) {}\n")
+    assert read_programs.placed("a_b", "one", "use crate::two::f;\n") == ("a_b/one.rt", "use crate::a_b::two::f;\n")
+    programs = read_programs.programs()
+    assert all(unproved.crates_of(folder) for folder in programs)
+    assert all(file.exists() for folder in programs for file in unproved.files_of(folder).values())
+    assert len({"_".join(folder.parts[-2:]) for folder in programs}) == len(programs) > 0
+
+
+# ---- measures
+
+
+@needs_gcc
+def test_the_bare_pipe(tmp_path: pathlib.Path) -> None:
+    """By one session and by four."""
+    client = live.Client(tmp_path)
+    with live.served([client.program, "echo"]) as (_, [pair]):
+        times = client.ask(pair, ["LOCATE A 1 1", "LOCATE A 2 2", "x" * 60000])
+        taken = client.together([pair], ["LOCATE A 1 1"], 3)
+    with contextlib.ExitStack() as stack:
+        pairs = [stack.enter_context(live.served([client.program, "echo"]))[1][0] for _ in range(live.SESSIONS)]
+        taken = min(taken, client.together(pairs, ["LOCATE A 1 1"] * 9, 2))
+    assert times.replies == ["out"] * 3 and min(times.taken) > 0 and taken > 0
+    assert live.Times([4, 1, 3, 2], []).share(0.5) == 3 and live.Times([4, 1, 3, 2], []).share(0.99) == 4
+
+
+@needs_gcc
+def test_syncs_by_c(tmp_path: pathlib.Path) -> None:
+    subprocess.run(["gcc", "-O2", "-Wall", "-o", tmp_path / "sync", serving.HERE / "sync.c"], check=True)
+    assert serving.Runs("", tmp_path).commit_of_c(3, 2) > 0
+    assert (tmp_path / "plain.db").stat().st_size == 64 * 4096
+    assert serving.ring(4, 0, 0, 10) == "POLYGON ((10 0, 0 10, -10 0, 0 -10, 10 0))"
+
+
+def test_a_file_with_all_its_tiles() -> None:
+    tile = {c: store.tile_record(c, 3, store.short_piece) for c in range(COLUMNS)}
+    tile[9] = store.tile_record(9, 3, store.crossed_piece)
+    lines = read_store.told(store.store([(b"A", store.zigzag(4), None), (b"I", b"A", tile)]))
+    assert lines[0] == "version 2"
+    assert [line for line in lines if line.startswith("tile ")] == [f"tile I {c} 3" for c in range(COLUMNS)]
+
+
+def test_scripts_of_instructions() -> None:
+    assert len(dict(instructions.cases(instructions.SHAPES))) == len(instructions.SHAPES) + 1
+    asked = instructions.script(instructions.SQUARES, 2, 3, 17)
+    assert len([line for line in asked if line.startswith("WAIT ")]) == 2
+    assert asked.count("EDGES I0 16") == 3 and "EDGES I0 17" not in asked
+
+
+@pytest.mark.parametrize("counts, peers, line", [
+    ([(1000000, 500000), (2000000, 250000)], [], "| x | 1.000, 2.000 | 0.500, 0.250 | 1.50 times |"),
+    ([(1000000, 500000)], [], "| x | 1.000 | 0.500 |  |"),
+    ([(1000000, 500000)], [3000000], "| x | 1.000 | 0.500 |  | 3.000: 0.50 |"),
+    ([(1000000, 500000), (500000, 0)], [2000000],
+     "| x | 1.000, 0.500 | 0.500, 0.000 | 0.33 times | 2.000: 0.75, 0.25 |"),
+])
+def test_a_line_of_instructions(counts: list[tuple[int, int]], peers: list[int], line: str) -> None:
+    assert instructions.row("x", counts, *[peers] * bool(peers)) == line
