@@ -7,7 +7,7 @@ import pathlib
 import re
 
 MARK = "\n### "  # before each file of a page
-FOLDERS = ("tools", "web", "release", "bench", "python", ".ci")
+FOLDERS = ("python", "tools", "web", "release", "bench", ".ci")
 HEAD = """# Rooms of Python
 
 Each file of Python by the sentence at its head, its named numbers and its functions by the first sentence of each. A

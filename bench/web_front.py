@@ -15,7 +15,7 @@ import urllib.request
 from collections.abc import Iterator
 from typing import Any
 
-from tools import overlay_client
+from overlayd import program as overlay_client
 
 from bench import TOP
 

@@ -1,7 +1,7 @@
 """What a release holds, below one prefix: programs, tools and front, manual pages, completion, documents.
 
     bin/            overlayd, overlay_live, overlay_window; overlay and overlay-.., links to the tools and the front
-    lib/overlayd/   overlay, tools/ and web/ as they are here, without their tests
+    lib/overlayd/   overlay, tools/, web/ and python/src/ as they are here
     lib/systemd/    the unit of the front
     share/          manual pages, bash's completion, documents and examples
 
@@ -38,13 +38,12 @@ COMMANDS = {
     "overlay-to-script": "tools/to_script.py", "overlay-to-svg": "tools/to_svg.py", "overlay-web": "web/overlay_web.py",
     "overlay-which": "tools/which.py",
 }
-NOT_PACKED = re.compile(r"(?:tools|web)/(?:commands/)?tests\.py|web/(?:test_\w+|testing|stressing)\.py")
-SOURCES = ("overlay", "tools/*.py", "tools/maps/*.py", "tools/commands/*.py", "web/*.py", "web/commands/*.py",
-           "web/page/*", "web/client/*")
-TEXTS = ("README.md", "docs/*.md", "docs/*.png", "docs/*.svg", "tools/README.md", "tools/maps/README.md",
-         "tools/data/*", "web/README.md", "examples/**/*")
+SOURCES = ("overlay", "tools/*.py", "web/*.py", "python/src/overlayd/*.py", "python/src/overlayd/py.typed",
+           "python/src/overlayd/*/*.py", "python/src/overlayd/web/page/*")
+TEXTS = ("README.md", "docs/*.md", "docs/*.png", "docs/*.svg", "python/README.md", "tools/README.md",
+         "tools/maps/README.md", "tools/data/*", "web/README.md", "examples/**/*")
 # What is read where pages are printed of the sources.
-READ = (".ci/**", "bench/**", "crates/**", "release/**", "tools/**", "web/**")
+READ = (".ci/**", "bench/**", "crates/**", "python/**", "release/**", "tools/**", "web/**")
 FIRST_LINE = re.compile(rb"\A#!/usr/bin/env python3\n")
 NAMES = {pathlib.PurePath(path).stem: name for name, path in COMMANDS.items() if path.endswith(".py")}
 # A tool as it is called from a clone; where its name alone is in quotes, that is a file's name in code.
@@ -85,8 +84,6 @@ def sources(top: pathlib.Path = TOP) -> Iterator[Entry]:
     """Tools and front, and the commands that run them. Each finds the programs beside itself, whatever the path is."""
     for path in files(SOURCES, top):
         name = path.relative_to(top).as_posix()
-        if NOT_PACKED.fullmatch(name):
-            continue
         content = path.read_bytes()
         if path.suffix in (".py", ""):
             content = spelled(content.decode()).encode()

@@ -43,11 +43,9 @@ def package_files(release: list[Entry], version: str, maintainer: str, seconds: 
     more = [
         Entry(f"{contents.DOCUMENTS}/changelog.gz", packing.gzipped(log.encode())),
         Entry(f"share/lintian/overrides/{PACKAGE}", (contents.PARTS / "overrides").read_bytes()),
-        Entry("lib/python3/dist-packages/overlay_client.py", target="../../overlayd/tools/overlay_client.py"),
+        Entry("lib/python3/dist-packages/overlayd", target="../../overlayd/python/src/overlayd"),
     ]
-    # pip has no use of it there: it writes beside what it installs.
-    own = [one for one in release if not one.path.startswith(f"{contents.HOME}/web/client/")]
-    return packing.below("usr", contents.by_debians_python([*own, *more]))
+    return packing.below("usr", contents.by_debians_python([*release, *more]))
 
 
 def control_files(files: list[Entry], version: str, maintainer: str) -> list[Entry]:

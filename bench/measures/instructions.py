@@ -22,11 +22,11 @@ import sys
 import tempfile
 from collections.abc import Iterator, Sequence
 
+from overlayd.grid.limits import COLUMNS
 from bench import tile_texts
 from bench.counting import Words
 from bench.measures import peers, tiles
 from bench.tile_texts import Layer, closed
-from tools.limits import COLUMNS
 
 HERE = pathlib.Path(__file__).resolve().parent
 SHAPES = [("star", 64), ("parcels", 64), ("sliver", 64), ("star", 512), ("parcels", 512)]

@@ -154,7 +154,9 @@ def boxes_that_meet(folder: pathlib.Path) -> int:
     """Pairs of boxes with a common part that has an area."""
     from fractions import Fraction
 
-    from tools.maps import box_pairs, gdal_maps, planning
+    from overlayd.files import gdal_maps
+    from overlayd.geometry import box_pairs
+    from overlayd.maps import planning
 
     maps = [gdal_maps.read(str(folder / f"{kind}.gpkg"), Fraction(1000), None, None, False).whole
             for kind in ("parcels", "zones")]

@@ -21,12 +21,12 @@ import subprocess
 import sys
 import tempfile
 
+from overlayd.grid.limits import COLUMNS, COORDINATE_MAX
 from bench import tile_texts
 from bench.counting import Words
 from bench.measures import serving, tiles
 from bench.processor_time import processor
 from bench.tile_texts import Layer
-from tools.limits import COLUMNS, COORDINATE_MAX
 
 HERE = pathlib.Path(__file__).resolve().parent
 COMPILE = "g++ -std=c++17 -O2 -DNDEBUG -w".split()

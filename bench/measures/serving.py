@@ -23,9 +23,9 @@ import tempfile
 import time
 from collections.abc import Callable, Iterable, Sequence
 
+from overlayd.grid.limits import COLUMNS
 from bench.counting import Words, absolute
 from bench.processor_time import processor
-from tools.limits import COLUMNS
 
 HERE = pathlib.Path(__file__).resolve().parent
 SQUARE = "POLYGON ((0 0, 10 0, 10 10, 0 10, 0 0))"

@@ -18,11 +18,11 @@ import tempfile
 from collections.abc import Callable
 from typing import Optional
 
+from overlayd.grid.limits import COLUMNS, COORDINATE_MAX, LAYERS_MAX, column_begin
 from bench.counting import Words
 from bench.measures import turns
 from bench.processor_time import processor
 from bench.reference import read_store
-from tools.limits import COLUMNS, COORDINATE_MAX, LAYERS_MAX, column_begin
 
 BLOCK = 4096
 DERIVED = 30

@@ -19,9 +19,9 @@ import sys
 from collections.abc import Callable, Iterable, Iterator, Sequence
 from typing import Any
 
+from overlayd.grid.limits import COLUMNS
 from bench.counting import Words
 from bench.reference import model
-from tools.limits import COLUMNS
 
 UNJUDGED = {30, 31, 35, 36, 40, 43, 44}
 

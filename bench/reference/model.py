@@ -20,12 +20,12 @@ import sys
 from collections.abc import Callable, Iterable, Sequence, Set
 from typing import Any, NamedTuple
 
-from bench.counting import Words
-from tools.limits import (
-    BATCH_MAX, COLUMN_WIDTH, COLUMNS, COORDINATE_MAX, GRID_MAX, LAYERS_MAX, LINE_MAX, NAME_MAX, PIECES_MAX, STEP_MAX,
-    STEPS_MAX, TOKENS_MAX, WEIGHT_MAX,
+from overlayd.grid.limits import (
+    BATCH_MAX, COLUMNS, COLUMN_WIDTH, COORDINATE_MAX, GRID_MAX, LAYERS_MAX, LINE_MAX, NAME_MAX, PIECES_MAX, STEPS_MAX,
+    STEP_MAX, TOKENS_MAX, WEIGHT_MAX,
 )
-from tools.overlay_client import lines_after
+from overlayd.program import lines_after
+from bench.counting import Words
 
 TEXTS = {
     1: "wkt syntax at #", 2: "not whole at #", 3: "coordinate out of range at #", 4: "ring # open", 5: "ring # short",

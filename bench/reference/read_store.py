@@ -16,10 +16,10 @@ import sys
 from collections.abc import Callable
 from typing import Any, NamedTuple, Union
 
+from overlayd.grid.limits import COLUMNS, COLUMN_WIDTH, COORDINATE_MAX, LAYERS_MAX, PIECES_MAX, STEPS_MAX
 from bench import TOP
 from bench.counting import Words
 from bench.reference import model
-from tools.limits import COLUMNS, COLUMN_WIDTH, COORDINATE_MAX, LAYERS_MAX, PIECES_MAX, STEPS_MAX
 
 BLOCK = 4096
 GATE_OPEN = 0xA7

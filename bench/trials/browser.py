@@ -29,10 +29,10 @@ from typing import Any
 
 from PIL import Image
 
+from overlayd import program as overlay_client
 from bench import TOP, web_front
 from bench.counting import Tries, Words
 from bench.web_front import asked
-from tools import overlay_client
 
 SIZE = (1280, 800)
 NARROW = (420, 900)

@@ -13,8 +13,8 @@ import random
 import subprocess
 import sys
 
+from overlayd.grid.limits import COLUMNS
 from bench.counting import Words
-from tools.limits import COLUMNS
 
 Triangle = tuple[tuple[int, int], tuple[int, int], tuple[int, int]]
 

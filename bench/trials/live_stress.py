@@ -25,11 +25,11 @@ import time
 from collections.abc import Iterator, Sequence
 from typing import Any, NamedTuple
 
+from overlayd.grid.limits import COLUMNS
+from overlayd.program import lines_after
 from bench.counting import Kept, Words, counted
 from bench.reference import judging, model, read_store
 from bench.trials import stress
-from tools.limits import COLUMNS
-from tools.overlay_client import lines_after
 
 SESSIONS = 4
 PATIENCE = 60

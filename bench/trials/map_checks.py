@@ -25,9 +25,10 @@ from shapely.geometry import MultiPolygon, Polygon
 from shapely.ops import unary_union
 from shapely.validation import make_valid
 
-from tools.commands import overlay_maps
-from tools.maps import auditing, box_pairs, planning, running
-from tools.maps.whole_maps import Ring, WholeMap
+from overlayd.commands import overlay_maps
+from overlayd.geometry import box_pairs
+from overlayd.geometry.whole_maps import Ring, WholeMap
+from overlayd.maps import auditing, planning, running
 
 CLOSE, MINUTE, SMALL = 1e-6, 60.0, 1.0
 REACH, AMONG, WIDE = 10_000_000, 1000, 32

@@ -35,12 +35,12 @@ from osgeo import gdal
 from owslib.ogcapi.features import Features
 from shapely import geometry, wkb
 
+from overlayd import program as overlay_client
+from overlayd.grid.limits import COLUMN_WIDTH, COORDINATE_MAX
 from bench import TOP, web_front
 from bench.counting import Tries, Words
 from bench.reference import read_store
 from bench.web_front import asked, sent
-from tools import overlay_client
-from tools.limits import COLUMN_WIDTH, COORDINATE_MAX
 
 os.environ.setdefault("QT_QPA_PLATFORM", "offscreen")
 try:

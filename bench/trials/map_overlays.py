@@ -16,20 +16,20 @@ import unittest
 from collections.abc import Callable
 from fractions import Fraction
 
+from overlayd.maps import jobs, map_checks, rounds
+from overlayd.maps.numpy_drawing import Plain
+from overlayd.maps.numpy_windows import ByWindows
+from overlayd.maps.task_form import ALONE, COMMON
 from bench.counting import Words
-from tools.maps import jobs, map_checks, rounds
-from tools.maps.numpy_drawing import Plain
-from tools.maps.numpy_windows import ByWindows
-from tools.maps.task_form import ALONE, COMMON
-from tools.testing import map_steps, slabs
-from tools.testing.common import Programs
-from tools.testing.random_maps import divided_maps, random_maps, wrong_answers
+from tests import slabs, test_map_steps as map_steps
+from tests.common import Programs
+from tests.random_maps import divided_maps, random_maps, wrong_answers
 
 Counts = dict[str, list[int]]  # by what is asked: how many answers were looked at, and how many are wrong
 
 
 def planted(live: str) -> int:
-    """How many of the faults that tools/testing/map_steps.py plants in the steps are not found; each is reported."""
+    """How many of the faults that python/tests/test_map_steps.py plants are not found; each is reported."""
     Programs.live = live
     names = unittest.defaultTestLoader.getTestCaseNames(map_steps.Planted)
     missed = 0

@@ -21,9 +21,9 @@ import time
 from collections.abc import Callable, Sequence
 from typing import Optional
 
+from overlayd.grid.limits import COLUMNS
 from bench.counting import Kept, Words, absolute
 from bench.reference import judging, model, read_store
-from tools.limits import COLUMNS
 
 BASES = [f"A{n}" for n in range(16)]
 DERIVED = [f"D{n}" for n in range(24)]

@@ -17,10 +17,10 @@ import sys
 import tempfile
 from collections.abc import Callable
 
+from overlayd.grid.limits import COLUMNS, COLUMN_WIDTH as WIDTH, COORDINATE_MAX
 from bench import unproved
 from bench.counting import Words
 from bench.tile_texts import Draws, Layer, Point, closed, lines_of
-from tools.limits import COLUMNS, COLUMN_WIDTH as WIDTH, COORDINATE_MAX
 
 HERE = pathlib.Path(__file__).resolve().parent
 

@@ -1,7 +1,7 @@
 """Asks a running front by ten clients at once, two of which change layers: is each answer of one version?
 
-What they ask and how each answer is judged is in web/stressing.py, of which the tests of web/ run three seconds without
-HTTP. Here it is a process over a store in a file, asked over HTTP.
+What they ask and how each answer is judged is in python/tests/stressing.py, of which the tests run three seconds
+without HTTP. Here it is a process over a store in a file, asked over HTTP.
 
     python3 -m bench.trials.web_stress [--program PATH] [--python PATH] [--seconds N]
 
@@ -17,7 +17,7 @@ import tempfile
 
 from bench import web_front
 from bench.counting import Words, counted
-from web.stressing import Ask, Stress, asked
+from tests.stressing import Ask, Stress, asked
 
 
 def new_ask(address: str) -> Ask:

@@ -16,8 +16,8 @@ import subprocess
 import sys
 from fractions import Fraction
 
-from tools.maps import drawing_in, windows
-from tools.maps.whole_maps import Box, Point, Ring
+from overlayd.geometry.whole_maps import Box, Point, Ring
+from overlayd.maps import drawing_in, windows
 
 FAR = 2**40
 Place = tuple[Fraction, Fraction]

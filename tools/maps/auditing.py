@@ -8,10 +8,10 @@ from fractions import Fraction
 
 import numpy as np
 
+from ..geometry.whole_maps import Ring, WholeMap
 from .planning import places
 from .task_form import Row
 from .touching import Step, meet
-from .whole_maps import Ring, WholeMap
 
 DEEP_STEPS_MAX = 2_000  # of features that lie on each other, of which it is looked for what they have in three and more
 DEEP_SLABS_MAX = 4_000_000  # steps, times the slabs between the x at which they end or meet

@@ -1,19 +1,19 @@
 """Joins boundary pieces into polygons, connected part by connected part.
 
 Where each node of a part has two pieces it is one ring, and no order of pieces is needed. Else its rings are found as
-to_rings.py does, of this part alone. A part that lies in an odd number of others has its inside outside of it.
+geometry/rings.py does, of this part alone. A part that lies in an odd number of others has its inside outside of it.
 """
 
 from collections.abc import Iterator, Sequence
 from fractions import Fraction
 from typing import NamedTuple
 
-from .. import sweeping
-from ..commands import to_rings
-from ..sessions import Corner, Piece, Unusable
-from . import box_pairs
+from ..geometry import box_pairs, sweeping
+from ..geometry.rings import loops_of
+from ..geometry.whole_maps import Box
+from ..program import Piece, Point as Corner
+from ..store.sessions import Unusable
 from .exact_area import total, twice_area
-from .whole_maps import Box
 
 Loop = list[Corner]
 Polygon = list[Loop]
@@ -91,7 +91,7 @@ def counter_clockwise(loop: Loop) -> Outline:
 def touching(pieces: list[Piece], inside_out: bool = False) -> list[Outline]:
     """The rings of a part with nodes of more than two pieces, where what is on their left is parted."""
     try:
-        loops = to_rings.loops_of(pieces, inside_out)
+        loops = loops_of(pieces, inside_out)
     except (IndexError, ValueError) as fault:
         raise Unusable("the pieces cross or lie on each other") from fault
     return [Outline(loop, *twice_area(loop)) for loop in loops]

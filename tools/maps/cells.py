@@ -11,14 +11,14 @@ from collections.abc import Iterable, Iterator, Sequence
 from dataclasses import dataclass
 from typing import NamedTuple
 
-from .. import limits
-from ..sessions import Piece
-from . import box_pairs
+from ..geometry import box_pairs
+from ..geometry.whole_maps import NOWHERE, Box, Ring
+from ..grid import limits
+from ..program import Piece
 from .drawing_in import Drawn, Wanted, is_inside, off
 from .numpy_drawing import Plain
 from .slots import CORE_MAX, Laid, ring_of, steps_of
 from .task_form import ALONE, COMMON, GAPS
-from .whole_maps import NOWHERE, Box, Ring
 
 MANY = 100  # of more boxes the pairs are found by grids
 HALVES_AT_ONCE = 4096

@@ -19,15 +19,17 @@ from itertools import islice
 from typing import Any
 from urllib.parse import urlsplit
 
+import overlayd
+
 from . import engines
 from .engines import TRIES, Engine, TaskFault
 from .tasks import TaskFolder, Work
 
 IN_HAND = 3  # tasks a thread of a worker: what is done, what waits, what is on its way
 WORKERS_WITHIN = 30  # seconds
-TOP = pathlib.Path(__file__).resolve().parents[2]
+SOURCES = pathlib.Path(overlayd.__file__).resolve().parents[1]
 # What a worker elsewhere needs.
-SENT = ("tools/*.py", "tools/maps/*.py", "tools/commands/__init__.py", "tools/commands/to_rings.py")
+SENT = ("*", "grid/*", "geometry/*", "files/*", "store/*", "maps/*")
 NEEDED = (
     "--dask needs Dask: apt-get install python3-distributed python3-cryptography, and run this by /usr/bin/python3; "
     "--jobs N needs nothing")
@@ -102,8 +104,8 @@ def packed(folder: pathlib.Path) -> pathlib.Path:
     """The modules that a task needs, as one file that workers import."""
     made = folder / "overlay_maps_modules.zip"
     with zipfile.ZipFile(made, "w") as file:
-        for source in (path for pattern in SENT for path in TOP.glob(pattern)):
-            file.write(source, source.relative_to(TOP))
+        for source in (path for pattern in SENT for path in SOURCES.glob(f"overlayd/{pattern}.py")):
+            file.write(source, source.relative_to(SOURCES))
     return made
 
 

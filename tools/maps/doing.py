@@ -14,15 +14,17 @@ import tempfile
 from collections.abc import Iterable, Iterator
 from typing import Any
 
-from .. import asking, ending, progress
-from ..sessions import Unusable
-from . import dask_engine, engines, spooled, tasks, windows, work
+from .. import ending, progress
+from ..files import spooled
+from ..geometry.whole_maps import MapFault
+from ..store import asking
+from ..store.sessions import Unusable
+from . import dask_engine, engines, tasks, windows, work
 from .dask_engine import DaskFault
 from .engines import Engine, TaskFault
 from .numpy_windows import ByWindows
 from .task_form import Found, Task
 from .tasks import FolderFault, TaskFolder
-from .whole_maps import MapFault
 from .work import ByProgram
 
 INPUTS = ("first", "second")  # the words that name maps

@@ -15,8 +15,8 @@ A ring that is left with one point lies in one half-plane.
 from collections.abc import Iterator, Sequence
 from typing import NamedTuple
 
+from ..geometry.whole_maps import Box, Point, Ring
 from .task_form import GAPS, Task
-from .whole_maps import Box, Point, Ring
 
 LEFT, RIGHT, UNDER, OVER = 1, 2, 4, 8
 

@@ -8,7 +8,7 @@ import math
 from collections.abc import Iterable, Sequence
 from fractions import Fraction
 
-from ..sessions import Corner
+from ..program import Point as Corner
 
 Term = tuple[int, int]  # a number and what it is divided by
 BITS_MAX = 1_000_000  # of what the terms of an exact sum are divided by, all together

@@ -7,8 +7,10 @@ from dataclasses import dataclass, field
 from fractions import Fraction
 from itertools import islice
 
-from ..sessions import Corner, Piece
-from . import boundaries, box_pairs, exact_area, touching
+from ..geometry import box_pairs
+from ..geometry.whole_maps import Box
+from ..program import Piece, Point as Corner
+from . import boundaries, exact_area, touching
 from .boundaries import Loop, Outline, Polygon
 from .cells import Cell, Parting
 from .drawing_in import Drawn, drawn
@@ -17,7 +19,6 @@ from .rounds import Program, Round
 from .sewing import sewn
 from .slots import Laid, Slots, packed, round_of
 from .task_form import ALONE_TOLD, COMMON, GAP, GAPS, NOBODY, OVERLAPS, TOUCHES, Found, Row, ShapeOf, Task, Unanswered
-from .whole_maps import Box
 
 AT_ONCE = 4096  # jobs and cells that are laid out before the next are
 CELLS_NAMED = 100  # of a job's cells without an answer: the features of so many are named

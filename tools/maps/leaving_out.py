@@ -6,11 +6,11 @@ from collections.abc import Mapping
 from fractions import Fraction
 from typing import NamedTuple
 
-from .. import limits
+from ..geometry.whole_maps import WholeMap
+from ..grid import limits
 from .cells import LAYERS_OF_JOB
 from .running import NAMED_MAX, some
 from .task_form import NOBODY, Unanswered
-from .whole_maps import WholeMap
 
 ADVICE = "say a greater --factor, or take features out there"
 

@@ -8,13 +8,13 @@ from fractions import Fraction
 from itertools import islice
 from typing import TextIO
 
+from ..geometry.whole_maps import Box, WholeMap
 from . import auditing, boundaries, exact_area, jobs, leaving_out, pieces, planning, tables
 from .planning import Question
 from .questions import named
 from .running import Say, found_of, read_map, some, tell_unit, written
 from .sewing import sewn
 from .task_form import COMMON, GAPS, NOBODY, Found, Row, Task
-from .whole_maps import Box, WholeMap
 
 OVERLAPS_OF, GAPS_OF = "overlaps", "gaps"  # what tasks are for
 MANY_SETS = 1_000  # of more sets of features that may lie on each other the audit looks at the features' own points

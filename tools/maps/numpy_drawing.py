@@ -7,10 +7,10 @@ from collections.abc import Iterator, Sequence
 
 import numpy as np
 
+from ..geometry.numpy_arrays import Numbers, of_array, spans
+from ..geometry.whole_maps import Ring, as_box
 from .drawing_in import LEFT, OVER, RIGHT, UNDER, Drawn, Wanted, drawn
-from .numpy_arrays import Numbers, of_array, spans
 from .task_form import GAPS, Task
-from .whole_maps import Ring, as_box
 
 POINTS_AT_ONCE = 400_000
 

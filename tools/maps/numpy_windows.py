@@ -5,12 +5,12 @@ from itertools import islice
 
 import numpy as np
 
+from ..geometry.numpy_arrays import Numbers
+from ..geometry.whole_maps import Ring, as_box
 from .drawing_in import Drawn, Wanted, drawn, framed, wanted_of
-from .numpy_arrays import Numbers
 from .numpy_drawing import Flat, Plain, Points
 from .slots import CORE_MAX
 from .task_form import Task
-from .whole_maps import Ring, as_box
 from .windows import Part, Refused, drawn_of, is_window, layer_of, middle_of, near, output_of, padded, windows
 
 HEAD_WORDS = 21  # of 32 bits: core, frame and origin of 64 bits, and how many rings follow

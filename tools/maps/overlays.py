@@ -8,12 +8,13 @@ from fractions import Fraction
 from itertools import combinations
 from typing import TextIO
 
-from .. import coordinate_systems
-from . import auditing, box_pairs, exact_area, leaving_out, pieces, planning, tables
+from ..files import coordinate_systems
+from ..geometry import box_pairs
+from ..geometry.whole_maps import WholeMap
+from . import auditing, exact_area, leaving_out, pieces, planning, tables
 from .planning import Question
 from .running import Say, check_crs, found_of, read_map, some, tell_unit, written
 from .task_form import ALONE, COMMON, Found, Row, Task
-from .whole_maps import WholeMap
 
 SETS_MAX = 10_000  # so many sets of others that may overlap within a feature are looked at by the audit
 BOTH, FIRST, SECOND = "both", "first", "second"  # what tasks are for

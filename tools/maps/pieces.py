@@ -9,10 +9,9 @@ from collections.abc import Iterable, Iterator, Mapping
 from pathlib import Path
 from typing import Any
 
-from .. import ending, writing
-from ..commands import to_geojson
-from ..sessions import Unusable
-from . import gdal_writing
+from .. import ending
+from ..files import coordinate_systems, gdal_writing, writing
+from ..store.sessions import Unusable
 
 Piece = tuple[Mapping[str, Any], bytes]
 """Properties, and Well-Known Binary of a multipolygon."""
@@ -51,7 +50,7 @@ def feature_text(properties: Mapping[str, Any], wkb: bytes) -> str:
 
 def texts(pieces: Iterable[Piece], crs: str | None) -> Iterator[str]:
     """A GeoJSON text, a feature a line."""
-    yield f'{{"type": "FeatureCollection",\n{to_geojson.crs_member(crs)}"features": [\n'
+    yield f'{{"type": "FeatureCollection",\n{coordinate_systems.member(crs)}"features": [\n'
     before = ""
     for properties, wkb in pieces:
         yield before + feature_text(properties, wkb)

@@ -8,13 +8,14 @@ from typing import NamedTuple
 
 import numpy as np
 
-from .. import limits
-from . import box_pairs, spooled
+from ..files import spooled
+from ..geometry import box_pairs
+from ..geometry.numpy_arrays import Numbers, of_array
+from ..geometry.whole_maps import NOWHERE, Box, Ring, WholeMap, as_box
+from ..grid import limits
 from .cells import halved
 from .drawing_in import spared
-from .numpy_arrays import Numbers, of_array
 from .task_form import NOBODY, Task
-from .whole_maps import NOWHERE, Box, Ring, WholeMap, as_box
 
 JOBS_OF_TASK = 4000
 POINTS_OF_TASK = 400_000

@@ -5,7 +5,7 @@ from collections.abc import Iterable, Iterator, Sequence
 from dataclasses import dataclass
 from typing import TextIO
 
-from .. import coordinate_systems
+from ..files import coordinate_systems
 from . import leaving_out, planning, tables
 from .planning import Question
 from .running import Say, check_crs, found_of, read_map, tell_unit, written

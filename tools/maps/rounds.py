@@ -11,8 +11,7 @@ from dataclasses import dataclass
 from typing import BinaryIO, cast
 
 from .. import ending
-from ..overlay_client import OVERSIZE, Ended, Refused, Reply, Request, Session
-from ..sessions import Piece
+from ..program import OVERSIZE, Ended, Piece, Refused, Reply, Request, Session
 from . import deaths
 
 LETTERS = "ABCDEFGHJKLMNOPQRSTUVWXYZ"  # of layers; I is the one that is defined

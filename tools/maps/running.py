@@ -8,12 +8,14 @@ import pathlib
 from collections.abc import Callable, Iterable, Iterator
 from typing import TextIO
 
-from .. import asking, coordinate_systems, ending, gdal_files, writing
-from ..rounding import shown, told_longer
-from ..sessions import Unusable
-from . import doing, gdal_maps, geojson_maps
+from .. import ending
+from ..files import coordinate_systems, gdal_files, gdal_maps, geojson_maps, writing
+from ..files.rounding import shown, told_longer
+from ..geometry.whole_maps import MapFault, ReadMap, Told
+from ..store import asking
+from ..store.sessions import Unusable
+from . import doing
 from .task_form import Found, Task
-from .whole_maps import MapFault, ReadMap, Told
 
 Say = Callable[[str], None]
 NAMED_MAX = 10  # so many features are named where something is reported of them

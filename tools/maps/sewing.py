@@ -7,7 +7,7 @@ along it stays. No two stretches are joined to one, since at an end between them
 from collections.abc import Iterable, Iterator
 from fractions import Fraction
 
-from ..sessions import Corner, Piece
+from ..program import Piece, Point as Corner
 
 
 def line_of(piece: Piece) -> tuple[int, int] | None:

@@ -8,10 +8,10 @@ from collections.abc import Iterable, Iterator, Sequence
 from dataclasses import dataclass, field
 from typing import NamedTuple
 
-from .. import limits
-from ..sessions import Corner
+from ..geometry.whole_maps import Box, Ring
+from ..grid import limits
+from ..program import Point as Corner
 from .rounds import LETTERS, Round
-from .whole_maps import Box, Ring
 
 LOW, WIDE = -limits.COORDINATE_MAX, 2 * limits.COORDINATE_MAX
 CORE_MAX = 2**20  # a core as wide, with edges of at most 2^19 on each side, has a frame as wide as the plane

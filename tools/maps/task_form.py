@@ -16,7 +16,7 @@ from collections.abc import Iterable, Iterator, Sequence
 from dataclasses import astuple, dataclass, field
 from fractions import Fraction
 
-from .whole_maps import Box, WholeMap, numbers
+from ..geometry.whole_maps import Box, WholeMap, numbers
 
 COMMON, ALONE, GAPS = "common", "alone", "gaps"
 OVERLAPS, TOUCHES, ALONE_TOLD, GAP = "overlaps", "touches", "alone", "gap"

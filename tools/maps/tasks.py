@@ -22,7 +22,7 @@ from collections.abc import Callable, Iterable, Iterator, Mapping
 from dataclasses import dataclass
 from typing import Any
 
-from .. import writing
+from ..files import writing
 
 Work = Callable[[bytes], bytes]
 """What does a task: from what a task file holds to what its result file holds. It can be pickled."""

@@ -1,8 +1,8 @@
 """Whether two features that have no area in common touch: an edge of one has a common point with an edge of the
 other."""
 
+from ..geometry.whole_maps import Box, Point, Ring
 from .drawing_in import Drawn, off
-from .whole_maps import Box, Point, Ring
 
 Step = tuple[Point, Point]
 

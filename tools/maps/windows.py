@@ -11,12 +11,13 @@ from collections.abc import Iterable, Sequence
 from dataclasses import dataclass
 from pathlib import Path
 
-from .. import asking, ending
-from ..sessions import Unusable
+from .. import ending
+from ..geometry.whole_maps import Box, Point, Ring
+from ..store import asking
+from ..store.sessions import Unusable
 from .drawing_in import Drawn, Wanted, drawn
 from .rounds import ProgramEnded, ProgramRefused
 from .slots import CORE_MAX
-from .whole_maps import Box, Point, Ring
 
 WINDOW = "overlay_window"
 TOO_MANY_STEPS = 6  # of a layer

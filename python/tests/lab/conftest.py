@@ -1,33 +1,17 @@
-"""The built programs that tests ask: those of the gate, or those that are named."""
+"""The built programs that tests ask."""
 
 from __future__ import annotations
 
-import pathlib
-
 import pytest
 
-from bench import TOP
-
-
-def pytest_addoption(parser: pytest.Parser) -> None:
-    for name in ("overlayd", "overlay_live"):
-        parser.addoption(f"--{name.replace('_', '-')}", metavar="PROGRAM", help=f"the built {name}")
-
-
-def built(config: pytest.Config, name: str) -> str:
-    """Where a program is; tests of one that is not named and not built are left out."""
-    named = config.getoption(name, default=None)
-    found = pathlib.Path(named or TOP / "crates" / name / "out" / name).resolve()
-    if not found.is_file():
-        (pytest.fail if named else pytest.skip)(f"{found} is not built")
-    return str(found)
+from ..common import Programs
 
 
 @pytest.fixture(scope="session")
-def overlayd(pytestconfig: pytest.Config) -> str:
-    return built(pytestconfig, "overlayd")
+def overlayd() -> str:
+    return Programs.batched or pytest.skip("no built overlayd: --program names it")
 
 
 @pytest.fixture(scope="session")
-def overlay_live(pytestconfig: pytest.Config) -> str:
-    return built(pytestconfig, "overlay_live")
+def overlay_live() -> str:
+    return Programs.live or pytest.skip("no built overlay_live: --live names it")

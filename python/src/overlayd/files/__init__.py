@@ -1,0 +1,1 @@
+"""Maps in files: read, rounded to whole numbers, and written, by GDAL and as text."""

@@ -1,0 +1,243 @@
+"""Sweeps the pieces of a boundary from left to right, and finds of each on which side the inside is, and what is below.
+
+For n pieces this takes time in proportion to n log n, however they lie.
+"""
+
+import contextlib
+import functools
+import gc
+from collections.abc import Iterable, Iterator
+from dataclasses import dataclass
+
+from ..ending import Unusable
+from ..program import Piece, Point as Corner
+
+BLOCK_MAX = 512
+# A, B, C with A X + B Y + C W > 0 above a piece (B is 0 where it is vertical), and the piece's number.
+Line = list[int]
+
+
+@contextlib.contextmanager
+def uncollected() -> Iterator[None]:
+    """Keeps the collector of cycles away from work that makes none, and many objects that it would look at."""
+    was_enabled = gc.isenabled()
+    gc.disable()
+    try:
+        yield
+    finally:
+        if was_enabled:
+            gc.enable()
+
+
+def turn(a: Corner, b: Corner, c: Corner) -> int:
+    """Greater than 0 where c lies to the left of the line from a to b, less where to the right, 0 on it."""
+    return (
+        a[0] * (b[1] * c[2] - b[2] * c[1]) - a[1] * (b[0] * c[2] - b[2] * c[0]) + a[2] * (b[0] * c[1] - b[1] * c[0])
+    )
+
+
+def compare(a: Corner, b: Corner) -> int:
+    """The order of points: by x, then by y."""
+    across = a[0] * b[2] - b[0] * a[2]
+    return across if across else a[1] * b[2] - b[1] * a[2]
+
+
+def ordered(corners: Iterable[Corner]) -> list[Corner]:
+    """The corners by x, then by y.
+
+    Two fractions that are not equal differ by 1 through the product of their denominators or more. So the whole parts
+    of their multiples by a greater number than any such product have the same order.
+    """
+    found = list(corners)
+    most = max((w for _, _, w in found), default=1)
+    if most == 1:
+        return sorted(found)
+    bits = 2 * most.bit_length()
+    return sorted(found, key=lambda corner: ((corner[0] << bits) // corner[2], (corner[1] << bits) // corner[2]))
+
+
+def middle(piece: Piece) -> Corner:
+    (a, b) = piece
+    return a[0] * b[2] + b[0] * a[2], a[1] * b[2] + b[1] * a[2], 2 * a[2] * b[2]
+
+
+def line_of(piece: Piece, number: int) -> Line:
+    (ax, ay, aw), (bx, by, bw) = piece
+    return [ay * bw - aw * by, aw * bx - ax * bw, ax * by - ay * bx, number]
+
+
+class Status:
+    """The pieces that a line in x meets, just right of it, from the lowest up.
+
+    They are kept in blocks, so that few move at a time.
+    """
+
+    def __init__(self) -> None:
+        self.blocks: list[list[Line]] = [[]]  # none of several is empty
+        self.last: tuple[int, int] | None = None  # the block and the place after what began last, where it is known
+
+    def block_of(self, point: Corner) -> int:
+        """The last block whose first piece passes under a point, or the first one where there is none."""
+        x, y, w = point
+        low, high = 1, len(self.blocks)
+        while low < high:
+            half = (low + high) // 2
+            a, b, c, _ = self.blocks[half][0]
+            if a * x + b * y + c * w > 0:
+                low = half + 1
+            else:
+                high = half
+        return low - 1
+
+    def place_of(self, point: Corner) -> tuple[int, int]:
+        """The block and the place in it of the first piece that does not pass under a point."""
+        place = self.block_of(point)
+        return place, passing_under(self.blocks[place], point)
+
+    def replace(self, point: Corner, count: int, begun: list[Line], goes_on: bool) -> tuple[list[Line], int | None]:
+        """Puts pieces that begin at a point in the place of so many that end there; these, and the piece below them.
+
+        Where a vertical piece leads to the point from the one before, no other piece is between.
+        """
+        place, at = self.last if goes_on and self.last else self.place_of(point)
+        block = self.blocks[place]
+        ended = block[at : at + count]
+        block[at : at + count] = begun
+        while len(ended) < count and place + 1 < len(self.blocks):
+            ended += self.first_of(place + 1, count - len(ended))
+        self.check_above(place, at + len(begun), point)
+        below = block[at - 1][3] if at else None
+        self.last = place, at + len(begun)
+        if not block or len(block) > BLOCK_MAX:
+            self.fit(place)
+            self.last = None
+        return ended, below
+
+    def check_above(self, place: int, at: int, point: Corner) -> None:
+        """Refuses a piece that passes through a point at which it does not end."""
+        block = self.blocks[place]
+        if at == len(block):
+            if place + 1 == len(self.blocks):
+                return
+            block, at = self.blocks[place + 1], 0
+        a, b, c, _ = block[at]
+        if a * point[0] + b * point[1] + c * point[2] >= 0:
+            raise Unusable("two pieces lie on each other")
+
+    def first_of(self, place: int, count: int) -> list[Line]:
+        """Takes so many pieces, or as many as there are, from the begin of a block."""
+        block = self.blocks[place]
+        taken = block[:count]
+        del block[:count]
+        self.fit(place)
+        return taken
+
+    def fit(self, place: int) -> None:
+        """Parts a block that is too long, and drops one that is empty."""
+        block = self.blocks[place]
+        if len(block) > BLOCK_MAX:
+            self.blocks[place : place + 1] = [block[: len(block) // 2], block[len(block) // 2 :]]
+        elif not block and len(self.blocks) > 1:
+            del self.blocks[place]
+
+
+def passing_under(lines: list[Line], point: Corner) -> int:
+    """How many of the pieces pass under a point."""
+    x, y, w = point
+    low, high = 0, len(lines)
+    while low < high:
+        half = (low + high) // 2
+        a, b, c, _ = lines[half]
+        if a * x + b * y + c * w > 0:
+            low = half + 1
+        else:
+            high = half
+    return low
+
+
+@dataclass
+class Boundary:
+    """Pieces, and what a sweep finds of each; corners are numbered in their order by x and then by y."""
+
+    corners: list[Corner]
+    left: list[int]  # the number of the corner at its left end
+    right: list[int]  # and of that at its right end
+    inside_under: list[bool]  # whether the inside is below it, or right of it where it is vertical
+    below: list[int | None]  # where several begin, the piece just below its left end, or before it among these
+
+    def directed(self) -> tuple[list[int], list[int]]:
+        """From where and to where each piece goes, so that the inside is on its left."""
+        sides = list(zip(self.left, self.right, self.inside_under))
+        return ([b if reverse else a for a, b, reverse in sides], [a if reverse else b for a, b, reverse in sides])
+
+
+def grouped(numbers: Iterable[int], places: list[int], count: int) -> Iterator[list[int]]:
+    """For each place under a count the numbers that are there, in their order."""
+    found = sorted(numbers, key=places.__getitem__)
+    at = 0
+    for place in range(count):
+        begin = at
+        while at < len(found) and places[found[at]] == place:
+            at += 1
+        yield found[begin:at]
+
+
+def by_angle(pieces: list[Piece], numbers: list[int]) -> list[int]:
+    """Pieces that begin at one corner, from the lowest up."""
+    def order(one: int, other: int) -> int:
+        side = turn(*pieces[one], pieces[other][1])
+        if side == 0:
+            raise Unusable("two pieces lie on each other")
+        return -1 if side > 0 else 1
+    return sorted(numbers, key=functools.cmp_to_key(order)) if len(numbers) > 1 else numbers
+
+
+class Sweep:
+    """A sweep over pieces that meet at their ends alone, corner by corner."""
+
+    def __init__(self, pieces: list[Piece]) -> None:
+        self.pieces = pieces
+        corners = ordered({corner for piece in pieces for corner in piece})
+        number_of = {corner: number for number, corner in enumerate(corners)}
+        left, right = ([number_of[piece[end]] for piece in pieces] for end in (0, 1))
+        self.lines = [line_of(piece, number) for number, piece in enumerate(pieces)]
+        self.found = Boundary(corners, left, right, [False] * len(pieces), [None] * len(pieces))
+        self.status = Status()
+
+    def corners(self) -> Iterator[tuple[Corner, list[int], list[int], bool]]:
+        """Each corner: the pieces that start there, those that end there and are not vertical, whether one is."""
+        found, count = self.found, len(self.found.corners)
+        tops = {found.right[number] for number, line in enumerate(self.lines) if not line[1]}
+        starts = grouped(range(len(self.pieces)), found.left, count)
+        stops = grouped((number for number, line in enumerate(self.lines) if line[1]), found.right, count)
+        for place, (corner, own, others) in enumerate(zip(found.corners, starts, stops)):
+            yield corner, own, others, place in tops
+
+    def go_on(self, before: int, after: int) -> None:
+        """One piece goes on where another ends: it takes over its place, and the side of the inside."""
+        self.lines[before][:] = self.lines[after]
+        self.lines[after] = self.lines[before]
+        self.found.inside_under[after] = self.found.inside_under[before]
+        self.status.last = None
+
+    def turn_at(self, corner: Corner, starts: list[int], stops: list[int], is_top: bool) -> None:
+        """Pieces start and end at a corner."""
+        begun = [self.lines[number] for number in starts if self.lines[number][1]]
+        ended, below = self.status.replace(corner, len(stops), begun, is_top)
+        if sorted([line[3] for line in ended]) != stops:
+            raise Unusable("pieces cross each other")
+        for number in starts:
+            self.found.below[number] = below
+            self.found.inside_under[number] = below is not None and not self.found.inside_under[below]
+            below = number
+
+
+def swept(pieces: list[Piece]) -> Boundary:
+    """What a sweep from left to right finds of pieces that meet at their ends alone."""
+    sweep = Sweep(pieces)
+    for corner, starts, stops, is_top in sweep.corners():
+        if len(starts) == len(stops) == 1 and not is_top and sweep.lines[starts[0]][1]:
+            sweep.go_on(stops[0], starts[0])
+        else:
+            sweep.turn_at(corner, by_angle(pieces, starts), stops, is_top)
+    return sweep.found

@@ -1,0 +1,1 @@
+"""Stores: their layers, the features that these hold, and the files that lie beside them."""

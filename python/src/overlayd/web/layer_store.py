@@ -1,0 +1,313 @@
+"""The layers of a running overlay_live as the web shows them: listed, joined into polygons, located, changed.
+
+All that a process does not keep is kept here under a layer's revision, a digest of what the layer is made of: its own
+text, or its definition with the revisions of the layers that this names. So a change to one layer leaves what was
+worked out for others, and a revision that comes again finds its polygons again.
+"""
+
+from __future__ import annotations
+
+import contextlib
+import functools
+import threading
+import time
+from collections.abc import Callable, Iterator, Mapping, Sequence
+from typing import NamedTuple, cast
+
+from ..grid import limits
+from ..program import OVERSIZE, Ended, Piece, Refused, Server, Session, number_of
+from . import shapes
+from .joining import Joiners, TooLarge
+from .kept_values import Kept
+from .map_scale import MapScale
+from .rescue import NotWritten, Rescue
+from .scratch import Scratch
+from .views import Busy, Hold, Listed, Places, View, listed
+
+PIECES_MOST = 200_000
+KEPT_MOST = 500_000
+REVISIONS_MOST = 1000
+WAITING_MOST = 12
+"""How many questions make polygons, or wait for them, at once."""
+PATIENCE = 120.0
+"""How many seconds a question waits for polygons that are joined."""
+JOINING = 60.0
+"""How many seconds the pieces of one layer may take to be joined, and the rings of a base layer to become pieces."""
+TURN = 10.0
+"""How many seconds a question or a change waits for its turn."""
+BUILDING, LOOK = 5.0, 0.03
+"""How many seconds a question waits for a layer that is being built, and how many pass between two looks."""
+LOST = 300.0
+"""After how many seconds without a reply a session is lost, and not only late."""
+FORGOTTEN = 600.0
+"""How many seconds it is known that a layer was too large."""
+
+
+class Pending(Exception):
+    """A layer is being built."""
+
+
+class Changed(Exception):
+    """A layer has another revision than the one that was asked for."""
+
+
+class Protected(Exception):
+    """A layer is part of something else, and is not changed by itself."""
+
+
+class NotDurable(Exception):
+    """A change was accepted as a version, and the store could not keep it."""
+
+    def __init__(self, version: int, fault: Exception) -> None:
+        super().__init__(f"accepted as version {version}, but not durable: {fault}")
+        self.version = version
+
+
+class Joined(NamedTuple):
+    """The polygons of a layer at a revision."""
+
+    revision: str
+    features: list[shapes.Feature]
+
+    def weight(self) -> int:
+        return 1 + sum(len(ring) for one in self.features for ring in one.rings)
+
+
+class LayerStore:
+    """The layers of a process. The process has no other sessions than those of `server`, so versions are counted here.
+
+    version: the number that the process began with, and kept: whether it is the number of a file. rescue: what is begun
+    where the file is not written any more. end: called with the reason where the front cannot go on.
+    """
+
+    def __init__(
+        self, server: Server, scratch: Scratch, scale: MapScale, *, version: int, kept: bool, writable: bool,
+        rescue: Rescue | None = None, end: Callable[[str], None] = lambda reason: None,
+    ) -> None:
+        self.scale, self.kept, self.writable = scale, kept, writable
+        self.version = self.durable = version
+        self._server, self._scratch = server, scratch
+        self._rescue, self._end, self._gone = rescue, end, cast("str | None", None)
+        self._salt = scale.scale.text()
+        self._hold = Hold()
+        self._listing: Mapping[str, Listed] | None = None
+        self._joined: Kept[str, Joined] = Kept(KEPT_MOST, Joined.weight)
+        self._extents: Kept[str, list[shapes.Box]] = Kept(REVISIONS_MOST, lambda _: 1)
+        self._too_large: Kept[str, tuple[float, str]] = Kept(REVISIONS_MOST, lambda _: 1)
+        self._joiners, self._reminding, self._noting = Joiners(JOINING), threading.Lock(), threading.Lock()
+        self._refusal: Callable[[str], str | None] = lambda _: None
+        self.places = Places(WAITING_MOST)
+
+    def close(self) -> None:
+        self._joiners.close()
+
+    # ---- what there is
+
+    @contextlib.contextmanager
+    def view(self) -> Iterator[View]:
+        """What there is at one version: until the end of the block nobody changes a layer."""
+        if self._gone:
+            raise Ended(self._gone)
+        with self._server.session(timeout=TURN) as one, self._hold.shared(TURN):
+            held = self._listing
+            if held is None:
+                held = self._listing = listed(one.layers(), self._salt)
+            yield View(one, held, self._extents, self.version)
+
+    def layers(self) -> Mapping[str, Listed]:
+        """All layers in order, by name."""
+        with self.view() as view:
+            return view.layers
+
+    def layer(self, name: str) -> Listed:
+        with self.view() as view:
+            return view.layer(name)
+
+    # ---- boundaries
+
+    def joined(self, name: str, revision: str | None = None) -> Joined:
+        """The polygons of a layer, at a revision that was reported before or the present one;
+        Pending if it is not built."""
+        held = self._joined.get(revision) if revision else None
+        end = time.monotonic() + PATIENCE
+        while held is None:
+            found = self.layer(name)
+            if revision not in (None, found.revision):
+                raise Changed(f"{name} has changed since revision {revision}")
+            self._check_size(found.revision)
+            try:
+                held = self._joined.made(found.revision, functools.partial(self._join, found), PATIENCE, self.places)
+            except Changed:
+                if time.monotonic() > end:
+                    raise
+        return held
+
+    def _check_size(self, revision: str) -> None:
+        """A revision that was too large is so again, for a while: a machine that was busy is not so for ever."""
+        known = self._too_large.get(revision)
+        if known and time.monotonic() - known[0] < FORGOTTEN:
+            raise TooLarge(known[1])
+
+    @contextlib.contextmanager
+    def _noted_size(self, revision: str) -> Iterator[None]:
+        try:
+            yield
+        except TooLarge as fault:
+            self._too_large.put(revision, (time.monotonic(), str(fault)))
+            raise
+
+    def _join(self, found: Listed) -> Joined:
+        with self._noted_size(found.revision):
+            pieces = self._built_pieces(found) if found.layer.text is None else self._base_pieces(found.layer.text)
+            return Joined(found.revision, self._features(found.layer.name, pieces))
+
+    def _features(self, name: str, pieces: list[Piece]) -> list[shapes.Feature]:
+        most = f"up to {PIECES_MOST} pieces are joined, within {self._joiners.seconds:g} seconds: ask for its tiles"
+        if len(pieces) > PIECES_MOST:
+            raise TooLarge(f"{name} has {len(pieces)} pieces, and {most}")
+        try:
+            return self._joiners.features(pieces, self.scale)
+        except TimeoutError:
+            raise TooLarge(f"{name} has {len(pieces)} pieces that take longer, and {most}") from None
+
+    def _base_pieces(self, *texts: str) -> list[Piece]:
+        """The boundary of what an odd number of texts have."""
+        seconds = self._scratch.seconds
+        try:
+            return self._scratch.pieces(texts, TURN)
+        except TimeoutError:
+            raise TooLarge(f"its rings take longer than the {seconds:g} seconds that they are given") from None
+        except Refused as fault:
+            if fault.number != OVERSIZE:
+                raise
+            raise TooLarge(f"its rings have more than {limits.PIECES_MAX} pieces in one column") from fault
+
+    def _built_pieces(self, found: Listed) -> list[Piece]:
+        """All pieces of a derived layer. Waits BUILDING seconds for it, by no session, as that could last for ever."""
+        columns: dict[int, list[Piece]] = {}
+        end = time.monotonic() + BUILDING
+        while not self._add_built(found, columns):
+            if time.monotonic() > end:
+                self._remind(found.layer.name)
+                raise Pending(f"{found.layer.name} is being built: ask again")
+            time.sleep(LOOK)
+        return [piece for column in sorted(columns) for piece in columns[column]]
+
+    def _add_built(self, found: Listed, columns: dict[int, list[Piece]]) -> bool:
+        """Adds the columns that are built by now, and says whether these are all. Of one revision each is the same."""
+        with self.view() as view:
+            if view.layer(found.layer.name).revision != found.revision:
+                raise Changed(f"{found.layer.name} changes all the time")
+            missing = [column for column in range(limits.COLUMNS) if column not in columns]
+            for column, pieces in zip(missing, view.columns(found.layer.name, missing)):
+                if pieces is not None:
+                    columns[column] = pieces
+        return len(columns) == limits.COLUMNS
+
+    def _remind(self, name: str) -> None:
+        """Has tiles tried again that were given back for want of memory: WAIT does so, and is answered at once.
+
+        Of others it is answered when they are built. So it is asked by a thread of its own, and one at a time.
+        """
+        if not self._server.slow.lost() and self._reminding.acquire(blocking=False):
+            threading.Thread(target=self._wait, args=(name,), daemon=True).start()
+
+    def _wait(self, name: str) -> None:
+        """Asks WAIT of a layer once, so that tiles given back for want of memory are tried again."""
+        try:  # an OSError or a ValueError where its files are closed meanwhile
+            with contextlib.suppress(Refused, Ended, OSError, ValueError):
+                with self._server.session(slow=True, timeout=0) as one:
+                    one.wait(name)
+        finally:
+            self._reminding.release()
+
+    # ---- changes
+
+    def inside_of(self, texts: Sequence[str]) -> list[shapes.Feature]:
+        """The polygons of what an odd number of texts have."""
+        key = "".join(texts)
+        self._check_size(key)
+        with self._noted_size(key):
+            return self._features("a feature", self._base_pieces(*texts))
+
+    def protect(self, refusal: Callable[[str], str | None]) -> None:
+        """Has changes of layers refused that are parts of something else, by what says why."""
+        self._refusal = refusal
+
+    def settle(self) -> None:
+        """Has all that was accepted durable, where there is a file."""
+        if self.kept:
+            with self._server.session(slow=True, timeout=TURN) as one:
+                one.layers()  # SYNC waits for what its session has seen
+                self._sync(one, self.version)
+
+    def must_be_written(self) -> None:
+        """Refuses a change where the store is not written any more."""
+        if self._rescue and self._rescue.told:
+            raise NotWritten(f"nothing is changed: {self._rescue.told}")
+
+    def change(self, lines: Sequence[str], *, own: bool = False) -> int:
+        """Accepts commands as one version, whose number it gives. With a file, it is durable before this returns.
+
+        own: they change the parts themselves.
+        """
+        for line in () if own else lines:
+            reason = self._refusal(line.split(" ", 2)[1])
+            if reason:
+                raise Protected(reason)
+        self.must_be_written()
+        with self._server.session(slow=True, timeout=TURN) as one:
+            with self._hold.alone(TURN):
+                version = self.version = self._accepted(one, lines)
+            if self.kept:
+                self._sync(one, version)
+            return version
+
+    def _accepted(self, one: Session, lines: Sequence[str]) -> int:
+        """The number of the version that commands have made. Where no reply comes, nobody knows whether they have."""
+        self._listing = None
+        try:
+            return one.batch(lines) if len(lines) > 1 else number_of(one.ask(lines[0]))
+        finally:
+            if one.lost_since is not None:
+                self._gone = "a change has had no reply: nobody knows which version is the last"
+                self._end(self._gone)
+
+    def _sync(self, one: Session, version: int) -> None:
+        try:
+            durable = one.sync()
+        except (Refused, TimeoutError) as fault:
+            if self._rescue and isinstance(fault, Refused):
+                self._rescue.begin(fault)
+            raise NotDurable(version, fault) from fault
+        with self._noting:  # replies come in any order
+            self.durable = max(self.durable, durable)
+        if durable < version:
+            raise NotDurable(version, Busy(f"version {durable} is"))
+
+    # ---- what is lost
+
+    def lost(self) -> list[str]:
+        """What the front has lost, in words: sessions whose replies are late, and the store where it is not written."""
+        found = [text for text in (self._gone, self._rescue and self._rescue.told) if text]
+        for kind, pool in (("questions", self._server.quick), ("changes", self._server.slow)):
+            since = pool.lost()
+            if since:
+                found.append(f"{len(since)} of {len(pool)} sessions for {kind}: no reply for {max(since):.0f} seconds")
+        return found
+
+    def has_lost_all(self) -> bool:
+        """Whether all sessions of a kind are lost, and not only for a while."""
+        pools = [(len(pool), pool.lost()) for pool in (self._server.quick, self._server.slow)]
+        return any(len(since) == count and min(since) > LOST for count, since in pools)
+
+
+def number_in_file(store: str, program: str) -> int:
+    """The number of the version that a file has, which no question gives where it is opened for reading alone.
+
+    What is put there lives in memory: so the number of one more version, made by a process that ends at once, gives it.
+    """
+    with Server(store, read_only=True, program=program) as probe, probe.session() as one:
+        layers = one.layers()
+        name, text = (layers[0].name, layers[0].text) if layers else ("a", None)
+        return one.put(name, text or "MULTIPOLYGON EMPTY") - 1

@@ -1,0 +1,154 @@
+"""Runs a front as the words of its command say: what it opens, what ends it, and with which status.
+
+A module for the command overlay_web.py.
+"""
+
+from __future__ import annotations
+
+import argparse
+import contextlib
+import multiprocessing
+import os
+import signal
+import sys
+import threading
+import time
+from collections.abc import Iterator
+
+from .. import ending as endings
+from ..grid import scale as scales
+from ..program import MOST_SESSIONS, Ended, Refused, Server
+from ..store import asking, features, sessions
+from .by_waitress import serve
+from .feature_store import FeatureStore, Unlike
+from .front import Front
+from .layer_store import JOINING, LayerStore, number_in_file
+from .map_scale import MapScale
+from .rescue import Rescue
+from .scratch import Scratch
+from .serving import Unheard
+from .systems import Systems, Unprojected, by_pyproj
+
+PATIENCE = 300.0
+"""How many seconds a session waits for a reply before it is late."""
+
+
+def scale_of(words: argparse.Namespace) -> MapScale:
+    """The scale of the words, or of the sidecar, or that of whole numbers."""
+    beside = scales.beside(words.store) if words.store else None
+    path = words.scale or (beside if beside and beside.is_file() else None)
+    return MapScale(scales.read(path) if path else scales.Scale())
+
+
+def features_of(words: argparse.Namespace, store: LayerStore) -> FeatureStore | None:
+    """The features of the words, or of the file beside the store, or none."""
+    beside = features.beside(words.store) if words.store and not words.create else None
+    path = words.features or (beside if beside and beside.is_file() else None)
+    return None if path is None or words.no_features else FeatureStore(store, path, parts=words.parts)
+
+
+def systems_of(words: argparse.Namespace, scale: MapScale) -> Systems:
+    """The systems that a store is served in: a projected one as CRS84 too."""
+    projected = scale.crs is not None and not scale.is_geographic() and not words.as_stored
+    return Systems(scale, by_pyproj(str(scale.crs)) if projected else None)
+
+
+class Ending:
+    """Why the front ends where no signal ends it: the first reason counts, and telling it ends the front."""
+
+    def __init__(self) -> None:
+        self.reason: str | None = None
+
+    def end(self, reason: str) -> None:
+        self.reason = self.reason or reason
+        os.kill(os.getpid(), signal.SIGTERM)
+
+    def on_signal(self, *_: object) -> None:
+        """Ends what the main thread does. Where Python drops that, as amid a clearing up, it is done again."""
+        signal.setitimer(signal.ITIMER_REAL, 1)
+        sys.exit(0 if self.reason is None else 1)
+
+
+@contextlib.contextmanager
+def opened(words: argparse.Namespace, ending: Ending) -> Iterator[tuple[Server, LayerStore]]:
+    """The running process over the store, and its layers; where one of them is lost the front ends."""
+    scale, reads = scale_of(words), not words.writable
+    with contextlib.ExitStack() as open_ones:
+        server = open_ones.enter_context(
+            Server(
+                words.store, create=words.create, read_only=reads, sessions=MOST_SESSIONS, workers=words.workers,
+                program=words.program, timeout=PATIENCE,
+            )
+        )
+        scratch = open_ones.enter_context(Scratch(words.program, JOINING))
+        version = 0
+        if reads:
+            version = number_in_file(words.store, words.program)
+        elif words.store:
+            with server.session(slow=True) as one:
+                version = one.sync()
+        rescue = Rescue(words.store, words.program, ending.end) if words.store and not reads else None
+        store = LayerStore(
+            server, scratch, scale, version=version, kept=bool(words.store), writable=words.writable, rescue=rescue,
+            end=ending.end,
+        )
+        open_ones.callback(store.close)
+        for watch in (watch_server, watch_scratch, watch_sessions):
+            threading.Thread(target=watch, args=(server, scratch, store, ending), daemon=True).start()
+        yield server, store
+
+
+def watch_server(server: Server, _: Scratch, __: LayerStore, ending: Ending) -> None:
+    """Ends the front where overlay_live has ended, so that who keeps it running starts both anew."""
+    ending.end(f"overlay_live has ended with status {server.process.wait()}")
+
+
+def watch_scratch(_: Server, scratch: Scratch, __: LayerStore, ending: Ending) -> None:
+    ending.end(f"overlay_live, by which base layers are worked out, has ended with status {scratch.wait()}")
+
+
+def watch_sessions(_: Server, __: Scratch, store: LayerStore, ending: Ending) -> None:
+    """Ends the front where it could answer no question of a kind, or make no change, ever again."""
+    while not store.has_lost_all():
+        time.sleep(1)
+    ending.end(f"overlay_live does not answer: {', '.join(store.lost())}")
+
+
+def run(words: argparse.Namespace, hosts: set[str]) -> int:
+    """Serves what the words of the command say, under the names of hosts, and gives the status at its end."""
+    ending = Ending()
+    for number in (signal.SIGTERM, signal.SIGALRM):
+        signal.signal(number, ending.on_signal)
+    try:
+        words.program = words.program or asking.found_program((asking.LIVE,))
+        with opened(words, ending) as (server, store):
+            try:
+                with contextlib.suppress(SystemExit, KeyboardInterrupt):
+                    maps = features_of(words, store)
+                    systems = systems_of(words, store.scale)
+                    front = Front(store, hosts, words.base, words.leaflet, maps, systems)
+                    serve(front, words.host, words.port)
+            finally:  # a fault goes on, and what ends because of it does not end the front
+                for number in (signal.SIGTERM, signal.SIGALRM):
+                    signal.signal(number, signal.SIG_IGN)
+            reason = ending.reason
+            status, told = server.close()
+            for child in multiprocessing.active_children():  # what it joins nobody will ask for
+                child.kill()
+    except (Unheard, sessions.Unusable) as fault:
+        print(fault, file=sys.stderr)
+        return 1
+    except (features.FeaturesFault, Unlike) as fault:
+        print(f"{fault}; --no-features serves the layers alone", file=sys.stderr)
+        return 1
+    except (Refused, Ended, scales.ScaleFault, Unprojected) as fault:
+        print(f"{words.store or 'the front'}: {fault}", file=sys.stderr)
+        return 1
+    except OSError as fault:  # of the program, or of a file that it names
+        print(endings.told(fault.filename or words.store or "the front", fault), file=sys.stderr)
+        return 1
+    if status and not reason:
+        reason = f"overlay_live has ended with status {status}"
+    if reason:
+        print("; ".join([reason, *told.splitlines()]), file=sys.stderr)
+    return 1 if reason else 0

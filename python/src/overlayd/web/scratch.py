@@ -1,0 +1,68 @@
+"""A process of overlay_live in memory, where the boundary of a base layer is worked out, which EDGES does not give."""
+
+from __future__ import annotations
+
+import contextlib
+import os
+import threading
+from collections.abc import Sequence
+
+from ..program import Ended, Piece, Refused, Server, Session
+from .views import Busy
+
+
+class Scratch:
+    """One process, begun anew where its work is given up. seconds: how long one layer may take."""
+
+    def __init__(self, program: str | os.PathLike[str], seconds: float) -> None:
+        self.seconds = seconds
+        self._program, self._turn = program, threading.Lock()
+        self._server = self._begun()
+
+    def _begun(self) -> Server:
+        return Server(program=self._program, timeout=self.seconds)
+
+    def pieces(self, texts: Sequence[str], turn: float) -> list[Piece]:
+        """The boundary of what an odd number of texts have; TimeoutError where that takes too long.
+        turn: how long it may wait."""
+        if not self._turn.acquire(timeout=turn):
+            raise Busy("another base layer is being worked out: ask again")
+        try:
+            return self._pieces(self._server.sessions[0], texts)
+        except TimeoutError:
+            self._begin_anew()
+            raise
+        finally:
+            self._turn.release()
+
+    @staticmethod
+    def _pieces(one: Session, texts: Sequence[str]) -> list[Piece]:
+        names = [f"a{number}" for number in range(len(texts))]
+        try:
+            one.batch([*map(one.put_line, names, texts), f"DEFINE b = {' ^ '.join(names)}"])
+            return one.boundary("b").pieces
+        finally:
+            with contextlib.suppress(Refused, Ended, TimeoutError):
+                one.batch([f"DROP {name}" for name in ("b", *names)])
+
+    def _begin_anew(self) -> None:
+        given_up, self._server = self._server, self._begun()
+        given_up.process.kill()
+        given_up.close()
+
+    def wait(self) -> int:
+        """Waits until the process has ended by itself, and gives its status: not while one is begun in its place."""
+        while True:
+            process = self._server.process
+            status = process.wait()
+            if self._server.process is process:
+                return status
+
+    def close(self) -> None:
+        self._server.close()
+
+    def __enter__(self) -> Scratch:
+        return self
+
+    def __exit__(self, *_: object) -> None:
+        self.close()

@@ -1,0 +1,1 @@
+"""The tests of the package, by what they are of: `python3 -m pytest python/tests`."""

@@ -1,0 +1,93 @@
+"""What the tests of the tools have in common: files, a tool's outcome, and the programs that are asked."""
+
+import io
+import os
+import pathlib
+import subprocess
+import tempfile
+import unittest
+from types import ModuleType
+
+TOP = pathlib.Path(__file__).resolve().parents[2]
+TOOLS, TESTS = TOP / "tools", TOP / "python" / "tests"
+COMMANDS = sorted(TOOLS.glob("*.py"))
+# What another Python that runs at the top finds the package by, and the tests.
+SOURCES = {**os.environ, "PYTHONPATH": f"{TOP / 'python' / 'src'}:{TOP / 'python'}"}
+SECONDS = 120  # what a program of a test may take before it is ended
+SQUARE = "POLYGON ((0 0, 10 0, 10 10, 0 10, 0 0))"
+
+
+class Programs:
+    """The built programs, or None: those of the words --program, --live and --window, else of crates/. Stores are made
+    by the first."""
+
+    batched: str | None = None
+    live: str | None = None
+    window: str | None = None
+
+
+def path(*parts: str) -> str:
+    return str(TOOLS.joinpath(*parts))
+
+
+def content(*parts: str) -> bytes:
+    return TESTS.joinpath(*parts).read_bytes()
+
+
+def outcome(tool: ModuleType, *words: object) -> tuple[int, str, str]:
+    """Status, standard output and standard error of a tool."""
+    output, errors = io.StringIO(), io.StringIO()
+    status = tool.main([str(word) for word in words], output, errors)
+    return status, output.getvalue(), errors.getvalue()
+
+
+def on_file(tool: ModuleType, text: str | bytes, *words: object) -> tuple[int, str, str]:
+    """The same, with a file of this text as the first word."""
+    with tempfile.TemporaryDirectory() as folder:
+        name = pathlib.Path(folder, "input file.txt")
+        name.write_bytes(text if isinstance(text, bytes) else text.encode())
+        status, output, errors = outcome(tool, name, *words)
+        return status, output, errors.replace(str(name), "FILE")
+
+
+class InFolder(unittest.TestCase):
+    """A test with a folder of its own."""
+
+    def setUp(self) -> None:
+        made = tempfile.TemporaryDirectory()
+        self.addCleanup(made.cleanup)
+        self.folder = pathlib.Path(made.name)
+
+    def file(self, name: str, text: str | bytes, mode: int = 0o600) -> pathlib.Path:
+        made = self.folder / name
+        made.write_bytes(text if isinstance(text, bytes) else text.encode())
+        os.chmod(made, mode)
+        return made
+
+    def model(self) -> pathlib.Path:
+        """The plain model of bench/ in the place of the program, over layers in memory."""
+        text = f"#!/bin/sh\nPYTHONPATH='{TOP}' exec python3 -m bench.reference.model /dev/stdin\n"
+        return self.file("model", text, 0o700)
+
+
+class WithProgram(InFolder):
+    """A test of the built program, which is left out, and counted as such, where none was given."""
+
+    def setUp(self) -> None:
+        super().setUp()
+        if Programs.batched is None:
+            self.skipTest("no built overlayd: --program names it")
+        self.program: str = Programs.batched
+
+    def readers(self) -> list[str]:
+        """The programs by which a store can be read."""
+        return [program for program in (Programs.batched, Programs.live) if program]
+
+    def store(self, name: str, script: str | bytes) -> pathlib.Path:
+        """A new store with the layers of a script, all of whose lines are accepted."""
+        made = self.folder / name
+        text = script if isinstance(script, bytes) else script.encode()
+        done = subprocess.run([self.program, "--store", made, "--create"], input=text, capture_output=True, check=True,
+                              timeout=SECONDS)
+        self.assertEqual([line for line in done.stdout.splitlines() if line.startswith((b"error", b"refused"))], [])
+        return made

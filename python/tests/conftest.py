@@ -1,0 +1,28 @@
+"""The built programs that tests ask: by words of pytest, else those of crates/. Without one its tests are skipped."""
+
+import pathlib
+
+import pytest
+
+from . import testing
+from .common import TOP, Programs
+
+BUILT = {"program": "overlayd", "live": "overlay_live", "window": "overlay_window"}
+
+
+def pytest_addoption(parser: pytest.Parser) -> None:
+    for word, name in BUILT.items():
+        parser.addoption(f"--{word}", metavar="FILE", type=pathlib.Path, default=TOP / "crates" / name / "out" / name,
+                         help=f"the built {name} (default crates/{name}/out/{name})")
+
+
+def pytest_configure(config: pytest.Config) -> None:
+    config.addinivalue_line("markers", "live: a test of a built overlay_live")
+    found = [str(path.resolve()) if (path := config.getoption(word)).is_file() else None for word in BUILT]
+    Programs.batched, Programs.live, Programs.window = found
+    testing.PROGRAM = Programs.live or testing.PROGRAM
+
+
+def pytest_runtest_setup(item: pytest.Item) -> None:
+    if Programs.live is None and item.get_closest_marker("live"):
+        pytest.skip("no built overlay_live: --live names it")

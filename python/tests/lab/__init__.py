@@ -1,0 +1,1 @@
+"""The tests of the programs, and of what judges, tries and measures them."""

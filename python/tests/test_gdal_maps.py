@@ -1,0 +1,338 @@
+"""Tests of reading and writing maps by GDAL, and of the tool over such a map."""
+
+import csv
+import io
+import json
+import math
+import os
+import pathlib
+import resource
+import struct
+import subprocess
+import sys
+from collections.abc import Iterator, Sequence
+from fractions import Fraction
+from unittest import mock
+
+from osgeo import gdal, ogr, osr
+
+from overlayd.commands import overlay_maps
+from overlayd.files import gdal_maps, gdal_writing, numpy_maps
+from overlayd.files.spooled import Names
+from overlayd.geometry.whole_maps import MapFault, ReadMap, Told
+from overlayd.maps import running
+from overlayd.store.sessions import Unusable
+from . import common
+from .common import SOURCES, TOP, InFolder, Programs, outcome
+
+RING = [(0, 0), (10, 0), (10, 10), (0, 10), (0, 0)]
+HOLE = [(2, 2), (2, 4), (4, 4), (4, 2), (2, 2)]
+
+
+def text_of(*rings: Sequence[tuple[float, float]]) -> str:
+    return "(" + ", ".join("(" + ", ".join(f"{x} {y}" for x, y in ring) + ")" for ring in rings) + ")"
+
+
+class WithFiles(InFolder):
+    def made(self, *shapes: str | None, suffix: str = "gpkg", layers: tuple[str, ...] = ("parcels",), crs: int = 25832
+             ) -> str:
+        """A file with these shapes in each of its layers, called p0, p1, .. by the property nr."""
+        gdal.UseExceptions()
+        system = osr.SpatialReference()
+        system.ImportFromEPSG(crs)
+        path = str(self.folder / f"map.{suffix}")
+        driver = {"gpkg": "GPKG", "fgb": "FlatGeobuf", "shp": "ESRI Shapefile"}[suffix]
+        store = gdal.GetDriverByName(driver).Create(path, 0, 0, 0)
+        for name in layers:
+            layer = store.CreateLayer(name, system, ogr.wkbUnknown if suffix != "shp" else ogr.wkbPolygon)
+            layer.CreateField(ogr.FieldDefn("nr", ogr.OFTString))
+            for number, shape in enumerate(shapes):
+                feature = ogr.Feature(layer.GetLayerDefn())
+                feature["nr"] = f"p{number}"
+                if shape is not None:
+                    feature.SetGeometry(ogr.CreateGeometryFromWkt(shape))
+                layer.CreateFeature(feature)
+        return path
+
+
+class Reading(WithFiles):
+    def read(self, path: str, factor: Fraction = Fraction(1), id_field: str | None = "nr", layer: str | None = None,
+             bend: bool = False) -> ReadMap:
+        return gdal_maps.read(path, factor, id_field, layer, bend)
+
+    def refused(self, pattern: str, path: str, *words: object, **more: object) -> None:
+        with self.assertRaisesRegex(MapFault, pattern):
+            self.read(path, *words, **more)
+
+    def test_files_of_three_kinds_are_one_map(self) -> None:
+        corner = [(20, 0), (30, 0), (20, 9), (20, 0)]
+        shapes = f"POLYGON {text_of(RING, HOLE)}", f"MULTIPOLYGON ({text_of(RING)}, {text_of(corner)})"
+        found = {}
+        for suffix in ("gpkg", "fgb", "shp"):
+            read = self.read(self.made(*shapes, suffix=suffix), Fraction(10))
+            rings = {name: sorted(map(frozenset, read.whole.rings(place))) for place, name in enumerate(read.whole.ids)}
+            found[suffix] = rings
+            self.assertEqual((read.crs, read.told.features, read.told.points, read.told.moved),
+                             ("EPSG:25832", 2, 15, 0))
+        square = frozenset((10 * x, 10 * y) for x, y in RING)
+        self.assertEqual(set(found["gpkg"]["p1"]), {square, frozenset([(200, 0), (300, 0), (200, 90)])})
+        self.assertEqual(set(found["gpkg"]["p0"]), {square, frozenset((10 * x, 10 * y) for x, y in HOLE)})
+        self.assertEqual(found["gpkg"].keys(), {"p0", "p1"})
+        for suffix in ("fgb", "shp"):
+            self.assertEqual({name: set(rings) for name, rings in found[suffix].items()},
+                             {name: set(rings) for name, rings in found["gpkg"].items()})
+
+    def test_a_file_is_what_it_has_whatever_it_is_called(self) -> None:
+        for suffix in ("gpkg", "fgb"):
+            made = pathlib.Path(self.made(f"POLYGON {text_of(RING)}", suffix=suffix))
+            for name in ("map.json", "map.csv", "map.shp", "map"):
+                other = made.rename(self.folder / name)
+                self.assertEqual((self.read(str(other)).whole.ids, running.form_of(str(other)) is None),
+                                 (["p0"], False))
+                made = other
+        for name in ("a.csv", "a.txt", "a.geojson", "a"):
+            table = self.file(name, f'"nr",WKT\np0,"POLYGON {text_of(RING)}"\n')
+            self.assertEqual((self.read(str(table)).whole.ids, running.form_of(str(table)) is None), (["p0"], False))
+
+    def test_outer_rings_run_one_way_and_holes_the_other(self) -> None:
+        for rings in ([RING, HOLE], [RING[::-1], HOLE[::-1]]):
+            outer, hole = self.read(self.made(f"POLYGON {text_of(*rings)}")).whole.rings(0)
+            self.assertEqual((area(outer), area(hole)), (100, -4))
+
+    def test_a_third_coordinate_is_left_out(self) -> None:
+        read = self.read(self.made("POLYGON Z ((0 0 7, 4 0 7, 0 4 7, 0 0 7))",
+                                   "POLYGON ZM ((0 0 1 2, 4 0 1 2, 0 4 1 2, 0 0 1 2))"))
+        self.assertEqual([set(read.whole.rings(place)[0]) for place in (0, 1)], [{(0, 0), (4, 0), (0, 4)}] * 2)
+
+    def test_what_is_no_polygon_is_left_out_and_told(self) -> None:
+        path = self.made("POINT (1 1)", f"POLYGON {text_of(RING)}", None, "LINESTRING (0 0, 1 1)",
+                         "CURVEPOLYGON (CIRCULARSTRING (0 0, 1 1, 2 0, 1 -1, 0 0))")
+        read = self.read(path)
+        self.assertEqual(read.whole.ids, ["p1"])
+        self.assertEqual(read.told.skipped, [
+            "feature 1 (p0): a POINT, no polygon", "feature 3 (p2): a feature without a geometry",
+            "feature 4 (p3): a LINESTRING, no polygon", "feature 5 (p4): a CURVEPOLYGON, no polygon"])
+
+    def test_features_are_called_by_a_property_or_by_number(self) -> None:
+        path = self.made(*[f"POLYGON {text_of(RING)}"] * 2)
+        self.assertEqual(self.read(path).whole.ids, ["p0", "p1"])
+        self.assertEqual(self.read(path, id_field=None).whole.ids, ["1", "2"])
+        self.refused("no property code; say one of: nr", path, id_field="code")
+
+    def test_a_name_that_is_no_utf_8_is_refused_before_anything_is_asked(self) -> None:
+        table = self.file("latin.csv", f'nr,WKT\np\u00e4,"POLYGON {text_of(RING)}"\n'.encode("latin-1"))
+        self.refused("latin.csv: feature 1: its texts are no UTF-8; iconv", str(table), id_field="nr")
+
+    def test_a_ring_that_is_not_closed_is_refused(self) -> None:
+        opened = f"POLYGON {text_of(RING[:-1])}"
+        path = self.made(f"POLYGON {text_of(RING)}", opened, f"POLYGON {text_of(RING)}", opened)
+        self.refused(r"map\.gpkg, feature 2 \(p1\): a ring that is not closed.* 1 more to be mended: feature 4 \(p3\)$",
+                     path)
+
+    def test_a_coordinate_that_is_no_number_is_refused(self) -> None:
+        for odd, reason in ((math.nan, "no number"), (math.inf, "no number"),
+                            (1e16, "more than 2.52 units; say a smaller")):
+            flat = numpy_maps.Flat("map")
+            for name, ring in (("p0", RING), ("p1", [(0, 0), (odd, 1), (1, 1), (0, 0)]), ("p2", RING)):
+                wkb = struct.pack(f"<BIII{2 * len(ring)}d", 1, 3, 1, len(ring), *sum(ring, ()))
+                flat.add(name, f"map, feature ({name})", gdal_maps.rings_at(wkb, 0))
+            with self.assertRaisesRegex(MapFault, rf"^map, feature \(p1\): .*{reason}"):
+                flat.whole(Fraction(1), False, Told())
+
+    def test_one_that_is_beyond_all_doubles_in_units_is_refused_in_one_line(self) -> None:
+        path = self.made(f"POLYGON {text_of(RING)}", "POLYGON ((0 0, 1e300 0, 1 1, 0 0))")
+        done = subprocess.run([sys.executable, common.path("overlay_maps.py"), "check", path, "--factor", "10000000000",
+                               "--program", "true"], capture_output=True, text=True, timeout=60, check=False)
+        self.assertEqual(done.returncode, 2)
+        self.assertRegex(done.stderr,
+                         r"^[^\n]*map\.gpkg, feature 2: a coordinate of more than 2\^52 units; say a smaller --factor, "
+                         r"or mend it there\n$")
+
+    def test_nothing_is_written_beside_a_map(self) -> None:
+        path = str(self.folder / "map.gml")
+        gdal.VectorTranslate(path, self.made(f"POLYGON {text_of(RING)}"), format="GML")
+        (self.folder / "map.xsd").unlink()
+        before = sorted(self.folder.iterdir())
+        self.assertEqual(self.read(path).whole.ids, ["p0"])
+        self.assertEqual(sorted(self.folder.iterdir()), before)
+
+    def test_several_layers_have_to_be_named(self) -> None:
+        path = self.made(f"POLYGON {text_of(RING)}", layers=("parcels", "zones"))
+        self.refused("2 layers, parcels, zones; name one by --a-layer", path)
+        self.assertEqual(len(self.read(path, layer="zones").whole), 1)
+        self.refused("no layer roads; say one of: parcels, zones", path, layer="roads")
+
+    def test_what_is_no_map_is_refused(self) -> None:
+        self.refused("nowhere.gpkg: ", str(self.folder / "nowhere.gpkg"))
+        self.refused("odd.gpkg: ", str(self.file("odd.gpkg", "no map")))
+
+    def test_a_file_that_was_cut_is_refused_with_a_reason(self) -> None:
+        cut = pathlib.Path(self.made(*["POLYGON ((0 0, 10 0, 10 10, 0 10, 0 0))"] * 1000, suffix="shp",
+                                     layers=("map",)))
+        cut.write_bytes(cut.read_bytes()[:100_000])
+        self.refused(r"map.shp: \w", str(cut))
+
+    def test_long_edges_are_refused_or_bent(self) -> None:
+        path = self.made("POLYGON ((0 0, 1000 0, 1000 1000, 0 1000, 0 0))")
+        self.refused("--bend", path, Fraction(1000))
+        self.assertEqual(self.read(path, Fraction(1000), bend=True).told.bent, 4)
+
+    def test_a_large_map_stays_in_files_and_is_the_same(self) -> None:
+        path = self.made(*[f"POLYGON {text_of([(x + k, y) for x, y in RING], [(x + k, y) for x, y in HOLE])}"
+                           for k in range(7)], None)
+        read = self.read(path)
+        self.enterContext(mock.patch.object(gdal_maps, "LARGE", 20))
+        self.enterContext(mock.patch.object(gdal_maps, "BATCH", 2))
+        spooled = self.read(path)
+        self.assertIsInstance(spooled.whole.ids, Names)
+        self.assertEqual(list(spooled.whole.ids), read.whole.ids)
+        self.assertEqual(spooled.whole.ids[2:4], ["p2", "p3"])
+        for name in ("xs", "ys", "ring_at", "feature_at"):
+            self.assertEqual(list(getattr(spooled.whole, name)), list(getattr(read.whole, name)), name)
+        self.assertEqual(spooled.told, read.told)
+
+
+def area(ring: list[tuple[int, int]]) -> float:
+    return sum(ax * by - ay * bx for (ax, ay), (bx, by) in zip(ring, ring[1:] + ring[:1])) / 2
+
+
+class Writing(InFolder):
+    def pieces(self, count: int) -> Iterator[tuple[dict[str, object], bytes]]:
+        for k in range(count):
+            ring = [number for x, y in RING for number in (float(x + 20 * k), float(y))]
+            wkb = struct.pack("<BII", 1, 6, 1) + struct.pack("<BIII10d", 1, 3, 1, 5, *ring)
+            yield {"a": f"p{k}", "b": "" if k % 2 else "z", "area": 100.0}, wkb
+
+    def features(self, name: str) -> list[tuple[str, str | None, float, str]]:
+        file = gdal.OpenEx(str(self.folder / name), gdal.OF_VECTOR)
+        layer = file.GetLayerByName("pieces")
+        return sorted((f["a"], f["b"], f["area"], f.GetGeometryRef().ExportToWkt()) for f in layer)
+
+    def test_pieces_are_read_back(self) -> None:
+        for name in ("pieces.gpkg", "pieces.fgb"):
+            self.assertEqual(gdal_writing.write(str(self.folder / name), self.pieces(3), "EPSG:25832"), 3)
+            found = self.features(name)
+            self.assertEqual([one[:3] for one in found], [("p0", "z", 100.0), ("p1", None, 100.0), ("p2", "z", 100.0)])
+            self.assertEqual(found[1][3], "MULTIPOLYGON (((20 0,30 0,30 10,20 10,20 0)))")
+        self.assertEqual({one.name for one in self.folder.iterdir()}, {"pieces.gpkg", "pieces.fgb"})
+
+    def test_pieces_of_a_map_without_a_system_are_of_a_plane(self) -> None:
+        for name in ("pieces.gpkg", "pieces.fgb"):
+            path = str(self.folder / name)
+            gdal_writing.write(path, self.pieces(3), None)
+            file = gdal.OpenEx(path, gdal.OF_VECTOR)
+            self.assertTrue(file.GetLayer(0).GetSpatialRef().IsLocal())
+            self.assertIsNone(gdal_maps.read(path, Fraction(1), None, None, False).crs)
+
+    def test_many_go_into_parts_that_open_as_one(self) -> None:
+        for suffix in ("gpkg", "fgb"):
+            for old in self.folder.iterdir():
+                old.unlink()
+            gdal_writing.write(str(self.folder / f"pieces.{suffix}"), self.pieces(7), "EPSG:25832", 3)
+            parts = [f"pieces-00{part}.{suffix}" for part in (1, 2, 3)]
+            self.assertEqual({one.name for one in self.folder.iterdir()}, {*parts, "pieces.vrt"})
+            self.assertEqual([len(self.features(part)) for part in parts], [3, 3, 1])
+            self.assertEqual(self.features("pieces.vrt"), sorted(one for part in parts for one in self.features(part)))
+
+    def test_parts_of_a_larger_run_go_and_what_is_another_s_stays(self) -> None:
+        path, own = str(self.folder / "pieces.gpkg"), self.file("pieces-009.gpkg", "mine")
+        for count, names in ((7, {"pieces-001.gpkg", "pieces-002.gpkg", "pieces-003.gpkg", "pieces.vrt"}),
+                             (4, {"pieces-001.gpkg", "pieces-002.gpkg", "pieces.vrt"}), (2, {"pieces.gpkg"}),
+                             (4, {"pieces-001.gpkg", "pieces-002.gpkg", "pieces.vrt"})):
+            gdal_writing.write(path, self.pieces(count), None, 3)
+            self.assertEqual({one.name for one in self.folder.iterdir()}, {own.name, *names})
+        index = self.file("pieces.vrt", "<OGRVRTDataSource><SrcDataSource>../zones.gpkg</SrcDataSource>")
+        gdal_writing.write(path, self.pieces(2), None, 3)
+        self.assertTrue(index.is_file() and (self.folder / "pieces-002.gpkg").is_file())
+
+    def test_parts_are_not_written_over_what_is_another_s(self) -> None:
+        for name in ("pieces-002.gpkg", "pieces.vrt"):
+            own = self.file(name, "mine")
+            with self.assertRaisesRegex(MapFault, f"{own} stands, and was not named"):
+                gdal_writing.write(str(self.folder / "pieces.gpkg"), self.pieces(7), None, 3)
+            self.assertEqual([one.name for one in self.folder.iterdir()], [name])
+            self.assertEqual(own.read_text(), "mine")
+            own.unlink()
+
+    def test_exactly_one_part_is_one_file_and_none_is_one_without_features(self) -> None:
+        for count in (0, 3):
+            self.assertEqual(gdal_writing.write(str(self.folder / "pieces.gpkg"), self.pieces(count), None, 3), count)
+            self.assertEqual([one.name for one in self.folder.iterdir()], ["pieces.gpkg"])
+            if count:
+                self.assertEqual(len(self.features("pieces.gpkg")), count)
+
+    def test_what_fails_amid_pieces_leaves_what_was_there(self) -> None:
+        before = self.file("pieces.gpkg", "as it was")
+
+        def broken() -> Iterator[tuple[dict[str, object], bytes]]:
+            yield from self.pieces(5)
+            raise KeyboardInterrupt
+
+        self.assertRaises(KeyboardInterrupt, gdal_writing.write, str(before), broken(), None, 2)
+        self.assertEqual([(one.name, one.read_text()) for one in self.folder.iterdir()], [("pieces.gpkg", "as it was")])
+
+    def test_a_full_disk_is_told_and_leaves_what_was_there(self) -> None:
+        before = {self.file(f"pieces.{suffix}", "as it was").name for suffix in ("gpkg", "fgb")}
+        hard = resource.getrlimit(resource.RLIMIT_FSIZE)[1]
+        self.addCleanup(resource.setrlimit, resource.RLIMIT_FSIZE, (hard, hard))
+        for name, room in ((name, room) for name in sorted(before) for room in (1000, 50_000, 900_000)):
+            with self.subTest(name, room=room):
+                resource.setrlimit(resource.RLIMIT_FSIZE, (room, hard))
+                with self.assertRaisesRegex(Unusable, rf"{name}: [^ ]+ [^ ]+"):
+                    gdal_writing.write(str(self.folder / name), self.pieces(5000), None)
+                resource.setrlimit(resource.RLIMIT_FSIZE, (hard, hard))
+                self.assertEqual({one.name for one in self.folder.iterdir()}, before)
+                self.assertEqual((self.folder / name).read_text(), "as it was")
+
+    def test_a_link_its_file_s_mode_and_a_neighbour_stay(self) -> None:
+        real, own = self.file("real.gpkg", "before", 0o640), self.file("new.real.gpkg", "mine")
+        (self.folder / "pieces.gpkg").symlink_to(real)
+        gdal_writing.write(str(self.folder / "pieces.gpkg"), self.pieces(3), None)
+        self.assertEqual((len(self.features("real.gpkg")), real.stat().st_mode & 0o777, own.read_text()),
+                         (3, 0o640, "mine"))
+        self.assertTrue((self.folder / "pieces.gpkg").is_symlink())
+        os.mkfifo(self.folder / "pipe.gpkg")
+        with self.assertRaisesRegex(MapFault, "pipe.gpkg: no file; "):
+            gdal_writing.write(str(self.folder / "pipe.gpkg"), self.pieces(3), None)
+
+    def test_another_suffix_is_refused(self) -> None:
+        with self.assertRaisesRegex(MapFault, r"pieces\.dxf: pieces are written as \.gpkg, \.fgb or \.geojson"):
+            gdal_writing.write(str(self.folder / "pieces.dxf"), [], None)
+
+
+class Missing(WithFiles):
+    def test_a_package_that_is_missing_is_named(self) -> None:
+        words = ["check", self.made(f"POLYGON {text_of(RING)}"), "--factor", "1", "--program", sys.executable]
+        for module, package in (("numpy", "python3-numpy"), ("osgeo", "python3-gdal")):
+            text = (f"import sys; sys.modules['{module}'] = None; from overlayd import ending; "
+                    "ending.run_module('overlayd.commands.overlay_maps')")
+            done = subprocess.run([sys.executable, "-c", text, *words], cwd=TOP, env=SOURCES, capture_output=True,
+                                  text=True, check=False)
+            self.assertEqual((done.returncode, done.stdout, done.stderr), (
+                1, "", f"-c: {package} is missing: apt-get install {package}, and run this by /usr/bin/python3\n"))
+
+
+class OverTool(WithFiles):
+    """The tool over a small map by GDAL, beside the same map as GeoJSON."""
+
+    def setUp(self) -> None:
+        super().setUp()
+        if Programs.live is None:
+            self.skipTest("no program was given")
+
+    def test_a_map_by_gdal_has_the_table_of_its_geojson(self) -> None:
+        rings = [[(x + 7 * (k % 4), y + 7 * (k // 4)) for x, y in RING] for k in range(16)]
+        geojson = self.file("map.geojson", json.dumps({"type": "FeatureCollection", "features": [
+            {"type": "Feature", "properties": {"nr": f"p{k}"}, "geometry": {"type": "Polygon", "coordinates": [ring]}}
+            for k, ring in enumerate(rings)]}))
+        tables = []
+        for path in (geojson, self.made(*[f"POLYGON {text_of(ring)}" for ring in rings], crs=4326)):
+            words = ["--factor", "1", "--a-id", "nr", "--program", Programs.live, "--jobs", "1"]
+            status, table, told = outcome(overlay_maps, "check", path, *words, "--gaps", self.folder / "gaps.gpkg")
+            self.assertEqual(status, 0, told)
+            tables.append(table)
+        self.assertEqual(tables[0], tables[1])
+        # A square overlaps its neighbours to the right and above by 3 x 10, and those across by 3 x 3: 12, 12, 9 and 9.
+        areas = sorted(float(row["area"]) for row in csv.DictReader(io.StringIO(tables[0])))
+        self.assertEqual(areas, [9.0] * 18 + [30.0] * 24)
+        self.assertTrue((self.folder / "gaps.gpkg").is_file())

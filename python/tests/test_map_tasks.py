@@ -1,0 +1,496 @@
+"""Tests of task folders and of what does their tasks, by Python alone: no map and no program is needed."""
+
+import errno
+import importlib.util
+import io
+import json
+import os
+import pathlib
+import signal
+import subprocess
+import sys
+import tempfile
+import time
+import unittest
+from unittest import mock
+
+from overlayd import progress
+from overlayd.commands import overlay_maps
+from overlayd.maps import dask_engine, engines, large_tables, planning, tasks, windows
+from overlayd.maps.tasks import FolderFault, TaskFolder
+from .common import SECONDS, SOURCES, TOOLS, TOP, InFolder, Programs, outcome
+from .map_works import Refusing, Reversing
+
+NAMES = [f"task {number}".encode() for number in range(12)]
+ENDS = [name[::-1] for name in NAMES]
+HAS_DASK = importlib.util.find_spec("distributed") is not None
+WAIT = 60  # seconds, for what comes at once where the machine is not busy
+
+
+def quiet() -> progress.OfTasks:
+    return progress.OfTasks("names", lambda text: None)
+
+
+def is_running(process: int) -> bool:
+    try:
+        return pathlib.Path(f"/proc/{process}/stat").read_text().rsplit(")", 1)[1].split()[0] not in "ZX"
+    except (FileNotFoundError, ProcessLookupError):
+        return False
+
+
+class InTasks(InFolder):
+    def setUp(self) -> None:
+        super().setUp()
+        self.work, self.marks = self.folder / "work", self.folder / "marks"
+        self.marks.mkdir()
+
+    def words(self, seconds: str, engine: str = "processes", deaths: str = "0") -> list[str]:
+        """The call of a run in a process of its own."""
+        return [sys.executable, "-m", "tests.map_works", str(self.work), str(self.marks), seconds, engine,
+                deaths]
+
+    def begun(self, names: list[bytes] = NAMES, **run: object) -> TaskFolder:
+        return tasks.begin(self.work, {"asks": "names", **run}, names)
+
+
+class Folders(InTasks):
+    def test_a_task_is_done_once_and_its_result_appears_whole(self) -> None:
+        folder, calls = self.begun(), []
+
+        def work(task: bytes) -> bytes:
+            calls.append(task)
+            self.assertEqual(sorted(self.work.glob("*.result")), [])
+            return task[::-1]
+
+        def renamed(new: pathlib.Path, target: pathlib.Path) -> None:
+            self.assertFalse(target.exists())
+            self.assertEqual(tasks.unsealed(new, "").split(b"\n")[0], b"3 ksat")
+            os.replace(new, target)
+
+        with mock.patch.object(pathlib.Path, "replace", autospec=True, side_effect=renamed) as renames:
+            tasks.do(work, folder, 3)
+            tasks.do(work, folder, 3)
+        self.assertEqual([call.args[1].name for call in renames.call_args_list], ["000003.result"])
+        self.assertEqual((calls, folder.came_of(3)), ([b"task 3"], b"3 ksat"))
+        self.assertEqual(folder.left(), [number for number in range(12) if number != 3])
+        self.assertEqual(sorted(self.work.glob("*.new")), [])
+
+    def test_what_fails_amid_a_file_leaves_none(self) -> None:
+        folder = self.begun()
+        self.assertRaises(TypeError, tasks.put, folder.result(0), "no bytes")
+        self.assertEqual((sorted(self.work.glob("*.new")), len(folder.left())), ([], 12))
+
+    def test_a_plan_that_was_broken_off_is_made_again(self) -> None:
+        def broken() -> object:
+            yield from NAMES[:5]
+            raise KeyboardInterrupt
+
+        self.assertRaises(KeyboardInterrupt, tasks.begin, self.work, {}, broken())
+        with self.assertRaisesRegex(FolderFault, "no tasks of a run"):
+            TaskFolder(self.work).count()
+        folder = self.begun()
+        self.assertEqual([folder.given(number) for number in range(folder.count())], NAMES)
+
+    def test_a_run_begun_again_takes_its_tasks_and_looks_at_no_new_ones(self) -> None:
+        self.begun(factor="1000")
+
+        def none() -> object:
+            raise AssertionError("tasks are made again")
+            yield b""
+
+        folder = tasks.begin(self.work, {"factor": "1000", "asks": "names"}, none())
+        self.assertEqual((folder.count(), folder.run()), (12, {"asks": "names", "factor": "1000"}))
+
+    def test_a_folder_of_another_run_is_refused(self) -> None:
+        self.begun(factor="1000")
+        for run, named in (({"factor": "100"}, "factor: '1000' there, '100' here"), ({}, "factor: '1000' there, None"),
+                           ({"factor": "1000", "asks": "gaps"}, "asks: 'names' there, 'gaps' here")):
+            with self.assertRaisesRegex(FolderFault, named):
+                tasks.begin(self.work, {"asks": "names", **run}, NAMES)
+
+    def test_a_folder_of_other_files_is_refused_and_left_alone(self) -> None:
+        self.work.mkdir()
+        (self.work / "parcels.gpkg").touch()
+        with self.assertRaisesRegex(FolderFault, "parcels.gpkg is no task"):
+            self.begun()
+        self.assertEqual([one.name for one in self.work.iterdir()], ["parcels.gpkg"])
+
+    def test_what_stands_in_the_place_of_a_plan_is_told(self) -> None:
+        for text, named in (("", "run.json: Expecting"), ("[]", "another release"), ('{"form": 0}', "another release")):
+            self.work.mkdir(exist_ok=True)
+            (self.work / "run.json").write_text(text)
+            with self.subTest(text), self.assertRaisesRegex(FolderFault, named):
+                self.begun()
+
+    def test_what_stands_in_a_plan_is_looked_at(self) -> None:
+        plans = ('{"form": 4}', '{"form": 4, "run": {}, "tasks": "7"}', '{"form": 4, "run": [], "tasks": 7}',
+                 '{"form": 4, "run": {}, "tasks": -1}', '{"form": 4, "run": {}, "tasks": true}', "[" * 100_000, "\xff")
+        for text in plans:
+            self.work.mkdir(exist_ok=True)
+            (self.work / "run.json").write_text(text, "latin-1")
+            with self.subTest(text[:40]), self.assertRaisesRegex(FolderFault,
+                                                                 "run.json: .*; remove the folder, and begin"):
+                self.begun()
+
+    def test_files_that_were_cut_or_altered_are_named_with_what_to_do(self) -> None:
+        folder = self.begun()
+        for number in range(12):
+            tasks.do(Reversing(self.marks), folder, number)
+        result = folder.result(4)
+        whole = result.read_bytes()
+        for wrong in (b"", whole[:-1], whole[: whole.index(b"\n") + 1], whole[1:], whole + b"\n", b"x" + whole[1:],
+                      whole * 2):
+            result.write_bytes(wrong)
+            with self.subTest(wrong), self.assertRaisesRegex(FolderFault,
+                                                             "000004.result: damaged, .*; remove it and say"):
+                list(folder.results())
+        result.unlink()
+        result.mkdir()
+        with self.assertRaisesRegex(FolderFault, "000004.result: Is a directory; remove it and say the same again"):
+            list(folder.results())
+        result.rmdir()
+        folder.task(4).write_bytes(b"task 4")
+        with self.assertRaisesRegex(FolderFault, "000004.task: damaged, .*; begin the run again in another folder"):
+            tasks.do(Reversing(self.marks), folder, 4)
+        with self.assertRaisesRegex(engines.TaskFault, "^task 4: .*000004.task: damaged"):
+            engines.run(engines.in_process, Reversing(self.marks), folder, quiet())
+
+    def test_a_result_that_came_of_another_task_is_named_with_what_to_do(self) -> None:
+        folder = self.begun()
+        for number in range(12):
+            tasks.do(Reversing(self.marks), folder, number)
+        self.assertEqual(list(folder.results()), ENDS)
+        folder.result(4).write_bytes(folder.result(5).read_bytes())
+        with self.assertRaisesRegex(FolderFault,
+                                    "000004.result: it came of another task; remove it and say the same again"):
+            list(folder.results())
+        folder.result(4).unlink()
+        tasks.do(Reversing(self.marks), folder, 4)
+        self.assertEqual(list(folder.results()), ENDS)
+
+    def test_one_run_at_a_time_has_a_folder(self) -> None:
+        words = self.words("60")
+        with subprocess.Popen(words, cwd=TOP, env=SOURCES, stderr=subprocess.DEVNULL) as other:
+            self.addCleanup(other.kill)
+            wait_for(lambda: (self.work / "run.json").exists())
+            with self.assertRaisesRegex(FolderFault, "another run is at work"), tasks.held(self.work):
+                pass
+            other.kill()
+        with tasks.held(self.work):
+            pass
+
+    def test_without_locks_a_folder_is_not_told_to_be_another_run_s(self) -> None:
+        fault = OSError(errno.ENOLCK, os.strerror(errno.ENOLCK))
+        with mock.patch("fcntl.lockf", side_effect=fault), self.assertRaises(OSError) as raised, tasks.held(self.work):
+            pass
+        self.assertIs(raised.exception, fault)
+
+    def test_results_without_a_plan_are_none_of_the_run_that_is_begun(self) -> None:
+        folder = self.begun(factor="1000")
+        for number in range(12):
+            tasks.do(Reversing(self.marks), folder, number)
+        folder.plan.unlink()
+        again = self.begun([name.upper() for name in NAMES], factor="100")
+        self.assertEqual(again.left(), list(range(12)))
+
+    def test_numbers_are_handed_out_by_others(self) -> None:
+        folder = self.begun()
+        work = Reversing(self.marks)
+        tasks.do_numbers(work, self.work, [4, 2])
+        self.assertEqual(len(folder.left()), 10)
+        for number in (-1, 12):
+            with self.assertRaisesRegex(FolderFault, "they are 0 to 11"):
+                tasks.do_numbers(work, self.work, [number])
+        self.assertRaises(FolderFault, tasks.do_numbers, work, self.folder / "none", [0])
+
+    def test_an_input_that_changed_is_another(self) -> None:
+        one = self.file("map.json", "{}")
+        before = tasks.stamp(one)
+        self.assertEqual(before, tasks.stamp(one))
+        one.write_text("{ }")
+        self.assertNotEqual(before, tasks.stamp(one))
+
+    def test_a_part_of_an_input_that_changed_makes_it_another(self) -> None:
+        (self.folder / "a.gdb").mkdir()
+        for name, part in (("a.shp", "a.dbf"), ("A.SHP", "A.DBF"), ("a.gpkg", "a.gpkg-wal"),
+                           ("a.gdb", "a.gdb/a1.gdbtable"), ("a.gml", "a.gfs"), ("a.mif", "a.mid"), ("a.tab", "a.dat")):
+            with self.subTest(part):
+                one = self.folder / name if name == "a.gdb" else self.file(name, "map")
+                alone = tasks.stamp(one)
+                self.file(part, "x")
+                had = tasks.stamp(one)
+                self.file(part, "xx")
+                self.assertEqual(len({str(found) for found in (alone, had, tasks.stamp(one))}), 3)
+                self.file("a.csv", "of somebody else")
+                self.assertEqual(tasks.stamp(one), tasks.stamp(one))
+
+
+def wait_for(condition: object, seconds: float = WAIT) -> None:
+    end = time.monotonic() + seconds
+    while not condition():
+        if time.monotonic() > end:
+            raise AssertionError(f"not within {seconds} seconds")
+        time.sleep(0.02)
+
+
+class WithProcesses(InTasks):
+    def processes(self) -> set[int]:
+        """The processes that did a task."""
+        return {int(mark.name.split()[1]) for mark in self.marks.glob("process *")}
+
+
+class Engines(WithProcesses):
+    def ran(self, engine: engines.Engine, work: tasks.Work, names: list[bytes] = NAMES) -> list[bytes]:
+        folder = self.begun(names)
+        engines.run(engine, work, folder, quiet())
+        return list(folder.results())
+
+    def test_all_engines_have_one_result(self) -> None:
+        self.assertEqual(self.ran(engines.in_process, Reversing(self.marks)), ENDS)
+        self.assertEqual(self.processes(), {os.getpid()})
+        self.work = self.folder / "other"
+        self.assertEqual(self.ran(engines.by_processes(2), Reversing(self.marks, seconds=0.01)), ENDS)
+        self.assertNotIn(True, map(is_running, self.processes() - {os.getpid()}))
+
+    def test_no_task_is_none_to_do(self) -> None:
+        self.assertEqual(self.ran(engines.by_processes(2), Refusing(), []), [])
+
+    def test_what_a_dead_worker_had_is_begun_again(self) -> None:
+        self.assertEqual(self.ran(engines.by_processes(2), Reversing(self.marks, b"task 5", 2)), ENDS)
+        self.assertEqual(len(list(self.marks.glob("death *"))), 2)
+
+    def test_a_task_that_kills_each_worker_is_named_and_the_others_are_kept(self) -> None:
+        work = Reversing(self.marks, b"task 5", 100)
+        with self.assertRaisesRegex(engines.TaskFault, "task 5: its worker died 3 times"):
+            self.ran(engines.by_processes(2), work)
+        self.assertEqual(len(list(self.marks.glob("death *"))), 4)  # once among others, and alone three times
+        left = TaskFolder(self.work).left()
+        self.assertIn(5, left)
+        self.assertLess(len(left), 12)
+
+    def test_a_task_that_is_refused_is_named(self) -> None:
+        for engine in (engines.in_process, engines.by_processes(2)):
+            with self.subTest(engine), self.assertRaisesRegex(engines.TaskFault, "task 1: Odd: no good"):
+                self.ran(engine, Refusing(), [b"good", b"bad", b"good"])
+
+    def test_an_interrupt_while_workers_begin_is_not_told_by_these(self) -> None:
+        for seconds in (0.05, 0.15, 0.3):
+            with subprocess.Popen(self.words("0.5"), cwd=TOP, env=SOURCES, stderr=subprocess.PIPE, text=True,
+                                  start_new_session=True) as run:
+                self.addCleanup(run.kill)
+                wait_for(lambda: (self.work / "run.json").exists())
+                time.sleep(seconds)
+                os.killpg(run.pid, signal.SIGINT)  # as a terminal does
+                told = run.communicate(timeout=WAIT)[1]
+            self.assertEqual(told.count("Traceback"), 1, told)  # the own one of map_works.py
+            (self.work / "run.json").unlink()
+
+    def test_a_run_that_was_killed_leaves_no_process_and_goes_on(self) -> None:
+        with subprocess.Popen(self.words("0.3"), cwd=TOP, env=SOURCES, stderr=subprocess.DEVNULL) as run:
+            self.addCleanup(run.kill)
+            wait_for(lambda: len(list(self.work.glob("*.result"))) >= 3)
+            os.kill(run.pid, signal.SIGKILL)
+        wait_for(lambda: not any(map(is_running, self.processes())))
+        done = 12 - len(TaskFolder(self.work).left())
+        again = subprocess.run(self.words("0"), cwd=TOP, env=SOURCES, capture_output=True, text=True, timeout=WAIT)
+        self.assertIn(f"names: {done} of 12 tasks were done before\n", again.stderr)
+        self.assertEqual((again.returncode, list(TaskFolder(self.work).results())), (0, ENDS))
+
+
+@unittest.skipUnless(HAS_DASK, "python3-distributed is not installed")
+class Dask(WithProcesses):
+    def test_what_a_dead_worker_had_is_begun_again_and_no_process_is_left(self) -> None:
+        words = self.words("0", "dask", "1")
+        run = subprocess.run(words, cwd=TOP, env=SOURCES, capture_output=True, text=True, timeout=2 * WAIT)
+        self.assertEqual((run.returncode, list(TaskFolder(self.work).results())), (0, ENDS), run.stderr)
+        self.assertEqual(len(list(self.marks.glob("death *"))), 1)
+        wait_for(lambda: not any(map(is_running, self.processes())))
+
+    def test_workers_end_with_a_run_that_is_killed(self) -> None:
+        with subprocess.Popen(self.words("0.3", "dask"), cwd=TOP, env=SOURCES, stderr=subprocess.DEVNULL) as run:
+            self.addCleanup(run.kill)
+            wait_for(lambda: len(list(self.work.glob("*.result"))) >= 3)
+            os.kill(run.pid, signal.SIGKILL)
+        wait_for(lambda: not any(map(is_running, self.processes())))
+        folder = TaskFolder(self.work)
+        done = [number for number in range(12) if number not in folder.left()]
+        self.assertEqual([folder.came_of(number) for number in done], [ENDS[number] for number in done])
+
+
+class OverTool(InTasks):
+    """The tool itself over the built program, by several engines: always the same bytes of table."""
+
+    def setUp(self) -> None:
+        super().setUp()
+        if Programs.live is None:
+            self.skipTest("no program was given")
+        self.enterContext(mock.patch.object(planning, "JOBS_OF_TASK", 9))
+        for name, shift in (("a", 0), ("b", 4)):
+            self.file(f"{name}.geojson", json.dumps({"type": "FeatureCollection", "features": [
+                square(10 * x + shift, 10 * y + shift) for x in range(6) for y in range(6)]}))
+
+    def table(self, *words: object, program: object = None) -> tuple[int, str, str]:
+        maps = (self.folder / "a.geojson", self.folder / "b.geojson")
+        return outcome(overlay_maps, "pairs", *maps, "--factor", 1, "--program", program or Programs.live, *words)
+
+    def test_all_engines_have_one_table(self) -> None:
+        status, table, _ = self.table("--jobs", 1)
+        self.assertEqual((status, table.count("overlaps")), (0, 36 + 2 * 30 + 25))  # of each square with up to four
+        self.assertEqual(self.table("--jobs", 2, "--work", self.work)[:2], (0, table))
+        status, again, told = self.table("--jobs", 2, "--work", self.work)
+        self.assertEqual((status, again), (0, table))
+        self.assertRegex(told, r"pairs 1: (\d+) of \1 tasks were done before")
+
+    def test_windows_and_python_have_one_table_and_which_it_was_is_told(self) -> None:
+        status, table, told = self.table("--jobs", 1, "--no-window")
+        self.assertEqual(status, 0)
+        self.assertRegex(told, r"drawn in by overlay_window in 0 of \d+ tasks; the others and .* by Python")
+        window = windows.found(str(Programs.live))
+        if window is not None:
+            self.assertEqual(self.table("--jobs", 1, "--window", window, "--work", self.work)[:2], (0, table))
+            status, again, told = self.table("--jobs", 1, "--no-window", "--work", self.work)
+            self.assertEqual((status, again), (0, table))
+            self.assertRegex(
+                told, r"drawn in by overlay_window in (\d+) of \1 tasks; what is too large for a window by Python")
+        for wrong in (self.folder, self.folder / "none", ""):
+            self.assertEqual(self.table("--window", wrong),
+                             (2, "", f"--window {wrong}: no program; leave the word out, or "
+                              "say --no-window\n"))
+
+    def test_a_window_program_that_ends_is_asked_again_and_one_that_fails_is_named(self) -> None:
+        window = windows.found(str(Programs.live))
+        if window is None:
+            self.skipTest("overlay_window is not there")
+        dying = self.file("dying", f"#!/bin/sh\nmkdir '{self.marks}/ended' 2>&- && kill -9 $$\nexec {window}\n", 0o700)
+        self.assertEqual(self.table("--jobs", 1, "--window", dying)[:2], self.table("--jobs", 1)[:2])
+        never = self.file("never", "#!/bin/sh\nexit 3\n", 0o700)
+        status, table, told = self.table("--jobs", 1, "--window", never)
+        self.assertEqual((status, table), (1, ""))
+        self.assertRegex(told, "task 0: ProgramRefused: .*never: status 3, 0 answers of [0-9]+")
+
+    @unittest.skipUnless(HAS_DASK, "python3-distributed is not installed")
+    def test_dask_has_the_same_table(self) -> None:
+        words = [sys.executable, TOOLS / "overlay_maps.py", "pairs", self.folder / "a.geojson",
+                 self.folder / "b.geojson", "--factor", "1", "--program", Programs.live, "--jobs", "2", "--dask"]
+        run = subprocess.run(words, capture_output=True, text=True, timeout=2 * WAIT, check=False)
+        self.assertEqual((run.returncode, run.stdout), (0, self.table("--jobs", 1)[1]), run.stderr)
+
+    def test_others_do_the_tasks(self) -> None:
+        status, _, told = self.table("--jobs", 0, "--work", self.work)
+        count = TaskFolder(self.work / "1").count()
+        self.assertEqual(status, 0)
+        self.assertIn(f"{count} of {count} tasks are left", told)
+        words = [sys.executable, TOOLS / "overlay_maps.py", "task", self.work / "1", "--program", Programs.live]
+        numbers = "".join(f"{number}\n" for number in range(count))
+        subprocess.run(["xargs", "-P", "2", "-n", "7", *words], input=numbers, text=True, check=True, timeout=SECONDS)
+        self.assertEqual(self.table("--jobs", 0, "--work", self.work)[1], self.table("--jobs", 1)[1])
+        self.assertEqual(outcome(overlay_maps, *words[2:], count)[0], 2)
+        status, table, told = self.table("--jobs", 0)
+        self.assertEqual((status, table, told.splitlines()[-1][:24]), (2, "", "--jobs 0 leaves the task"))
+        self.assertEqual(outcome(overlay_maps, "task", self.folder, 0, "--program", Programs.live)[0], 2)
+
+    def test_a_program_that_ends_is_begun_again(self) -> None:
+        dying = self.file("dying", f"#!/bin/sh\nmkdir '{self.marks}/ended' 2>&- && exit\n"
+                          f"exec {Programs.live} \"$@\"\n", 0o700)
+        for jobs in (1, 2):
+            self.assertEqual(self.table("--jobs", jobs, program=dying)[:2], self.table("--jobs", jobs)[:2])
+            (self.marks / "ended").rmdir()
+        never = self.file("never", "#!/bin/sh\nexit 3\n", 0o700)
+        status, table, told = self.table("--jobs", 2, program=never)
+        self.assertEqual((status, table), (1, ""))
+        self.assertRegex(told, "task [01]: ProgramEnded: ")
+
+    def test_a_damaged_folder_is_told_and_mended_by_what_is_told(self) -> None:
+        status, table, _ = self.table("--jobs", 1, "--work", self.work)
+        result = self.work / "1" / "000002.result"
+        result.write_bytes(b"".join(result.read_bytes().splitlines(True)[:3]))
+        told = (f"{result}: damaged, as it has not the digest of what was written; remove it and say the same again, "
+                "which does")
+        for words in ((), ("--out", self.folder / "out.csv")):
+            status, again, errors = self.table("--jobs", 1, "--work", self.work, *words)
+            self.assertEqual((status, again), (2, ""))
+            self.assertIn(told, errors)
+        self.assertFalse((self.folder / "out.csv").exists())
+        result.unlink()
+        self.assertEqual(self.table("--jobs", 1, "--work", self.work)[:2], (0, table))
+        result.unlink()
+        (self.work / "1" / "000002.task").write_bytes(b"{}")
+        status, again, errors = self.table("--jobs", 2, "--work", self.work)
+        self.assertEqual((status, again), (1, ""))
+        self.assertIn("task 2: ", errors)
+        self.assertIn("000002.task: damaged, as it has not the digest of what was written; begin the run again", errors)
+
+    def test_a_folder_of_another_run_is_refused(self) -> None:
+        self.table("--work", self.work, "--jobs", 1)
+        status, table, told = self.table("--work", self.work, "--bend")
+        self.assertEqual((status, table), (2, ""))
+        self.assertIn("tasks of another run (bend: False there, True here)", told)
+        (self.folder / "b.geojson").write_text(json.dumps({"type": "FeatureCollection", "features": [square(0, 0)]}))
+        self.assertIn("tasks of another run (maps: ", self.table("--work", self.work)[2])
+
+
+class LargeTables(unittest.TestCase):
+    def test_runs_in_files_are_one_order(self) -> None:
+        rows = [(place * 7919 % 101, place) for place in range(1000)]
+        for at_once in (1, 10, 333, 1000, 5000):  # the first makes more runs than files may be open
+            self.assertEqual(list(large_tables.in_order(rows, lambda row: row[0], at_once)), sorted(rows))
+        self.assertEqual(list(large_tables.in_order([], lambda row: row, 3)), [])
+
+
+def square(x: int, y: int) -> dict[str, object]:
+    ring = [[x, y], [x + 10, y], [x + 10, y + 10], [x, y + 10], [x, y]]
+    return {"type": "Feature", "properties": {}, "geometry": {"type": "Polygon", "coordinates": [ring]}}
+
+
+class Addresses(unittest.TestCase):
+    def test_what_is_beyond_the_loopback_without_tls_is_open_to_all(self) -> None:
+        for address in ("tcp://127.0.0.1:8786", "localhost:8786", "tcp://[::1]:8786", "tls://10.0.0.5:8786"):
+            self.assertFalse(dask_engine.is_open_to_all(address), address)
+        for address in ("tcp://10.0.0.5:8786", "10.0.0.5:8786", "tcp://scheduler:8786", "ws://10.0.0.5:80"):
+            self.assertTrue(dask_engine.is_open_to_all(address), address)
+
+    def test_a_folder_is_shared_where_it_can_be_read_and_written(self) -> None:
+        with tempfile.TemporaryDirectory() as folder:
+            mark = pathlib.Path(folder, "mark.new")
+            mark.write_bytes(b"word")
+            self.assertTrue(dask_engine.can_write_beside(str(mark), b"word"))
+            self.assertFalse(dask_engine.can_write_beside(str(mark), b"other"))
+            self.assertFalse(dask_engine.can_write_beside("/proc/version", b"word"))  # it can only be read
+            self.assertFalse(dask_engine.can_write_beside(f"{folder}/none/mark.new", b"word"))
+            self.assertEqual([one.name for one in pathlib.Path(folder).iterdir()], ["mark.new"])
+
+    def test_what_is_sent_to_workers_can_be_imported_alone(self) -> None:
+        with tempfile.TemporaryDirectory() as folder:
+            sent = dask_engine.packed(pathlib.Path(folder))
+            words = [sys.executable, "-c", "from overlayd.maps import running, work; print(work.__file__)"]
+            done = subprocess.run(words, cwd=folder, env={"PYTHONPATH": str(sent)}, capture_output=True, text=True,
+                                  check=True, timeout=SECONDS)
+            self.assertIn(".zip", done.stdout)
+
+    def test_without_dask_or_keys_the_refusal_has_the_line_to_type(self) -> None:
+        engine = dask_engine.by_dask(None, 1)
+        for module in ["distributed", *["cryptography"] * HAS_DASK]:
+            with mock.patch.dict(sys.modules, {module: None}), self.assertRaisesRegex(
+                    dask_engine.DaskFault, "apt-get install python3-distributed python3-cryptography"):
+                list(engine(Refusing(), TaskFolder(pathlib.Path("none")), []))
+
+
+class Telling(unittest.TestCase):
+    def test_plain_lines_have_tasks_pace_and_seconds_left(self) -> None:
+        now, lines = 0.0, list[str]()
+        with mock.patch("sys.stderr", io.StringIO()):
+            told = progress.OfTasks("pairs", lines.append, lambda: now)
+            told.begin(90, 69)
+            for now in range(1, 70):
+                told.step()
+            told.end()
+        self.assertEqual(lines[0], "pairs: 21 of 90 tasks were done before")
+        self.assertEqual(lines[1], "pairs: 31 of 90 tasks, 1 a second, 59 seconds left")
+        self.assertEqual((len(lines), lines[-1]), (8, "pairs: 90 of 90 tasks, 1 a second, 0 seconds left"))
+
+    def test_nothing_to_do_is_told_once(self) -> None:
+        lines: list[str] = []
+        told = progress.OfTasks("pairs", lines.append)
+        told.begin(4, 0)
+        told.end()
+        self.assertEqual(lines, ["pairs: 4 of 4 tasks were done before"])

@@ -1,0 +1,419 @@
+"""Tests of overlay_maps.py by its words: tables of small maps, and what is refused."""
+
+import argparse
+import csv
+import json
+import os
+import pathlib
+import subprocess
+import unittest
+from typing import Any
+from unittest import mock
+
+from overlayd.commands import overlay_maps
+from overlayd.files import writing
+from overlayd.maps import boundaries, doing, exact_area
+from .common import InFolder, Programs, outcome
+
+Position = list[float]
+
+
+def square(x: float, y: float, side: float) -> list[Position]:
+    return [[x, y], [x + side, y], [x + side, y + side], [x, y + side], [x, y]]
+
+
+class Help(unittest.TestCase):
+    def test_it_is_the_same_on_each_machine(self) -> None:
+        told: set[str] = set()
+        for processors in (1, 97):
+            with mock.patch("os.cpu_count", return_value=processors):
+                parser = argparse.ArgumentParser(prog="overlay_maps.py")
+                doing.add_words(parser)
+                self.assertEqual(parser.parse_args([]).jobs, processors)
+                told.add(parser.format_help())
+        self.assertEqual(len(told), 1)
+
+
+class WithMaps(InFolder):
+    def setUp(self) -> None:
+        super().setUp()
+        if Programs.live is None:
+            self.skipTest("no program was given")
+
+    def map(self, name: str, rings: dict[str, Any], crs: str | None = None) -> pathlib.Path:
+        """A map of polygons of one ring each, or of what else has a geometry's form."""
+        features = [{"type": "Feature", "properties": {"nr": called}, "geometry": of if isinstance(of, dict) else
+                     {"type": "Polygon", "coordinates": [of]}} for called, of in rings.items()]
+        whole: dict[str, Any] = {"type": "FeatureCollection", "features": features}
+        if crs:
+            whole["crs"] = {"type": "name", "properties": {"name": crs}}
+        return self.file(f"{name}.geojson", json.dumps(whole))
+
+    def asked(self, question: str, *words: object) -> tuple[int, list[list[str]], str]:
+        """The status, the rows of the table, and what was reported."""
+        status, output, errors = outcome(overlay_maps, question, *words, "--program", Programs.live, "--jobs", 1)
+        return status, list(csv.reader(output.splitlines())), errors
+
+    def refused(self, question: str, *words: object) -> str:
+        """The line of a refusal."""
+        status, rows, errors = self.asked(question, *words)
+        self.assertEqual((status, rows), (2, []), errors)
+        self.assertEqual(errors.count("\n"), errors.strip().count("\n") + 1)
+        return errors.strip().splitlines()[-1]
+
+
+class Tables(WithMaps):
+    def test_pairs(self) -> None:
+        a = self.map("a", {"P1": square(0, 0, 10), "P2": square(10, 0, 10), "P3": [[30, 0], [33, 1], [30, 2], [30, 0]]})
+        b = self.map("b", {"Z1": square(5, -5, 10), "Z2": square(20, -3, 5),
+                           "Z3": [[29, 0], [30.5, 0], [30.5, 2], [29, 0]]})
+        status, rows, errors = self.asked("pairs", a, b, "--factor", 10, "--a-id", "nr", "--b-id", "nr", "--exact")
+        self.assertEqual(rows, [
+            ["a", "b", "area", "width", "relation", "area_exact"], ["P1", "Z1", "25", "1.25", "overlaps", "25"],
+            ["P2", "Z1", "25", "1.25", "overlaps", "25"],
+            # With u = x - 30 from 0 to 1/2 between u / 3 and the less of 2 - u / 3 and 4 (u + 1) / 3.
+            ["P3", "Z3", "0.78333", "0.1822", "overlaps", "47/60"], ["P2", "Z2", "0", "0", "touches", "0"]])
+        self.assertEqual(status, 0)
+        self.assertIn("3 pairs overlap, 1 touch; areas sum to 50.78333; each is off by at most 5e-6\n", errors)
+
+    def test_overlay(self) -> None:
+        a, b = self.map("a", {"P": square(0, 0, 10)}), self.map("b", {"Z": square(5, 0, 10), "Y": square(5, 5, 10)})
+        pieces = self.folder / "pieces.geojson"
+        names = ("--a-id", "nr", "--b-id", "nr")
+        status, rows, errors = self.asked("overlay", a, b, "--factor", 1, *names, "--pieces", pieces)
+        self.assertEqual(rows[1:], [["", "Y", "75", "1.875", "alone"], ["P", "", "50", "1.667", "alone"],
+                                    ["", "Z", "50", "1.667", "alone"], ["P", "Z", "50", "1.667", "overlaps"],
+                                    ["P", "Y", "25", "1.25", "overlaps"]])
+        self.assertEqual(status, 0)
+        self.assertIn("audit: 1 of 1 features of a are exactly the sum of their parts", errors)
+        self.assertIn("audit: 2 of 2 features of b are exactly the sum of their parts", errors)
+        found = json.loads(pieces.read_text())["features"]
+        self.assertEqual(sorted((one["properties"]["a"], one["properties"]["b"], one["properties"]["area"])
+                                for one in found),
+                         [("", "Y", 75.0), ("", "Z", 50.0), ("P", "", 50.0), ("P", "Y", 25.0), ("P", "Z", 50.0)])
+        common = next(one["geometry"] for one in found if one["properties"] == {"a": "P", "b": "Y", "area": 25.0})
+        self.assertEqual(set(map(tuple, common["coordinates"][0][0])), {(5, 5), (5, 10), (10, 5), (10, 10)})
+
+    def test_check(self) -> None:
+        whole = self.map("a", {"left": [[0, 0], [4, 0], [4, 9], [0, 9], [0, 0]],
+                               "right": [[6, 0], [9, 0], [9, 9], [6, 9], [6, 0]],
+                               "low": [[3, 0], [7, 0], [7, 3], [3, 3], [3, 0]],
+                               "top": [[4, 7], [6, 7], [6, 9], [4, 9], [4, 7]]})
+        gaps = self.folder / "gaps.geojson"
+        status, rows, errors = self.asked("check", whole, "--factor", 1, "--a-id", "nr", "--gaps", gaps)
+        self.assertEqual(rows[1:], [["left", "low", "3", "0.375", "overlaps"],
+                                    ["right", "low", "3", "0.375", "overlaps"]])
+        self.assertEqual([one["properties"]["area"] for one in json.loads(gaps.read_text())["features"]], [8.0])
+        self.assertIn("2 pairs overlap, and sum to 6", errors)
+        self.assertIn("1 gaps, and sum to 8; the largest has 8", errors)
+        self.assertIn("audit: frame - gaps - outside is exactly areas - overlaps\n", errors)
+        self.assertEqual(status, 0)
+
+    def test_a_folder_of_a_run_without_gaps_is_not_gone_on_with(self) -> None:
+        whole = self.map("a", {"A": square(0, 0, 10), "frame": {"type": "Polygon", "coordinates": [
+            square(20, 0, 9), square(22, 2, 3)]}})
+        words = "check", whole, "--factor", 1, "--work", self.folder / "work"
+        self.assertEqual(self.asked(*words, "--no-audit")[0], 0)
+        self.assertIn("tasks of another run (no_audit: True there, False here)", self.refused(*words))
+        self.assertIn("1 gaps, and sum to 9", self.asked(*words[:-1], self.folder / "other")[2])
+
+    def test_three_features_on_each_other_and_one_that_crosses_itself(self) -> None:
+        whole = self.map("a", {"A": square(0, 0, 6), "B": square(2, 2, 6), "C": square(4, 0, 6),
+                               "bow": [[20, 0], [24, 4], [24, 0], [20, 4], [20, 0]]})
+        status, rows, errors = self.asked("check", whole, "--factor", 1, "--a-id", "nr")
+        self.assertEqual([row[:3] for row in rows[1:]], [["A", "B", "16"], ["B", "C", "16"], ["A", "C", "12"]])
+        self.assertIn("exactly areas - overlaps; 1 features cross or touch themselves\n", errors)
+        self.assertEqual(status, 0)
+
+    def test_a_wrong_answer_fails_the_audit(self) -> None:
+        a, b = self.map("a", {"P": square(0, 0, 10)}), self.map("b", {"Z": square(5, 0, 10)})
+        with mock.patch.object(boundaries, "twice_area", lambda ring: (99, 1)):
+            status, _, errors = self.asked("overlay", a, b, "--factor", 1, "--a-id", "nr", "--b-id", "nr")
+            self.assertIn("audit: 1 features of a are NOT the sum of their parts: P\n", errors)
+            self.assertEqual(status, 1)
+
+    def test_an_audit_leaves_out_areas_that_are_known_to_a_bound(self) -> None:
+        a = self.map("a", {"P": [[0, 0], [9, 1], [3, 8], [0, 0]], "Q": square(10, 10, 3)})
+        b = self.map("b", {"Z": [[1, 0], [10, 5], [0, 7], [1, 0]]})
+        with mock.patch.object(exact_area, "BITS_MAX", 8):
+            status, rows, errors = self.asked("overlay", a, b, "--factor", 1, "--a-id", "nr", "--b-id", "nr")
+        self.assertIn("audit: 1 features of a are of more than 10000 steps that cross, or crossings, and not audited: "
+                      "P\n", errors)
+        self.assertIn("audit: 1 of 2 features of a are exactly the sum of their parts\n", errors)
+        self.assertEqual(status, 0)
+
+    def test_a_feature_that_stands_twenty_times(self) -> None:
+        ring = square(2, 2, 5)[:-1]
+        turned = [ring[at % 4 :] + ring[: at % 4] for at in range(20)]
+        b = self.map("b", {f"Z{at}": [*own, own[0]] for at, own in enumerate(turned)})
+        status, rows, errors = self.asked("overlay", self.map("a", {"P": square(0, 0, 10)}), b, "--factor", 1)
+        self.assertEqual([row[2] for row in rows if row[4] == "alone"], ["75"])
+        self.assertIn("audit: 1 features of a are under more than 10000 sets of others, and not audited: 1\n", errors)
+        self.assertIn("audit: 20 of 20 features of b are exactly the sum of their parts\n", errors)
+        self.assertEqual(status, 0)
+
+    def test_features_that_lie_deep(self) -> None:
+        b = self.map("b", {f"Z{at}": square(2, 2, 5 + at) for at in range(20)})
+        status, rows, errors = self.asked("overlay", self.map("a", {"P": square(0, 0, 10)}), b, "--factor", 1)
+        self.assertEqual((status, [row[2] for row in rows if row[:2] == ["1", ""]]), (0, ["36"]), errors)
+
+    def test_an_island_in_a_hole_and_cells(self) -> None:
+        ring = {"type": "Polygon", "coordinates": [square(0, 0, 3000), square(1000, 1000, 1000)]}
+        a = self.map("a", {"frame": ring, "island": square(1200, 1200, 100)})
+        b = self.map("b", {"all": square(-10, -10, 4000)})
+        status, rows, errors = self.asked("pairs", a, b, "--factor", 1000, "--bend", "--a-id", "nr", "--b-id", "nr")
+        self.assertEqual([row[:3] for row in rows[1:]], [["frame", "all", "8000000"], ["island", "all", "10000"]])
+        self.assertIn("long edges bent at whole points", errors)
+        self.assertEqual(status, 0)
+
+
+class Refusals(WithMaps):
+    """Each in one line with the file, the feature and what to do; nothing is written."""
+
+    def setUp(self) -> None:
+        super().setUp()
+        self.good = self.map("good", {"G": square(0, 0, 10)})
+
+    def line(self, file: pathlib.Path, *words: object) -> str:
+        out = self.folder / "out.csv"
+        told = self.refused("pairs", self.good, file, "--factor", 1000, *words, "--out", out)
+        self.assertEqual({path.suffix for path in self.folder.iterdir()} - {".geojson", ".json"}, set())
+        return told.replace(f"{self.folder}/", "")
+
+    def test_an_edge_that_is_too_long(self) -> None:
+        file = self.map("b", {"Z": [[0, 0], [600.5, 0], [600.5, 3], [0, 3], [0, 0]]})
+        self.assertEqual(self.line(file), "b.geojson, feature 1: an edge of 600500 units, the longest of 2 of more "
+                         "than 524288; say --factor 873, or --bend")
+        for words in (("--factor", 873), ("--factor", 1000, "--bend")):
+            self.assertEqual(self.asked("pairs", self.good, file, *words)[0], 0)
+        degrees = self.map("c", {"Z": [[0, 0], [2**21 + 0.5, 0], [0, 3], [0, 0]]})
+        self.assertIn("say --factor 0.24, or --bend", self.line(degrees))
+        self.assertEqual(self.asked("pairs", self.good, degrees, "--factor", "0.24")[0], 0)
+
+    def test_a_property_that_is_not_there(self) -> None:
+        self.assertEqual(self.line(self.map("b", {"Z": square(0, 0, 1), "Y": square(2, 0, 1)}), "--b-id", "code"),
+                         "b.geojson, feature 1: no property code; say one of: nr")
+        empty = self.map("c", {"Z": square(0, 0, 1), "Y": square(2, 0, 1)})
+        empty.write_text(empty.read_text().replace('"Y"', "null"))
+        self.assertEqual(self.line(empty, "--b-id", "nr"),
+                         "c.geojson, feature 2: no nr; say another property, that each feature has")
+
+    def test_a_ring_that_is_not_closed(self) -> None:
+        self.assertEqual(self.line(self.map("b", {"Z": [[0, 0], [1, 0], [1, 1], [0, 1]]})),
+                         "b.geojson, feature 1: a ring whose last point is not its first, 0 0; mend it there")
+        rings = {str(k): square(2 * k, 0, 1)[: 4 + (k == 1)] for k in range(13)}
+        self.assertEqual(self.line(self.map("c", rings)),
+                         "c.geojson, feature 1: a ring whose last point is not its first, 0 0; mend it there; 11 more "
+                         f"to be mended: {', '.join(f'feature {k}' for k in range(3, 13))}, ..")
+
+    def test_a_coordinate_that_is_none(self) -> None:
+        ring: list[Any] = [[0, 0], [1, 0], [1, "x"], [0, 0]]
+        self.assertIn("b.geojson, feature 1: a coordinate that is no number: 'x'; mend it",
+                      self.line(self.map("b", {"Z": ring})))
+        self.assertIn("more than 2^52 units; say a smaller --factor",
+                      self.line(self.map("c", {"Z": [[0, 0], [1, 0], [1e15, 1], [0, 0]]})))
+        self.assertIn("coordinates of another form",
+                      self.line(self.map("d", {"Z": {"type": "Polygon", "coordinates": 5}})))
+
+    def test_what_is_no_map(self) -> None:
+        self.assertIn("b.json: ", self.line(self.file("b.json", "{")))
+        self.assertIn("a map is GeoJSON", self.line(self.file("b.json", "{")))
+        self.assertIn("No such file", self.refused("pairs", self.good, self.folder / "none.geojson", "--factor", 1))
+
+    def test_maps_of_different_coordinates(self) -> None:
+        file = self.map("b", {"Z": square(0, 0, 1)}, "urn:ogc:def:crs:EPSG::25832")
+        self.assertEqual(self.line(file), "good.geojson has coordinates of OGC:CRS84, b.geojson of EPSG:25832: bring "
+                         "one to those of the other, as by ogr2ogr -t_srs")
+
+    def test_numbers_that_are_no_degrees_are_not_taken_for_them(self) -> None:
+        unnamed, utm = (self.map(name, {"Z": square(480000, 5400000, 1)}, crs)
+                        for name, crs in (("u", None), ("v", "urn:ogc:def:crs:EPSG::25832")))
+        for one, other in ((unnamed, utm), (utm, unnamed), (unnamed, unnamed)):
+            status, rows, errors = self.asked("pairs", one, other, "--factor", 1)
+            self.assertEqual((status, [row[2] for row in rows[1:]]), (0, ["1"]), errors)
+        degrees = self.map("w", {"Z": square(480000, 5400000, 1)}, "urn:ogc:def:crs:OGC:1.3:CRS84")
+        self.assertIn("w.geojson has coordinates of OGC:CRS84", self.refused("pairs", degrees, utm, "--factor", 1))
+
+    def test_a_text_s_srid_is_its_system(self) -> None:
+        text = "SRID={};POLYGON ((0 0, 1 0, 0 1, 0 0))\n"
+        utm, parted, degrees, none = (self.file(f"{name}.wkt", "".join(map(text.format, numbers)))
+                                      for name, numbers in (
+            ("utm", (25832, 25832)), ("parted", (25832, 25833)), ("degrees", (4326,)), ("none", (0, "00"))))
+        for other, reason in ((self.good, f"{self.good} has coordinates of OGC:CRS84, {utm} of EPSG:25832"),
+                              (degrees, f"{degrees} has coordinates of EPSG:4326, {utm} of EPSG:25832")):
+            self.assertIn(reason, self.refused("pairs", other, utm, "--factor", 1))
+        self.assertIn(f"{parted}: SRIDs 25832, 25833; bring", self.refused("check", parted, "--factor", 1))
+        for one, other in ((utm, utm), (degrees, self.good), (none, utm), (none, self.good)):
+            self.assertEqual(self.asked("pairs", one, other, "--factor", 1)[0], 0)
+        for odd in ("SRID=x;", "SRID=1.5;", "SRID 4;", "SRID=-1;"):
+            file = self.file("odd.wkt", odd + "POLYGON ((0 0, 1 0, 0 1, 0 0))")
+            self.assertIn("odd.wkt: ", self.refused("check", file, "--factor", 1))
+
+    def test_degrees_by_either_name(self) -> None:
+        file = self.map("b", {"Z": square(0, 0, 1)}, "urn:ogc:def:crs:EPSG::4326")
+        self.assertEqual(self.asked("pairs", self.good, file, "--factor", 1000)[0], 0)
+
+    def test_features_that_are_called_alike_are_told(self) -> None:
+        rings = [[[x, 0], [x + 9, 0], [x, 9], [x, 0]] for x in (0, 10, 20, 30)]
+        features = [{"type": "Feature", "properties": {"nr": name},
+                     "geometry": {"type": "Polygon", "coordinates": [ring]}}
+                    for name, ring in zip("ABAA", rings)]
+        whole = self.file("a.json", json.dumps({"type": "FeatureCollection", "features": features}))
+        for words, wanted in ((["--a-id", "nr"], True), ([], False)):
+            status, _, errors = self.asked("check", whole, "--factor", 1, *words)
+            self.assertEqual((status, f"{whole}: the same nr several times, 1: A (3 times)\n" in errors), (0, wanted),
+                             errors)
+            self.assertNotIn(" of 0 tasks", errors)
+
+    def test_what_is_left_out_is_told(self) -> None:
+        file = self.map("b", {"Z": square(0, 0, 1), "point": {"type": "Point", "coordinates": [0, 0]},
+                              "thin": [[0, 0], [1e-5, 0], [0, 1e-5], [0, 0]]})
+        status, rows, errors = self.asked("pairs", self.good, file, "--factor", 1000, "--b-id", "nr")
+        self.assertEqual((status, [row[1] for row in rows[1:]]), (0, ["Z"]))
+        self.assertIn("left out, 1: ", errors)
+        self.assertIn("feature 2 (point): no polygon: POINT\n", errors)
+        self.assertIn("rings that collapsed, 1: ", errors)
+        self.assertIn("largest move 1e-05", errors)
+
+    def test_a_map_without_a_polygon(self) -> None:
+        for text, reason in (
+                ('{"features": 5}', "left out, 1: b.json: no polygon: NONE"),
+                ('{"type": "FeatureCollection", "features": 5}', 'b.json: "features" that are no list; mend it there'),
+                ('{"type": "FeatureCollection", "features": []}', "b.json: no polygon in it"),
+                ("", "b.json: no polygon in it"),
+                ('{"type": "Topology", "objects": {}}', "left out, 1: b.json: no polygon: TOPOLOGY"),
+                (json.dumps({"type": "FeatureCollection", "features": [None] * 12}), "; and 2 more"),
+                ('{"type": "Feature", "geometry": null}',
+                 "1: b.json, feature 1: no polygon: a feature without a geom")):
+            with self.subTest(text):
+                file = self.file("b.json", text)
+                self.assertIn(reason, self.line(file))
+                self.assertIn("b.json: ", self.refused("check", file, "--factor", 1))
+
+    def test_a_collection_with_a_point_has_its_polygons(self) -> None:
+        point: dict[str, Any] = {"type": "Point", "coordinates": [0, 0]}
+        polygons = [{"type": "Polygon", "coordinates": [square(at, 0, 2)]} for at in (0, 5)]
+        file = self.map("b",
+                        {"two": {"type": "GeometryCollection", "geometries": [polygons[0], point, polygons[1], point]},
+                         "none": {"type": "GeometryCollection", "geometries": [point, point]},
+                         "last": square(8, 0, 1)})
+        status, rows, errors = self.asked("pairs", self.good, file, "--factor", 1)
+        self.assertEqual((status, [row[1:3] for row in rows[1:]]), (0, [["1", "8"], ["3", "1"]]))
+        self.assertIn("left out, 4: ", errors)
+        self.assertIn("feature 1, member 2: no polygon: POINT; ", errors)
+
+    def test_maps_go_by_their_content_and_not_by_their_names(self) -> None:
+        text = self.good.read_text()
+        for name in ("a.gpkg", "a.txt", "a.shp", "a", "a.csv", "a.GEOJSON", ".json"):
+            status, rows, errors = self.asked("pairs", self.file(name, f" \n{text}"), self.good, "--factor", 1)
+            self.assertEqual((status, [row[2] for row in rows[1:]]), (0, ["100"]), (name, errors))
+            utm = self.file("utm.wkt", "SRID=25832;POLYGON ((0 0, 1 0, 0 1, 0 0))")
+            self.assertIn("has coordinates of OGC:CRS84", self.refused("pairs", self.folder / name, utm, "--factor", 1))
+        for name in ("a.geojson", "a.json", "a.wkt", "a"):
+            for begin in (b"SQLite format 3\0", b"fgb\3", b"\0\0\x27\x0a"):
+                told = self.refused("check", self.file(name, begin + b"\0" * 200), "--factor", 1)
+                self.assertNotIn("a map is GeoJSON", told)
+        self.assertIn("and Well-Known Text have no layers",
+                      self.refused("check", self.good, "--factor", 1, "--a-layer", "x"))
+
+    def test_a_name_of_no_letter_and_a_folder(self) -> None:
+        for words in (("", self.good), (self.good, "")):
+            self.assertEqual(self.refused("pairs", *words, "--factor", 1),
+                             "a map is named by a word without a letter; say a file")
+        self.assertIn(f"{self.folder}: ", self.refused("check", self.folder, "--factor", 1))
+
+    def test_what_has_no_polygon_takes_a_number_all_the_same(self) -> None:
+        one = {"type": "Feature", "properties": {}, "geometry": {"type": "Polygon", "coordinates": [square(0, 0, 10)]}}
+        empty = {"type": "GeometryCollection", "geometries": []}
+        features = [None, None, {**one, "geometry": empty}, {**one, "geometry": None}, {**one, "geometry": {**empty,
+                    "geometries": [empty, one["geometry"]]}}, 5, one]
+        file = self.file("odd.geojson", json.dumps({"type": "FeatureCollection", "features": features}))
+        status, rows, errors = self.asked("pairs", file, self.good, "--factor", 1)
+        self.assertEqual((status, [row[:3] for row in rows[1:]]), (0, [["5", "1", "100"], ["7", "1", "100"]]), errors)
+        self.assertIn("left out, 6: ", errors)
+        text = "GEOMETRYCOLLECTION EMPTY\nPOLYGON EMPTY\nPOLYGON ((0 0, 10 0, 10 10, 0 10, 0 0))\n"
+        status, rows, errors = self.asked("pairs", self.file("odd.wkt", text), self.good, "--factor", 1)
+        self.assertEqual((status, [row[:3] for row in rows[1:]]), (0, [["3", "1", "100"]]), errors)
+
+    def test_an_id_is_quoted_where_it_has_a_mark_that_ends_a_line(self) -> None:
+        odd = "a\rb\n,\"c"
+        file, out = self.map("b", {odd: square(0, 0, 1)}), self.folder / "out.csv"
+        self.assertEqual(self.asked("pairs", file, self.good, "--factor", 1, "--a-id", "nr", "--out", out)[0], 0)
+        with out.open(newline="") as table:
+            self.assertEqual(list(csv.reader(table))[1][:2], [odd, "1"])
+
+    def test_a_program_that_is_none(self) -> None:
+        status, output, errors = outcome(overlay_maps, "pairs", self.good, self.good, "--factor", 1, "--program",
+                                         self.folder / "none", "--jobs", 1)
+        self.assertEqual((status, output), (1, ""))
+        self.assertIn("none: No such file", errors)
+
+    def test_a_table_that_cannot_be_written(self) -> None:
+        out = self.folder / "no folder" / "out.csv"
+        status, _, errors = self.asked("pairs", self.good, self.good, "--factor", 1, "--out", out)
+        self.assertEqual((status, errors), (2, f"--out {out}: no folder {out.parent}\n"))
+
+
+class Outputs(WithMaps):
+    """What is written over nothing that it must not: told at once, before a map is read."""
+
+    def setUp(self) -> None:
+        super().setUp()
+        self.whole = self.map("a", {"A": square(0, 0, 10), "B": square(5, 0, 10)})
+        self.before = self.whole.read_bytes()
+
+    def check(self, *words: object) -> str:
+        status, rows, errors = self.asked("check", self.whole, "--factor", 1, *words)
+        self.assertEqual((status, rows, self.whole.read_bytes()), (2, [], self.before))
+        return errors.replace(f"{self.folder}/", "").strip()
+
+    def test_what_must_not_be_written_over_is_refused(self) -> None:
+        link, hard, out = self.folder / "link", self.folder / "hard", self.folder / "o.csv"
+        link.symlink_to(self.whole)
+        hard.hardlink_to(self.whole)
+        for path in (self.whole, link, hard, self.folder / "x" / ".." / "a.geojson"):
+            (self.folder / "x").mkdir(exist_ok=True)
+            for word in ("--out", "--gaps"):
+                self.assertIn(": this is the map a.geojson; take another name", self.check(word, path))
+        self.assertEqual(self.check("--out", out, "--gaps", out), "--gaps o.csv: this is --out too; take another name")
+        store = self.file("o.db", b"\0" * 16 + b"OVLSTORE")
+        self.assertEqual(self.check("--out", store), "--out o.db: a store of layers; take another name")
+        self.file("p.gpkg-journal", b"pages")
+        self.assertEqual(self.check("--gaps", self.folder / "p.gpkg"),
+                         "--gaps p.gpkg: p.gpkg-journal has changes of it "
+                         "that a program has in hand; end that one, or take another name")
+        self.assertEqual(self.check("--out", ""), "--out : no name of a file")
+        self.assertEqual(self.check("--gaps", self.folder / "x"), "--gaps x: a folder; say a file in it")
+        self.assertIn("is no folder", self.check("--gaps", self.whole / "gaps.geojson"))
+        self.assertFalse(out.exists())
+
+    def test_a_link_and_a_neighbour_stay(self) -> None:
+        real, link, gaps = self.file("real.csv", "before", 0o640), self.folder / "o.csv", self.folder / "g.geojson"
+        link.symlink_to(real)
+        own = [self.file(name, "mine") for name in ("o.csv.new", "real.csv.new", "g.geojson.new")]
+        status, _, errors = self.asked("check", self.whole, "--factor", 1, "--out", link, "--gaps", gaps)
+        self.assertEqual((status, link.is_symlink(), real.stat().st_mode & 0o777), (0, True, 0o640), errors)
+        self.assertIn("1,2,50,", real.read_text())
+        self.assertEqual({file.read_text() for file in own}, {"mine"})
+        self.assertEqual({file.name for file in self.folder.iterdir()},
+                         {"a.geojson", "real.csv", "o.csv", "g.geojson", *(file.name for file in own)})
+
+    def test_a_pipe_is_written_to(self) -> None:
+        pipe = self.folder / "pipe"
+        os.mkfifo(pipe)
+        with subprocess.Popen(["timeout", "60", "cat", pipe], stdout=subprocess.PIPE, text=True) as reader:
+            self.assertEqual(self.asked("check", self.whole, "--factor", 1, "--out", pipe)[0], 0)
+            self.assertIn("1,2,50,", reader.communicate(timeout=60)[0])
+        self.assertTrue(pipe.is_fifo())
+
+    def test_what_is_broken_off_leaves_what_was_there(self) -> None:
+        before = self.file("o.csv", "before")
+        with self.assertRaises(KeyboardInterrupt), writing.whole(before) as file:
+            file.write("half")
+            raise KeyboardInterrupt
+        self.assertEqual({one.name: one.read_bytes() for one in self.folder.iterdir()},
+                         {"o.csv": b"before", "a.geojson": self.before})
+
+
+if __name__ == "__main__":
+    unittest.main()

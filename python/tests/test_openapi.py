@@ -1,0 +1,287 @@
+"""Tests of the front's description: it is OpenAPI 3.0, and each page answers as its schema says.
+
+The rules of OpenAPI that are looked at are written down here; where openapi_spec_validator is
+installed, as by pip, it judges too.
+"""
+
+from __future__ import annotations
+
+import importlib.util
+import json
+import re
+import unittest
+from collections.abc import Iterator
+from typing import Any
+
+import pytest
+
+from overlayd.web import schemas
+from .test_features import MOVED, Case, feature
+from .testing import SHIFTED, SQUARE, FrontCase, Told
+
+pytestmark = pytest.mark.live
+
+METHODS = {"get", "put", "post", "delete", "options", "head", "patch", "trace"}
+WHERE = {"query", "path", "header", "cookie"}
+OF_OPERATION = {"summary", "description", "operationId", "parameters", "requestBody", "responses", "tags", "deprecated"}
+OF_PARAMETER = {"name", "in", "description", "required", "schema", "style", "explode", "example"}
+OF_SCHEMA = {"type", "properties", "required", "items", "minItems", "maxItems", "enum", "pattern", "minimum", "maximum",
+             "nullable", "oneOf", "allOf", "additionalProperties", "description", "format", "default", "example",
+             "$ref"}
+TYPES: dict[str, tuple[type, ...]] = {"object": (dict,), "array": (list,), "string": (str,), "boolean": (bool,),
+                                      "integer": (int,), "number": (int, float)}
+
+
+def judge() -> Any:
+    """openapi_spec_validator where it is installed in a release that has `validate` (0.6), or None."""
+    if not importlib.util.find_spec("openapi_spec_validator"):
+        return None
+    import openapi_spec_validator  # type: ignore[import]
+
+    return openapi_spec_validator if hasattr(openapi_spec_validator, "validate") else None
+
+
+def judges() -> str:
+    """Who judges the descriptions, in words."""
+    other = judge()
+    return "OpenAPI by the rules of test_openapi.py" + (f" and openapi_spec_validator {other.__version__}" if other
+                                                        else " alone")
+
+
+class Document:
+    """A description, and what is wrong with it by the rules of OpenAPI 3.0."""
+
+    def __init__(self, value: dict[str, Any]) -> None:
+        self.value = value
+
+    def found(self, value: Any) -> Any:
+        """What a reference names."""
+        while isinstance(value, dict) and "$ref" in value:
+            if set(value) != {"$ref"} or not value["$ref"].startswith("#/"):
+                raise AssertionError(f"{value}: a reference is alone and names a part of the document")
+            target: Any = self.value
+            for part in value["$ref"][2:].split("/"):
+                target = target[part]
+            value = target
+        return value
+
+    def faults(self) -> Iterator[str]:
+        value = self.value
+        if not re.fullmatch(r"3\.0\.\d", value["openapi"]) or not {"title", "version"} <= set(value["info"]):
+            yield "openapi and info"
+        if set(value) - {"openapi", "info", "servers", "paths", "components"}:
+            yield f"{set(value)}"
+        names = [one["operationId"] for methods in value["paths"].values() for one in methods.values()]
+        if len(set(names)) < len(names):
+            yield f"an operationId occurs twice: {names}"
+        for path, methods in value["paths"].items():
+            for method, one in methods.items():
+                yield from (f"{method} {path}: {fault}" for fault in self.of_operation(path, method, one))
+        for name, schema in value["components"]["schemas"].items():
+            yield from (f"{name}: {fault}" for fault in self.of_schema(schema))
+
+    def of_operation(self, path: str, method: str, one: dict[str, Any]) -> Iterator[str]:
+        if method not in METHODS or not path.startswith("/") or set(one) - OF_OPERATION or not one["responses"]:
+            yield "a method, a path, or a member that is none"
+        parameters = [self.found(parameter) for parameter in one["parameters"]]
+        if len({(given["name"], given["in"]) for given in parameters}) < len(parameters):
+            yield "a parameter occurs twice"
+        of_path = {given["name"] for given in parameters if given["in"] == "path"}
+        if of_path != set(re.findall(r"\{(\w+)\}", path)):
+            yield f"parameters of the path: {of_path}"
+        for given in parameters:
+            if given["in"] not in WHERE or set(given) - OF_PARAMETER or given["in"] == "path" and not given["required"]:
+                yield f"parameter {given['name']}"
+            yield from self.of_schema(given["schema"])
+        for status, answer in one["responses"].items():
+            if not re.fullmatch(r"[1-5]\d\d|default", status) or not answer["description"]:
+                yield f"answer {status}"
+            yield from self.of_content(answer.get("content", {}))
+        if "requestBody" in one:
+            if method in ("get", "delete"):
+                yield "a body"
+            yield from self.of_content(one["requestBody"]["content"])
+
+    def of_content(self, content: dict[str, Any]) -> Iterator[str]:
+        for kind, media in content.items():
+            if not re.fullmatch(r"\w+/[\w.+-]+(;.*)?", kind):
+                yield kind
+            yield from self.of_schema(media["schema"])
+
+    def of_schema(self, schema: dict[str, Any]) -> Iterator[str]:
+        if "$ref" in schema:
+            self.found(schema)
+            return
+        if set(schema) - OF_SCHEMA or schema.get("type", "object") not in TYPES:
+            yield f"a schema with {sorted(schema)} of type {schema.get('type')}"
+        if (schema.get("type") == "array") != ("items" in schema):
+            yield "an array has items"
+        if "required" in schema and (not schema["required"]
+                                     or set(schema["required"]) - set(schema.get("properties", {}))):
+            yield f"required: {schema['required']}"
+        within = [*schema.get("properties", {}).values(), *schema.get("oneOf", []), *schema.get("allOf", []),
+                  *(schema[name] for name in ("items", "additionalProperties") if name in schema)]
+        for one in within:
+            yield from self.of_schema(one)
+
+    def against(self, value: Any, schema: dict[str, Any], at: str = "") -> Iterator[str]:
+        """Where a value of JSON is not of a schema."""
+        schema = self.found(schema)
+        if value is None and schema.get("nullable"):
+            return
+        kind = schema.get("type")
+        if kind and (not isinstance(value, TYPES[kind]) or kind != "boolean" and isinstance(value, bool)):
+            yield f"{at}: {str(value)[:60]} is no {kind}"
+            return
+        if "enum" in schema and value not in schema["enum"]:
+            yield f"{at}: {value} is none of {schema['enum']}"
+        if "pattern" in schema and not re.search(schema["pattern"], value):
+            yield f"{at}: {value} does not fit {schema['pattern']}"
+        if "minimum" in schema and value < schema["minimum"] or "maximum" in schema and value > schema["maximum"]:
+            yield f"{at}: {value} is out of range"
+        fitting = [one for one in schema.get("oneOf", []) if not list(self.against(value, one, at))]
+        if "oneOf" in schema and len(fitting) != 1:
+            yield f"{at}: it fits {len(fitting)} of {len(schema['oneOf'])}"
+        for one in schema.get("allOf", []):
+            yield from self.against(value, one, at)
+        if isinstance(value, dict):
+            yield from self.members(value, schema, at)
+        if isinstance(value, list):
+            if not schema.get("minItems", 0) <= len(value) <= schema.get("maxItems", len(value)):
+                yield f"{at}: {len(value)} items"
+            for place, one in enumerate(value):
+                yield from self.against(one, schema.get("items", {}), f"{at}[{place}]")
+
+    def members(self, value: dict[str, Any], schema: dict[str, Any], at: str) -> Iterator[str]:
+        yield from (f"{at}: no {name}" for name in schema.get("required", []) if name not in value)
+        known, more = schema.get("properties", {}), schema.get("additionalProperties", {})
+        for name, one in value.items():
+            yield from self.against(one, known.get(name, more), f"{at}.{name}")
+
+
+class Judged(unittest.TestCase):
+    """What descriptions and answers have in common."""
+
+    def check_document(self, value: dict[str, Any]) -> Document:
+        document = Document(value)
+        self.assertEqual(list(document.faults()), [])
+        if judge() is not None:
+            judge().validate(value)
+        return document
+
+    def check_answer(self, document: Document, told: Told, method: str, path: str) -> None:
+        """Whether an answer is one that the description has for its page."""
+        answers = document.value["paths"][path][method]["responses"]
+        answer = answers.get(str(told.status), answers["default"])
+        kind = told.headers["Content-Type"]
+        self.assertIn(kind, answer["content"], f"{method} {path}: {told.status}")
+        schema = answer["content"][kind]["schema"]
+        self.assertEqual(list(document.against(told.value, schema)), [], f"{method} {path}")
+
+
+class OfLayers(FrontCase, Judged):
+    lines = (f"PUT A {SQUARE}", f"PUT B {SHIFTED}", "DEFINE both = A & B", "PUT E MULTIPOLYGON EMPTY")
+    scale = {"factor": 1, "origin": [-10, 40], "crs": "OGC:CRS84", "digits": 6}
+
+    def test_each_page_answers_as_it_is_described(self) -> None:
+        self.wait_for("both")
+        document = self.check_document(self.client.get("/api"))
+        for path, methods in document.value["paths"].items():
+            if "get" not in methods:
+                continue
+            words = [document.found(one) for one in methods["get"]["parameters"]]
+            self.assertIn("f", [one["name"] for one in words], path)
+            for layer in ("A", "both", "E"):
+                asked = path.format(collectionId=layer, featureId=1)
+                told = self.client.ask(f"{asked}?{'x=-5/3&y=127/3&' if 'locate' in path else ''}f=json")
+                self.check_answer(document, told, "get", path)
+
+    def test_changes_and_refusals_are_described(self) -> None:
+        document = self.check_document(self.client.get("/api"))
+        layer = "/collections/{collectionId}"
+        geometry = {"type": "Polygon", "coordinates": [[[0, 41], [2, 41], [2, 43], [0, 41]]]}
+        for one, body in (("/collections/new", geometry), ("/collections/new", {"geometry": geometry}),
+                          ("/collections/made", {"definition": "A ^ B"})):
+            schema = document.value["paths"][layer]["put"]["requestBody"]["content"]["application/json"]["schema"]
+            self.assertEqual(list(document.against(body, schema)), [])
+            told = self.client.ask(one, "PUT", body)
+            self.assertEqual(told.status, 200)
+            self.check_answer(document, told, "put", layer)
+        self.check_answer(document, self.client.ask(one, "DELETE"), "delete", layer)
+        self.check_answer(document, self.client.ask(one, "DELETE"), "delete", layer)
+        self.check_answer(document, self.client.ask("/collections/A/items?f=xml"), "get", layer + "/items")
+        batch = {"commands": [{"put": "q", "geometry": geometry}, {"define": "r", "definition": "q"}, {"drop": "r"}]}
+        self.check_answer(document, self.client.ask("/batch", "POST", batch), "post", "/batch")
+        self.check_answer(document, self.client.ask("/batch", "POST", {"commands": [{"drop": "no"}]}), "post", "/batch")
+
+
+class OfMap(Case, Judged):
+    def test_each_page_of_the_map_answers_as_it_is_described(self) -> None:
+        document = self.check_document(self.client.get("/api"))
+        for path, methods in document.value["paths"].items():
+            if "get" in methods and "tiles" not in path:
+                asked = path.format(collectionId="plan", featureId=1)
+                told = self.client.ask(f"{asked}?{'x=1&y=1&' if 'locate' in path else ''}f=json")
+                self.assertEqual(told.status, 200, path)
+                self.check_answer(document, told, "get", path)
+
+    def test_properties_have_the_types_that_they_have(self) -> None:
+        schema = self.client.get("/api")["components"]["schemas"]["mapProperties"]
+        kinds = {name: (one.get("type"), one.get("nullable", False)) for name, one in schema["properties"].items()}
+        self.assertEqual(kinds, {"name": ("string", False), "n": ("integer", False), "part": ("number", False),
+                                 "no": (None, False), "list": ("array", False), "area": ("number", False)})
+        self.assertEqual(schema["required"], ["name", "area"])
+        self.assertEqual(schemas.schema_of([1, 2.5, None]), {"type": "number", "nullable": True})
+        self.assertEqual(schemas.schema_of([1, "a"]), {})
+
+    def test_changes_of_features_are_described(self) -> None:
+        document = self.check_document(self.client.get("/api"))
+        items, item = "/collections/plan/items", "/collections/plan/items/{featureId}"
+        body = feature("Polygon", [MOVED], {"name": "new"})
+        schema = document.value["paths"][items]["post"]["requestBody"]["content"]["application/geo+json"]["schema"]
+        self.assertEqual(list(document.against(body, schema)), [])
+        self.check_answer(document, self.client.ask(items, "POST", body), "post", items)
+        self.check_answer(document, self.client.ask(f"{items}/2", "PUT", body), "put", item)
+        self.check_answer(document, self.client.ask(f"{items}/2", "PUT", body, {"HTTP_IF_MATCH": '"0"'}), "put", item)
+        self.check_answer(document, self.client.ask(f"{items}/2", "DELETE"), "delete", item)
+        self.check_answer(document, self.client.ask(f"{items}/2", "DELETE"), "delete", item)
+
+
+class Judges(unittest.TestCase):
+    """The rules find what is against them, so that they are no empty ones."""
+
+    def test_the_other_judge_finds_them_too(self) -> None:
+        if judge() is None:
+            self.skipTest("no openapi_spec_validator: pip install openapi-spec-validator")
+        from overlayd.web import openapi
+
+        good = openapi.document("t", "http://127.0.0.1", True, openapi.Described("m", {}))
+        judge().validate(good)
+        with self.assertRaises(Exception):
+            judge().validate({**good, "paths": {**good["paths"], "/x": {"get": {"responses": {}, "parameters": [{}]}}}})
+
+    def test_faults_of_a_description_are_found(self) -> None:
+        from overlayd.web import openapi
+
+        good = openapi.document("t", "http://127.0.0.1", True,
+                                openapi.Described("m", schemas.properties_of([{"a": 1}], "area")))
+        self.assertEqual(list(Document(good).faults()), [])
+        spoilt = (('"operationId": "getApi"', '"operationId": "getStatus"'), ('"in": "path"', '"in": "body"'),
+                  ('"required": true', '"required": false'), ('"type": "string"', '"type": "text"'),
+                  ('"3.0.3"', '"3.1.0"'), ('"description": "refused"', '"description": ""'), ('"items": ', '"item": '),
+                  ('{featureId}', '{id}'), ('"schema": {"$ref"', '"schema": {"type": "array", "$ref"'))
+        for old, new in spoilt:
+            text = json.dumps(good)
+            self.assertIn(old, text)
+            with self.subTest(new), self.assertRaises((AssertionError, KeyError)):
+                self.assertEqual(list(Document(json.loads(text.replace(old, new))).faults()), [])
+
+    def test_values_that_are_not_of_a_schema_are_found(self) -> None:
+        document = Document({"components": {"schemas": schemas.SCHEMAS}})
+        geometry = {"type": "Polygon", "coordinates": [[[0, 0], [1, 0], [1, 1], [0, 0]]]}
+        good = {"type": "Feature", "id": 1, "geometry": geometry, "properties": {}}
+        self.assertEqual(list(document.against(good, schemas.ref("feature"))), [])
+        for name, value in (("type", "Point"), ("id", None), ("id", -1), ("geometry", None), ("properties", []),
+                            ("geometry", {**geometry, "type": "MultiPolygon"}), ("links", [{"rel": "self"}]),
+                            ("geometry", {**geometry, "coordinates": [[[0, 0], [1, 0], [0, 0]]]})):
+            self.assertTrue(list(document.against({**good, name: value}, schemas.ref("feature"))), name)

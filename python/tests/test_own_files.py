@@ -1,0 +1,147 @@
+"""Tests that tools write over no file that was not named to them, by the commands, and that a kill
+leaves nothing for good."""
+
+import functools
+import signal
+import subprocess
+import sys
+from unittest import mock
+
+from overlayd.commands import overlay_maps
+from overlayd.files import gdal_writing
+from overlayd.store import keeping
+from .common import SECONDS, SOURCES, SQUARE, InFolder, Programs, outcome, path
+
+MINE = "mine\n"
+PLAN = ('{"type": "Feature", "properties": {"name": "plan"}, "geometry": {"type": "Polygon", '
+        '"coordinates": [[[0, 0], [10, 0], [10, 10], [0, 10], [0, 0]]]}}')
+
+
+class OwnFiles(InFolder):
+    def ran(self, tool: str, *words: object) -> tuple[int, str]:
+        done = subprocess.run([sys.executable, path(tool), *map(str, words)], capture_output=True, text=True,
+                              timeout=SECONDS, check=False)
+        return done.returncode, done.stderr
+
+    def test_files_beside_an_output_that_are_the_users(self) -> None:
+        source = self.file("plan.geojson", PLAN)
+        for end in keeping.ENDS:
+            mine = self.file(f"out{end}", MINE)
+            status, told = self.ran("to_script.py", source, "--coded", "--output", self.folder / "out.txt")
+            self.assertEqual((status, mine.read_text()), (2, MINE), told)
+            self.assertIn(f"--output: {mine} stands, and is no file of this tool's", told)
+            self.assertFalse((self.folder / "out.txt").exists())
+            mine.unlink()
+        for _ in range(2):  # what it has written itself it replaces
+            self.assertEqual(self.ran("to_script.py", source, "--coded", "--output", self.folder / "out.txt")[0], 0)
+            self.assertEqual([end for end in keeping.ENDS if not (self.folder / f"out{end}").is_file()], [])
+
+    def test_names_and_a_scale_that_the_user_has_edited(self) -> None:
+        """They are of the tool's form, and belong to no script where none of the output's name is there."""
+        source, output = self.file("plan.wkt", SQUARE), self.folder / "out.txt"
+        made = {self.folder / f"out{end}": edit for end, edit in ((".names.csv", ("plan.wkt, text 1", "town hall")),
+                                                                  (".scale.json",
+                                                                   ('"factor"', '"title": "Mine", "factor"')))}
+        for mine, edit in made.items():
+            self.assertEqual(self.ran("to_script.py", source, "--coded", "--output", output)[0], 0)
+            self.assertEqual(self.ran("to_script.py", source, "--coded", "--output", output)[0], 0)
+            output.unlink()
+            # The same are no loss.
+            self.assertEqual(self.ran("to_script.py", source, "--coded", "--output", output)[0], 0)
+            output.unlink()
+            edited = mine.read_text().replace(*edit)
+            mine.write_text(edited)
+            status, told = self.ran("to_script.py", source, "--coded", "--output", output)
+            self.assertEqual((status, mine.read_text() == edited, output.exists()), (2, True, False), told)
+            self.assertIn(
+                f"--output: {mine} stands, would be written otherwise, and belongs to no script, as {output} is not "
+                "there as one: it was not named, and is not written over; take another name, or move it away",
+                told)
+            output.write_text("PUT plan POLYGON ((0 0, 1 0, 1 1, 0 0))\n")
+            self.assertEqual(self.ran("to_script.py", source, "--coded", "--output", output)[0], 0)
+            self.assertNotEqual(mine.read_text(), edited)
+            output.unlink()
+
+    def test_a_scale_that_is_given_may_have_the_name_of_the_output(self) -> None:
+        source, given = self.file("plan.wkt", SQUARE), self.file("out.scale.json", '{"title": "out", "factor": 10}')
+        words = "to_script.py", source, "--output", self.folder / "out.txt"
+        self.assertEqual(self.ran(*words)[0], 2)
+        status, told = self.ran(*words, "--scale", given)
+        self.assertEqual(status, 0, told)
+
+    def test_scripts_of_several_stores_that_are_the_users(self) -> None:
+        """NAME.1.txt and so on are not named by --output NAME.txt."""
+        rings = (", ".join(f"{100 * at + x} {y}" for x, y in [*((x, x % 2) for x in range(41)), (20, 90), (0, 0)])
+                 for at in range(900))
+        source = self.file("many.wkt", "".join(f"POLYGON (({ring}))\n" for ring in rings))
+        words = "to_script.py", source, "--coded", "--split", "--factor", 1, "--output", self.folder / "out.txt"
+        mine = self.file("out.2.txt", MINE)
+        status, told = self.ran(*words)
+        self.assertEqual((status, mine.read_text(), len(list(self.folder.iterdir()))), (2, MINE, 2), told)
+        self.assertIn(f"--output: {mine} stands, and is no file of this tool's", told)
+        mine.unlink()
+        for _ in range(2):
+            self.assertEqual(self.ran(*words)[0], 0)
+        self.assertTrue(mine.read_text().startswith("PUT "))
+
+    def test_what_a_kill_leaves_goes_at_the_next_start(self) -> None:
+        source = self.file("plan.wkt", SQUARE)
+        writer = ("import pathlib, sys, time\nfrom overlayd.files import writing\n"
+                  "with writing.whole(pathlib.Path(sys.argv[1])) as file:\n    file.write('half')\n    file.flush()\n"
+                  "    print('now', flush=True)\n    time.sleep(60)\n")
+        with subprocess.Popen([sys.executable, "-c", writer, self.folder / "out.txt"], env=SOURCES,
+                              stdout=subprocess.PIPE) as killed:
+            assert killed.stdout
+            killed.stdout.readline()
+            (left,) = self.folder.glob(".*.new")
+            self.assertEqual(self.ran("to_script.py", source, "--output", self.folder / "out.txt")[0], 0)
+            self.assertTrue(left.exists())  # of one that is at work
+            killed.send_signal(signal.SIGKILL)
+        others = self.file(f".out.txt.{'0' * 32}.{killed.pid}.1.new", MINE)  # of another machine
+        self.assertEqual(self.ran("to_script.py", source, "--output", self.folder / "out.txt")[0], 0)
+        self.assertEqual(list(self.folder.glob(".*.new")), [others])
+
+
+class OwnPieces(InFolder):
+    """Of `overlay_maps.py overlay --pieces`: two maps of a square each, of which three pieces come."""
+
+    def setUp(self) -> None:
+        super().setUp()
+        if Programs.live is None:
+            self.skipTest("no program was given")
+        self.first = self.file("a.wkt", SQUARE)
+        self.second = self.file("b.wkt", "POLYGON ((5 5, 15 5, 15 15, 5 15, 5 5))")
+        self.inputs = {"a.wkt", "b.wkt"}
+
+    def overlaid(self, part_max: int) -> tuple[int, str]:
+        """Where a file takes so many pieces."""
+        words = "--factor", 1, "--program", Programs.live, "--jobs", 1, "--pieces", self.folder / "pieces.gpkg"
+        write = functools.partial(gdal_writing.write, part_max=part_max)
+        with mock.patch.object(gdal_writing, "write", write):
+            status, _, told = outcome(overlay_maps, "overlay", self.first, self.second, *words)
+        return status, told
+
+    def names(self) -> set[str]:
+        return {one.name for one in self.folder.iterdir()} - self.inputs
+
+    def test_parts_and_an_index_that_are_the_users(self) -> None:
+        for name in ("pieces-001.gpkg", "pieces-002.gpkg", "pieces.vrt"):
+            mine = self.file(name, MINE)
+            status, told = self.overlaid(2)
+            self.assertEqual((status, mine.read_text(), self.names()), (2, MINE, {name}), told)
+            self.assertIn(f"{mine} stands, and was not named", told)
+            mine.unlink()
+
+    def test_of_an_earlier_run_its_own_parts_alone_go(self) -> None:
+        mine = self.file("pieces-009.gpkg", MINE)
+        parts = {mine.name, "pieces-001.gpkg", "pieces-002.gpkg", "pieces.vrt"}
+        for part_max, wanted in ((2, parts), (2, parts), (3, {mine.name, "pieces.gpkg"}), (2, parts)):
+            status, told = self.overlaid(part_max)
+            self.assertEqual((status, self.names(), mine.read_text()), (0, wanted, MINE), told)
+
+    def test_an_index_of_other_files_and_what_lies_beside_it_stay(self) -> None:
+        index = self.file("pieces.vrt", "<OGRVRTDataSource><SrcDataSource>../zones.gpkg</SrcDataSource>")
+        mine, before = self.file("pieces-002.gpkg", MINE), index.read_text()
+        status, told = self.overlaid(3)
+        self.assertEqual((status, self.names()), (0, {index.name, mine.name, "pieces.gpkg"}), told)
+        self.assertEqual((index.read_text(), mine.read_text()), (before, MINE))

@@ -1,0 +1,48 @@
+"""Tests of progress.py: a bar on a terminal, and nothing elsewhere."""
+
+import os
+import pty
+import subprocess
+import sys
+
+from .common import SECONDS, SOURCES, TOP, InFolder
+from .test_layouts import geojson, square
+
+
+class Progresses(InFolder):
+    def call(self, before: str = "") -> list[str]:
+        """A call of to_script.py for 300 features, whose bars show at once."""
+        features = [(f"n{place}", [[square(7 * place, 0, 5)]]) for place in range(300)]
+        file, output = self.file("many.geojson", geojson(*features)), self.folder / "many.txt"
+        words = [str(file), "--coded", "--output", str(output)]
+        code = (f"import sys\n{before}\n"
+                "from overlayd import ending, progress\n"
+                "from overlayd.commands import to_script\n"
+                "progress.BEGIN_SECONDS = 0\n"
+                f"ending.run(lambda _: to_script.main({words!r}))\n")
+        return [sys.executable, "-c", code]
+
+    def test_a_bar_on_a_terminal_and_on_standard_error_alone(self) -> None:
+        reader, writer = pty.openpty()
+        done = subprocess.run(self.call(), cwd=TOP, env=SOURCES, stdout=subprocess.PIPE,
+                              stderr=writer, check=False, timeout=SECONDS)
+        os.close(writer)
+        told = b""
+        while not told.endswith(b"many.features.json\r\n"):
+            told += os.read(reader, 65536)
+        os.close(reader)
+        self.assertEqual((done.returncode, done.stdout), (0, b""))
+        for what in (b"rounding features: ", b"laying out features: "):
+            self.assertRegex(told, what + rb" *[0-9]+%.*/300 ")
+
+    def test_nothing_elsewhere(self) -> None:
+        done = subprocess.run(self.call(), cwd=TOP, env=SOURCES, capture_output=True,
+                              text=True, check=True, timeout=SECONDS)
+        self.assertEqual((done.stdout, "features: " in done.stderr), ("", False), done.stderr)
+
+    def test_a_package_that_is_missing_is_named(self) -> None:
+        call = self.call("sys.modules['tqdm'] = None")
+        done = subprocess.run(call, cwd=TOP, env=SOURCES, capture_output=True, text=True, check=False, timeout=SECONDS)
+        told = "python3-tqdm is missing: apt-get install python3-tqdm, and run this by /usr/bin/python3"
+        self.assertEqual((done.returncode, done.stdout), (1, ""))
+        self.assertEqual(done.stderr, f"-c: {told}\n")

@@ -1,0 +1,235 @@
+"""Tests of to_script.py without its further ways: rounding, what is refused, and names."""
+
+import re
+import unittest
+import unittest.mock
+
+from overlayd.commands import to_script
+from .common import SQUARE, content, on_file, outcome, path
+
+
+class ToScript(unittest.TestCase):
+    def test_whole_numbers_stay(self) -> None:
+        status, output, errors = on_file(to_script, SQUARE)
+        self.assertEqual((status, output), (0, f"PUT input_file {SQUARE}\n"))
+        self.assertIn("0 of 10 coordinates rounded, largest move 0, 0 equal points merged", errors)
+
+    def test_factor_and_origin(self) -> None:
+        text = "POLYGON ((100.5 7, 101.25 7, 101.25 8.126, 100.5 7))"
+        status, output, errors = on_file(to_script, text, "--factor", 100, "--origin", 100, 7, "--name", "P")
+        self.assertEqual((status, output), (0, "PUT P POLYGON ((50 0, 125 0, 125 113, 50 0))\n"))
+        self.assertIn("1 of 8 coordinates rounded, largest move 0.004,", errors)
+
+    def test_another_factor_for_y(self) -> None:
+        _, output, _ = on_file(to_script, "POLYGON ((0 0, 1 0, 1 1, 0 0))", "--factor", 2, "--factor-y", "0.5")
+        self.assertIn("((0 0, 2 0, 2 1, 0 0))", output)
+
+    def test_halves_go_up(self) -> None:
+        _, output, errors = on_file(to_script, "POLYGON ((-1.5 -2.5, 1.5 0, 2.5 9, -1.5 -2.5))", "--factor", 1)
+        self.assertIn("((-1 -2, 2 0, 3 9, -1 -2))", output)
+        self.assertIn("6 of 8 coordinates rounded, largest move 0.5,", errors)
+
+    def test_digits_beyond_a_double_are_reported(self) -> None:
+        text = "POLYGON ((0.49999999999999999999 0, 9 0, 9 9, 0.49999999999999999999 0))"
+        _, output, errors = on_file(to_script, text, "--factor", 1)
+        self.assertIn("((1 0, 9 0, 9 9, 1 0))", output)
+        self.assertIn(
+            "2 of 8 coordinates rounded, largest move 0.5, 0 equal points merged, 2 coordinates of more digits than a "
+            "double has, each taken for the nearest one", errors)
+
+    def test_equal_points_are_merged(self) -> None:
+        text = "POLYGON ((0 0, 0.2 0.1, 10 0, 10 10, 10.3 9.8, 0.4 0.4, 0 0))"
+        status, output, errors = on_file(to_script, text, "--factor", 1)
+        self.assertIn("((0 0, 10 0, 10 10, 0 0))", output)
+        self.assertIn("3 equal points merged", errors)
+        self.assertEqual(status, 0)
+
+    def test_out_of_range_with_a_hint_that_works(self) -> None:
+        text = "POLYGON ((500000 4600000, 500010 4600000, 500010 4600010, 500000 4600000))"
+        status, output, errors = on_file(to_script, text)
+        self.assertEqual((status, output), (2, ""))
+        self.assertEqual(errors, "at factor 1, origin 0 0: 1 shapes are out of range; to be fitted: --factor 1 "
+                                 "--origin 500005 4600005, or --fit\n")
+        status, output, errors = on_file(to_script, text, "--factor", 1, "--origin", 500005, 4600005)
+        self.assertEqual((status, output), (0, "PUT input_file POLYGON ((-5 -5, 5 -5, 5 5, -5 -5))\n"))
+        status, output, errors = on_file(to_script, text, "--factor", 1)
+        self.assertEqual((status, output), (1, ""))
+        self.assertIn("refused: FILE, text 1: out of range after scaling: 500000 4600000", errors)
+
+    def test_the_limit_itself_is_in_range(self) -> None:
+        text = "POLYGON ((1048576 -1048576, 0 0, 0 1, 1048576 -1048576))"
+        self.assertEqual(on_file(to_script, text)[0], 0)
+        self.assertEqual(on_file(to_script, text.replace("1048576 -", "1048576.5 -"))[0], 2)
+
+    def test_rings_that_are_no_rings(self) -> None:
+        hole = "POLYGON ((0 0, 10 0, 10 10, 0 10, 0 0), ({}))"
+        for text, reason in (
+            ("5 5, 6 5, 5 5", "a hole: a ring of 3 points"),
+            ("5 5, 5.2 5, 5.2 5.2, 5 5", "a hole: a ring that collapsed"),
+            ("5 5, 7 5, 6 5, 5 5", "a hole: a ring that collapsed"),
+        ):
+            status, output, errors = on_file(to_script, hole.format(text), "--factor", 1)
+            self.assertEqual((status, output), (1, f"PUT input_file {SQUARE}\n"))
+            self.assertIn(f"refused: FILE, text 1: {reason}", errors)
+        self.assertEqual(on_file(to_script, "POLYGON ((0 0, 1 0, 1 1, 0 1))")[:2], (1, ""))
+
+    def test_an_outer_ring_takes_its_holes_along(self) -> None:
+        text = "MULTIPOLYGON (((0 0, .1 0, .1 .1, 0 0), (1 1, 9 1, 9 9, 1 1)), ((0 0, 5 0, 5 5, 0 0)))"
+        status, output, errors = on_file(to_script, text, "--factor", 1)
+        self.assertEqual((status, output), (1, "PUT input_file POLYGON ((0 0, 5 0, 5 5, 0 0))\n"))
+        self.assertIn("a polygon, for its outer ring: a ring that collapsed", errors)
+
+    def test_other_geometries_are_refused(self) -> None:
+        status, output, errors = on_file(to_script, "POINT (1 2)\n" + SQUARE + "\nMULTIPOINT ((1 2), (3 4))")
+        self.assertEqual((status, output), (1, f"PUT input_file {SQUARE}\n"))
+        self.assertIn("refused: FILE, text 1: no polygon: POINT", errors)
+        self.assertIn("refused: FILE, text 3: no polygon: MULTIPOINT", errors)
+
+    def test_texts_of_all_kinds(self) -> None:
+        text = ("SRID=4326;polygon z ((0 0 7, 10 0 7, 10 10 7, 0 10 7, 0 0 7))"
+                " GEOMETRYCOLLECTION (POLYGON EMPTY, MULTIPOLYGON (EMPTY, ((20 0, 3e1 0, 30 10, 20 0))))")
+        status, output, errors = on_file(to_script, text)
+        self.assertEqual(status, 0)
+        self.assertEqual(output, "PUT input_file MULTIPOLYGON (((0 0, 10 0, 10 10, 0 10, 0 0)), "
+                                 "((20 0, 30 0, 30 10, 20 0)))\n")
+        self.assertIn("further numbers of 5 points dropped", errors)
+
+    def test_texts_that_are_none(self) -> None:
+        for text in ("POLYGON ((0 0, 1 0", "POLYGON (0)", "{\"type\": ", "POLYGON ((0 0, 1 1, 2 0, 0 0)) x", "?",
+                     "POLYGON ((0 0, 1e99999999999999999999 1, 2 0, 0 0))", "{\"a\": 1e99999999999999999999}",
+                     "POLYGON " + "(" * 3000, "{\"type\":" * 3000):
+            status, output, errors = on_file(to_script, text)
+            self.assertEqual((status, output), (2, ""), text[:30])
+            self.assertIn("not read", errors)
+
+    def test_numbers_with_great_exponents(self) -> None:
+        for number in ("1e99999999", "-1e99999999", "1e-99999999", "1e201", "1e-201", "9" * 202, "0." + "1" * 201):
+            for text in (f"POLYGON ((0 0, {number} 0, 0 9, 0 0))",
+                         f'{{"type": "Polygon", "coordinates": [[[0, 0], [{number}, 0], [0, 9], [0, 0]]]}}'):
+                for words in ([], ["--fit"], ["--factor", 1]):
+                    status, output, errors = on_file(to_script, text, *words)
+                    self.assertEqual((status, output), (1, ""), (text, words))
+                    self.assertIn("a coordinate that is beyond all bounds", errors)
+        for number in ("1e200", "1e-200", "-" + "9" * 200, "0." + "1" * 200):
+            for words in ([], ["--fit"], ["--factor", "1e99"], ["--factor", "1e-99"]):
+                status = on_file(to_script, f"POLYGON ((0 0, {number} 0, 0 {number}, 0 0))", *words)[0]
+                self.assertIn(status, (0, 1, 2), (number, words))
+        for word in ("--factor", "--factor-y"):
+            for number in ("1e400000000", "1e-400000000", "1/0", "inf"):
+                with self.assertRaises(SystemExit) as ended, unittest.mock.patch("sys.stderr"):
+                    on_file(to_script, SQUARE, word, number)
+                self.assertEqual(ended.exception.code, 2)
+
+    def test_too_many_steps(self) -> None:
+        def zigzag(steps: int) -> str:
+            points = [f"{i} {i * 7919 % 1000}" for i in range(steps)] + ["0 0"]
+            return "POLYGON ((" + ", ".join(points) + "))"
+        self.assertEqual(on_file(to_script, zigzag(1000))[0], 0)
+        status, output, errors = on_file(to_script, zigzag(2049))
+        self.assertEqual((status, output), (1, ""))
+        self.assertIn("refused: layer input_file: too many steps: 2049 of at most 2048; --split writes them", errors)
+        status, output, errors = on_file(to_script, "\n".join([zigzag(1000), zigzag(1000), zigzag(1000)]))
+        self.assertEqual((status, output), (1, ""))
+        self.assertIn("refused: layer input_file: too many steps: 3000 of at most 2048", errors)
+
+    def test_overlapping_boxes_are_told(self) -> None:
+        errors = on_file(to_script, SQUARE + SQUARE)[2]
+        self.assertIn("layer input_file: 1 pairs of polygons with overlapping boxes", errors)
+
+    def test_real_shapes(self) -> None:
+        files = [path("data", f"iceland_{scale}.geojson") for scale in ("110m", "50m")]
+        words = "--factor", 42262, "--factor-y", 100000, "--origin", -19, 65
+        status, output, errors = outcome(to_script, *files, *words)
+        self.assertEqual(status, 0)
+        self.assertTrue(content("fixtures", "iceland.txt").decode().startswith(output))
+        self.assertIn("layer iceland_50m: polygons 1, steps 452; 902 of 906 coordinates rounded", errors)
+
+
+def feature(name: str, shift: int = 0, kind: str = "Polygon") -> str:
+    ring = f"[[{shift}, 0], [{shift + 5}, 0], [{shift}, 5.0], [{shift}, 0]]"
+    rings = f"[{ring}]" if kind == "Polygon" else f"[[{ring}]]"
+    return (f'{{"type": "Feature", "properties": {{"name": {name}}}, '
+            f'"geometry": {{"type": "{kind}", "coordinates": {rings}}}}}')
+
+
+def collection(*features: str) -> str:
+    return '{"type": "FeatureCollection", "features": [' + ", ".join(features) + "]}"
+
+    def test_of_a_map_that_is_out_of_range_the_first_few_are_told(self) -> None:
+        text = "".join(f"POLYGON (({x} 5400000, {x} 5400009, {x + 9} 5400009, {x} 5400000))\n"
+                       for x in range(0, 1500, 100))
+        status, output, errors = on_file(to_script, text, "--factor", 1000)
+        self.assertEqual((status, output), (1, ""))
+        self.assertEqual([line[:5] for line in errors.splitlines()], ["refus"] * 10 + ["and 5", "at fa", "no la"])
+        self.assertIn(
+            "and 5 more\nat factor 1000, origin 0 0: 15 shapes are out of range; to be fitted: --factor 1000 --origin",
+            errors)
+
+
+class Names(unittest.TestCase):
+    def test_letters_beyond_ascii_keep_their_place(self) -> None:
+        for wish, wanted in (("Größe", "Grosse"), ("STRAẞE", "STRASSE"), ("Süd-Öst", "Sud_Ost"), ("Małe", "Ma_e"),
+                             ("Kær", "K_r"), ("Łódź", "odz"), ("山田", "L"), ("7 Höfe", "L_7_Hofe")):
+            self.assertEqual(to_script.fitted_name(wish), wanted)
+
+    def names(self, *wishes: str) -> tuple[list[str], int, str]:
+        text = collection(*(feature(wish, 10 * i) for i, wish in enumerate(wishes)))
+        status, output, errors = on_file(to_script, text, "--name-by", "name")
+        return [line.split()[1] for line in output.splitlines()], status, errors
+
+    def test_names_fit_the_rule(self) -> None:
+        found, status, _ = self.names('"Île de Ré"', '"9 x"', '"a-b"', '"a b"', "7", "null", '"' + "x" * 40 + '"',
+                                      '"' + "x" * 41 + '"', '"日本"', '"a_b_2"')
+        self.assertEqual(status, 0)
+        self.assertEqual(found, ["Ile_de_Re", "L_9_x", "a_b", "a_b_2", "L_7", "input_file", "x" * 32,
+                                 "x" * 30 + "_2", "L", "a_b_2_2"])
+        self.assertTrue(all(re.fullmatch(r"[A-Za-z][A-Za-z0-9_]{0,31}", name) for name in found))
+
+    def test_one_value_is_one_layer(self) -> None:
+        text = collection(feature('"a"'), feature('"b"', 10), feature('"a"', 20, "MultiPolygon"))
+        output = on_file(to_script, text, "--name-by", "name")[1]
+        self.assertEqual(output, "PUT a MULTIPOLYGON (((0 0, 5 0, 0 5, 0 0)), ((20 0, 25 0, 20 5, 20 0)))\n"
+                                 "PUT b POLYGON ((10 0, 15 0, 10 5, 10 0))\n")
+
+    def test_at_most_32_layers(self) -> None:
+        found, status, errors = self.names(*(f'"n{i}"' for i in range(34)))
+        self.assertEqual((len(found), status), (32, 1))
+        self.assertIn("refused: n33: a layer more than 32; --output NAME.txt writes several stores", errors)
+
+    def test_without_a_property_all_is_one_layer(self) -> None:
+        output = on_file(to_script, collection(feature('"a"'), feature('"b"', 10)))[1]
+        self.assertEqual(len(output.splitlines()), 1)
+
+    def test_the_feature_that_is_refused_is_told(self) -> None:
+        told = "refused: FILE, {}: a ring whose last point is not its first, 10 0\n"
+        broken = feature('"b"', 10).replace(", [10, 0]]", ", [10, 1]]")
+        for text, label in ((collection(feature('"a"'), broken), "feature 2"), (broken, "feature 1")):
+            self.assertIn(told.format(label), on_file(to_script, text)[2])
+            self.assertIn(told.format(f"{label} (b)"), on_file(to_script, text, "--name-by", "name")[2])
+        self.assertIn(told.format("text 1"), on_file(to_script, "POLYGON ((10 0, 15 0, 10 5, 10 1))")[2])
+
+    def test_a_property_that_no_feature_has(self) -> None:
+        told = "--name-by nope: no feature has this property; they have"
+        text = collection(feature('"a"'), feature('"b"', 10))
+        self.assertEqual(on_file(to_script, text, "--name-by", "nope"), (2, "", f"{told} name\n"))
+        many = text.replace('"name": "b"', ", ".join(f'"p{place}": 1' for place in range(12)))
+        self.assertEqual(on_file(to_script, many, "--name-by", "nope"),
+                         (2, "", f"{told} name, {', '.join(f'p{place}' for place in range(9))} and 3 more\n"))
+        self.assertEqual(on_file(to_script, many, "--name-by", "p11")[0], 0)
+        for none in (SQUARE, text.replace('{"name": "a"}', "[1]").replace('{"name": "b"}', "null")):
+            self.assertEqual(on_file(to_script, none, "--name-by", "nope"), (2, "", f"{told} none\n"))
+
+    def test_geometry_collections_and_odd_values(self) -> None:
+        inner = '{"type": "Polygon", "coordinates": [[[0, 0], [5, 0], [0, 5], [0, 0]]]}'
+        text = f'{{"type": "GeometryCollection", "geometries": [{inner}, {{"type": "Point", "coordinates": [1, 2]}}]}}'
+        status, output, errors = on_file(to_script, text)
+        self.assertEqual((status, output), (1, "PUT input_file POLYGON ((0 0, 5 0, 0 5, 0 0))\n"))
+        self.assertIn("FILE, member 2: no polygon: POINT", errors)
+        for odd in ("[[[0, 0], [5, 0], [0, 5], [0, null]]]", "[[[0, 0], [5, 0], [0, 1e9999], [0, 0]]]", "7", "[7]",
+                    "[[7]]", "[[[0, 0], [5, NaN], [0, 5], [0, 0]]]", '[["a"]]',
+                    "[[[0, true], [5, 0], [0, 5], [0, true]]]"):
+            status, output, errors = on_file(to_script, f'{{"type": "Polygon", "coordinates": {odd}}}')
+            self.assertEqual((status, output), (1, ""), odd)
+        status, output, errors = on_file(to_script, '{"type": "Polygon", "coordinates": []}')
+        self.assertEqual((status, output, errors), (1, "", "nothing to write: FILE\nno layer: nothing is written\n"))
+        self.assertEqual(on_file(to_script, '{"type": "Feature", "properties": null, "geometry": null}')[:2], (1, ""))

@@ -1,0 +1,137 @@
+"""Tests of what goes with a script: a store keeps the scale and the names that it was made with."""
+
+import json
+import pathlib
+from typing import Any
+
+from overlayd.commands import dump_store, to_geojson, to_rings, to_script, which
+from .common import SQUARE, InFolder, WithProgram, outcome, path
+from .test_layouts import geojson, square
+
+COUNTIES = path("data", "north_carolina.geojson")
+
+
+def digest_in(file: pathlib.Path) -> Any:
+    return json.loads(file.read_text())["layers"]
+
+
+class StoresThatStand(WithProgram):
+    """The 100 counties of North Carolina in a store, and the first 40 of them as another map."""
+
+    def setUp(self) -> None:
+        super().setUp()
+        self.words = ["--fit", "--coded", "--name-by", "name", "--output", self.folder / "nc.txt"]
+        self.assertEqual(outcome(to_script, COUNTIES, *self.words)[0], 0)
+        self.db = self.store("nc.db", (self.folder / "nc.txt").read_bytes())
+        value = json.loads(pathlib.Path(COUNTIES).read_text())
+        value["features"] = value["features"][:40]
+        self.part = self.file("part.geojson", json.dumps(value))
+
+    def files(self) -> dict[str, bytes]:
+        return {file.name: file.read_bytes() for file in self.folder.iterdir()}
+
+    def wake(self) -> tuple[int, str, str]:
+        return outcome(which, "--store", self.db, "--names", self.folder / "nc.names.csv", "--program", self.program,
+                       "--", "-78.64", "35.77")
+
+    def test_another_map_is_not_written_under_the_name_of_a_store(self) -> None:
+        self.assertEqual(self.wake(), (0, "Wake\n", ""))
+        before = self.files()
+        status, output, errors = outcome(to_script, self.part, *self.words)
+        told = (f"--output: {self.db} is a store, and {self.folder / 'nc.scale.json'} says what its numbers mean: it "
+                "would say something else; take another name, or move the store away\n")
+        self.assertEqual((status, output, errors), (2, "", told))
+        self.assertEqual(self.files(), before)
+        self.assertEqual(self.wake(), (0, "Wake\n", ""))
+        (self.folder / "nc.scale.json").unlink()
+        self.assertEqual(outcome(to_script, self.part, *self.words)[0], 2)
+        other = [*self.words[:-1], self.folder / "part.txt"]
+        self.assertEqual(outcome(to_script, self.part, *other)[0], 0)
+
+    def test_other_names_under_the_same_scale_are_not_written_either(self) -> None:
+        scale = self.file("given.json", (self.folder / "nc.scale.json").read_bytes())
+        before = self.files()
+        told = outcome(to_script, self.part, "--scale", scale, *self.words[1:])
+        self.assertEqual((told[0], "nc.names.csv says what" in told[2]), (2, True), told)
+        self.assertEqual(self.files(), before)
+
+    def test_the_same_map_again_is_written(self) -> None:
+        before = self.files()
+        self.assertEqual(outcome(to_script, COUNTIES, *self.words)[0], 0)
+        self.assertEqual(self.files(), before)
+
+    def test_a_store_of_other_layers_is_told(self) -> None:
+        self.db.unlink()
+        self.assertEqual(outcome(to_script, self.part, *self.words)[0], 0)
+        old = self.store("nc.db", (self.folder / "nc.txt").read_bytes())
+        other = self.file("other.geojson", geojson(*((f"f{x}", [[square(x, 0, 2)]]) for x in range(0, 300, 5))))
+        older = old.read_bytes()
+        old.unlink()
+        self.assertEqual(outcome(to_script, other, *self.words)[0], 0)
+        old.write_bytes(older)
+        told = f"{old}: layers that are changed since (b0, b1, b2, b3, b4, b5), or of another map: " \
+               f"{self.folder / 'nc.scale.json'} was written for other ones"
+        words = ["--store", old, "--program", self.program]
+        self.assertIn("not the features of this store", outcome(which, *words, "1", "1")[2])
+        self.assertIn(told, outcome(which, *words, "--layers", "1", "1")[2])
+        for tool in (to_rings, to_geojson):
+            self.assertIn(told, outcome(tool, *words, "--layer", "b0")[2])
+        given = self.folder / "nc.scale.json"
+        self.assertNotIn(told, outcome(to_rings, *words, "--scale", given)[2])
+        foreign = self.store("nc.store", f"PUT A {SQUARE}\n")
+        self.assertIn(f"{foreign}: layers of another map: ",
+                      outcome(to_rings, "--store", foreign, "--program", self.program)[2])
+
+    def test_layers_as_listed_are_those_of_the_script(self) -> None:
+        self.file("nc.again.txt", outcome(dump_store, self.db, "--program", self.program)[1])
+        again = self.store("again.db", (self.folder / "nc.again.txt").read_bytes())
+        self.file("again.scale.json", (self.folder / "nc.scale.json").read_bytes())
+        self.assertNotIn("changed", outcome(to_rings, "--store", again, "--program", self.program)[2])
+
+
+class Dumps(WithProgram):
+    """A store whose layer was changed since its scale was written."""
+
+    def setUp(self) -> None:
+        super().setUp()
+        plan = self.file("plan.wkt", SQUARE)
+        self.assertEqual(outcome(to_script, plan, "--factor", 10, "--output", self.folder / "map.txt")[0], 0)
+        self.db = self.store("map.db", f"PUT plan {SQUARE}\n")
+        self.words = [self.db, "--program", self.program, "--output", self.folder / "again.txt"]
+
+    def test_the_scale_of_a_dump_is_of_its_layers(self) -> None:
+        self.assertIn("changed since (plan)", outcome(to_rings, "--store", self.db, "--program", self.program)[2])
+        self.assertEqual(outcome(dump_store, *self.words), (0, "", ""))
+        again = self.store("again.db", (self.folder / "again.txt").read_bytes())
+        told = outcome(to_rings, "--store", again, "--program", self.program)
+        self.assertEqual((told[1], "changed" in told[2]), ("POLYGON ((0 0, 1 0, 1 1, 0 1, 0 0))\n", False))
+        self.assertEqual(outcome(dump_store, *self.words), (0, "", ""))
+
+    def test_what_a_store_needs_is_not_written_over(self) -> None:
+        other = self.store("again.db", f"PUT A {SQUARE}\n")
+        told = (f"--output: {other} is a store, and {self.folder / 'again.scale.json'} says what its numbers mean: it "
+                "would say something else; take another name, or move the store away\n")
+        self.assertEqual(outcome(dump_store, *self.words), (1, "", told))
+        self.assertEqual(sorted(file.name for file in self.folder.glob("again.*")), ["again.db"])
+
+    def test_a_scale_that_belongs_to_no_script_is_not_written_over(self) -> None:
+        mine = self.file("again.scale.json", '{"title": "Mine", "factor": 10}')
+        status, _, told = outcome(dump_store, *self.words)
+        self.assertEqual((status, mine.read_text(), len(list(self.folder.glob("again.*")))),
+                         (1, '{"title": "Mine", "factor": 10}', 1))
+        self.assertIn(f"--output: {mine} stands, would be written otherwise, and belongs to no script", told)
+        self.file("again.txt", f"PUT plan {SQUARE}\n")
+        self.assertEqual(outcome(dump_store, *self.words), (0, "", ""))
+
+
+class SeveralStores(InFolder):
+    def test_each_has_its_digests(self) -> None:
+        features = [(f"n{place}", [[square(0, 10 * place, 9)]]) for place in range(40)]
+        file = self.file("many.geojson", geojson(*features))
+        output = self.folder / "many.txt"
+        self.assertEqual(outcome(to_script, file, "--name-by", "name", "--output", output)[0], 0)
+        self.assertEqual([len(one) for one in digest_in(self.folder / "many.scale.json")], [32, 8])
+        for script in ("many.1.txt", "many.2.txt"):
+            layer = f"n{32 * ('2' in script)}"
+            told = outcome(to_rings, self.folder / script, "--program", self.model(), "--layer", layer)
+            self.assertEqual((told[0], "changed" in told[2]), (0, False), told)

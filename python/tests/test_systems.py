@@ -1,0 +1,225 @@
+"""Tests of the coordinate systems of answers: a store in a projected system, in longitude and
+latitude and in its own."""
+
+from __future__ import annotations
+
+import unittest
+from typing import Any
+
+import pytest
+
+from overlayd.grid import scale as scales
+from overlayd.web.map_scale import CRS84, MapScale
+from overlayd.web.systems import Projection, Systems, Unplaced, Unprojected, by_pyproj
+from .test_features import EAST, MOVED, WEST, Case, feature
+from .testing import FrontCase, map_scale
+
+pytestmark = pytest.mark.live
+
+OWN = "http://www.opengis.net/def/crs/EPSG/0/30169"
+
+
+def to_degrees(xs: Any, ys: Any) -> tuple[list[float], list[float]]:
+    """A projection that is easily worked out: x / 8 is the longitude, 30 + y / 16 the latitude."""
+    if any(x > 1000 for x in xs):
+        raise Unplaced("too far")
+    return [x / 8 for x in xs], [30 + y / 16 for y in ys]
+
+
+def from_degrees(xs: Any, ys: Any) -> tuple[list[float], list[float]]:
+    if any(y > 1000 for y in ys):
+        raise Unplaced("too far")
+    return [x * 8 for x in xs], [(y - 30) * 16 for y in ys]
+
+
+def degrees(ring: list[list[int]]) -> list[list[float]]:
+    return [[x / 8, 30 + y / 16] for x, y in ring]
+
+
+def swapped(ring: list[list[int]]) -> list[list[int]]:
+    return [[y, x] for x, y in ring]
+
+
+CITY = """PROJCRS["A city's own",BASEGEOGCRS["unknown",DATUM["Unknown based on Airy 1830 ellipsoid",ELLIPSOID[\
+"Airy 1830",6377563.396,299.3249646]]],CONVERSION["unknown",METHOD["Transverse Mercator"],PARAMETER[\
+"Latitude of natural origin",51.5],PARAMETER["Longitude of natural origin",-0.1],PARAMETER[\
+"Scale factor at natural origin",1],PARAMETER["False easting",50000],\
+PARAMETER["False northing",50000]],CS[Cartesian,2],AXIS["(E)",east],AXIS["(N)",north],LENGTHUNIT["metre",1]]"""
+
+
+class Names(unittest.TestCase):
+    def test_coordinates_of_another_authority_are_served_as_they_are(self) -> None:
+        self.assertEqual(MapScale(scales.Scale(crs="EPSG:25832")).crs, "EPSG:25832")
+        other = MapScale(scales.Scale(crs="ESRI:102003"))
+        self.assertEqual((other.crs, other.uri(), other.is_geographic()), (None, None, False))
+        for name in ("nonsense", "EPSG:", "a b:1"):
+            with self.assertRaisesRegex(scales.ScaleFault,
+                                        "an authority and its code, as EPSG:25832, or Well-Known Text, and not "
+                                        f"{name}"):
+                MapScale(scales.Scale(crs=name))
+
+
+class Projected(Case):
+    words = ("--coded", "--name-by", "name", "--crs", "EPSG:30169")
+    projection = Projection(to_degrees, from_degrees, y_first=True)
+
+    def ring(self, words: str = "", number: int = 2) -> Any:
+        told = self.client.ask(f"/collections/plan/items/{number}{words}")
+        return told.headers["Content-Crs"], told.value["geometry"]["coordinates"][0]
+
+    def test_items_are_in_longitude_and_latitude_or_in_the_stores_own_system(self) -> None:
+        self.assertEqual(self.ring(), (f"<{CRS84}>", degrees(EAST)))
+        self.assertEqual(self.ring(f"?crs={CRS84}"), (f"<{CRS84}>", degrees(EAST)))
+        self.assertEqual(self.ring(f"?crs={OWN}"), (f"<{OWN}>", swapped(EAST)))
+        for words in ("", f"?crs={OWN}"):
+            page = self.client.ask(f"/collections/plan/items{words}")
+            self.assertEqual(page.value["features"][1]["geometry"]["coordinates"], [self.ring(words)[1]])
+            self.assertEqual(page.headers["Content-Crs"], self.ring(words)[0])
+        self.assertEqual(self.client.ask("/collections/plan/items?crs=http://elsewhere").status, 400)
+
+    def test_layers_are_so_too(self) -> None:
+        self.client.change("/collections/land", "PUT", {"definition": "b1 - b0"})
+        with self.server.session(slow=True) as one:
+            one.wait("land")
+        ring = [[10, 0], [20, 0], [20, 10], [10, 10], [10, 0]]
+        found = self.client.get("/collections/land/items")["features"][0]
+        self.assertEqual(found["geometry"]["coordinates"], [degrees(ring)])
+        found = self.client.get(f"/collections/land/items/1?crs={OWN}")
+        self.assertEqual(found["geometry"]["coordinates"], [swapped(ring)])
+
+    def test_collections_tell_their_systems_and_where_they_lie(self) -> None:
+        found = self.client.get("/collections/plan")
+        self.assertEqual((found["crs"], found["storageCrs"]), ([CRS84, OWN], OWN))
+        self.assertEqual(found["extent"]["spatial"], {"bbox": [[0, 30, 54 / 8, 30 + 10 / 16]], "crs": CRS84})
+        self.assertEqual(found["box"], [0, 0, 54, 10])
+        classes = self.client.get("/conformance")["conformsTo"]
+        self.assertIn("http://www.opengis.net/spec/ogcapi-features-1/1.0/conf/core", classes)
+        self.assertIn("http://www.opengis.net/spec/ogcapi-features-2/1.0/conf/crs", classes)
+        status = self.client.get("/status")
+        self.assertEqual((status["storage"], status["y_first"], status["geographic"]), (OWN, True, False))
+
+    def test_boxes_are_of_the_system_that_is_said(self) -> None:
+        for words, wanted in (
+            ("bbox=0,30,0.125,30.0625", [1]), ("bbox=2.4,30.1,3,40", [2]), ("bbox=1.25,30.2,1.25,30.2", [1, 2]),
+            ("bbox=-180,-90,180,90", [1, 2, 3, 4]), ("bbox=0.26,30.13,0.49,30.24", []), ("bbox=4.2,30.2,4.3,30.3", [3]),
+            ("bbox=3.75,30.2,3.9,30.3", []), (f"bbox=0,0,1,1&bbox-crs={OWN}", [1]),
+            (f"bbox=0,30,4,34&bbox-crs={OWN}", [3]), (f"bbox=30,0,34,4&bbox-crs={OWN}", []), ("bbox=170,-90,1,90", [1]),
+        ):
+            self.assertEqual([one["id"] for one in self.items(f"?{words}")], wanted, words)
+        self.assertEqual(self.client.ask(f"/collections/plan/items?bbox=5,5,4,4&bbox-crs={OWN}").status, 400)
+        self.assertEqual(len(self.items("?bbox=-540,-99,540,99")), 4)  # of a map that is drawn very small
+        for box in ("480000,5400000,480100,5400100", "400,30,500,31", "0,91,1,92", "0,-92,1,-91"):
+            told = self.client.ask(f"/collections/plan/items?bbox={box}")
+            self.assertEqual((told.status, told.value["description"]), (
+                400, f"bbox: it is in degrees where bbox-crs names nothing else, as {OWN}"))
+
+    def test_a_point_is_of_the_stores_own_system_and_one_out_of_the_plane_is_told_so(self) -> None:
+        self.assertEqual(self.client.get("/locate?x=33&y=3")["point"], [33, 3])
+        for page in ("/locate", "/collections/plan/locate"):
+            told = self.client.ask(f"{page}?x=139.7&y=3e7")
+            self.assertEqual((told.status, told.value["code"], told.value["description"]), (
+                400, "20",
+                f"error 20 point out of range: it is out of the plane; x and y, in this order, are those of {OWN}"))
+
+    def test_what_is_put_is_in_the_system_that_is_said(self) -> None:
+        body = feature("Polygon", [degrees(MOVED)], {"name": "East"})
+        told = self.client.ask("/collections/plan/items/2", "PUT", body)
+        self.assertEqual((told.status, told.value["moved"]), (200, 0))
+        self.assertEqual(self.ring(f"?crs={OWN}")[1], swapped(MOVED))
+        body = feature("Polygon", [swapped(WEST)], {"name": "East"})
+        for crs in (OWN, f"<{OWN}>"):
+            told = self.client.ask("/collections/plan/items/2", "PUT", body, {"HTTP_CONTENT_CRS": crs})
+            self.assertEqual((told.status, self.ring()[1]), (200, degrees(WEST)))
+        told = self.client.ask("/collections/plan/items/2", "PUT", body, {"HTTP_CONTENT_CRS": "EPSG:1"})
+        self.assertEqual(told.status, 400)
+        body = feature("Polygon", [[[9, 2000], [9, 2009], [0, 2009], [9, 2000]]], {})
+        told = self.client.ask("/collections/plan/items/2", "PUT", body)
+        self.assertEqual((told.status, told.value["description"]), (
+            400, f"geometry: too far, as coordinates of {CRS84}; Content-Crs may name {CRS84} or {OWN}"))
+
+    def test_what_was_served_and_comes_back_changes_no_layer(self) -> None:
+        before = self.layer_texts()
+        for number in (1, 4):
+            for words, headers in (("", {}), (f"?crs={OWN}", {"HTTP_CONTENT_CRS": OWN})):
+                item = self.client.get(f"/collections/plan/items/{number}{words}")
+                told = self.client.ask(f"/collections/plan/items/{number}", "PUT", item, headers)
+                self.assertEqual(told.status, 200)
+        self.assertEqual(self.layer_texts(), before)
+
+    def test_a_place_that_the_projection_lacks_is_told(self) -> None:
+        body = feature("Polygon", [[[2000, 1000], [2000, 1009], [2009, 1009], [2000, 1000]]], {})
+        told = self.client.ask("/collections/plan/items", "POST", body, {"HTTP_CONTENT_CRS": OWN})
+        self.assertEqual(told.status, 201)
+        told = self.client.ask(f"/collections/plan/items/{told.value['id']}")
+        self.assertEqual((told.status, told.value["description"]), (409, "too far"))
+
+
+class Unchanged(FrontCase):
+    """Without a projection a store in another system is answered as it is, x first."""
+
+    lines = ("PUT A POLYGON ((0 0, 4 0, 4 2, 0 0))",)
+    scale = {"factor": 1, "crs": "EPSG:30169"}
+
+    def test_nothing_is_transformed(self) -> None:
+        told = self.client.ask("/collections/A/items")
+        self.assertEqual(told.value["features"][0]["geometry"]["coordinates"], [[[0, 0], [4, 0], [4, 2], [0, 0]]])
+        self.assertEqual(told.headers["Content-Crs"], f"<{OWN}>")
+        self.assertEqual(self.client.get("/conformance"), {"conformsTo": []})
+        told = self.client.ask(f"/collections/A/items?crs={CRS84}")
+        self.assertEqual((told.status, "nothing is transformed" in told.value["description"]), (400, True))
+
+
+class OfAnotherAuthority(FrontCase):
+    lines = ("PUT A POLYGON ((0 0, 4 0, 4 2, 0 0))",)
+    scale = {"factor": 1, "crs": "ESRI:102003"}
+
+    def test_a_point_out_of_the_plane_is_told_the_system(self) -> None:
+        told = self.client.ask("/locate?x=3e7&y=0")
+        self.assertTrue(told.value["description"].endswith("are those of ESRI:102003"), told.value)
+        self.assertEqual(self.client.get("/status")["crs"], "ESRI:102003")
+
+
+class OfNoAuthority(FrontCase):
+    lines = ("PUT A POLYGON ((0 0, 4 0, 4 2, 0 0))",)
+    scale = {"factor": 1, "crs": CITY}
+
+    def test_its_text_is_told_and_coordinates_are_as_they_are(self) -> None:
+        self.assertEqual(self.client.get("/status")["crs"], CITY)
+        told = self.client.ask("/collections/A/items")
+        self.assertEqual(told.value["features"][0]["geometry"]["coordinates"], [[[0, 0], [4, 0], [4, 2], [0, 0]]])
+        told = self.client.ask("/locate?x=3e7&y=0")
+        self.assertTrue(told.value["description"].endswith('are those of "A city\'s own"'), told.value)
+
+
+class OfAnUnknownSystem(FrontCase):
+    lines = ("PUT A POLYGON ((0 0, 4 0, 4 2, 0 0))",)
+    scale = {"factor": 1, "crs": None}
+
+    def test_nothing_is_told_of_it(self) -> None:
+        self.assertEqual((self.client.get("/status")["crs"], self.client.get("/status")["geographic"]), (None, False))
+
+
+class ByPyproj(unittest.TestCase):
+    def test_places_are_those_of_gdal(self) -> None:
+        """By GDAL 3.6.2: gdaltransform -s_srs .. -t_srs EPSG:4326, x and y of the system in the order east, north."""
+        for crs, place, wanted in (
+            ("EPSG:30169", (-6000.0, -35000.0), (139.76380208249523, 35.68771508765569)),
+            ("EPSG:32119", (640000.0, 230000.0), (-78.66357278493733, 35.82287411802312)),
+            ("EPSG:25832", (500000.0, 5500000.0), (9.0, 49.65254292355683)),
+        ):
+            projection = by_pyproj(crs)
+            [x], [y] = projection.forward([place[0]], [place[1]])
+            self.assertAlmostEqual(x, wanted[0], 9)
+            self.assertAlmostEqual(y, wanted[1], 9)
+            self.assertEqual(projection.y_first, crs == "EPSG:30169")
+            [x], [y] = projection.inverse([x], [y])
+            self.assertAlmostEqual(x, place[0], 6)
+            self.assertAlmostEqual(y, place[1], 6)
+
+    def test_what_is_no_system_is_told(self) -> None:
+        with self.assertRaises(Unprojected):
+            by_pyproj("EPSG:999999")
+        projection = by_pyproj("EPSG:30169")
+        systems = Systems(map_scale(crs="EPSG:30169"), projection)
+        with self.assertRaises(Unplaced):
+            systems.geometry({"type": "Polygon", "coordinates": [[[1e12, 1e12]]]}, CRS84)

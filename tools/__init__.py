@@ -1,1 +1,0 @@
-"""The tools: their modules. commands/ has what each command of this folder does."""

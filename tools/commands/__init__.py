@@ -1,1 +1,0 @@
-"""What each command of tools/ does, in the module of its name."""

@@ -1,1 +1,0 @@
-"""The tests of the tools, by what they are of; tools/tests.py runs them."""

@@ -1,1 +1,0 @@
-"""The front. commands/ has what each command of this folder does."""

@@ -1,1 +1,0 @@
-"""What each command of web/ does, in the module of its name."""
