@@ -59,7 +59,7 @@ def fail(words: argparse.Namespace, folder: pathlib.Path) -> tuple[int, int]:
 
 def main() -> int:
     """Fails calls."""
-    words = refused_runs.parser_of(__doc__).words()
+    words = refused_runs.parser_of(__doc__).parse_args()
     with tempfile.TemporaryDirectory(prefix="faults") as place:
         return counted(*fail(words, pathlib.Path(place)))
 

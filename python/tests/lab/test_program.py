@@ -268,7 +268,11 @@ def test_closed_streams(program: Program) -> None:
 
 def run_without(program: Program, closed: list[int], *words: str, script: str = "") -> Ran:
     """Runs the program with these of the numbers 0 to 2 closed."""
-    return program.run(*words, script=script, preexec_fn=lambda: [os.close(number) for number in closed])
+    def close() -> None:
+        for number in closed:
+            os.close(number)
+
+    return program.run(*words, script=script, preexec_fn=close)
 
 
 def test_lengths_that_no_record_has(program: Program) -> None:
