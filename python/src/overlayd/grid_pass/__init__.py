@@ -1,0 +1,1 @@
+"""Maps of doubles onto a grid of whole points, so that what met before meets exactly."""

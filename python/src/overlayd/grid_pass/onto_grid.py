@@ -1,0 +1,115 @@
+"""All maps of a question onto one grid.
+
+Rounding, bending and noding are one pass of snap rounding (chains.py), over all maps together, as a border that two
+maps have in common is made the same only so. It is never done again on what it has made. Where no coordinate moves and
+no step is long, maps stay as they are, so that a sliver that somebody made is found.
+"""
+
+from __future__ import annotations
+
+import enum
+from collections.abc import Sequence
+from dataclasses import dataclass
+from fractions import Fraction
+
+import numpy as np
+
+from ..geometry.flat_arrays import Numbers
+from .chains import chains, inner
+from .pixels import Hits, Hot, hot_of
+from .places import UNIT, BeyondRange, places, whole
+from .rings import WholeRings, live, put_in, without_spikes
+from .steps import Bends, Points, Steps, bends, steps_of, unique
+
+
+class Noding(enum.Enum):
+    """Whether corners on steps of others are taken into them."""
+
+    NEVER = "never"  # rounding and bends alone
+    WHERE_MOVED = "where moved"  # where the grid moves or bends something
+    ASKED = "asked"  # also where it does not: then with wide pixels, for corners that the map's maker rounded
+
+
+@dataclass(frozen=True)
+class Rings:
+    """Rings of doubles without closing points, one after the other."""
+
+    x: Numbers
+    y: Numbers
+    sizes: Numbers
+
+
+@dataclass(frozen=True)
+class Placed:
+    """A map's corners in places, its steps, and where these are bent."""
+
+    x: Numbers
+    y: Numbers
+    sizes: Numbers
+    steps: Steps
+    bent: Bends
+
+    def is_moved(self) -> bool:
+        """Whether a corner is more than 2^-16 of a unit off its whole point."""
+        return any(bool((np.abs(own - whole(own) * UNIT) > 1).any()) for own in (self.x, self.y))
+
+    def farthest(self) -> float:
+        """How far a coordinate is moved at most, in units."""
+        return max(max(0, int(np.abs(own - whole(own) * UNIT).max(initial=1)) - 1) / UNIT for own in (self.x, self.y))
+
+    def corners(self) -> Points:
+        """Its corners and bends, in whole points, each once: what other parts of a question need of it."""
+        return unique(np.concatenate([whole(self.x), self.bent.at.x]), np.concatenate([whole(self.y), self.bent.at.y]))
+
+
+@dataclass(frozen=True)
+class OnGrid:
+    """A map in whole points, and what was done to it."""
+
+    rings: WholeRings
+    moved: float  # the farthest that a coordinate was moved by, in units
+    bent: int  # steps that were bent, a border of two rings once
+    bends: int
+    taken: int  # corners taken into steps
+    collapsed: Numbers  # the rings that are gone
+
+
+def onto_grid(maps: Sequence[Rings], factor: Fraction, noding: Noding = Noding.WHERE_MOVED) -> list[OnGrid]:
+    """Maps of doubles in whole points. A coordinate that is too far is refused by BeyondRange, of all maps in a row."""
+    placed = []
+    for number, one in enumerate(maps):
+        try:
+            placed.append(of_rings(one, factor))
+        except BeyondRange as fault:
+            fault.map = number
+            raise
+    moves = any(one.is_moved() for one in placed)
+    does_nothing = not moves and not any(len(one.bent.step) for one in placed)
+    if noding is Noding.NEVER or noding is Noding.WHERE_MOVED and does_nothing:
+        return [snapped(one, None) for one in placed]
+    corners = [one.corners() for one in placed]
+    hot = hot_of(together(corners), noding is Noding.ASKED and not moves)
+    return [snapped(one, hot) for one in placed]
+
+
+def of_rings(rings: Rings, factor: Fraction) -> Placed:
+    """A map in places."""
+    x, y = places(rings.x, factor), places(rings.y, factor)
+    steps = steps_of(x, y, rings.sizes)
+    return Placed(x, y, rings.sizes, steps, bends(steps))
+
+
+def together(corners: Sequence[Points]) -> Points:
+    """Whole points of several maps or parts, each once."""
+    return unique(np.concatenate([one.x for one in corners]), np.concatenate([one.y for one in corners]))
+
+
+def snapped(placed: Placed, hot: Hot | None) -> OnGrid:
+    """One map, or a part of one, with the hot points of all: where there are none, as rounding and bends leave it."""
+    found = chains(placed.steps, placed.bent, hot)
+    rings = put_in(placed.x, placed.y, placed.sizes, placed.steps, found)
+    rings = live(rings if hot is None else without_spikes(rings))
+    collapsed = np.flatnonzero((rings.sizes == 0) & (placed.sizes > 0))
+    own = inner(placed.steps, Hits(placed.bent.step, placed.bent.at, placed.bent.step))
+    return OnGrid(rings, placed.farthest(), len(np.unique(placed.bent.step)), len(placed.bent.step),
+                  len(found) - len(own.step), collapsed)
