@@ -1,0 +1,1 @@
+"""Overlays of features without files: columns of Well-Known Binary in, rows out."""

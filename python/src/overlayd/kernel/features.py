@@ -1,0 +1,82 @@
+"""Features in whole numbers: rings of points in flat arrays, as blocks and pairs of boxes take them."""
+
+from __future__ import annotations
+
+from collections.abc import Sequence
+from dataclasses import dataclass
+
+import numpy as np
+
+from ..geometry.flat_arrays import Numbers, offsets, spans
+
+MORTON_BITS = 20  # of each axis
+SPREAD = ((16, 0x0000FFFF0000FFFF), (8, 0x00FF00FF00FF00FF), (4, 0x0F0F0F0F0F0F0F0F), (2, 0x3333333333333333),
+          (1, 0x5555555555555555))
+
+
+@dataclass(frozen=True)
+class Features:
+    """Feature k has the rings feature_at[k] up to feature_at[k + 1], ring r the points ring_at[r] up to ring_at[r + 1].
+    A ring does not repeat its first point."""
+
+    x: Numbers
+    y: Numbers
+    ring_at: Numbers
+    feature_at: Numbers
+
+    def __len__(self) -> int:
+        return len(self.feature_at) - 1
+
+    def points(self) -> Numbers:
+        """How many points each feature has."""
+        found: Numbers = np.diff(self.ring_at[self.feature_at])
+        return found
+
+    def part(self, features: Numbers) -> Features:
+        """Some of the features."""
+        rings = np.diff(self.feature_at)[features]
+        own = spans(self.feature_at[:-1][features], rings)
+        points = np.diff(self.ring_at)[own]
+        at = spans(self.ring_at[:-1][own], points)
+        return Features(self.x[at], self.y[at], offsets(points), offsets(rings))
+
+    def boxes(self) -> Numbers:
+        """Least x, least y, greatest x, greatest y of each; 1, 1, 0, 0 of one without a point."""
+        found: Numbers = np.tile(np.array([1, 1, 0, 0], np.int64), (len(self), 1))
+        full = self.points() > 0
+        begins = self.ring_at[self.feature_at[:-1][full]]
+        if len(begins):
+            for axis, own in ((0, self.x), (1, self.y)):
+                found[full, axis] = np.minimum.reduceat(own, begins)
+                found[full, axis + 2] = np.maximum.reduceat(own, begins)
+        return found
+
+
+def of_rings(x: Numbers, y: Numbers, sizes: Numbers, counts: Numbers) -> Features:
+    """Features of rings: of each ring its size, of each feature how many rings it has; rings without points go."""
+    full = sizes > 0
+    number = np.bincount(np.repeat(np.arange(len(counts)), counts)[full], minlength=len(counts))
+    return Features(x.astype(np.int64), y.astype(np.int64), offsets(sizes[full]), offsets(number))
+
+
+def joined(parts: Sequence[Features]) -> Features:
+    """The features of several lists in one."""
+    rings, numbers = [np.diff(part.ring_at) for part in parts], [np.diff(part.feature_at) for part in parts]
+    x, y = (np.concatenate([getattr(part, axis) for part in parts]) for axis in ("x", "y"))
+    return Features(x, y, offsets(np.concatenate(rings)), offsets(np.concatenate(numbers)))
+
+
+def morton(boxes: Numbers) -> Numbers:
+    """A number for each box, by which near ones come near each other."""
+    if not len(boxes):
+        return np.zeros(0, np.int64)
+    middle = (boxes[:, :2] + boxes[:, 2:]) // 2
+    middle -= middle.min(axis=0)
+    shift = max(0, int(middle.max()).bit_length() - MORTON_BITS)
+    found: Numbers = np.zeros(len(boxes), np.int64)
+    for axis in (0, 1):
+        own = middle[:, axis] >> shift
+        for by, mask in SPREAD:
+            own = (own | own << by) & mask
+        found |= own << axis
+    return found
