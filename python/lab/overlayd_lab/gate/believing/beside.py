@@ -7,9 +7,9 @@ import dataclasses
 import re
 import textwrap
 
-from believing.house import Call, Cut, House, Key
-from believing.page import Law, Told, reached_by, sentence_of
-from believing.sources import imports
+from overlayd_lab.gate.believing.house import Call, Cut, House, Key
+from overlayd_lab.gate.believing.page import Law, Told, reached_by, sentence_of
+from overlayd_lab.gate.believing.sources import imports
 
 # Words of laws and of types that a row does not have are printed up to so many lines.
 MOST = 45

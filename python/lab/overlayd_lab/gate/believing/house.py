@@ -11,8 +11,8 @@ import pathlib
 import re
 from collections.abc import Iterable
 
-from believing import rust
-from believing.sources import Import, Module, bound, fields_of, imports, read_module, spoken, without
+from overlayd_lab.gate.believing import rust
+from overlayd_lab.gate.believing.sources import Import, Module, bound, fields_of, imports, read_module, spoken, without
 
 File = tuple[str, str]
 Key = tuple[str, str, str]

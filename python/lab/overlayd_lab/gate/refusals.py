@@ -14,7 +14,7 @@ import dataclasses
 import pathlib
 import re
 
-import functions
+from overlayd_lab.gate import functions
 
 ANSWER = re.compile(r"(?:\./)?(?P<file>proofs/(?P<place>\S+)/\w+\.antt):\d+:\d+: error: (?P<said>.*)")
 AT_LINE = re.compile(r"(?:note: )?(?P<path>src/\S+?):(?P<line>\d+):\d+: (?:error: )?it is not proved (?P<said>.*)")

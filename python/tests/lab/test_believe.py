@@ -4,13 +4,14 @@ from __future__ import annotations
 
 import pathlib
 import re
-import tempfile
 
-from believing import rust
-from believing.house import Call, House, Key, Link, Pin
-from believing.page import Law, Row, Tables, Told, Word, is_written, page, quoted, with_numbers
-from believing.sources import fields_of, read_module, without
-from believing.texts import alike, file_of, meanings, names_of, text, twice
+import pytest
+
+from overlayd_lab.gate.believing import rust
+from overlayd_lab.gate.believing.house import Call, House, Key, Link, Pin
+from overlayd_lab.gate.believing.page import Law, Row, Tables, Told, Word, is_written, page, quoted, with_numbers
+from overlayd_lab.gate.believing.sources import fields_of, read_module, without
+from overlayd_lab.gate.believing.texts import alike, file_of, meanings, names_of, text, twice
 
 LOW = """-- numbers
 use Rattle.std.specs.Prelude.{ℕ, ◌≡◌, twofold}
@@ -164,6 +165,15 @@ def files() -> dict[str, str]:
             **{f"kit/{path}": said for path, said in KIT.items()}}
 
 
+@pytest.fixture
+def top(tmp_path: pathlib.Path) -> pathlib.Path:
+    """The small tree, in a folder."""
+    for path, said in files().items():
+        (tmp_path / path).parent.mkdir(parents=True, exist_ok=True)
+        (tmp_path / path).write_text(said)
+    return tmp_path
+
+
 def calls_of(*names: str) -> list[Call]:
     """Calls of the small tree."""
     return [Call(name, "high/src/calling.rt", name, "A call.") for name in names]
@@ -174,7 +184,7 @@ def low(*names: str) -> set[Key]:
     return {("low", "Numbers", name) for name in names}
 
 
-def reaches(top: pathlib.Path) -> int:
+def test_reaches(top: pathlib.Path) -> None:
     """What the contracts reach: by names, operators, aliases, models, fields, payloads, and what crates pass on."""
     house = House(top, top / "kit")
     thing: set[Key] = {("", "low", "Thing"), *low("Pair")}
@@ -195,16 +205,11 @@ def reaches(top: pathlib.Path) -> int:
         assert got == wanted[call.name], (call.name, got ^ wanted[call.name])
     for name, said in (("hide", "Hidden of high/proofs"),
                        ("lack", "Gone of low.Numbers, which has no such definition")):
-        try:
+        with pytest.raises(SystemExit, match=re.escape(f"high.Calls is reached, and names {said}")):
             house.of_call(calls_of(name)[0])
-        except SystemExit as fault:
-            assert f"high.Calls is reached, and names {said}" in str(fault), fault
-        else:
-            raise AssertionError(f"what `{name}` names is taken for a definition")
-    return len(wanted) + 2
 
 
-def hides(top: pathlib.Path) -> int:
+def test_hides(top: pathlib.Path) -> None:
     """What links hide: a definition, or a field; but not what is reached from the definitions that they name."""
     cases: list[tuple[tuple[Link, ...], set[str]]] = [
         (LINKS, {"Handed", "Rests", "Part", "Pair"}), (FIELD, {"Part"}),
@@ -221,11 +226,8 @@ def hides(top: pathlib.Path) -> int:
     assert not house.mine(house.of_call(calls_of("go")[0], house.cut(("go: first",))).keys) & low("twice")
     assert house.of_call(calls_of("store")[0], house.cut(("Store: two",))).keys == {("", "low", "Store"), *low("Pair")}
     for call, wrong in (("go", "Handed.none"), ("go", "None"), ("go", "go: none"), ("store", "Store: three")):
-        try:
+        with pytest.raises(SystemExit):
             house.of_call(calls_of(call)[0], house.cut((wrong,)))
-        except SystemExit:
-            continue
-        raise AssertionError(wrong)
     parts: list[tuple[tuple[str, ...], set[str]]] = [
         (("Handed.few",), {"Handed", "Rests", "Pair"}), (("Handed.rest",), {"Handed", "Part", "Pair"}),
         (("Opens",), {"Opens", "Box", "Thing", "Pair"}),
@@ -234,14 +236,11 @@ def hides(top: pathlib.Path) -> int:
     for only, wanted in parts:
         reach, _ = house.of_parts(calls_of("go"), house.cut(only))
         assert {key[2] for key in reach.keys} == wanted, (only, reach)
-    try:
+    with pytest.raises(SystemExit, match="has no Handed.none"):
         House(top, None, (Link("high", "Calls", "Handed", (), (), field="none"),))
-    except SystemExit as fault:
-        assert "has no Handed.none" in str(fault)
-    return 18
 
 
-def pins(top: pathlib.Path) -> int:
+def test_pins(top: pathlib.Path) -> None:
     """What a law says whole: its statement is read in place of the definition."""
     law = Pin(("high", "Calls", "Goes"), "high/src/calling.rt", "goes_law", ("high", "Calls", "GoesLaw"))
     house = House(top, top / "kit", pins=(law,))
@@ -256,13 +255,8 @@ def pins(top: pathlib.Path) -> int:
     for wrong, fault in [(Pin(law.key, law.file, "go", law.statement), "go does not promise GoesLaw"),
                          (Pin(("high", "Calls", "Gives"), law.file, law.law, law.statement),
                           "GoesLaw does not speak of Gives")]:
-        try:
+        with pytest.raises(SystemExit, match=re.escape(fault)):
             House(top, top / "kit", pins=(wrong,))
-        except SystemExit as stop:
-            assert fault in str(stop), stop
-        else:
-            raise AssertionError(fault)
-    return 5
 
 
 def small_tables() -> Tables:
@@ -273,7 +267,7 @@ def small_tables() -> Tables:
                   [Word("high", "Calls", "Goes", "A word.")], [Law("go", "high/src/calling.rt", "goes_law")])
 
 
-def writes(top: pathlib.Path) -> int:
+def test_writes(top: pathlib.Path) -> None:
     """The page."""
     house = House(top, top / "kit", LINKS)
     tables = small_tables()
@@ -290,16 +284,11 @@ def writes(top: pathlib.Path) -> int:
     assert "- `part` has `Handed.rest`." in said
     for wrong, fault in [(Law("give", "high/src/calling.rt", "goes_law"), "speaks of nothing"),
                          (Law("go", "high/src/calling.rt", "go"), "no law")]:
-        try:
+        with pytest.raises(SystemExit, match=re.escape(fault)):
             page(house, Tables("", tables.calls, [], [], [wrong]))
-        except SystemExit as stop:
-            assert fault in str(stop), stop
-        else:
-            raise AssertionError(fault)
-    return 5
 
 
-def prints(top: pathlib.Path) -> int:
+def test_prints(top: pathlib.Path) -> None:
     """The texts of rows."""
     house = House(top, top / "kit", LINKS)
     tables = small_tables()
@@ -334,10 +323,9 @@ def prints(top: pathlib.Path) -> int:
             and "; 26 lines with contracts, types and these" in every), every
     assert ("  -- fields left out, of which the sentence may speak: few" in text(Told(house, tables), "part")
             and "pub few" not in text(Told(house, tables), "part"))
-    return 9
 
 
-def proves(top: pathlib.Path) -> int:
+def test_proves(top: pathlib.Path) -> None:
     """What a text prints besides: a law with words that its row has not, and the type that has a method."""
     house = House(top, top / "kit", LINKS)
     for shown in (("goes_law",), ()):
@@ -347,10 +335,9 @@ def proves(top: pathlib.Path) -> int:
         assert "(2 definitions, 6 lines)" in row, row
     head = ["impl Thing {", "pub fn look(&self) -> usize", "    ensures { Pair }"]
     assert quoted(house, calls_of("look")[0]) == head, quoted(house, calls_of("look")[0])
-    return 3
 
 
-def names(top: pathlib.Path) -> int:
+def test_names(top: pathlib.Path) -> None:
     """The names that have two meanings, as definitions, types and cases; and those that differ in letters' cases."""
     found = names_of(House(top, top / "kit"), {("", "low", "Kind"), ("", "low", "Box"), *low("Way", "twice", "Pair"),
                                                ("above", "From", "Passed")})
@@ -361,10 +348,9 @@ def names(top: pathlib.Path) -> int:
     found["TWICE"] = ["a type of low"]
     assert meanings(found) == ["up: a case of Way, a definition of low Numbers; a type of low"], meanings(found)
     assert alike(found) == ["TWICE, a type of low; twice, a definition of low Numbers"], alike(found)
-    return 3
 
 
-def compares(top: pathlib.Path) -> int:
+def test_compares(top: pathlib.Path) -> None:
     """The numbers of README.md, and what is as it would be written."""
     rows = ("| `locate` | 4 | 1,009 | 2 |  | 1,010 |\n| the sentence in bold | 5 | 8 | 2 | 3 (4) | 21 |\n"
             "| a crash of a run, and its opening | 5 | 9 | 2 |  | 22 |\n"
@@ -380,10 +366,9 @@ def compares(top: pathlib.Path) -> int:
     kept, other = top / "kept.md", top / "other.md"
     kept.write_text("kept")
     assert is_written(kept, "kept") and not is_written(kept, "more") and not is_written(other, "none")
-    return 2
 
 
-def reads() -> int:
+def test_reads() -> None:
     """Modules within modules, the lines that are shown, and trees of `use`."""
     module = read_module(LOW)
     deep = module.definitions["Innermost"]
@@ -402,17 +387,3 @@ def reads() -> int:
                                      "  -- fields left out, of which the sentence may speak: b"], without(shown, {"b"})
     assert without(shown, {"c", "a"}) == [*shown[:2], *shown[3:6],
                                           "  -- fields left out, of which the sentence may speak: a, c"]
-    return 5
-
-
-def test() -> int:
-    """Reads the small tree, and counts what went as it has to."""
-    with tempfile.TemporaryDirectory() as folder:
-        top = pathlib.Path(folder)
-        for path, said in files().items():
-            (top / path).parent.mkdir(parents=True, exist_ok=True)
-            (top / path).write_text(said)
-        tests = (reaches, hides, pins, writes, prints, proves, names, compares)
-        passed = sum(test(top) for test in tests) + reads()
-    print(f"{passed} passed, 0 failed")
-    return 0

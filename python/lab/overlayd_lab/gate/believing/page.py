@@ -8,7 +8,7 @@ import functools
 import pathlib
 import re
 
-from believing.house import NOTHING, Call, Cut, House, Key, Reach
+from overlayd_lab.gate.believing.house import NOTHING, Call, Cut, House, Key, Reach
 
 # The row of all calls.
 ALL = "all together"

@@ -6,10 +6,10 @@ from __future__ import annotations
 import re
 import textwrap
 
-from believing import rust
-from believing.beside import Beside, besides
-from believing.house import Cut, File, House, Key
-from believing.page import Told, quoted
+from overlayd_lab.gate.believing import rust
+from overlayd_lab.gate.believing.beside import Beside, besides
+from overlayd_lab.gate.believing.house import Cut, File, House, Key
+from overlayd_lab.gate.believing.page import Told, quoted
 
 FIRM = "\u00a0"  # a space at which no line ends
 # Every table of faults has these two.

@@ -1,0 +1,126 @@
+"""Reads a small tree whose page stands here, and looks whether each file of Python says what it is."""
+
+from __future__ import annotations
+
+import ast
+import pathlib
+import subprocess
+
+import pytest
+
+from overlayd_lab import TOP
+from overlayd_lab.gate import rooms
+
+SOURCE = """//! Things, and what
+//! is made of them.
+
+/// How many there are.
+pub const THINGS_MAX: usize = 3_000;
+
+const WIDTH: u8 = 1 << 2;
+
+const ALL: Things = Things {
+    width: WIDTH,
+};
+
+impl<D: Disk<u8>> Thing<D> {
+    /// Makes one.
+    pub fn made(
+        self,
+    ) -> usize
+    {
+        inner()
+    }
+
+    // Kept by it.
+    pub(crate) fn kept(&self) -> u8 {
+        fn within() {}
+    }
+}
+
+impl<'a> fmt::Display for Thing<'a> {
+    fn fmt(&self) {}
+}
+
+pub trait Named {
+    fn name() -> u8;
+}
+
+impl<D> Thing<D>
+where
+    D: Disk,
+{
+    fn further(self) {}
+}
+
+/// Opens it: the first
+/// sentence. And more.
+///
+/// A second part.
+// Why so.
+#[inline]
+pub fn open<D: Disk>(disk: D) -> usize
+where
+    D: Send,
+{
+    1
+}
+
+fn inner() -> usize {
+    1
+}
+"""
+FILE = """## one
+
+### crates/one/src/thing.rt
+
+Things, and what is made of them.
+
+- **`THINGS_MAX`** = 3,000: How many there are.
+- **`Thing::made`**: Makes one.
+- `Thing::kept`: Kept by it.
+- **`open`**: Opens it: the first sentence.
+
+Also `WIDTH` = 1 << 2, `ALL`, **`Thing as Display::fmt`**, `Named::name`, `Thing::further`, `inner`.
+"""
+
+
+@pytest.fixture
+def tree(tmp_path: pathlib.Path) -> pathlib.Path:
+    """A crate, one of tests, and no more."""
+    (tmp_path / "crates/one/src").mkdir(parents=True)
+    (tmp_path / "crates.txt").write_text("# lowest first\none: std\none_tests staticlib: one\n")
+    (tmp_path / "crates/one/src/thing.rt").write_text(SOURCE)
+    return tmp_path
+
+
+def test_the_page(tree: pathlib.Path) -> None:
+    assert rooms.pages(tree, ["one"]) == FILE
+    assert rooms.page(tree) == f"{rooms.HEAD}\n{FILE}"
+    for name in ("two", "one_tests"):
+        with pytest.raises(SystemExit, match=f"{name} is no crate"):
+            rooms.pages(tree, ["one", name])
+
+
+def test_a_file_says_what_it_is(tree: pathlib.Path) -> None:
+    (tree / "crates/one/src/bare.rt").write_text("fn said_by_nobody() {}\n")
+    with pytest.raises(SystemExit, match="bare.rt has no sentence"):
+        rooms.page(tree)
+
+
+def test_drops(tree: pathlib.Path) -> None:
+    """The types that have one are known, and no code asks that a disk may be let go."""
+    file = tree / "crates/one/src/bare.rt"
+    file.write_text("//! Ends.\nimpl<D: Disk> Drop for Ended<D> {\n    fn drop(self) {}\n}\n")
+    assert rooms.drops(tree) == {"one::Ended"}
+    assert rooms.faults_of_drops(rooms.drops(tree), ("one::Ended",)) == []
+    found = rooms.faults_of_drops(rooms.drops(tree), ("one::Other",))
+    assert [fault.split()[0] for fault in found] == ["one::Ended", "one::Other"]
+    assert rooms.faults_of_disks(tree) == []
+    file.write_text("//! Ends.\nfn ended<D: Disk + Drop, R: Read + Drop>(disk: D) {}\n")
+    assert rooms.faults_of_disks(tree) == ["crates/one/src/bare.rt:2 asks that a disk may be let go"]
+
+
+def test_each_file_of_python_says_what_it_is() -> None:
+    paths = subprocess.run(["git", "ls-files", "*.py"], cwd=TOP, capture_output=True, text=True, check=True).stdout
+    assert [path for path in paths.split() if not ast.get_docstring(ast.parse((TOP / path).read_text()))] == []
