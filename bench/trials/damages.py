@@ -4,8 +4,8 @@ python3 -m bench.trials.damages [PROGRAM SESSIONS]
 
 Builds its two programs, unproved (minutes), or takes built ones. In memory a store is made, opened and committed to,
 one of format 1 too (old_files.py), while the disk stops at each call or one call fails: 30 comes exactly there, and
-what the disk may hold is recovered as the old or the new content. Then files are cut to each length, altered by name,
-and each byte and bit of them is changed: answers are those of bench/reference/read_store.py, and VERIFY of each tile
+what the disk may hold is recovered as the old or the new content. Then files are cut to each length, and
+each byte and bit of them is changed: answers are those of bench/reference/read_store.py, and VERIFY of each tile
 returns. At last sessions whose reader or writer fails. Status 1: anything is wrong.
 """
 
@@ -13,11 +13,10 @@ from __future__ import annotations
 
 import collections
 import pathlib
-import struct
 import subprocess
 import sys
 import tempfile
-from collections.abc import Callable, Iterable, Iterator, Sequence
+from collections.abc import Callable, Sequence
 
 from bench import unproved
 from bench.counting import Words
@@ -35,29 +34,17 @@ BLOCK = 4096
 SLOT = 64
 CODES = {"not a store": "32"}
 Changes = list[tuple[int, int]]  # where, and the byte there
-Alteration = tuple[str, bytes, Changes, str]  # what it is called, the file, the changes, and the answer
-
-
-def root_of(data: bytes) -> tuple[int, read_store.Extent]:
-    """The root's slot, and where its catalog lies."""
-    root = read_store.find_root(data)
-    return root.sequence % 2 * BLOCK, root.catalog
 
 
 def extents_of(data: bytes) -> list[tuple[int, int]]:
     """The places of the catalog and of all records: offset and length."""
-    _, catalog = root_of(data)
-    written = read_store.find_root(data).format
-    listing = read_store.read_catalog(data[catalog.block * BLOCK :][: catalog.size], written)
+    root = read_store.find_root(data)
+    catalog = root.catalog
+    listing = read_store.read_catalog(data[catalog.block * BLOCK :][: catalog.size], root.format)
     found = [catalog]
     for listed in listing:
         found += [one for one in [listed.record, *(listed.tiles or [])] if one is not None]
     return [(one.block * BLOCK, one.size) for one in found]
-
-
-def put(at: int, data: bytes) -> Changes:
-    """An alteration: these bytes at an offset."""
-    return [(at + i, byte) for i, byte in enumerate(data)]
 
 
 def apply(data: bytes, length: int, changes: Changes) -> bytes:
@@ -120,65 +107,6 @@ def cuts(program: pathlib.Path, folder: pathlib.Path, name: str, one: bytes) -> 
 def shown(counts: collections.Counter[str]) -> str:
     """Counts by their names."""
     return ", ".join(f"{name} {count}" for name, count in sorted(counts.items()))
-
-
-def named(one: bytes, two: bytes, tiled: bytes) -> Iterator[Alteration]:
-    """The named alterations: what each is called, the file, the changes and the wanted answer."""
-    slot, catalog = root_of(one)
-    assert slot == BLOCK
-    at, place = catalog.block * BLOCK, extents_of(one)[1][0]
-    yield "slot 1's gate is 0x00", one, put(slot, b"\0"), "version 0"
-    yield "its first magic byte is 0", one, put(slot + 16, b"\0"), "32"
-    yield "its format is 3", one, put(slot + 24, struct.pack(">I", 3)), "33 1"
-    yield "its sequence is 2", one, put(slot + 28, struct.pack(">Q", 2)), "33 2"
-    yield "its catalog's length is 16", one, put(slot + 52, struct.pack(">I", 16)), "33 4"
-    # count, name length, name, kind, block
-    yield "the catalog's kind byte is 2", one, put(at + 4, b"\2"), "33 4"
-    yield "A's block is 1", one, put(at + 5, struct.pack(">Q", 1)), "33 5"
-    yield "the ring's point count is 4", one, put(place + 2, struct.pack(">H", 4)), "33 6"
-    at = root_of(two)[1].block * BLOCK
-    # an entry of a base layer of one letter has 15 bytes
-    yield "B's name is A", two, put(at + 18, b"A"), "33 7"
-    first = two[at + 5 : at + 17]
-    yield "B's place is A's", two, put(at + 20, first), "33 9"
-    tile = next(place for place, size in extents_of(tiled) if tiled[place : place + 2] == b"\0\17" and size > 6)
-    yield "a tile names another column", tiled, put(tile + 1, b"\20"), "33 8"
-
-
-def named_old(six: bytes) -> Iterator[Alteration]:
-    """The same of the file of six blocks of format 1, whose root is in slot 1 and whose slot 0 is closed."""
-    slot, catalog = root_of(six)
-    assert (slot, catalog) == (BLOCK, read_store.Extent(5, 61)) and old_files.tiles_of(six) == [(2 * BLOCK, 142)]
-    at = 5 * BLOCK
-    # after the count A's entry of 15 bytes, the same of I, then a byte for each of the columns 0 to 7, and I's tile
-    entries, tile = at + 2 + 15 + 15, at + 2 + 15 + 15 + 9
-    yield "its gate is 0x00", six, put(slot, b"\0"), "32"
-    yield "its format is 2", six, put(slot + 24, struct.pack(">I", 2)), "33 4"
-    yield "its format is 0", six, put(slot + 24, struct.pack(">I", 0)), "33 1"
-    yield "its catalog's length is 62", six, put(slot + 52, struct.pack(">I", 62)), "33 4"
-    yield "a column's state is 2", six, put(entries, b"\2"), "33 4"
-    yield "another column is finished", six, put(entries, b"\1"), "33 4"
-    for what, block in (("after the file", 6), ("in a slot", 0), ("in A's block", 3), ("in the catalog's", 5)):
-        yield f"the tile lies {what}", six, put(tile, struct.pack(">Q", block)), "version 2"
-    yield "the tile has another length", six, put(tile + 8, struct.pack(">I", 2**32 - 1)), "version 2"
-    yield "the tile is none", six, put(2 * BLOCK, b"no tile"), "version 2"
-    yield "A's block is 6", six, put(at + 5, struct.pack(">Q", 6)), "33 5"
-    yield "A's block is 2", six, put(at + 5, struct.pack(">Q", 2)), "33 6"
-    yield "I's definition names B", six, put(4 * BLOCK, b"B"), "33 7"
-    yield "I's place is A's", six, put(at + 2 + 15 + 3, struct.pack(">QI", 3, 44)), "33 6"
-
-
-def alterations(program: pathlib.Path, folder: pathlib.Path, cases: Iterable[Alteration]) -> int:
-    """Makes named alterations, and compares the answers with the wanted ones; how many are wrong."""
-    wrong, cases = 0, list(cases)
-    for name, data, changes, wanted in cases:
-        told, _ = plain(answers(program, folder, data, [(len(data), changes)])[0])
-        alone = read_by_itself(apply(data, len(data), changes))
-        if told[0] != wanted or alone != told:
-            print(f"    {name}: {told}, by itself {alone}, wanted {wanted}")
-            wrong += 1
-    print(f"named alterations {len(cases)}, wrong {wrong}")
-    return wrong
 
 
 def offsets_of(data: bytes) -> list[int]:
@@ -273,7 +201,6 @@ def of_format_1(program: pathlib.Path, folder: pathlib.Path) -> int:
         wrong += are_left(name, old, left)
         if name == "six blocks":
             wrong += cuts(program, folder, name, old)
-            wrong += alterations(program, folder, named_old(old))
         for which, data in {"as it is": old, **left}.items():
             for how, changed in ALTERED.items():
                 wrong += each_byte(program, folder, f"{name}, {which}, {how}", data, changed)
@@ -294,7 +221,6 @@ def main() -> int:
         program, sessions = programs(folder, given)
         wrong = lists([program], files)
         wrong += cuts(program, folder, STORES["one"], files["one"])
-        wrong += alterations(program, folder, named(*(files[name] for name in ("one", "two", "tiled"))))
         for how, changed in ALTERED.items():
             for name, data in files.items():
                 wrong += each_byte(program, folder, f"{STORES[name]}, {how}", data, changed)

@@ -119,11 +119,6 @@ def test_files_of_format_1() -> None:
     assert len(damages.offsets_of(six)) == 2 * damages.SLOT + 61 + 44 + 1 + 142
 
 
-@pytest.mark.parametrize("name, data, changes, wanted", damages.named_old(old_files.in_six_blocks()))
-def test_an_alteration_is_read(name: str, data: bytes, changes: damages.Changes, wanted: str) -> None:
-    assert damages.read_by_itself(damages.apply(data, len(data), changes))[0] == wanted
-
-
 # ---- covers.py, read_programs.py
 
 

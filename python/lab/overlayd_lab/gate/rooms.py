@@ -7,9 +7,9 @@
 
 Crates stand in the order of crates.txt, files by name; of Python `python3 -m pydoc MODULE` says the same. A file is
 said by the sentence at its head; a file without one, or with an empty one, is a fault. Functions and constants stand in
-their order, each with the first sentence of its comment, a constant also with its value where that is short; after them those
-without a sentence: of a type as `Type::name`, of a trait's `impl` as `Type as Trait::name`; public ones, and those of
-such an `impl`, are bold. Crates of tests are left out.
+their order, each with the first sentence of its comment, a constant also with its value where that is short; after them
+those without a sentence: of a type as `Type::name`, of a trait's `impl` as `Type as Trait::name`; public ones, and
+those of such an `impl`, are bold. Crates of tests are left out.
 """
 
 from __future__ import annotations
