@@ -1,8 +1,7 @@
 """Looks at the front's page with a real browser: it draws, clicks, asks, defines and drops a layer.
 
 The picture is compared with the store: at many points of the map the colour has to be that of the layers which have the
-point by LOCATE. It needs python3-pil of Debian, and installs chromium and libjs-leaflet where they are missing. Not of
-the gate.
+point by LOCATE. It needs python3-pil, python3-selenium, chromium-driver and libjs-leaflet of Debian. Not of the gate.
 
     /usr/bin/python3 -m bench.trials.browser [--program PATH] [--python PATH] [--pictures FOLDER]
 
@@ -12,14 +11,11 @@ Status 0 and a last line `N passed, 0 failed`, or what fell.
 from __future__ import annotations
 
 import argparse
-import base64
 import io
 import json
 import math
-import os
 import pathlib
 import re
-import subprocess
 import sys
 import tempfile
 import time
@@ -28,6 +24,9 @@ from collections.abc import Callable
 from typing import Any
 
 from PIL import Image
+from selenium import webdriver
+from selenium.webdriver.common.actions.action_builder import ActionBuilder
+from selenium.webdriver.support.ui import WebDriverWait
 
 from overlayd import program as overlay_client
 from bench import TOP, web_front
@@ -41,106 +40,58 @@ STEP = 23
 
 
 class Browser:
-    """Chromium without a window, over its debugging pipe: commands to descriptor 3, what it says comes from 4, each
-    ended by 0."""
+    """Chromium without a window, by selenium; what the page asked for and its faults are kept from each page that was
+    left."""
 
     def __init__(self, folder: pathlib.Path) -> None:
-        (to_in, to_out), (from_in, from_out) = os.pipe(), os.pipe()
-        words = [
-            "chromium", "--headless=new", "--no-sandbox", "--disable-gpu", "--hide-scrollbars",
-            "--force-color-profile=srgb", f"--user-data-dir={folder}/profile", f"--window-size={SIZE[0]},{SIZE[1]}",
-            "--remote-debugging-pipe", "about:blank",
-        ]
-        # The shell gives the pipe the descriptors that chromium looks at.
-        shell = ["sh", "-c", f'exec 3<&{to_in} 4>&{from_out}; exec "$@"', "sh", *words]
-        self.run = subprocess.Popen(shell, pass_fds=(to_in, from_out), stderr=subprocess.DEVNULL)
-        os.close(to_in)
-        os.close(from_out)
-        self.to, self.back, self.rest, self.count, self.session, self.target = to_out, from_in, b"", 0, "", ""
+        options = webdriver.ChromeOptions()
+        for word in ("--headless=new", "--no-sandbox", "--disable-gpu", "--hide-scrollbars",
+                     "--force-color-profile=srgb", f"--user-data-dir={folder}/profile"):
+            options.add_argument(word)
+        options.set_capability("goog:loggingPrefs", {"browser": "ALL", "performance": "ALL"})
+        self.driver = webdriver.Chrome(options=options)
         self.faults: list[str] = []
         self.asked: list[str] = []
 
-    def call(self, method: str, **words: object) -> dict[str, Any]:
-        self.count += 1
-        told = {
-            "id": self.count, "method": method, "params": words,
-            **({"sessionId": self.session} if self.session else {}),
-        }
-        os.write(self.to, json.dumps(told).encode() + b"\0")
-        while True:
-            value = self.next()
-            if value.get("id") == self.count:
-                if "error" in value:
-                    raise RuntimeError(value["error"])
-                return dict(value["result"])
-
-    def next(self) -> dict[str, Any]:
-        while b"\0" not in self.rest:
-            more = os.read(self.back, 1 << 20)
-            if not more:
-                sys.exit("chromium has ended")
-            self.rest += more
-        one, self.rest = self.rest.split(b"\0", 1)
-        value: dict[str, Any] = json.loads(one)
-        told = value.get("params", {})
-        if value.get("method") == "Runtime.exceptionThrown":
-            self.faults.append(str(told["exceptionDetails"].get("exception", {}).get("description")))
-        if value.get("method") == "Network.requestWillBeSent":
-            self.asked.append(told["request"]["url"])
-        if value.get("method") == "Log.entryAdded" and told["entry"]["level"] == "error":
-            self.faults.append(f"{told['entry']['text']} {told['entry'].get('url', '')}")
-        return value
-
     def open(self, address: str) -> None:
         self.leave()
-        self.target = self.call("Target.createTarget", url="about:blank")["targetId"]
-        self.session = self.call("Target.attachToTarget", targetId=self.target, flatten=True)["sessionId"]
-        for part in ("Runtime", "Page", "Log", "Network"):
-            self.call(f"{part}.enable")
-        self.call(
-            "Emulation.setDeviceMetricsOverride", width=SIZE[0], height=SIZE[1], deviceScaleFactor=1, mobile=False
-        )
-        self.call("Page.navigate", url=address)
+        self.resize(*SIZE)
+        self.driver.get(address)
 
     def leave(self) -> None:
-        """Closes the page, which looks at its front now and then."""
-        if self.target:
-            self.session = ""
-            self.call("Target.closeTarget", targetId=self.target)
-            self.target = ""
+        """Leaves the page, which looks at its front now and then."""
+        self.driver.get("about:blank")
+        self.faults += [one["message"] for one in self.driver.get_log("browser") if one["level"] == "SEVERE"]
+        events = [json.loads(one["message"])["message"] for one in self.driver.get_log("performance")]
+        self.asked += [event["params"]["request"]["url"] for event in events
+                       if event["method"] == "Network.requestWillBeSent"]
 
     def resize(self, width: int, height: int) -> None:
         """The window of the page that is open."""
-        self.call("Emulation.setDeviceMetricsOverride", width=width, height=height, deviceScaleFactor=1, mobile=False)
+        size = {"width": width, "height": height, "deviceScaleFactor": 1, "mobile": False}
+        self.driver.execute_cdp_cmd("Emulation.setDeviceMetricsOverride", size)
 
     def value(self, text: str) -> Any:
-        found = self.call("Runtime.evaluate", expression=text, returnByValue=True, awaitPromise=True)
+        """What a text of JavaScript comes to; the page forbids `eval`, by which execute_script could take it."""
+        words = {"expression": text, "returnByValue": True, "awaitPromise": True}
+        found = self.driver.execute_cdp_cmd("Runtime.evaluate", words)
         if "exceptionDetails" in found:
             raise RuntimeError(f"{text}: {found['exceptionDetails']}")
         return found["result"].get("value")
 
     def until(self, text: str, seconds: float = 120) -> None:
-        end = time.monotonic() + seconds
-        while not self.value(text):
-            if time.monotonic() > end:
-                raise AssertionError(
-                    f"not within {seconds} s: {text}; told: {self.value('document.body.innerText')}; {self.faults}"
-                )
-            time.sleep(0.05)
+        WebDriverWait(self.driver, seconds, 0.05).until(lambda _: self.value(text), text)
 
     def picture(self) -> bytes:
-        return base64.b64decode(self.call("Page.captureScreenshot")["data"])
+        return bytes(self.driver.get_screenshot_as_png())
 
     def click(self, x: float, y: float) -> None:
-        for kind in ("mouseMoved", "mousePressed", "mouseReleased"):
-            self.call(
-                "Input.dispatchMouseEvent", type=kind, x=x, y=y, button="none" if kind == "mouseMoved" else "left",
-                clickCount=1,
-            )
+        actions = ActionBuilder(self.driver)
+        actions.pointer_action.move_to_location(round(x), round(y)).click()
+        actions.perform()
 
     def end(self) -> None:
-        self.run.terminate()
-        self.run.wait(30)
+        self.driver.quit()
 
 
 def over(below: tuple[float, ...], colour: str, opacity: float) -> tuple[float, ...]:
@@ -530,8 +481,6 @@ def main() -> int:
     parser.add_argument("--python", default=web_front.DEBIAN_PYTHON, help="the Python that runs the front")
     parser.add_argument("--pictures", type=pathlib.Path, help="a folder for pictures of the page")
     words = parser.parse_args()
-    web_front.need("chromium", "chromium", "fonts-dejavu-core")
-    web_front.need("/usr/share/javascript/leaflet", "libjs-leaflet")
     tries = Tries()
     with tempfile.TemporaryDirectory() as place:
         browser = Browser(pathlib.Path(place))
