@@ -242,7 +242,7 @@ def refused_thrice(browser: Browser, layer: str, tries: Tries) -> None:
     define(browser, "M", f"{layer} - nowhere")
     refused(browser, "told-define", "error 10 unknown layer", tries)
     ask_point(browser, "1", "x")
-    refused(browser, "told-asking", "y: 1 numbers are wanted", tries)
+    refused(browser, "told-asking", "y: a number is wanted", tries)
     browser.value("document.querySelector('#layers li:nth-child(1) button[title^=drop]').click()")
     refused(browser, f"told-layer-{layer}", "error 14", tries)
 
