@@ -43,7 +43,7 @@ SOURCES = ("overlay", "tools/*.py", "web/*.py", "python/src/overlayd/*.py", "pyt
 TEXTS = ("README.md", "docs/*.md", "docs/*.png", "docs/*.svg", "python/README.md", "tools/README.md",
          "tools/maps/README.md", "tools/data/*", "web/README.md", "examples/**/*")
 # What is read where pages are printed of the sources.
-READ = (".ci/**", "bench/**", "crates/**", "python/**", "release/**", "tools/**", "web/**")
+READ = (".ci/**", "crates/**", "python/**", "release/**", "tools/**", "web/**")
 FIRST_LINE = re.compile(rb"\A#!/usr/bin/env python3\n")
 NAMES = {pathlib.PurePath(path).stem: name for name, path in COMMANDS.items() if path.endswith(".py")}
 # A tool as it is called from a clone; where its name alone is in quotes, that is a file's name in code.

@@ -65,8 +65,8 @@ class InFolder(unittest.TestCase):
         return made
 
     def model(self) -> pathlib.Path:
-        """The plain model of bench/ in the place of the program, over layers in memory."""
-        text = f"#!/bin/sh\nPYTHONPATH='{TOP}' exec python3 -m bench.reference.model /dev/stdin\n"
+        """The plain model of the lab in the place of the program, over layers in memory."""
+        text = f"#!/bin/sh\nPYTHONPATH='{TOP}/python/lab' exec python3 -m overlayd_lab.reference.model /dev/stdin\n"
         return self.file("model", text, 0o700)
 
 

@@ -1,5 +1,5 @@
 """Tests of release/make: the same bytes twice, and a release that works where it is unpacked. The kit's `rt` is needed.
-What dpkg-deb, groff, systemd-analyze and bash say of it is looked at where they are. bench/trials/clean_root.py tries
+What dpkg-deb, groff, systemd-analyze and bash say of it is looked at where they are. trials/clean_root.py tries
 the package in a clean root."""
 
 from __future__ import annotations

@@ -69,7 +69,7 @@ class ToRings(InFolder):
                          [[outer((far - 1, far - 1), (far, far - 1), (far, far), (far - 1, far))]])
 
     def words(self, layer: str) -> tuple[object, ...]:
-        """A script of the layers alone, and the plain model of bench/ for the program."""
+        """A script of the layers alone, and the plain model of the lab for the program."""
         lines = content("fixtures", "shapes.txt").splitlines(True)
         made = [line for line in lines if not line.startswith((b"WAIT", b"EDGES"))]
         return self.file("shapes.txt", b"".join(made)), "--program", self.model(), "--layer", layer

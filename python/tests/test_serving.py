@@ -112,7 +112,7 @@ class Serving(FrontCase):
 
     def test_many_slow_clients(self) -> None:
         """Beside 250 who do not send their request to its end others are answered
-        (bench/trials/slow_clients.py has 900)."""
+        (trials/slow_clients.py has 900)."""
         self.begin(600, 600)
         with self.trickling(self.many(HEAD + b"X: ", 250)):
             self.assertEqual([self.status() for _ in range(10)], [200] * 10)

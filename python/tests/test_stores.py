@@ -22,7 +22,7 @@ SCALE = '{"title": "Plan", "factor": 10, "origin": [500, -20], "unit": "m", "crs
 
 
 class OverScripts(InFolder):
-    """The plain model of bench/ is the program here."""
+    """The plain model of the lab is the program here."""
 
     def asked(self, tool: ModuleType, text: str, *words: object) -> tuple[int, str, str]:
         return outcome(tool, self.file("plan.txt", text), "--program", self.model(), *words)
@@ -300,8 +300,8 @@ class ProgramsThatAreFound(InFolder):
             with self.assertRaisesRegex(sessions.Unusable,
                                         "neither overlay_live nor overlayd is built in .*; say --program"):
                 asking.found_program((asking.LIVE, asking.BATCHED))
-            builder = top / "bench" / "unproved.py"
-            builder.parent.mkdir()
+            builder = top / "python/lab/overlayd_lab/unproved.py"
+            builder.parent.mkdir(parents=True)
             builder.touch()
             with self.assertRaisesRegex(sessions.Unusable,
                                         "overlay_live is neither built in .* nor on the path; build it there"

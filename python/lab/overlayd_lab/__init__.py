@@ -1,5 +1,9 @@
-"""What judges, tries and measures, and what the gate asks of the tree."""
+"""What judges, tries and measures, and what the gate asks of the tree: a package whose programs run at the top, as
+`PYTHONPATH=python/lab python3 -m overlayd_lab.trials.stress PROGRAM`."""
 
 import pathlib
+import sys
 
-TOP = pathlib.Path(__file__).resolve().parents[3]
+LAB = pathlib.Path(__file__).resolve().parent
+TOP = LAB.parents[2]
+sys.path[1:1] = [str(TOP / "python" / "src"), str(TOP / "python")]

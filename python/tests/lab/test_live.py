@@ -18,7 +18,7 @@ from collections.abc import Iterator
 
 import pytest
 
-from bench import TOP
+from overlayd_lab import TOP
 
 EXAMPLES = TOP / "examples"
 SECONDS = 100  # that a reply, or the end of a run, may take

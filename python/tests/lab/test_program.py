@@ -22,8 +22,8 @@ from typing import Any
 
 import pytest
 
-from bench import TOP
-from bench.trials.old_files import RELEASED
+from overlayd_lab import TOP
+from overlayd_lab.trials.old_files import RELEASED
 
 EXAMPLES = TOP / "examples"
 SECONDS = 110

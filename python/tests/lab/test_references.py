@@ -9,9 +9,9 @@ import struct
 import pytest
 
 from overlayd.grid.limits import COLUMNS, COLUMN_WIDTH, NAME_MAX, PIECES_MAX, STEPS_MAX, TOKENS_MAX
-from bench import TOP
-from bench.reference import judging, model, read_store
-from bench.reference.read_store import Extent, Listed, changed, codes, table_behind
+from overlayd_lab import TOP
+from overlayd_lab.reference import judging, model, read_store
+from overlayd_lab.reference.read_store import Extent, Listed, changed, codes, table_behind
 
 # ---- the model: each example that is one session in memory, but for the dense grid, whose tiles are too large for
 # counting

@@ -10,10 +10,10 @@ from typing import Any
 
 import pytest
 
-from bench.reference import judging, read_store
-from bench.trials import refused_runs
-from bench.trials.refused_runs import OTHER, SQUARE, Outcome, Runner, Scenario
-from bench.trials.refusing import Allows, device, judge, judge_output, many_growths, one_growth
+from overlayd_lab.reference import judging, read_store
+from overlayd_lab.trials import refused_runs
+from overlayd_lab.trials.refused_runs import OTHER, SQUARE, Outcome, Runner, Scenario
+from overlayd_lab.trials.refusing import Allows, device, judge, judge_output, many_growths, one_growth
 
 TOLD = Scenario("replies", [[f"PUT A {SQUARE}", "GRID A 2 2 1 1 1", "SYNC", f"PUT B {OTHER}", "SYNC"]], 1)
 REPLIES = ["ok 1", "grid 1 1\n#", "durable 1", "ok 2", "durable 2"]

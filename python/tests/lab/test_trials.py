@@ -12,10 +12,10 @@ from typing import Any
 import pytest
 
 from overlayd.grid.limits import COLUMNS
-from bench import read_programs, unproved
-from bench.measures import instructions, live, serving, store
-from bench.reference import judging, model, read_store
-from bench.trials import covers, damages, live_stress, old_files, stops
+from overlayd_lab import read_programs, unproved
+from overlayd_lab.measures import instructions, live, serving, store
+from overlayd_lab.reference import judging, model, read_store
+from overlayd_lab.trials import covers, damages, live_stress, old_files, stops
 
 needs_gcc = pytest.mark.skipif(not shutil.which("gcc"), reason="no gcc")
 

@@ -15,7 +15,7 @@ import pathlib
 import re
 import sys
 
-from overlayd_lab import TOP
+from overlayd_lab import LAB, TOP
 from overlayd_lab.gate import edits
 
 FUNCTION = re.compile(r"^(?P<indent> *)(?:pub(?:\(\w+\))? )?(?:const )?fn (?P<name>\w+)")
@@ -93,8 +93,8 @@ class Tree:
     def all_words(self) -> set[str]:
         """All words of sources, definitions and scripts, and the names of files."""
         found: set[str] = set()
-        globs = ["crates/*/src/**/*.rt", "crates/*/specs/**/*.antt", ".ci/*", ".ci/*/*.py", "bench/**/*.py",
-                 "bench/**/*.c", "bench/**/*.rattle", "tools/**/*.py", "python/**/*.py", "examples/*.txt", "crates.txt"]
+        globs = ["crates/*/src/**/*.rt", "crates/*/specs/**/*.antt", ".ci/*", "python/**/*.py", "python/**/*.c",
+                 "python/**/*.rattle", "tools/**/*.py", "examples/*.txt", "crates.txt"]
         for pattern in globs:
             for path in self.top.glob(pattern):
                 found.add(path.name)
@@ -144,7 +144,8 @@ def faults_of_words(tree: Tree, text: str) -> list[str]:
     for quoted in QUOTED.findall(text):
         path = quoted.removeprefix("./").rstrip("/")
         if "/" in path and re.fullmatch(r"[\w./-]+", path):
-            homes = [tree.top, tree.top / "crates", *(tree.top / "crates" / crate for crate in tree.crates)]
+            homes = [tree.top, tree.top / "crates", tree.top / LAB.relative_to(TOP),
+                     *(tree.top / "crates" / crate for crate in tree.crates)]
             if not any((home / path).exists() for home in homes):
                 faults.append(f"no file `{quoted}`")
         elif re.fullmatch(r"[\w:.]+", quoted):

@@ -1,6 +1,6 @@
 """The limits of overlayd and the borders of its columns: the one place where Python has these numbers.
 
-A module for the tools and for bench/; it is no tool of its own.
+A module for the tools and for the lab; it is no tool of its own.
 """
 
 COORDINATE_MAX = 2**20

@@ -59,9 +59,10 @@ def missing(names: tuple[str, ...]) -> str:
 
 def how_to_build(name: str) -> str:
     """The words that build a program, unproved, where the repository's sources are."""
-    if not (TOP / "bench" / "unproved.py").is_file():
+    builder = "python/lab/overlayd_lab/unproved.py"
+    if not (TOP / builder).is_file():
         return ""
-    return f"build it there by `python3 bench/unproved.py --unchecked crates/{name}/src ./{name}`, or "
+    return f"build it there by `python3 {builder} --unchecked crates/{name}/src ./{name}`, or "
 
 
 def ran(program: str, words: list[str], script: bytes) -> bytes:

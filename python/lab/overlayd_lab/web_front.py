@@ -1,0 +1,100 @@
+"""A module for trials of the front, browser.py, map_clients.py and others: a store of real shapes,
+a running front, Debian's packages."""
+
+from __future__ import annotations
+
+import contextlib
+import json
+import os
+import pathlib
+import shutil
+import subprocess
+import sys
+import urllib.error
+import urllib.request
+from collections.abc import Iterator
+from typing import Any
+
+from overlayd import program as overlay_client
+
+from overlayd_lab import TOP
+
+PROGRAM = TOP / "crates/overlay_live/out/overlay_live"
+DEBIAN_PYTHON = "/usr/bin/python3"
+SCALE = {
+    "title": "Iceland at two scales", "factor": 42262, "factor_y": 100000, "origin": [-19, 65], "unit": "degree",
+    "crs": "OGC:CRS84", "digits": 7,
+}
+DEFINITIONS = {"both": "iceland_110m & iceland_50m", "one": "iceland_110m ^ iceland_50m"}
+
+
+def asked(address: str) -> Any:
+    """The object that a page of the front has."""
+    with urllib.request.urlopen(address, timeout=120) as answer:
+        return json.load(answer)
+
+
+def need(command: str, *packages: str) -> None:
+    """Installs packages of Debian where a command, or a file, is not there."""
+    if shutil.which(command) or pathlib.Path(command).exists():
+        return
+    environment = {**os.environ, "DEBIAN_FRONTEND": "noninteractive"}
+    words = ["apt-get", "install", "-y", "--no-install-recommends", *packages]
+    done = subprocess.run(words, env=environment, stdout=subprocess.DEVNULL)
+    if done.returncode:
+        sys.exit(f"{' '.join(words)}: status {done.returncode}")
+
+
+def sent(method: str, place: str, body: str | None, revision: str = "") -> tuple[int, Any]:
+    """A change by Part 4, with its status and its answer."""
+    headers = {"Content-Type": "application/geo+json", **({"If-Match": revision} if revision else {})}
+    request = urllib.request.Request(place, body.encode() if body else None, headers, method=method)
+    try:
+        with urllib.request.urlopen(request, timeout=120) as answer:
+            return answer.status, json.load(answer)
+    except urllib.error.HTTPError as fault:
+        return fault.code, json.load(fault)
+
+
+def first_map(source: pathlib.Path, folder: pathlib.Path, program: str | pathlib.Path | None, *words: str) -> str:
+    """Makes the stores of a map in a folder by `./overlay`, in one of its own that is called after the map; what that
+    says of it."""
+    given = [sys.executable, TOP / "overlay", source, "--folder", folder, "--only-make", *words]
+    given += ["--program", program] if program else []
+    done = subprocess.run([str(word) for word in given], capture_output=True, text=True, check=False)
+    if done.returncode:
+        sys.exit(f"overlay {source}: status {done.returncode}, {done.stderr}")
+    return done.stderr
+
+
+def iceland(folder: pathlib.Path, program: str) -> pathlib.Path:
+    """A store with Iceland at two scales, what both have, and what one of them has; its sidecar stands beside it."""
+    files = [str(TOP / f"tools/data/iceland_{scale}.geojson") for scale in ("110m", "50m")]
+    scaling = ["--factor", "42262", "--factor-y", "100000", "--origin", "-19", "65"]
+    words = [sys.executable, str(TOP / "tools/to_script.py"), *files, *scaling]
+    script = subprocess.run(words, capture_output=True, text=True, check=True).stdout
+    lines = script.splitlines() + [f"DEFINE {name} = {text}" for name, text in DEFINITIONS.items()]
+    store = folder / "map.db"
+    with overlay_client.Server(store, create=True, program=program) as server, server.session() as one:
+        one.batch(lines)
+        one.sync()
+    store.with_suffix(".scale.json").write_text(json.dumps(SCALE), encoding="utf-8")
+    return store
+
+
+@contextlib.contextmanager
+def front(*words: str | os.PathLike[str], program: str, python: str = DEBIAN_PYTHON) -> Iterator[str]:
+    """The address of a front that runs until the end of the block, and then has to end with 0."""
+    given = ["--port", "0", "--program", program, *words]
+    run = subprocess.Popen([python, TOP / "web/overlay_web.py", *given], stdout=subprocess.PIPE, text=True)
+    assert run.stdout
+    try:
+        address = run.stdout.readline().strip()
+        if not address:
+            sys.exit(f"the front did not start: status {run.wait()}")
+        yield address
+    finally:
+        run.terminate()
+        status = run.wait(60)
+    if status:
+        sys.exit(f"the front ended with status {status}")
