@@ -12,7 +12,8 @@ from typing import Any
 
 from overlayd.commands import dump_store, to_geojson, to_script, which
 from overlayd.store import asking, features, layering, sessions, simple
-from overlayd.store.features import Change, FeaturesFault
+from overlayd.geometry.plane import Box
+from overlayd.store.features import Change, FeaturesFault, Outline
 from .common import SECONDS, InFolder, WithProgram, outcome, path
 
 WEST = [[0, 0], [10, 0], [10, 10], [5, 10], [0, 10], [0, 0]]
@@ -71,7 +72,8 @@ class Plain(unittest.TestCase):
         polygons = [[[(0, 0), (4, 4), (4, 0), (0, 4), (0, 0)]]]
         for corner, wanted in (((1, 2, 1), "in"), ((2, 1, 1), "out"), ((2, 2, 1), "edge"), ((4, 1, 1), "edge"),
                                ((1, 3, 2), "in"), ((7, 3, 2), "in"), ((4, 5, 1), "out"), ((0, 0, 1), "edge")):
-            self.assertEqual(features.place_of(polygons, corner), wanted, corner)
+            outline = Outline(unittest.mock.sentinel.feature, polygons, Box(0, 0, 4, 4))
+            self.assertEqual(outline.place(corner), wanted, corner)
 
 
 class Files(InFolder):

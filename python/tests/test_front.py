@@ -14,7 +14,7 @@ import pytest
 
 from overlayd.grid import limits
 from overlayd.web.features_api import PAGE
-from overlayd.web.shapes import Box
+from overlayd.geometry.plane import Box
 from overlayd.web.views import View
 from . import testing
 from .test_shapes import Place, meets

@@ -12,7 +12,7 @@ from typing import Any
 from overlayd.commands import to_geojson, to_rings, to_script, which
 from overlayd.geometry import wkt
 from overlayd.geometry.rings import polygons_of
-from overlayd.geometry.sweeping import turn
+from overlayd.geometry.plane import turn
 from overlayd.store import sessions
 from .common import WithProgram, outcome, path
 from .plain import OPERATIONS, area_twice, below, on, overlay, segments_of

@@ -11,7 +11,8 @@ from fractions import Fraction
 from overlayd.grid import limits, scale as scales
 from overlayd.web import map_scale, shapes
 from overlayd.web.map_scale import exact, rounded
-from overlayd.web.shapes import Box, Feature, text_of
+from overlayd.geometry.plane import Box
+from overlayd.web.shapes import Feature, text_of
 from . import testing
 
 Place = tuple[Fraction, Fraction]
@@ -81,7 +82,7 @@ class Shapes(unittest.TestCase):
             ys = sorted(Fraction(source.randrange(-8 * w, 8 * w + 1), w) for _ in range(2))
             box = Box(xs[0], ys[0], xs[1], ys[1])
             # The quick look by the first ring is of polygons, whose other rings lie within it.
-            feature.box = shapes.box_of(corner for ring in rings for corner in ring)
+            feature.box = Box.of(corner for ring in rings for corner in ring)
             right = meets([[(Fraction(x, w), Fraction(y, w)) for x, y, w in ring] for ring in rings], box)
             self.assertEqual(feature.meets(box), right, (rings, box))
             found[right] += 1

@@ -9,6 +9,7 @@ from fractions import Fraction
 from typing import Any
 
 from .. import grid
+from ..geometry import plane
 from ..grid import limits
 from ..grid.scale import Scale
 from .map_reading import Refused, number_of
@@ -150,12 +151,9 @@ def steps_of(polygons: list[Polygon]) -> int:
     return sum(len(ring) - 1 for polygon in polygons for ring in polygon)
 
 
-def twice_area(ring: Ring) -> int:
-    """Twice the area of a ring that does not cross itself."""
-    return abs(sum(ax * by - bx * ay for (ax, ay), (bx, by) in zip(ring, ring[1:])))
-
-
 def area_of(polygons: list[Polygon]) -> Fraction:
     """The area of polygons that do not cross themselves or each other, whose holes lie in their outer rings."""
-    twice = sum(twice_area(polygon[0]) - sum(map(twice_area, polygon[1:])) for polygon in polygons)
-    return Fraction(twice, 2)
+    def twice(ring: Ring) -> int:
+        return abs(sum(cross for cross, _ in plane.terms([plane.whole(ring)])))
+
+    return Fraction(sum(twice(polygon[0]) - sum(map(twice, polygon[1:])) for polygon in polygons), 2)

@@ -10,11 +10,12 @@ from fractions import Fraction
 from ..grid import scale as scales
 from ..grid.scale import Scale
 from ..program import Point as Corner
+from . import plane
+from .plane import Term
 
 DIGITS_MAX = 60  # a fraction with more is written where it is asked for
 WORKED_MAX = 2**16  # so many bits of denominators are added up unasked
 BITS = 512  # of an area that is not exact, after the point
-Term = tuple[int, int]  # a fraction
 
 
 @dataclass(slots=True)
@@ -27,8 +28,7 @@ class Ring:
 
 def terms_of(rings: Iterable[Ring]) -> list[Term]:
     """Fractions whose sum is twice the area of outer rings without their holes."""
-    return [(a[0] * b[1] - a[1] * b[0], a[2] * b[2])
-            for ring in rings for a, b in zip(ring.corners, ring.corners[1:] + ring.corners[:1])]
+    return plane.terms(ring.corners for ring in rings)
 
 
 def exact_sum(terms: list[Term]) -> Fraction:

@@ -8,7 +8,8 @@ from typing import Any
 from ..ending import Unusable
 from ..program import Piece, Point as Corner
 from .areas import Ring
-from .sweeping import Boundary, grouped, swept, turn, uncollected
+from .plane import turn
+from .sweeping import Boundary, grouped, swept, uncollected
 
 Walk = list[int]  # numbers of pieces that go round, each from where the one before it ends
 

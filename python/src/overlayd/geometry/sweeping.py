@@ -11,6 +11,7 @@ from dataclasses import dataclass
 
 from ..ending import Unusable
 from ..program import Piece, Point as Corner
+from .plane import turn
 
 BLOCK_MAX = 512
 # A, B, C with A X + B Y + C W > 0 above a piece (B is 0 where it is vertical), and the piece's number.
@@ -27,19 +28,6 @@ def uncollected() -> Iterator[None]:
     finally:
         if was_enabled:
             gc.enable()
-
-
-def turn(a: Corner, b: Corner, c: Corner) -> int:
-    """Greater than 0 where c lies to the left of the line from a to b, less where to the right, 0 on it."""
-    return (
-        a[0] * (b[1] * c[2] - b[2] * c[1]) - a[1] * (b[0] * c[2] - b[2] * c[0]) + a[2] * (b[0] * c[1] - b[1] * c[0])
-    )
-
-
-def compare(a: Corner, b: Corner) -> int:
-    """The order of points: by x, then by y."""
-    across = a[0] * b[2] - b[0] * a[2]
-    return across if across else a[1] * b[2] - b[1] * a[2]
 
 
 def ordered(corners: Iterable[Corner]) -> list[Corner]:

@@ -33,6 +33,8 @@ from decimal import Decimal
 from typing import Any
 
 from ..files.rounding import Polygon, Ring
+from ..geometry import plane
+from ..program import Point
 from . import layering
 
 ID = re.compile(r"[A-Za-z0-9_.-]{1,64}")
@@ -324,46 +326,19 @@ def plain(value: Any, depth: int = 0) -> Any:
 # ---- what a point is in
 
 
-def crossings(ring: Ring, x: int, y: int, w: int) -> int | None:
-    """How many edges of a ring pass below the point (x / w, y / w); None where it is on one."""
-    below = 0
-    for (ax, ay), (bx, by) in zip(ring, ring[1:]):
-        ax, ay, bx, by = ax * w, ay * w, bx * w, by * w
-        if (ax, ay) > (bx, by):
-            ax, ay, bx, by = bx, by, ax, ay
-        if not ax <= x <= bx:
-            continue
-        side = (bx - ax) * (y - ay) - (by - ay) * (x - ax)
-        if side == 0 and min(ay, by) <= y <= max(ay, by):
-            return None
-        below += ax <= x < bx and side > 0
-    return below
-
-
-def place_of(polygons: Iterable[Polygon], corner: tuple[int, int, int]) -> str:
-    """Where a point lies, by even-odd over all rings: in, out, or edge."""
-    below = 0
-    for polygon in polygons:
-        for ring in polygon:
-            count = crossings(ring, *corner)
-            if count is None:
-                return "edge"
-            below += count
-    return "in" if below % 2 else "out"
-
-
 @dataclass(frozen=True)
 class Outline:
-    """A feature with its polygons in whole numbers and the box round them: least x and y, greatest x and y."""
+    """A feature with its polygons in whole numbers and the box round them."""
 
     feature: Feature
     polygons: list[Polygon]
-    box: tuple[int, int, int, int]
+    box: plane.Box
 
-    def has_in_box(self, corner: tuple[int, int, int]) -> bool:
-        x, y, w = corner
-        left, low, right, high = self.box
-        return left * w <= x <= right * w and low * w <= y <= high * w
+    def place(self, corner: Point) -> str:
+        """Where a point lies of the feature."""
+        if not self.box.has(corner):
+            return plane.OUT
+        return plane.place((plane.whole(ring) for polygon in self.polygons for ring in polygon), corner)
 
 
 def outlines(table: Table, held: Held) -> list[Outline]:
@@ -371,14 +346,14 @@ def outlines(table: Table, held: Held) -> list[Outline]:
     rings, found = found_rings(held), []
     for feature in table.features:
         polygons = outline(feature, rings)
-        xs, ys = zip(*(point for polygon in polygons for ring in polygon for point in ring))
-        found.append(Outline(feature, polygons, (min(xs), min(ys), max(xs), max(ys))))
+        found.append(Outline(feature, polygons, plane.Box.of_whole(
+            point for polygon in polygons for ring in polygon for point in ring)))
     return found
 
 
 def at(found: Iterable[Outline], corner: tuple[int, int, int]) -> tuple[list[Feature], list[Feature]]:
     """The features that a point is in, and those on whose outline it is, exactly."""
-    near = [(one.feature, place_of(one.polygons, corner)) for one in found if one.has_in_box(corner)]
+    near = [(one.feature, one.place(corner)) for one in found]
     return [one for one, place in near if place == "in"], [one for one, place in near if place == "edge"]
 
 

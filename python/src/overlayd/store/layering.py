@@ -13,9 +13,8 @@ from fractions import Fraction
 from ..files import rounding
 from ..files.rounding import Polygon, Ring
 from ..geometry import wkt
+from ..geometry.plane import Box
 from ..grid import limits
-
-Box = tuple[int, int, int, int]
 
 
 @dataclass
@@ -40,7 +39,7 @@ class Group:
         """How many pairs of polygons have boxes with a common part."""
         from ..geometry import box_pairs  # takes numpy along, which few runs need
 
-        return len(box_pairs.pairs_within([box_of(polygon) for polygon in self.polygons]))
+        return len(box_pairs.pairs_within([Box.of_whole(polygon[0]) for polygon in self.polygons]))
 
 
 @dataclass
@@ -73,14 +72,9 @@ class Store:
         return sum(layout.count() for layout in self.layouts)
 
 
-def box_of(polygon: Polygon) -> Box:
-    across, up = [x for x, _ in polygon[0]], [y for _, y in polygon[0]]
-    return min(across), min(up), max(across), max(up)
-
-
 def meet(one: Box, other: Box) -> bool:
     """Whether two boxes have a common part that is more than a border."""
-    return one[0] < other[2] and other[0] < one[2] and one[1] < other[3] and other[1] < one[3]
+    return one.left < other.right and other.left < one.right and one.low < other.high and other.low < one.high
 
 
 def runs_of(ring: Ring, most: int = limits.STEPS_MAX) -> list[Ring]:
@@ -124,7 +118,7 @@ def apart(polygons: list[Polygon]) -> list[list[Polygon]]:
     lists: list[list[Polygon]] = []
     boxes: list[list[Box]] = []
     for polygon in polygons:
-        box = box_of(polygon)
+        box = Box.of_whole(polygon[0])
         at = next((i for i, had in enumerate(boxes) if not any(meet(box, other) for other in had)), len(lists))
         if at == len(lists):
             lists.append([])

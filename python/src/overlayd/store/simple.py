@@ -11,9 +11,10 @@ from math import isqrt
 from typing import NamedTuple
 
 from ..files.rounding import Point, Polygon, Ring
+from ..geometry import plane
+from ..geometry.plane import Box
 
 Cell = tuple[int, int]
-Box = tuple[int, int, int, int]
 
 
 PAIRS_MOST, MEETINGS_MOST = 500_000, 1_000
@@ -50,7 +51,7 @@ def is_plain(polygons: list[Polygon]) -> bool:
     if len(set(points)) < len(points) or any(True for _ in meetings(polygons)):
         return False
     rings = [ring for polygon in polygons for ring in polygon]
-    boxes = [box_of(ring) for ring in rings]
+    boxes = [Box.of_whole(ring) for ring in rings]
     depths = iter([sum(holds(other, box, ring[0]) for other, box in zip(rings, boxes) if other is not ring)
                    for ring in rings])
     return all(is_nested(polygon, [next(depths) for _ in polygon]) for polygon in polygons)
@@ -58,27 +59,16 @@ def is_plain(polygons: list[Polygon]) -> bool:
 
 def is_nested(polygon: Polygon, depths: list[int]) -> bool:
     """Whether an outer ring lies in no other polygon, and each hole in it and in nothing between."""
-    box = box_of(polygon[0])
+    box = Box.of_whole(polygon[0])
     return depths[0] % 2 == 0 and all(
         depth == depths[0] + 1 and holds(polygon[0], box, hole[0]) for hole, depth in zip(polygon[1:], depths[1:]))
-
-
-def box_of(ring: Ring) -> Box:
-    xs, ys = zip(*ring)
-    return min(xs), min(ys), max(xs), max(ys)
 
 
 def holds(ring: Ring, box: Box, point: Point) -> bool:
     """Whether a point that is on no edge of a ring is inside."""
     x, y = point
-    if not (box[0] < x < box[2] and box[1] < y < box[3]):
-        return False
-    odd = False
-    for (ax, ay), (bx, by) in zip(ring, ring[1:]):
-        if (ax <= x) != (bx <= x):
-            side = (bx - ax) * (y - ay) - (by - ay) * (x - ax)
-            odd ^= (side > 0) == (bx > ax)
-    return odd
+    is_near = box.left < x < box.right and box.low < y < box.high
+    return is_near and plane.place([plane.whole(ring)], (x, y, 1)) == plane.IN
 
 
 def side(a: Point, b: Point, c: Point) -> int:
@@ -148,7 +138,7 @@ def edges_in_cells(edges: list[Edge], size: Cell, most: int | None) -> dict[Cell
     grid: dict[Cell, list[tuple[Box, Edge]]] = {}
     pairs = 0
     for edge in edges:
-        box = box_of([edge.a, edge.b])
+        box = Box.of_whole([edge.a, edge.b])
         for cell in cells_of(box, size):
             there = grid.setdefault(cell, [])
             there.append((box, edge))
@@ -160,7 +150,7 @@ def edges_in_cells(edges: list[Edge], size: Cell, most: int | None) -> dict[Cell
 
 def size_of_cells(edges: list[Edge]) -> Cell:
     """How wide and how high the cells of a grid are of which most edges touch few, and each about one edge."""
-    least_x, least_y, most_x, most_y = box_of([edge.a for edge in edges])
+    least_x, least_y, most_x, most_y = Box.of_whole(edge.a for edge in edges)
     across = sum(abs(edge.b[0] - edge.a[0]) for edge in edges) // len(edges)
     up = sum(abs(edge.b[1] - edge.a[1]) for edge in edges) // len(edges)
     count = isqrt(len(edges)) + 1

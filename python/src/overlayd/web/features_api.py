@@ -15,10 +15,10 @@ from typing import Any, NamedTuple
 
 from flask import Response, g, request, send_from_directory
 
+from ..geometry.plane import Box, homogeneous
 from .layer_store import LayerStore
 from .map_scale import CRS84
 from .pages import BOX, GEOJSON, Problem, Word, link, one_of, page, sent, text, whole
-from .shapes import Box, homogeneous
 from .systems import Item, Placed, Systems
 from .views import View
 

@@ -14,6 +14,7 @@ import time
 from collections.abc import Callable, Iterator, Mapping, Sequence
 from typing import NamedTuple, cast
 
+from ..geometry.plane import Box
 from ..grid import limits
 from ..program import OVERSIZE, Ended, Piece, Refused, Server, Session, number_of
 from . import shapes
@@ -92,7 +93,7 @@ class LayerStore:
         self._hold = Hold()
         self._listing: Mapping[str, Listed] | None = None
         self._joined: Kept[str, Joined] = Kept(KEPT_MOST, Joined.weight)
-        self._extents: Kept[str, list[shapes.Box]] = Kept(REVISIONS_MOST, lambda _: 1)
+        self._extents: Kept[str, list[Box]] = Kept(REVISIONS_MOST, lambda _: 1)
         self._too_large: Kept[str, tuple[float, str]] = Kept(REVISIONS_MOST, lambda _: 1)
         self._joiners, self._reminding, self._noting = Joiners(JOINING), threading.Lock(), threading.Lock()
         self._refusal: Callable[[str], str | None] = lambda _: None

@@ -9,6 +9,7 @@ from typing import Any, cast
 
 from flask import Response, g, request
 
+from ..geometry.plane import Box
 from ..store import feature_changes, features, simple
 from ..store.feature_changes import ChangeFault, GeometryFault, Given, Plan, Rounded, Unfit
 from ..store.features import FeaturesFault, Outline
@@ -19,7 +20,6 @@ from .layer_store import Changed
 from .map_scale import MapScale
 from .pages import GEOJSON, Problem, content, link, must_match, page, sent
 from .schemas import Described, properties_of
-from .shapes import Box, box_round
 from .systems import Systems, Unplaced
 from .views import View
 
@@ -98,7 +98,7 @@ class MapFeatures(FeaturesApi):
             "links": [link(at, "self"), link(f"{at}/items", "items", GEOJSON)],
         }
         boxes = [Box(*map(Fraction, one.box)) for one in state.outlines.values()]
-        return {**made, **self._placed(box_round(boxes))}
+        return {**made, **self._placed(Box.round(boxes))}
 
     @page("GET", ITEMS, "getMapFeatures", "features of the map", "mapFeatures", *ITEM_WORDS, kind=GEOJSON, slow=True)
     def map_items(self, revision: str | None, **words: Any) -> Response:

@@ -6,11 +6,12 @@ what is written is rounded, by the scale.
 
 from __future__ import annotations
 
-from collections.abc import Callable, Iterable
+from collections.abc import Callable
 from fractions import Fraction
 from typing import NamedTuple
 
-from ..geometry import sweeping
+from ..geometry import plane
+from ..geometry.plane import Box
 from ..geometry.rings import polygons_of
 from ..program import Piece, Point
 from .map_scale import MapScale, exact, rounded
@@ -20,67 +21,6 @@ AREA_BITS = 96
 digits."""
 
 
-class Box(NamedTuple):
-    """The stored points with left <= x <= right and low <= y <= high."""
-
-    left: Fraction
-    low: Fraction
-    right: Fraction
-    high: Fraction
-
-    def corners(self) -> list[Point]:
-        return [homogeneous(x, y) for x in (self.left, self.right) for y in (self.low, self.high)]
-
-
-def homogeneous(x: Fraction, y: Fraction) -> Point:
-    """A point as x, y and w."""
-    return x.numerator * y.denominator, y.numerator * x.denominator, x.denominator * y.denominator
-
-
-def box_of(corners: Iterable[Point]) -> Box:
-    """The least box round some points, of which there is one at least."""
-    xs, ys = zip(*((Fraction(x, w), Fraction(y, w)) for x, y, w in corners))
-    return Box(min(xs), min(ys), max(xs), max(ys))
-
-
-def box_round(boxes: Iterable[Box]) -> Box | None:
-    """The least box round some boxes, or None where there are none."""
-    found = list(boxes)
-    if not found:
-        return None
-    lefts, lows, rights, highs = zip(*found)
-    return Box(min(lefts), min(lows), max(rights), max(highs))
-
-
-def edges_of(ring: list[Point]) -> Iterable[tuple[Point, Point]]:
-    return zip(ring, ring[1:] + ring[:1])
-
-
-def edge_meets(a: Point, b: Point, box: Box) -> bool:
-    """Whether a point of the edge lies in the box: not where x or y parts them, nor where all
-    corners lie on one side."""
-    for axis, least, most in ((0, box.left, box.right), (1, box.low, box.high)):
-        ends = [(n[axis] * least.denominator, least.numerator * n[2]) for n in (a, b)]
-        if all(place < bound for place, bound in ends):
-            return False
-        ends = [(n[axis] * most.denominator, most.numerator * n[2]) for n in (a, b)]
-        if all(place > bound for place, bound in ends):
-            return False
-    sides = [sweeping.turn(a, b, corner) for corner in box.corners()]
-    return bool(min(sides) <= 0 <= max(sides))
-
-
-def holds(rings: list[list[Point]], point: Point) -> bool:
-    """Whether an odd number of edges are below a point that is on none of them."""
-    odd = False
-    for ring in rings:
-        for a, b in edges_of(ring):
-            left, right = (a, b) if sweeping.compare(a, b) < 0 else (b, a)
-            if left[0] * point[2] <= point[0] * left[2] and point[0] * right[2] < right[0] * point[2]:
-                odd ^= sweeping.turn(left, right, point) > 0
-    return odd
-
-
 class Feature:
     """A polygon of a layer: an outer ring and its holes, as exact corners and as positions in the world."""
 
@@ -88,16 +28,11 @@ class Feature:
         self.number, self.rings = number, rings
         self.positions = [[scale.position(corner) for corner in ring] for ring in rings]
         self.area = area_of(rings, scale)
-        self.box = box_of(rings[0])
+        self.box = Box.of(rings[0])
 
     def meets(self, box: Box) -> bool:
         """Whether a point of the polygon or of its boundary lies in the box."""
-        own = self.box
-        if own.left > box.right or own.right < box.left or own.low > box.high or own.high < box.low:
-            return False
-        if any(edge_meets(a, b, box) for ring in self.rings for a, b in edges_of(ring)):
-            return True
-        return holds(self.rings, homogeneous(box.left, box.low))
+        return self.box.meets(box) and plane.meets(self.rings, box)
 
     def geojson(self) -> dict[str, object]:
         properties = {"corners": sum(map(len, self.rings)), "holes": len(self.rings) - 1, "area": self.area}
@@ -109,9 +44,7 @@ class Feature:
 
 def area_of(rings: list[list[Point]], scale: MapScale) -> int | float:
     """The area of a polygon in the square of the world's unit, by its exact corners."""
-    twice = sum(
-        ((a[0] * b[1] - b[0] * a[1]) << AREA_BITS) // (a[2] * b[2]) for ring in rings for a, b in edges_of(ring)
-    )
+    twice = sum((numerator << AREA_BITS) // denominator for numerator, denominator in plane.terms(rings))
     by = scale.scale.factor * scale.scale.factor_y
     return rounded(twice * by.denominator, by.numerator << (AREA_BITS + 1), scale.digits)
 

@@ -14,7 +14,8 @@ from typing import Any, NamedTuple, Protocol
 
 from ..program import Point
 from .map_scale import CRS84, MapScale
-from .shapes import Box, edge_meets, edges_of, holds, homogeneous
+from ..geometry import plane
+from ..geometry.plane import Box, homogeneous
 
 DEGREE_DIGITS = 10
 """After the point of a degree: a hundredth of a millimetre."""
@@ -202,14 +203,9 @@ class Placed:
             return False
         given = self.geojson()["geometry"]
         polygons = [given["coordinates"]] if given["type"] == "Polygon" else given["coordinates"]
-        return any(rings_meet([[corner_of(place) for place in ring[:-1]] for ring in rings], box) for rings in polygons)
+        return any(plane.meets([list(map(corner_of, ring)) for ring in rings], box) for rings in polygons)
 
 
 def corner_of(place: Sequence[float]) -> Point:
     """A position as it is written, exactly."""
     return homogeneous(*(Fraction(str(number)) for number in place))
-
-
-def rings_meet(rings: list[list[Point]], box: Box) -> bool:
-    return any(edge_meets(a, b, box) for ring in rings for a, b in edges_of(ring)) or holds(
-        rings, homogeneous(box.left, box.low))

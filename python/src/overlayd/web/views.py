@@ -11,9 +11,9 @@ from collections import deque
 from collections.abc import Callable, Iterable, Iterator, Mapping, Sequence
 from typing import NamedTuple
 
+from ..geometry.plane import Box
 from ..grid import limits
 from ..program import OVERSIZE, UNKNOWN_LAYER, Layer, Piece, Point, Refused, Session, edges_lines, is_pending
-from . import shapes
 from .kept_values import Kept
 
 
@@ -106,7 +106,7 @@ class View:
     """
 
     def __init__(
-        self, one: Session, layers: Mapping[str, Listed], extents: Kept[str, list[shapes.Box]], version: int
+        self, one: Session, layers: Mapping[str, Listed], extents: Kept[str, list[Box]], version: int
     ) -> None:
         self.layers, self.version = layers, version
         self._one, self._extents = one, extents
@@ -126,7 +126,7 @@ class View:
         replies = list(self._one.answers(edges_lines(name, columns)))
         return [None if is_pending(reply) else reply.pieces() for reply in replies]
 
-    def extent(self, name: str) -> shapes.Box | None:
+    def extent(self, name: str) -> Box | None:
         """The box of a layer, or None where it is empty. Of one that is not built it is the box of
         all that it reaches."""
         found = self.layer(name)
@@ -135,8 +135,8 @@ class View:
             corners = self._corners(found.layer)
             if corners is None:
                 bases = [other for other in found.reach if self.layer(other).layer.text is not None]
-                return shapes.box_round(box for box in map(self.extent, bases) if box)
-            held = [shapes.box_of(corners)] if corners else []
+                return Box.round(box for box in map(self.extent, bases) if box)
+            held = [Box.of(corners)] if corners else []
             self._extents.put(found.revision, held)
         return held[0] if held else None
 
