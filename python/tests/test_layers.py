@@ -7,7 +7,8 @@ import unittest
 from .common import TOP
 
 SOURCES = TOP / "python/src/overlayd"
-ORDER = ("ending", "progress", "program", "grid", "geometry", "kernel", "grid_pass", "files", "store", "maps", "web", "commands")
+ORDER = ("ending", "progress", "program", "grid", "geometry", "kernel", "grid_pass", "files", "store", "maps", "web",
+         "commands")
 
 
 def imports(path: pathlib.Path) -> set[str]:

@@ -8,7 +8,7 @@ from collections.abc import Iterator, Sequence
 from fractions import Fraction
 from typing import NamedTuple
 
-from ..geometry import box_pairs, sweeping
+from ..geometry import box_pairs, plane, sweeping
 from ..geometry.rings import loops_of
 from ..geometry.whole_maps import Box
 from ..program import Piece, Point as Corner
@@ -136,7 +136,7 @@ class Slices:
         odd = False
         for left, right in self.steps[at] if 0 <= at < self.count else ():
             if left[0] * w <= x * left[2] and x * right[2] < right[0] * w:
-                odd ^= sweeping.turn(left, right, point) > 0
+                odd ^= plane.turn(left, right, point) > 0
         return odd
 
 
@@ -194,10 +194,10 @@ def polygons_of(outlines: list[Outline]) -> list[Polygon]:
 
 def pieces_of(loop: Loop) -> list[Piece]:
     """The steps of a ring, left ends first."""
-    return [(a, b) if sweeping.compare(a, b) < 0 else (b, a) for a, b in zip(loop, loop[1:] + loop[:1])]
+    return [(a, b) if plane.compare(a, b) < 0 else (b, a) for a, b in zip(loop, loop[1:] + loop[:1])]
 
 
 def without_straight(loop: Loop) -> Loop:
     """A ring without the corners on straight lines."""
     count = len(loop)
-    return [corner for i, corner in enumerate(loop) if sweeping.turn(loop[i - 1], corner, loop[(i + 1) % count])]
+    return [corner for i, corner in enumerate(loop) if plane.turn(loop[i - 1], corner, loop[(i + 1) % count])]

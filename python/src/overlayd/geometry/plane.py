@@ -75,6 +75,12 @@ def turn(a: Point, b: Point, c: Point) -> int:
     )
 
 
+def compare(a: Point, b: Point) -> int:
+    """The order of points: by x, then by y."""
+    across = a[0] * b[2] - b[0] * a[2]
+    return across if across else a[1] * b[2] - b[1] * a[2]
+
+
 def edges(rings: Iterable[Ring]) -> Iterator[tuple[Point, Point]]:
     for ring in rings:
         yield from zip(ring, [*ring[1:], *ring[:1]])
@@ -89,7 +95,7 @@ def place(rings: Iterable[Ring], point: Point) -> str:
     """Where a point lies: in, out, or edge."""
     is_inside = False
     for a, b in edges(rings):
-        left, right = (a, b) if a[0] * b[2] < b[0] * a[2] else (b, a)
+        left, right = (a, b) if compare(a, b) < 0 else (b, a)
         if left[0] * point[2] <= point[0] * left[2] and point[0] * right[2] <= right[0] * point[2]:
             side = turn(left, right, point)
             if side == 0 and Box.of([a, b]).has(point):

@@ -135,7 +135,7 @@ class Scale:
         x, y, w = corner
         return Fraction(x, w) / self.factor + self.origin[0], Fraction(y, w) / self.factor_y + self.origin[1]
 
-    def stored(self, x: Fraction, y: Fraction) -> tuple[Fraction, Fraction]:
+    def stored(self, x: Fraction | int, y: Fraction | int) -> tuple[Fraction, Fraction]:
         """The stored place of a point of the world."""
         return (x - self.origin[0]) * self.factor, (y - self.origin[1]) * self.factor_y
 

@@ -9,6 +9,7 @@ A module for to_script.py; it is no tool of its own.
 from collections.abc import Iterator
 from dataclasses import dataclass, field
 from fractions import Fraction
+from typing import Any
 
 from ..files import rounding
 from ..files.rounding import Polygon, Ring
@@ -39,7 +40,8 @@ class Group:
         """How many pairs of polygons have boxes with a common part."""
         from ..geometry import box_pairs  # takes numpy along, which few runs need
 
-        return len(box_pairs.pairs_within([Box.of_whole(polygon[0]) for polygon in self.polygons]))
+        boxes: list[Any] = [Box.of_whole(polygon[0]) for polygon in self.polygons]  # of whole numbers
+        return len(box_pairs.pairs_within(boxes))
 
 
 @dataclass
