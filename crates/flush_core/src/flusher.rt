@@ -15,6 +15,7 @@ use commit_plan::fault::StoreFault;
 use disk_model::disk::Disk;
 use root_store::commit::Commit;
 use root_store::phase::{Phase, Progress};
+use root_store::shut::Shut;
 use std::alloc::Global;
 use versions::Version;
 
@@ -125,8 +126,8 @@ impl<D: Disk> Flusher<D> {
         self.commit.begin_known(alloc, image, known)
     }
 
-    /// The disk, as the calls have left it.
-    pub fn into_disk(self) -> D
+    /// The disk, as the calls have left it, shut.
+    pub fn into_disk(self) -> Shut<D>
         ensures { result ≡ self.commit.disk }
     {
         self.commit.into_disk()

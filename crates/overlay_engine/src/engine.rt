@@ -5,6 +5,7 @@ use arrange::TileInput;
 use disk_model::disk::Disk;
 use flush_core::flusher::Flusher;
 use layer_expr::name::Name;
+use root_store::shut::Shut;
 use std::fmt;
 use versions::Version;
 
@@ -55,8 +56,8 @@ impl<D: Disk> Engine<D> {
         (self.version, self.flusher)
     }
 
-    /// The disk, as the device calls have left it.
-    pub fn into_disk(self) -> D
+    /// The disk, as the device calls have left it, shut.
+    pub fn into_disk(self) -> Shut<D>
         ensures { result ≡ self.flusher.commit.disk }
     {
         self.flusher.into_disk()

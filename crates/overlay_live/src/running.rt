@@ -1,6 +1,7 @@
 //! What the words ask for, from the store and the pairs to the end of all sessions.
 use crate::ports::{LiveReplies, open_ports};
 use crate::texts::{HELP, VERSION};
+use kept_store::begun::Begun;
 use overlay_server::outcome::{Left, ServeOptions};
 use overlay_server::serving::serve_ports;
 use program_store::ending::{Ends, end_run, was_written};
@@ -66,7 +67,7 @@ fn serve_plan<'a, Q: Files<File = File> + Threads + Wait + Sync + AllocGlobal>(
     let options = ServeOptions {
         workers: keeping.workers as usize,
     };
-    match serve_ports(rt, rt.alloc(), options, &OpenGate, engine, ports) {
+    match serve_ports(rt, rt.alloc(), options, &OpenGate, Begun::of(engine), ports) {
         Ok(Left { sessions, closed }) => {
             match end_run(keeping, &closed, true, Ends::of(&sessions)) {
                 Ok(complete) => Ok(complete),

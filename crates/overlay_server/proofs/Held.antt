@@ -16,10 +16,10 @@ use Rattle.book_history.specs.declared.fault.ReportedFault.{ReportedFault}
 use Rattle.script_form.specs.declared.fault.CommandFault.{CommandFault}
 use Rattle.script_form.specs.Transcript.{StoreReport, of_number, of_fault, store_by}
 use Rattle.server_session.specs.Stores.{FaultMayBeReportedAt, MayBeReportedAt, NumberMayBeReportedAt, store_of}
-use Rattle.store_flushing.specs.Failing.{FailedAt}
-use Rattle.store_flushing.specs.Storing.{IsStoreOf, IsStored}
-use Rattle.store_flushing.proofs.Following.{by_run}
-use Rattle.store_flushing.proofs.Storage.{begun}
+use Rattle.kept_store.specs.Failing.{FailedAt}
+use Rattle.kept_store.specs.Storing.{IsStoreOf, IsStored}
+use Rattle.kept_store.proofs.Following.{by_run}
+use Rattle.kept_store.proofs.Storage.{begun}
 use Rattle.session_threads.specs.Running.{IsRunOf}
 use Rattle.session_threads.specs.declared.running.Script.{Script}
 use Rattle.session_threads.specs.declared.running.Ended.{Ended}

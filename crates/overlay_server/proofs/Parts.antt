@@ -10,7 +10,7 @@ use Rattle.book_history.specs.Logs.{history_of}
 use Rattle.book_history.proofs.Chains.{begins_with}
 use Rattle.book_lock.specs.Steps.{beginners, HasAllOf}
 use Rattle.script_form.specs.Transcript.{BookStore}
-use Rattle.store_flushing.proofs.Histories.{begins_self}
+use Rattle.kept_store.proofs.Histories.{begins_self}
 use Rattle.session_threads.specs.Running.{IsRunOf}
 use Rattle.session_threads.specs.Seats.{session_of, port_of, ended_session, finished_of}
 use Rattle.session_threads.specs.declared.running.Script.{Script}

@@ -19,9 +19,10 @@ use Rattle.server_session.specs.Replying.{MayReport}
 use Rattle.session_threads.specs.Seats.{port_of, session_of}
 use Rattle.session_threads.specs.declared.port.Port.{Port}
 use Rattle.session_threads.specs.declared.running.Script.{Script}
-use Rattle.store_flushing.proofs.Histories.{begins_trans}
+use Rattle.kept_store.proofs.Histories.{begins_trans}
 use Rattle.overlay_server.specs.Moments.{HasOnlyNow}
-use Rattle.overlay_server.specs.Serving.{ServerReports, first_log, flusher_of}
+use Rattle.overlay_server.specs.Serving.{ServerReports, first_log}
+use Rattle.kept_store.specs.Beginning.{flusher_of}
 use Rattle.overlay_server.proofs.Held.{Means, was_reported}
 
 module _ {D : Type 0} (g : Ghosts D) (now : HasOnlyNow g) (start : Version) (stored : List Entry → ℕ → Type 0) (failed : List Entry → ReportedFault → Type 0) (store : Option (Flusher D g))

@@ -16,8 +16,8 @@ use Rattle.line_laws.proofs.Entries.{accepted_more, history_rest, newest_more}
 use Rattle.overlay_engine.specs.Start.{Start, layers_from, up_to}
 use Rattle.overlay_engine.specs.Covers.{Covered}
 use Rattle.overlay_engine.specs.Lives.{TriesTo}
-use Rattle.store_flushing.specs.Storing.{IsStoreOf}
-use Rattle.store_flushing.proofs.Storage.{store_begins, store_more}
+use Rattle.kept_store.specs.Storing.{IsStoreOf}
+use Rattle.kept_store.proofs.Storage.{store_begins, store_more}
 use Rattle.overlay_server.specs.Durability.{start_of_batches}
 use Rattle.overlay_server.specs.Runs.{Moment, batches_at, durable_at, IsRunning, CallsTo, ClosesTo, CutTo, Runs, StandsAt, cut_call, CutStands, RunsLoseNothing}
 use Rattle.overlay_server.proofs.Durable.{files_are_covered}

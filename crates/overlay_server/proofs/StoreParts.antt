@@ -14,22 +14,22 @@ use Rattle.book_history.specs.Logs.{history_of, newest_in, IsLog}
 use Rattle.book_history.specs.declared.fault.ReportedFault.{ReportedFault}
 use Rattle.book_history.proofs.Chains.{begins_with, is_history}
 use Rattle.book_lock.specs.Heard.{HasHeard}
-use Rattle.store_flushing.specs.Among.{IsFileIn}
-use Rattle.store_flushing.specs.Failing.{HoldsOfFailed}
-use Rattle.store_flushing.specs.Storing.{IsStoreOf, HoldsOfStored}
+use Rattle.kept_store.specs.Among.{IsFileIn}
+use Rattle.kept_store.specs.Failing.{HoldsOfFailed}
+use Rattle.kept_store.specs.Storing.{IsStoreOf, HoldsOfStored}
 use Rattle.store_flushing.specs.Stores.{flusher_in, reporter_of, notes_by}
 use Rattle.store_flushing.specs.ReportNote.{StaysReported, NotesGoOn, notes_in}
-use Rattle.store_flushing.specs.Unstored.{IsReasonGiven}
+use Rattle.kept_store.specs.Unstored.{IsReasonGiven}
 use Rattle.store_flushing.specs.declared.closed.Closed.{Closed}
 use Rattle.store_flushing.specs.declared.keeper.Keeper.{Keeper}
 use Rattle.store_flushing.specs.declared.keeper.store.Store.{Store}
 use Rattle.store_flushing.specs.declared.keeper.store.Store.TheVariants.{Kept, Alone}
 use Rattle.store_flushing.specs.declared.keeper.report_log.ReportNote.{ReportNote}
 use Rattle.store_flushing.proofs.Closings.{exactly_on}
-use Rattle.store_flushing.proofs.FailLemmas.{failed_on}
-use Rattle.store_flushing.proofs.Following.{by_run, handed_on}
-use Rattle.store_flushing.proofs.Histories.{file_more}
-use Rattle.store_flushing.proofs.Storage.{begun, store_leaves, then}
+use Rattle.kept_store.proofs.FailLemmas.{failed_on}
+use Rattle.kept_store.proofs.Following.{by_run, handed_on}
+use Rattle.kept_store.proofs.Histories.{file_more}
+use Rattle.kept_store.proofs.Storage.{begun, store_leaves, then}
 use Rattle.store_flushing.proofs.ReportedLemmas.{none_yet, reporting_then, reports_then, reported_at_end}
 use Rattle.overlay_server.specs.Moments.{HasOnlyNow}
 use Rattle.overlay_server.specs.Keeping.{AreFlushed, HoldsOfStore, IsStoreKept}

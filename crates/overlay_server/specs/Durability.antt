@@ -9,8 +9,8 @@ use Rattle.overlay_engine.specs.NewEngine.{IsNewEngine}
 use Rattle.overlay_engine.specs.Start.{Start}
 use Rattle.overlay_engine.specs.Covers.{Covered}
 use Rattle.book_history.specs.Logs.{history_of}
-use Rattle.store_flushing.specs.Among.{IsVersionIn, IsFileIn}
-use Rattle.store_flushing.specs.Storing.{IsStoreOf}
+use Rattle.kept_store.specs.Among.{IsVersionIn, IsFileIn}
+use Rattle.kept_store.specs.Storing.{IsStoreOf}
 use Rattle.overlay_server.specs.Serving.{first_log}
 
 -- what a server asks of its store is what an engine has that was just made or recovered

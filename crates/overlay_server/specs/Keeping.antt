@@ -6,8 +6,8 @@ use Rattle.overlay_terms.specs.Histories.{Entry}
 use Rattle.root_store.specs.Running.{is_busy}
 use Rattle.book_history.specs.Logs.{history_of}
 use Rattle.book_history.specs.declared.fault.ReportedFault.{ReportedFault}
-use Rattle.store_flushing.specs.Failing.{HoldsOfFailed}
-use Rattle.store_flushing.specs.Storing.{IsStoreOf, Flushes, HoldsOfStored}
+use Rattle.kept_store.specs.Failing.{HoldsOfFailed}
+use Rattle.kept_store.specs.Storing.{IsStoreOf, Flushes, HoldsOfStored}
 use Rattle.store_flushing.specs.Stores.{reporter_of}
 use Rattle.store_flushing.specs.ReportNote.{KeepsNotes}
 use Rattle.store_flushing.specs.declared.keeper.Keeper.{Keeper}

@@ -12,8 +12,8 @@ use Rattle.book_lock.specs.Steps.{beginners, HasAllOf}
 use Rattle.script_form.specs.Transcript.{BookStore}
 use Rattle.script_form.specs.declared.session_end.SessionEnd.{SessionEnd}
 use Rattle.server_session.specs.Session.{IsSessionWithin}
-use Rattle.store_flushing.specs.Among.{IsFileIn}
-use Rattle.store_flushing.specs.Storing.{IsStoreOf}
+use Rattle.kept_store.specs.Among.{IsFileIn}
+use Rattle.kept_store.specs.Storing.{IsStoreOf}
 use Rattle.store_flushing.specs.ReportNote.{StaysReported, notes_in}
 use Rattle.store_flushing.specs.declared.keeper.report_log.ReportNote.{ReportNote}
 use Rattle.overlay_server.specs.Answering.{answer_in, refusal_code}

@@ -15,7 +15,7 @@ use Rattle.overlay_engine.specs.Lives.{TriesTo}
 use Rattle.overlay_engine.specs.NewEngine.{IsNewEngine}
 use Rattle.overlay_engine.specs.Recovery.{Recovered}
 use Rattle.overlay_engine.specs.Start.{Start, layers_from, up_to}
-use Rattle.store_flushing.specs.Storing.{IsStoreOf, KeepsReported}
+use Rattle.kept_store.specs.Storing.{IsStoreOf, KeepsReported}
 
 -- a moment of a run: the batches before the run's first version, the history that its reporter has seen, and its store
 pub record Moment (D : Type 0) (g : Ghosts D) : Type 0 where

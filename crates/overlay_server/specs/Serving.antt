@@ -6,11 +6,10 @@ use Rattle.logbook.specs.Pages.{Book}
 use Rattle.disk_model.specs.declared.disk.Disk.{Ghosts}
 use Rattle.disk_model.specs.Disk as device
 use Rattle.disk_model.specs.Moments.{Leaves, LeavesOnly}
-use Rattle.overlay_terms.specs.Histories.{Version, Entry, History, BeginsWith, newest, commands_in, empty_version}
+use Rattle.overlay_terms.specs.Histories.{Version, Entry, History, BeginsWith, newest, commands_in}
 use Rattle.root_store.specs.Running.{is_busy}
 use Rattle.root_store.specs.declared.phase.Phase.TheVariants.{Failed}
 use Rattle.flush_core.specs.declared.flusher.Flusher.{Flusher}
-use Rattle.overlay_engine.specs.declared.engine.Engine.{Engine}
 use Rattle.book_history.specs.Known.{Known, seen}
 use Rattle.book_history.specs.Logs.{entry, no_event, history_of, newest_in, IsLog}
 use Rattle.book_lock.specs.Steps.{beginners, HasAllOf}
@@ -19,26 +18,17 @@ use Rattle.script_form.specs.declared.fault.CommandFault.{CommandFault}
 use Rattle.script_form.specs.Transcript.{BookStore, StoreReport, of_number, of_fault, store_by}
 use Rattle.server_session.specs.Fault.{store_fault_of}
 use Rattle.server_session.specs.Session.{IsSessionWithin}
-use Rattle.store_flushing.specs.Among.{IsFileIn, IsFileExactlyIn}
-use Rattle.store_flushing.specs.Failing.{FailedAt}
-use Rattle.store_flushing.specs.Storing.{IsStoreOf, IsStored}
+use Rattle.kept_store.specs.Among.{IsFileIn, IsFileExactlyIn}
+use Rattle.kept_store.specs.Beginning.{start_of, flusher_of}
+use Rattle.kept_store.specs.Failing.{FailedAt}
+use Rattle.kept_store.specs.Storing.{IsStoreOf, IsStored}
 use Rattle.store_flushing.specs.ReportNote.{StaysReported, notes_in}
-use Rattle.store_flushing.specs.Unstored.{IsReasonGiven}
+use Rattle.kept_store.specs.Unstored.{IsReasonGiven}
 use Rattle.store_flushing.specs.declared.closed.Closed.{Closed}
 use Rattle.store_flushing.specs.declared.keeper.report_log.ReportNote.{ReportNote}
 use Rattle.session_threads.specs.declared.port.Finished.{Finished}
 use Rattle.overlay_server.specs.Given.{Given}
 use Rattle.overlay_server.specs.declared.outcome.Left.{Left}
-
--- the version that a server begins with
-abbrev pub start_of : {D : Type 0} {g : Ghosts D} → Option (Engine D g) → Version
-start_of None = empty_version
-start_of (Some engine) = engine.version
-
--- the store that it commits to
-abbrev pub flusher_of : {D : Type 0} {g : Ghosts D} → Option (Engine D g) → Option (Flusher D g)
-flusher_of None = None
-flusher_of (Some engine) = Some engine.flusher
 
 -- the log that a book over a version begins with
 abbrev pub first_log : Version → List Entry

@@ -22,6 +22,8 @@ use crate::refusing::{only_now, refused, stopped};
 use crate::storing::keep_store;
 use crate::threads::{Work, run_threads};
 use disk_model::disk::Disk;
+use kept_store::opened::Opened;
+use root_store::shut::Shut;
 use server_session::reply_writer::ReplyWriter;
 use session_threads::counting::{await_number, made_by_all};
 use session_threads::halt::Halt;
@@ -32,7 +34,6 @@ use std::io::Read;
 use std::snapshot::Snapshot;
 use std::sync::Wait;
 use std::thread::Threads;
-use store_flushing::keeper::opened::{Opened, Shut};
 use store_flushing::keeper::store::Store;
 use tile_workers::gate::Gate;
 use version_book::seen_log::{BookName, LogWord, SeenLog};
@@ -45,11 +46,12 @@ fn host<J: BookName, S: Wait + Drop, D: Disk>(
     alloc: Global,
     opened: (LogWord<J>, SeenLog),
     version: Version,
-    store: Opened<J, D>,
+    store: Opened<D>,
     sessions: usize,
 ) -> Result<Hosted<J, S, D>, ServerFault<Shut<D>>>
     requires head { opened.0 ≡ head_of J.book }
     requires book { opened.1.book ≡ J.book }
+    requires own { store.seen_log.book ≡ J.book }
     requires begun { opened.1.log ≡ first_log version }
     requires sessions { (0 < sessions) × (sessions ≤ 4) }
     requires seats { sessions ≤ J.seats }
@@ -74,7 +76,7 @@ fn host<J: BookName, S: Wait + Drop, D: Disk>(
             seen_log: first,
             answer,
             shared,
-            store: Store::new::<J>(reporter, store),
+            store: Store::new(reporter, store),
             sessions,
         }),
         Err(_) => Err(refused(alloc, answer, store.into_disk(), first)),
@@ -89,7 +91,7 @@ pub fn listen_in<J, D, R, G, Q>(
     gate: &G,
     opened: (LogWord<J>, SeenLog),
     version: Version,
-    store: Opened<J, D>,
+    store: Opened<D>,
     readers: Vec<R>,
 ) -> Result<Served<Shut<D>>, ServerFault<Shut<D>>>
 where
@@ -100,6 +102,7 @@ where
     Q: Threads + Wait + Sync,
     requires head { opened.0 ≡ head_of J.book }
     requires book { opened.1.book ≡ J.book }
+    requires own { store.seen_log.book ≡ J.book }
     requires begun { opened.1.log ≡ first_log version }
     requires stored { (log : List Entry) (number : ℕ) → J.stored log number ↔ IsStoredOf D.Disk version store.flusher log number }
     requires failed { (log : List Entry) (fault : ReportedFault) → J.failed log fault ↔ IsFailedOf D.Disk version store.flusher log fault }
@@ -126,7 +129,7 @@ pub fn serve_in<J, D, R, W, G, Q>(
     gate: &G,
     opened: (LogWord<J>, SeenLog),
     version: Version,
-    store: Opened<J, D>,
+    store: Opened<D>,
     ports: Vec<Port<R, W>>,
 ) -> Result<Left<W, Shut<D>>, PortsFault<R, W, Shut<D>>>
 where
@@ -138,6 +141,7 @@ where
     Q: Threads + Wait + Sync,
     requires head { opened.0 ≡ head_of J.book }
     requires book { opened.1.book ≡ J.book }
+    requires own { store.seen_log.book ≡ J.book }
     requires begun { opened.1.log ≡ first_log version }
     requires stored { (log : List Entry) (number : ℕ) → J.stored log number ↔ IsStoredOf D.Disk version store.flusher log number }
     requires failed { (log : List Entry) (fault : ReportedFault) → J.failed log fault ↔ IsFailedOf D.Disk version store.flusher log fault }

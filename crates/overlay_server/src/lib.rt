@@ -1,7 +1,6 @@
 //! A server over one book: workers, a store and one session a reader, each in a thread of its own.
 #![tactic(auto)]
 
-mod handing;
 mod hosted;
 mod hosting;
 pub mod laws;

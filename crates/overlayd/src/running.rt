@@ -1,6 +1,7 @@
 //! What the words ask for, from the scripts to what is printed.
 use crate::printing::print_all;
 use crate::script::open_scripts;
+use kept_store::begun::Begun;
 use overlay_server::outcome::{Left, ServeOptions};
 use overlay_server::serving::serve;
 use program_store::ending::{Ends, end_run};
@@ -34,7 +35,7 @@ pub fn run<Q: Env + Files<File = File> + Threads + Wait + Sync + AllocGlobal>(
     let options = ServeOptions {
         workers: keeping.workers as usize,
     };
-    match serve(rt, rt.alloc(), options, &OpenGate, engine, sources) {
+    match serve(rt, rt.alloc(), options, &OpenGate, Begun::of(engine), sources) {
         Ok(Left { sessions, closed }) => {
             let printed = print_all(&mut output, &sessions).is_ok();
             end_run(&keeping, &closed, printed, Ends::of(&sessions))

@@ -6,6 +6,7 @@ ghost use Rattle.commit_plan.specs.Kept.{Kept};
 ghost use Rattle.root_store.specs.Content.{Keeps};
 
 use crate::phase::{Phase, Progress};
+use crate::shut::Shut;
 use crate::slots::other_gate;
 use commit_plan::fault::StoreFault;
 use commit_plan::live_records::LiveRecords;
@@ -67,11 +68,11 @@ impl<D: Disk> Commit<D> {
         self.root.version
     }
 
-    /// The disk, as the calls have left it.
-    pub fn into_disk(self) -> D
+    /// The disk, as the calls have left it, shut.
+    pub fn into_disk(self) -> Shut<D>
         ensures { result ≡ self.disk }
     {
-        self.disk
+        Shut { disk: self.disk }
     }
 
     /// Makes one device call; none where no commit is under way.

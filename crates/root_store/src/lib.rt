@@ -10,4 +10,5 @@ pub mod laws;
 pub mod open_fault;
 pub mod opening;
 pub mod phase;
+pub mod shut;
 mod slots;

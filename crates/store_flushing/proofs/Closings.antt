@@ -9,11 +9,11 @@ use Rattle.commit_plan.proofs.Reading.{calm_stands}
 use Rattle.flush_core.specs.declared.flusher.Flusher.{Flusher}
 use Rattle.book_history.specs.Logs.{newest_in}
 use Rattle.book_lock.specs.Heard.{Heard, HasHeard}
-use Rattle.store_flushing.specs.Among.{IsFileIn, IsFileExactlyIn}
-use Rattle.store_flushing.specs.Storing.{IsStoreAt, IsStoreOf}
+use Rattle.kept_store.specs.Among.{IsFileIn, IsFileExactlyIn}
+use Rattle.kept_store.specs.Storing.{IsStoreAt, IsStoreOf}
 use Rattle.store_flushing.specs.ReportNote.{NotesGoOn}
 use Rattle.store_flushing.specs.declared.keeper.report_log.ReportNote.{ReportNote}
-use Rattle.store_flushing.proofs.Histories.{among_more, file_more}
+use Rattle.kept_store.proofs.Histories.{among_more, file_more}
 use Rattle.store_flushing.proofs.ReportedLemmas.{reported_at_end}
 
 -- the number that is stored, and the disk, of a store if there is one

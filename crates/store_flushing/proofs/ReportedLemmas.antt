@@ -10,50 +10,16 @@ use Rattle.overlay_terms.specs.Histories.{Version, Event, accepted, kept, durabl
 use Rattle.flush_core.specs.declared.flusher.Flusher.{Flusher}
 use Rattle.book_history.specs.Logs.{history_of}
 use Rattle.book_history.proofs.Fronts.{prefix_self, prefix_trans}
-use Rattle.store_flushing.specs.Among.{IsFileIn}
+use Rattle.kept_store.specs.Among.{IsFileIn}
 use Rattle.store_flushing.specs.Laws.{DurableIsReported}
-use Rattle.store_flushing.specs.Storing.{IsStoreOf, KeepsReported}
-use Rattle.store_flushing.specs.Since.{number_reported, reported_in}
+use Rattle.kept_store.specs.Storing.{IsStoreOf, KeepsReported}
+use Rattle.kept_store.specs.Since.{number_reported, reported_in}
 use Rattle.store_flushing.specs.ReportNote.{news_in, note_then, notes_at, notes_in, StaysReported, NotesGoOn, KeepsNotes}
 use Rattle.store_flushing.specs.declared.keeper.Keeper.{Keeper}
 use Rattle.store_flushing.specs.declared.keeper.report_log.ReportNote.{ReportNote}
-use Rattle.store_flushing.proofs.Histories.{begins_self, file_more, follow_rest, last_append}
-use Rattle.store_flushing.proofs.Storage.{OnlyNow, store_leaves}
-
--- ---- the numbers that entries report
-
-reported_rises : (old new : Version) (event : Event) → Follows old event new → old.durable ≤ new.durable
-reported_rises old new (accepted session batch) f = omega (arith, f.durable)
-reported_rises old new (kept name column tile) f = omega (arith, f.durable)
-reported_rises old new (durable_to number) f = omega (arith, f.risen, f.durable)
-
-durable_rises : (v : Version) (es : List Entry) → AllFollow v es → v.durable ≤ (last_version v es).durable
-durable_rises v [] f = omega arith
-durable_rises v (e ∷ es) f = omega (arith, reported_rises v e.version e.event f.0, durable_rises e.version es f.1)
-
--- none of them is greater than the durable number at the end
-low_by : (top : ℕ) (old new : Version) (event : Event) (rest : List ℕ) → Follows old event new → new.durable ≤ top
-    → AllByRecursion (λ n. n ≤ top) rest → AllByRecursion (λ n. n ≤ top) (cons_option (number_reported event) rest)
-low_by top old new (accepted session batch) rest f low all = all
-low_by top old new (kept name column tile) rest f low all = all
-low_by top old new (durable_to number) rest f low all = (omega (arith, f.durable, low), all)
-
-low_in : (v : Version) (es : List Entry) → AllFollow v es → AllByRecursion (λ n. n ≤ (last_version v es).durable) (reported_in es)
-low_in v [] f = tt
-low_in v (e ∷ es) f =
-    low_by (last_version e.version es).durable v e.version e.event (reported_in es) f.0 (durable_rises e.version es f.1) (low_in e.version es f.1)
-
--- where as much is durable at the end, none was reported
-none_by : (old new : Version) (event : Event) (rest : List ℕ) → Follows old event new → new.durable ≤ old.durable → rest ≡ [] → cons_option (number_reported event) rest ≡ []
-none_by old new (accepted session batch) rest f same none = none
-none_by old new (kept name column tile) rest f same none = none
-none_by old new (durable_to number) rest f same none = absurd (omega (arith, f.risen, f.durable, same))
-
-pub none_in : (v : Version) (es : List Entry) → AllFollow v es → (last_version v es).durable ≤ v.durable → reported_in es ≡ []
-none_in v [] f same = refl
-none_in v (e ∷ es) f same =
-    none_by v e.version e.event (reported_in es) f.0 (omega (arith, durable_rises e.version es f.1, same))
-    (none_in e.version es f.1 (omega (arith, reported_rises v e.version e.event f.0, same)))
+use Rattle.kept_store.proofs.ReportsLemmas.{durable_rises, low_in, none_in}
+use Rattle.kept_store.proofs.Histories.{begins_self, file_more, follow_rest, last_append}
+use Rattle.kept_store.proofs.Storage.{OnlyNow, store_leaves}
 
 module _ (was now : History) (on : BeginsWith now was) where
   -- what a longer history reports: what it reported, and its news

@@ -7,8 +7,8 @@ use Rattle.store_terms.specs.Image.{Held}
 use Rattle.root_store.specs.declared.phase.Phase.{Phase}
 use Rattle.root_store.specs.Content.{content_of}
 use Rattle.root_store.proofs.Known.{stands_known}
-use Rattle.store_flushing.specs.Among.{IsHeldIn}
-use Rattle.store_flushing.specs.Storing.{Rests, IsStoreAt}
+use Rattle.kept_store.specs.Among.{IsHeldIn}
+use Rattle.kept_store.specs.Storing.{Rests, IsStoreAt}
 use Rattle.store_flushing.specs.Laws.{StoreIsKnown}
 
 abbrev held_or : Held → Result Held Damage → Held

@@ -8,9 +8,9 @@ use Rattle.root_store.specs.declared.phase.Phase.TheVariants.{Idle}
 use Rattle.root_store.specs.Running.{StoreStandsFor}
 use Rattle.flush_core.specs.declared.flusher.Flusher.{Flusher}
 use Rattle.flush_core.specs.Stored.{IsImageOf}
-use Rattle.store_flushing.specs.Among.{IsFileIn}
-use Rattle.store_flushing.specs.Storing.{IsStoreOf, KeepsReported}
-use Rattle.store_flushing.specs.Since.{reported_in}
+use Rattle.kept_store.specs.Among.{IsFileIn}
+use Rattle.kept_store.specs.Storing.{IsStoreOf, KeepsReported}
+use Rattle.kept_store.specs.Since.{reported_in}
 
 -- a store that holds a version, of which no more is durable than stored, is one of the history that begins with it
 abbrev pub StoreBegins : {D : Type 0} → Ghosts D → Type 0

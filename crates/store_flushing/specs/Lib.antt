@@ -1,9 +1,3 @@
-pub mod Among
 pub mod Laws
-pub mod Since
 pub mod Stores
-pub mod Storing
-pub mod ReportedFaults
 pub mod ReportNote
-pub mod Unstored
-pub mod Failing

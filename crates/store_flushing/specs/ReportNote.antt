@@ -4,9 +4,9 @@ use mathlib.Core.List.{IsPrefix}
 use Rattle.disk_model.specs.declared.disk.Disk.{Ghosts}
 use Rattle.overlay_terms.specs.Histories.{History}
 use Rattle.book_history.specs.Logs.{history_of}
-use Rattle.store_flushing.specs.Among.{IsFileIn}
-use Rattle.store_flushing.specs.Since.{reported_in}
-use Rattle.store_flushing.specs.Storing.{IsStoreOf}
+use Rattle.kept_store.specs.Among.{IsFileIn}
+use Rattle.kept_store.specs.Since.{reported_in}
+use Rattle.kept_store.specs.Storing.{IsStoreOf}
 use Rattle.store_flushing.specs.declared.keeper.Keeper.{Keeper}
 use Rattle.store_flushing.specs.declared.keeper.report_log.ReportNote.{ReportNote}
 use Rattle.store_flushing.specs.declared.keeper.report_log.ReportLog.{ReportLog}

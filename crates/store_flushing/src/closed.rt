@@ -7,15 +7,17 @@ ghost use Rattle.root_store.specs.declared.phase.Phase.TheVariants as phases;
 ghost use Rattle.book_history.specs.Logs.{history_of, newest_in, IsLog};
 ghost use Rattle.book_lock.specs.Heard.{HasHeard};
 ghost use Rattle.book_lock.specs.Steps.{HasAllOf};
-ghost use Rattle.store_flushing.specs.Among.{IsFileExactlyIn, IsFileIn};
-ghost use Rattle.store_flushing.specs.Storing.{IsStoreOf};
+ghost use Rattle.kept_store.specs.Among.{IsFileExactlyIn, IsFileIn};
+ghost use Rattle.kept_store.specs.Storing.{IsStoreOf};
 ghost use Rattle.store_flushing.specs.ReportNote.{NotesGoOn, notes_in};
-ghost use Rattle.store_flushing.specs.Unstored.{IsUnstoredFor};
+ghost use Rattle.kept_store.specs.Unstored.{IsUnstoredFor};
 
 use crate::keeper::report_log::ReportLog;
 use commit_plan::fault::StoreFault;
 use disk_model::disk::Disk;
-use flush_core::flusher::Flusher;
+use kept_store::left::StoreLeft;
+use kept_store::opened::Opened;
+use root_store::shut::Shut;
 use std::alloc::Global;
 use std::sync::{Arc, Wait};
 use version_book::closing::ClosedBook;
@@ -42,13 +44,6 @@ pub struct Closed<D> {
     pub notes: ReportLog,
 }
 
-/// What is left of a store: as in `Closed`.
-pub(crate) struct StoreLeft<D> {
-    pub stored: u64,
-    pub fault: Option<StoreFault>,
-    pub disk: Option<D>,
-}
-
 /// Ends a book once the threads that share it have returned, and gives up its store. The sessions are all that it began
 /// with.
 pub fn close<J: BookName, R: Wait + Drop, D: Disk, W: Wait>(
@@ -56,10 +51,10 @@ pub fn close<J: BookName, R: Wait + Drop, D: Disk, W: Wait>(
     alloc: Global,
     shared: Shared<J, R>,
     reporter: Reporter,
-    flusher: Option<Flusher<D>>,
+    store: Opened<D>,
     notes: ReportLog,
     sessions: Vec<Session>,
-) -> Closed<D>
+) -> Closed<Shut<D>>
     requires reporter { reporter.book ≡ J.book }
     requires sessions { All (λ session. session.book ≡ J.book) sessions.items }
     // The version ends a log that has all that the tokens have seen, and of each session's commands just those that it
@@ -68,28 +63,28 @@ pub fn close<J: BookName, R: Wait + Drop, D: Disk, W: Wait>(
     ensures log { (result.seen_log.book ≡ J.book) × IsLog result.seen_log.log }
     ensures reporter { IsPrefix reporter.log result.seen_log.log }
     ensures sessions { All (λ session. HasAllOf result.seen_log.log session) sessions.items }
-    ensures none { IfNone flusher ((result.stored ≡ 0) × (result.disk ≡ None)) }
-    ensures disk { IfSome flusher (λ f. (result.stored ≡ f.commit.root.version) × (result.disk ≡ Some f.commit.disk)) }
+    ensures none { IfNone store.flusher ((result.stored ≡ 0) × (result.disk ≡ None)) }
+    ensures disk { IfSome store.flusher (λ f. (result.stored ≡ f.commit.root.version) × (result.disk ≡ Some f.commit.disk)) }
     // Where the newest version is not stored and the store would not begin its commit, the book is given the reason.
     ensures fault { IfSome result.fault
-        (λ fault. IfSome flusher (λ f. IsUnstoredFor fault f (arc_value result.version))) }
-    ensures failed { IfSome flusher (λ f. f.commit.phase ≡ phases.Failed
+        (λ fault. IfSome store.flusher (λ f. IsUnstoredFor fault f (arc_value result.version))) }
+    ensures failed { IfSome store.flusher (λ f. f.commit.phase ≡ phases.Failed
         → f.commit.root.version < (arc_value result.version).number
         → result.fault ≡ Some StoreFault.Failed) }
     // All that is reported is stored, where it was for the reporter.
-    ensures reported { IfSome flusher (λ f. (newest_in reporter.log).durable ≤ f.commit.root.version
+    ensures reported { IfSome store.flusher (λ f. (newest_in reporter.log).durable ≤ f.commit.root.version
         → All (λ entry. entry.version.durable ≤ result.stored) result.seen_log.log) }
     // Every file that a crash may leave holds a version of the log, where it held one of the reporter's.
-    ensures files { IfSome flusher
+    ensures files { IfSome store.flusher
         (λ f. Leaves D.Disk f.commit.disk (IsFileIn (history_of reporter.log) f.commit.root.version)
         → IfSome result.disk (λ disk. Leaves D.Disk disk (IsFileIn (history_of result.seen_log.log) result.stored))) }
     // It is just the version that is stored, where no commit is under way and the device did not fail.
-    ensures exactly { IfSome flusher (λ f. IsStoreOf D.Disk (history_of reporter.log) f → f.commit.phase ≡ phases.Idle
+    ensures exactly { IfSome store.flusher (λ f. IsStoreOf D.Disk (history_of reporter.log) f → f.commit.phase ≡ phases.Idle
         → IfSome result.disk (λ disk. Leaves D.Disk disk
         (IsFileExactlyIn (history_of result.seen_log.log) result.stored))) }
     // What was written down as it was reported is all that the log reports durable, and it stays so.
     ensures written { result.notes ≡ notes }
-    ensures notes_stay { IfSome flusher
+    ensures notes_stay { IfSome store.flusher
         (λ f. IfSome result.disk (λ disk. NotesGoOn D.Disk (history_of reporter.log) (notes_in notes) f.commit.disk
         (history_of result.seen_log.log) (notes_in result.notes) disk)) }
 {
@@ -98,7 +93,7 @@ pub fn close<J: BookName, R: Wait + Drop, D: Disk, W: Wait>(
         stored,
         fault,
         disk,
-    } = left_of(alloc, flusher, &book.version);
+    } = store.left(alloc, &book.version);
     Closed {
         version: book.version,
         seen_log: book.seen_log,
@@ -129,52 +124,4 @@ pub(crate) fn end_book<J: BookName, R: Wait + Drop, W: Wait>(
     // What the reporter has seen is a log with a first entry: the clauses rest on that.
     let _ = reporter.given();
     shared.into_closed(rt, reporter, sessions)
-}
-
-/// What is left of a store, if there is one, with why it would not begin the commit of the newest version. It makes no
-/// device call.
-pub(crate) fn left_of<D: Disk>(
-    alloc: Global,
-    flusher: Option<Flusher<D>>,
-    version: &Version,
-) -> StoreLeft<D>
-    ensures none { IfNone flusher ((result.stored ≡ 0) × (result.disk ≡ None)) }
-    ensures some { IfSome flusher (λ f. (result.stored ≡ f.commit.root.version) × (result.disk ≡ Some f.commit.disk)) }
-    ensures fault { IfSome result.fault (λ fault. IfSome flusher (λ f. IsUnstoredFor fault f version.now)) }
-    ensures failed { IfSome flusher (λ f. f.commit.phase ≡ phases.Failed
-        → f.commit.root.version < version.now.number → result.fault ≡ Some StoreFault.Failed) }
-{
-    match flusher {
-        Some(mut flusher) => {
-            let fault = refusal_of(alloc, &mut flusher, version);
-            StoreLeft {
-                stored: flusher.stored(),
-                fault,
-                disk: Some(flusher.into_disk()),
-            }
-        }
-        None => StoreLeft {
-            stored: 0,
-            fault: None,
-            disk: None,
-        },
-    }
-}
-
-/// Why a store would not begin the commit of a version that it does not hold. It makes no device call.
-fn refusal_of<D: Disk>(
-    alloc: Global,
-    flusher: &mut Flusher<D>,
-    version: &Version,
-) -> Option<StoreFault>
-    ensures disk { flusher.new.commit.disk ≡ flusher.old.commit.disk }
-    ensures stored { flusher.new.commit.root.version ≡ flusher.old.commit.root.version }
-    ensures fault { IfSome result (λ fault. IsUnstoredFor fault flusher.old version.now) }
-    ensures failed { flusher.old.commit.phase ≡ phases.Failed → flusher.old.commit.root.version < version.now.number
-        → result ≡ Some StoreFault.Failed }
-{
-    if flusher.busy() || version.number() <= flusher.stored() {
-        return None;
-    }
-    flusher.begin(alloc, version).err()
 }

@@ -4,8 +4,8 @@ ghost use Rattle.overlay_terms.specs.Histories.{IsHistory, newest};
 ghost use Rattle.root_store.specs.Running.{is_busy};
 ghost use Rattle.root_store.specs.declared.phase.Phase.TheVariants as phases;
 ghost use Rattle.book_history.specs.Logs.{history_of};
-ghost use Rattle.store_flushing.specs.Failing.{HoldsOfFailed};
-ghost use Rattle.store_flushing.specs.Storing.{HoldsOfStored, IsStoreOf, Flushes};
+ghost use Rattle.kept_store.specs.Failing.{HoldsOfFailed};
+ghost use Rattle.kept_store.specs.Storing.{HoldsOfStored, IsStoreOf, Flushes};
 ghost use Rattle.store_flushing.specs.ReportNote.{KeepsNotes};
 
 use crate::keeper::Keeper;

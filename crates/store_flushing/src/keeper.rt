@@ -9,16 +9,16 @@ ghost use Rattle.root_store.specs.declared.phase.Phase.TheVariants as phases;
 ghost use Rattle.flush_core.specs.Stored.{HasNoRoomFor, stored_after};
 ghost use Rattle.book_history.specs.Fault.{passes};
 ghost use Rattle.book_history.specs.Logs.{history_of, newest_in};
-ghost use Rattle.store_flushing.specs.Storing.{AllReported, IsStoreOf, Keeps};
-ghost use Rattle.store_flushing.specs.ReportedFaults.{reported_fault_of};
+ghost use Rattle.kept_store.specs.Storing.{AllReported, IsStoreOf, Keeps};
+ghost use Rattle.kept_store.specs.ReportedFaults.{reported_fault_of};
 
 pub use crate::flusher_loop::flush;
-use crate::keeper::held_store::HeldStore;
-pub use crate::keeper::held_store::flusher_loop;
+pub use crate::keeper::flushing::flusher_loop;
 use crate::keeper::report_log::ReportLog;
 use crate::reports;
 use commit_plan::fault::StoreFault;
 use disk_model::disk::Disk;
+use kept_store::held_store::HeldStore;
 use root_store::phase::Progress;
 use std::alloc::Global;
 use std::snapshot::Snapshot;
@@ -29,11 +29,9 @@ use version_book::seen_log::BookName;
 use version_book::shared::Shared;
 use versions::Version;
 
-mod held_store;
-pub mod opened;
+mod flushing;
 pub mod report_log;
 pub mod store;
-mod version_mark;
 
 /// A store, and the one token that may report what it stores. Both are reached by its calls alone. None of them moves
 /// the disk and reports: so what was reported durable to a session by the end of a call was stored as the call began,
@@ -69,6 +67,7 @@ impl<D: Disk> Keeper<D> {
         ensures reporter { result.0 ≡ self.reporter }
         ensures held { result.1 ≡ self.held }
         ensures notes { result.2 ≡ self.notes }
+        ensures book { result.1.seen_log.book ≡ result.0.book }
     {
         let Keeper {
             reporter,

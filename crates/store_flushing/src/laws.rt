@@ -1,6 +1,6 @@
 //! Laws over the definitions: each function does nothing, and its contract is the law.
 ghost use Rattle.store_flushing.specs.Laws.{DurableIsReported, StoreBegins, StoreLeaves, StoreIsKnown, ReportedIsLeft};
-ghost use Rattle.store_flushing.specs.Since.{NumbersTell, TilesStay};
+ghost use Rattle.kept_store.specs.Since.{NumbersTell, TilesStay};
 
 use disk_model::disk::Disk;
 

@@ -2,7 +2,7 @@
 ghost use Rattle.std.specs.Prelude.{◌≡◌, ◌⊎◌, ◌≤◌};
 ghost use Rattle.overlay_terms.specs.Histories.{BeginsWith, IsHistory, newest};
 ghost use Rattle.book_history.specs.Logs.{history_of};
-ghost use Rattle.store_flushing.specs.ReportedFaults.{reported_fault_of};
+ghost use Rattle.kept_store.specs.ReportedFaults.{reported_fault_of};
 
 use commit_plan::fault::StoreFault;
 use std::alloc::Global;

@@ -9,6 +9,7 @@ use root_store::commit::Commit;
 use root_store::creating::create;
 use root_store::opening::open;
 use root_store::phase::Progress;
+use root_store::shut::Key;
 use std::alloc::Global;
 use std::marker::Model;
 use std::process::Abort;
@@ -16,6 +17,7 @@ use std::process::Abort;
 /// The store of a disk, of which a contract sees nothing.
 pub struct Store {
     commit: Commit<MemDisk>,
+    key: Key<MemDisk>,
 }
 
 impl Model for Store {
@@ -27,8 +29,9 @@ impl Model for Store {
 // Written out: of a derived drop, each function that owns one proves again what becomes of every part.
 impl Drop for Store {
     fn drop(self) {
-        let Store { commit } = self;
+        let Store { commit, key } = self;
         drop(commit);
+        drop(key);
     }
 }
 
@@ -43,8 +46,9 @@ fn counts(rt: &impl Abort, alloc: Global, image: Image) -> Counts {
 impl Store {
     /// A new store on a disk, or the disk and the number of the fault.
     pub fn created(alloc: Global, disk: MemDisk, max_blocks: u32) -> Result<Store, (MemDisk, u8)> {
+        let key = Key::of(&disk);
         match create(alloc, disk, max_blocks) {
-            Ok(commit) => Ok(Store { commit }),
+            Ok(commit) => Ok(Store { commit, key }),
             Err(refused) => {
                 let code = refused.fault.code();
                 Err((refused.disk, code))
@@ -82,8 +86,8 @@ impl Store {
 
     /// The disk, as the device calls have left it.
     pub fn into_disk(self) -> MemDisk {
-        let Store { commit } = self;
-        commit.into_disk()
+        let Store { commit, key } = self;
+        key.open(commit.into_disk())
     }
 }
 
@@ -93,10 +97,11 @@ pub fn opened_disk(
     alloc: Global,
     disk: MemDisk,
 ) -> (MemDisk, Result<Counts, StoreFault>) {
+    let key = Key::of(&disk);
     match open(alloc, disk, 100) {
         Ok((commit, image)) => {
             let found = counts(rt, alloc, image);
-            (commit.into_disk(), Ok(found))
+            (key.open(commit.into_disk()), Ok(found))
         }
         Err(refused) => (refused.disk, Err(refused.fault)),
     }

@@ -9,6 +9,7 @@ use layer_expr::name::Name;
 use overlay_engine::engine::Engine;
 use overlay_engine::step::{Reply, Step};
 use root_store::open_fault::OpenFault;
+use root_store::shut::Key;
 use std::alloc::{AllocError, Global};
 use std::marker::Model;
 use version_core::Answers;
@@ -18,6 +19,7 @@ use versions::{Version, VersionFault};
 /// An engine over a disk, of which a contract sees nothing.
 pub struct Machine<D: Disk> {
     engine: Engine<D>,
+    key: Key<D>,
 }
 
 impl<D: Disk> Model for Machine<D> {
@@ -29,15 +31,19 @@ impl<D: Disk> Model for Machine<D> {
 // Written out: of a derived drop, each function that owns one proves again what becomes of every part.
 impl<D: Disk + Drop> Drop for Machine<D> {
     fn drop(self) {
-        let Machine { engine } = self;
+        let Machine { engine, key } = self;
         drop(engine);
+        drop(key);
     }
 }
 
 /// The machine of an engine, where there is one.
-fn over<D: Disk>(engine: Result<Engine<D>, OpenFault<D>>) -> Result<Machine<D>, Refused<D>> {
+fn over<D: Disk>(
+    key: Key<D>,
+    engine: Result<Engine<D>, OpenFault<D>>,
+) -> Result<Machine<D>, Refused<D>> {
     match engine {
-        Ok(engine) => Ok(Machine { engine }),
+        Ok(engine) => Ok(Machine { engine, key }),
         Err(OpenFault { fault, disk }) => Err(Refused { fault, disk }),
     }
 }
@@ -45,12 +51,14 @@ fn over<D: Disk>(engine: Result<Engine<D>, OpenFault<D>>) -> Result<Machine<D>, 
 impl<D: Disk> Machine<D> {
     /// A new engine over an empty file of at most so many blocks.
     pub fn create(alloc: Global, disk: D, max_blocks: u32) -> Result<Machine<D>, Refused<D>> {
-        over(Engine::create(alloc, disk, max_blocks))
+        let key = Key::of(&disk);
+        over(key, Engine::create(alloc, disk, max_blocks))
     }
 
     /// The engine of a file that is left, which may have so many blocks.
     pub fn recover(alloc: Global, disk: D, max_blocks: u32) -> Result<Machine<D>, Refused<D>> {
-        over(Engine::recover(alloc, disk, max_blocks))
+        let key = Key::of(&disk);
+        over(key, Engine::recover(alloc, disk, max_blocks))
     }
 
     /// Makes steps, one after the other, and answers each.
@@ -100,13 +108,14 @@ impl<D: Disk> Machine<D> {
 
     /// The disk, as the device calls have left it.
     pub fn into_disk(self) -> D {
-        self.into_engine().into_disk()
+        let Machine { engine, key } = self;
+        key.open(engine.into_disk())
     }
 
-    /// The engine.
-    pub fn into_engine(self) -> Engine<D> {
-        let Machine { engine } = self;
-        engine
+    /// The engine, with the key of its disk.
+    pub fn into_parts(self) -> (Engine<D>, Key<D>) {
+        let Machine { engine, key } = self;
+        (engine, key)
     }
 }
 

@@ -121,6 +121,21 @@ def test_drops(tree: pathlib.Path) -> None:
     assert rooms.faults_of_disks(tree) == ["crates/one/src/bare.rt:2 asks that a disk may be let go"]
 
 
+def test_stores(tree: pathlib.Path) -> None:
+    """Each call that has a store open returns, and tests alone open a disk that was shut."""
+    (tree / "crates.txt").write_text("one:\nkept_store: one\ntest_machines: kept_store\none_tests staticlib: one\n")
+    waiting = "//! Ends. Wait!\nfn ended<W: Wait>(rt: &W) {} // Abort\n\nfn begun<W: std::process::Abort>(rt: &W) {}\n"
+    for crate in ("one", "kept_store", "test_machines", "one_tests"):
+        (tree / "crates" / crate / "src").mkdir(parents=True, exist_ok=True)
+        (tree / "crates" / crate / "src/bare.rt").write_text(waiting)
+        (tree / "crates" / crate / "src/opens.rt").write_text("//! Opens.\nuse root_store::shut::Key as Lock;\n")
+    assert rooms.faults_of_stores(tree) == [
+        "crates/one/src/opens.rt:2 opens a disk that is shut",
+        "crates/kept_store/src/bare.rt:2 may not return, and has a store open",
+        "crates/kept_store/src/bare.rt:4 may not return, and has a store open",
+        "crates/kept_store/src/opens.rt:2 opens a disk that is shut"]
+
+
 def test_each_file_of_python_says_what_it_is() -> None:
     paths = subprocess.run(["git", "ls-files", "*.py"], cwd=TOP, capture_output=True, text=True, check=True).stdout
     assert [path for path in paths.split() if not ast.get_docstring(ast.parse((TOP / path).read_text()))] == []

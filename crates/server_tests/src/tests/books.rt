@@ -4,7 +4,8 @@ ghost use Rattle.book_history.specs.Logs.{entry, no_event};
 ghost use Rattle.book_history.specs.Rules.{head_of};
 
 use disk_model::mem_disk::MemDisk;
-use flush_core::flusher::Flusher;
+use kept_store::begun::Begun;
+use kept_store::opened::Opened;
 use overlay_server::{ReportLog, SessionEnd, close, session_run};
 use std::alloc::Global;
 use std::io::{Read, Write};
@@ -12,19 +13,9 @@ use std::marker::Brand;
 use std::process::Abort;
 use std::sync::Wait;
 use std::thread::Threads;
-use version_book::seen_log::{BookName, LogWord, SeenLog, open};
+use version_book::seen_log::{BookName, LogWord, SeenLog};
 use version_book::shared::Shared;
 use versions::Version;
-
-/// A history of one version, which is no book's yet, and this version.
-fn empty_history<J>(alloc: Global) -> (LogWord<J>, SeenLog, Version)
-    ensures head { result.0 ≡ head_of result.1.book }
-    ensures begun { result.1.log ≡ entry no_event result.2 ∷ [] }
-{
-    let version = Version::empty(alloc);
-    let (head, seen_log) = open(&version);
-    (head, seen_log, version)
-}
 
 /// Runs a script over an empty book, and says how its session ended.
 pub fn run_script<Q, R, W>(rt: &Q, alloc: Global, reader: &mut R, writer: &mut W) -> SessionEnd
@@ -33,14 +24,16 @@ where
     R: Read,
     W: Write,
 {
-    let history = empty_history(alloc);
-    run_in::<Brand, Q, R, W>(rt, alloc, history, reader, writer)
+    let (head, seen_log, version, store) = Begun::<MemDisk>::of(None).opened::<Brand>(alloc);
+    let history = (head, seen_log, version);
+    run_in::<Brand, Q, R, W>(rt, alloc, history, store, reader, writer)
 }
 
 fn run_in<J, Q, R, W>(
     rt: &Q,
     alloc: Global,
     history: (LogWord<J>, SeenLog, Version),
+    store: Opened<MemDisk>,
     reader: &mut R,
     writer: &mut W,
 ) -> SessionEnd
@@ -65,7 +58,7 @@ where
         alloc,
         shared,
         reporter,
-        None::<Flusher<MemDisk>>,
+        store,
         ReportLog::none(),
         sessions,
     );

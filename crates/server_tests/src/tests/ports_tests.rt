@@ -2,7 +2,7 @@
 ghost use Rattle.std.specs.Prelude.{◌<◌, ◌≤◌, length};
 
 use crate::tests::runs::PortsRun;
-use crate::tests::testing::{BLOCKS, engine_of, expect, reopened, served};
+use crate::tests::testing::{BLOCKS, begun_of, expect, reopened, served};
 use disk_model::disk::Disk;
 use disk_model::mem_disk::MemDisk;
 use overlay_server::outcome::ServeOptions;
@@ -37,10 +37,10 @@ where
     Q: Threads + Wait + Sync + Abort,
     requires { (0 < length ports.items) × (length ports.items ≤ 4) }
 {
-    let engine = engine_of(machine);
+    let (begun, key) = begun_of(machine);
     let options = ServeOptions { workers: 1 };
-    match serve_ports(rt, alloc, options, &OpenGate, engine, ports) {
-        Ok(left) => PortsRun::new(left),
+    match serve_ports(rt, alloc, options, &OpenGate, begun, ports) {
+        Ok(left) => PortsRun::new(left, key),
         Err(_) => panic!(rt; "no server"),
     }
 }

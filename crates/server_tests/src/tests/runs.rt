@@ -4,12 +4,14 @@ ghost use Rattle.std.specs.Prelude.{ℕ};
 use layer_expr::name::Name;
 use overlay_server::SessionEnd;
 use overlay_server::outcome::{Left, Served};
+use root_store::shut::{Key, Shut};
 use session_threads::port::Finished;
 use std::marker::Model;
 
-/// What a server leaves, of which a contract sees nothing.
+/// What a server leaves, with the key of its disk, of which a contract sees nothing.
 pub struct Run<D> {
-    served: Served<D>,
+    served: Served<Shut<D>>,
+    key: Option<Key<D>>,
 }
 
 impl<D> Model for Run<D> {
@@ -21,14 +23,15 @@ impl<D> Model for Run<D> {
 // Written out: of a derived drop, each function that owns one proves again what becomes of every part.
 impl<D: Drop> Drop for Run<D> {
     fn drop(self) {
-        let Run { served } = self;
+        let Run { served, key } = self;
         drop(served);
+        drop(key);
     }
 }
 
 impl<D> Run<D> {
-    pub fn new(served: Served<D>) -> Run<D> {
-        Run { served }
+    pub fn new(served: Served<Shut<D>>, key: Option<Key<D>>) -> Run<D> {
+        Run { served, key }
     }
 
     /// What a session wrote, and how it ended.
@@ -65,15 +68,16 @@ impl<D> Run<D> {
 impl<D: Drop> Run<D> {
     /// The disk, as the server has left it.
     pub fn into_disk(self) -> Option<D> {
-        let Run { served } = self;
+        let Run { served, key } = self;
         let closed = served.closed;
-        closed.disk
+        Some(key?.open(closed.disk?))
     }
 }
 
-/// What a server of ports leaves, of which a contract sees nothing.
+/// What a server of ports leaves, with the key of its disk, of which a contract sees nothing.
 pub struct PortsRun<W, D> {
-    left: Left<W, D>,
+    left: Left<W, Shut<D>>,
+    key: Option<Key<D>>,
 }
 
 impl<W, D> Model for PortsRun<W, D> {
@@ -85,14 +89,15 @@ impl<W, D> Model for PortsRun<W, D> {
 // Written out, as above.
 impl<W: Drop, D: Drop> Drop for PortsRun<W, D> {
     fn drop(self) {
-        let PortsRun { left } = self;
+        let PortsRun { left, key } = self;
         drop(left);
+        drop(key);
     }
 }
 
 impl<W, D> PortsRun<W, D> {
-    pub fn new(left: Left<W, D>) -> PortsRun<W, D> {
-        PortsRun { left }
+    pub fn new(left: Left<W, Shut<D>>, key: Option<Key<D>>) -> PortsRun<W, D> {
+        PortsRun { left, key }
     }
 
     /// How many sessions there were.
@@ -121,8 +126,8 @@ impl<W, D> PortsRun<W, D> {
 impl<W: Drop, D: Drop> PortsRun<W, D> {
     /// The disk, as the server has left it.
     pub fn into_disk(self) -> Option<D> {
-        let PortsRun { left } = self;
+        let PortsRun { left, key } = self;
         let closed = left.closed;
-        closed.disk
+        Some(key?.open(closed.disk?))
     }
 }

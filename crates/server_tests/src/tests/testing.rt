@@ -4,11 +4,12 @@ ghost use Rattle.std.specs.Prelude.{◌<◌, ◌≤◌, length};
 use crate::tests::runs::Run;
 use disk_model::disk::Disk;
 use disk_model::mem_disk::MemDisk;
+use kept_store::begun::Begun;
 use layer_expr::name::Name;
-use overlay_engine::engine::Engine;
 use overlay_server::outcome::ServeOptions;
 use overlay_server::serving::serve;
 use overlay_server::{Gate, SessionEnd};
+use root_store::shut::Key;
 use std::alloc::Global;
 use std::io::Read;
 use std::process::Abort;
@@ -109,16 +110,9 @@ where
     Q: Threads + Wait + Sync + Abort,
     requires { (0 < length readers.items) × (length readers.items ≤ 4) }
 {
-    let engine = engine_of(machine);
-    match serve(
-        rt,
-        alloc,
-        ServeOptions { workers: 2 },
-        gate,
-        engine,
-        readers,
-    ) {
-        Ok(served) => Run::new(served),
+    let (begun, key) = begun_of(machine);
+    match serve(rt, alloc, ServeOptions { workers: 2 }, gate, begun, readers) {
+        Ok(served) => Run::new(served, key),
         Err(_) => panic!(rt; "no server"),
     }
 }
@@ -129,9 +123,15 @@ pub fn reopened<D: Disk + Drop>(alloc: Global, disk: Option<D>) -> Result<Machin
     Ok(Machine::recover(alloc, disk, BLOCKS)?)
 }
 
-/// The engine that a server takes.
-pub fn engine_of<D: Disk + Drop>(machine: Option<Machine<D>>) -> Option<Engine<D>> {
-    machine.map(Machine::into_engine)
+/// What a server takes, with the key of its disk.
+pub fn begun_of<D: Disk + Drop>(machine: Option<Machine<D>>) -> (Begun<D>, Option<Key<D>>) {
+    match machine {
+        Some(machine) => {
+            let (engine, key) = machine.into_parts();
+            (Begun::of(Some(engine)), Some(key))
+        }
+        None => (Begun::of(None), None),
+    }
 }
 
 /// What a session wrote.

@@ -17,9 +17,9 @@ use Rattle.root_store.specs.contracts.commit.Commit as commit
 use Rattle.flush_core.specs.contracts.flusher.Flusher as flusher
 use Rattle.version_book.proofs.Sent.{reporter_send}
 use Rattle.store_flushing.proofs.keeper.report_log.ReportLog.TheSendSync as fault_texts
-use Rattle.store_flushing.proofs.keeper.version_mark.VersionMark.TheSendSync as marks
+use Rattle.kept_store.proofs.version_mark.VersionMark.TheSendSync as marks
 use Rattle.store_flushing.specs.contracts.keeper.Keeper as keeper
-use Rattle.store_flushing.specs.contracts.keeper.held_store.HeldStore as held
+use Rattle.kept_store.specs.contracts.held_store.HeldStore as held
 use Rattle.store_flushing.specs.contracts.keeper.store.Store as store
 
 live_send : IsSend (live.the_field).row

@@ -3,8 +3,8 @@ ghost use Rattle.std.specs.Prelude.{◌≡◌, ◌++◌, []};
 ghost use Rattle.book_history.specs.Logs.{history_of};
 ghost use Rattle.store_flushing.specs.ReportNote.{news_in, notes_at, notes_in};
 
-use crate::keeper::held_store::HeldStore;
 use disk_model::disk::Disk;
+use kept_store::held_store::HeldStore;
 use logbook::{Opening, Rule, Seen, Start};
 use std::fmt;
 use std::snapshot::Snapshot;

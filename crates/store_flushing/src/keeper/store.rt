@@ -6,14 +6,16 @@ ghost use Rattle.book_lock.specs.Heard.{HasHeard};
 ghost use Rattle.book_lock.specs.Steps.{HasAllOf};
 ghost use Rattle.store_flushing.specs.Stores.{flusher_in, reporter_of, notes_by};
 ghost use Rattle.store_flushing.specs.ReportNote.{notes_in};
-ghost use Rattle.store_flushing.specs.Unstored.{IsReasonGiven};
+ghost use Rattle.kept_store.specs.Unstored.{IsReasonGiven};
 
-use crate::closed::{Closed, StoreLeft, end_book};
+use crate::closed::{Closed, end_book};
 use crate::keeper::Keeper;
-use crate::keeper::held_store::HeldStore;
-use crate::keeper::opened::{Opened, Shut};
 use crate::keeper::report_log::ReportLog;
 use disk_model::disk::Disk;
+use kept_store::held_store::HeldStore;
+use kept_store::left::StoreLeft;
+use kept_store::opened::Opened;
+use root_store::shut::Shut;
 use std::alloc::Global;
 use std::sync::Wait;
 use version_book::reporter::Reporter;
@@ -29,16 +31,16 @@ pub enum Store<D: Disk> {
 }
 
 impl<D: Disk> Store<D> {
-    /// That of a book that begins: nothing was reported.
-    pub fn new<J: BookName>(reporter: Reporter, opened: Opened<J, D>) -> Store<D>
-        requires book { reporter.book ≡ J.book }
+    /// That of a book that begins, whose store it is: nothing was reported.
+    pub fn new(reporter: Reporter, opened: Opened<D>) -> Store<D>
+        requires book { reporter.book ≡ opened.seen_log.book }
         ensures reporter { reporter_of result ≡ reporter }
         ensures flusher { flusher_in result ≡ opened.flusher }
         ensures notes { notes_by result ≡ [] }
     {
-        match opened.into_flusher() {
-            Some(flusher) => {
-                let held = HeldStore::of(&reporter, flusher);
+        match opened.into_store() {
+            Some(store) => {
+                let held = HeldStore::of(&reporter, store);
                 Store::Kept(Keeper::of(reporter, held, ReportLog::none()))
             }
             None => Store::Alone(reporter),

@@ -3,7 +3,8 @@
     .ci/rooms            prints the page
     .ci/rooms NAME..     prints the part of some crates
     .ci/rooms --check    says whether the page can be printed, whether just the types of DROPS have a `drop` of their
-                         own, and whether no code asks that a disk may be let go; ends with 1 where not
+                         own, whether no code asks that a disk may be let go, whether each call that has a store open
+                         returns, and whether tests alone open a disk that was shut; ends with 1 where not
 
 Crates stand in the order of crates.txt, files by name; of Python `python3 -m pydoc MODULE` says the same. A file is
 said by the sentence at its head; a file without one, or with an empty one, is a fault. Functions and constants stand in
@@ -54,6 +55,13 @@ DROPS = ("versions::Version", "book_history::Entry", "book_history::LogWord", "b
 LETS_GO = re.compile(r"\bD: [^,>={]*\bDrop\b")
 # A crate that machines of tests alone are in.
 MACHINES = "test_machines"
+# Crates that have a store open, and the bounds by which a call may end otherwise than by returning. A clause binds what
+# returns: without these bounds each of their calls does, and no code above them has a store, or the disk of one, open.
+OPEN = ("root_store", "flush_core", "overlay_engine", "kept_store")
+STAYS = re.compile(r"\b(?:Wait|Abort)\b")
+# What opens a disk that a store gave up: tests alone have it. It stands in its own file besides.
+OPENER = re.compile(r"\bKey\b")
+LOCK = "crates/root_store/src/shut.rt"
 
 
 def first_sentence(text: str) -> str:
@@ -180,6 +188,21 @@ def faults_of_disks(top: pathlib.Path) -> list[str]:
     ]
 
 
+def faults_of_stores(top: pathlib.Path) -> list[str]:
+    """The lines by which a call that has a store open may not return, and those that open a disk which was shut."""
+    found: list[str] = []
+    for crate in crates(top):
+        for path in sorted((top / "crates" / crate / "src").rglob("*.rt")):
+            place = path.relative_to(top).as_posix()
+            for number, line in enumerate(path.read_text().splitlines(), 1):
+                code = line.partition("//")[0]
+                if crate in OPEN and STAYS.search(code):
+                    found.append(f"{place}:{number} may not return, and has a store open")
+                if crate != MACHINES and place != LOCK and OPENER.search(code):
+                    found.append(f"{place}:{number} opens a disk that is shut")
+    return found
+
+
 def of_crate(top: pathlib.Path, crate: str) -> str:
     """The part of a crate."""
     home = top / "crates" / crate / "src"
@@ -209,7 +232,7 @@ def main() -> int:
     if not words.check:
         print(text, end="")
         return 0
-    faults = [*faults_of_drops(drops(TOP), DROPS), *faults_of_disks(TOP)]
+    faults = [*faults_of_drops(drops(TOP), DROPS), *faults_of_disks(TOP), *faults_of_stores(TOP)]
     print("\n".join(faults) or f"{text.count(MARK) + len(DROPS)} passed, 0 failed")
     return 1 if faults else 0
 

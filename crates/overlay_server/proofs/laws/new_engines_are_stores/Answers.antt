@@ -1,4 +1,4 @@
-use Rattle.store_flushing.proofs.Storage.{store_begins}
+use Rattle.kept_store.proofs.Storage.{store_begins}
 use Rattle.overlay_server.proofs.laws.new_engines_are_stores.Goals as goal
 
 pub returns : goal.returns

@@ -1,15 +1,15 @@
 use Rattle.std.proofs.Common.{◌≡◌, ap, subst, sym, ◌∙◌}
 use Rattle.book_history.specs.Logs.{history_of, newest_in}
 use Rattle.book_lock.specs.Heard.{Heard}
-use Rattle.store_flushing.specs.Storing.{Flushes}
+use Rattle.kept_store.specs.Storing.{Flushes}
 use Rattle.store_flushing.specs.declared.keeper.Keeper.{Keeper}
 use Rattle.store_flushing.specs.ReportNote.{KeepsNotes}
 use Rattle.overlay_terms.specs.Histories.{Version}
-use Rattle.store_flushing.specs.Failing.{FailsToWrite}
-use Rattle.store_flushing.specs.ReportedFaults.{reported_fault_of}
-use Rattle.store_flushing.proofs.FailLemmas.{err_is, failed_on, refused_fails}
-use Rattle.store_flushing.proofs.Following.{by_call, handed_on}
-use Rattle.store_flushing.proofs.Storage.{kept_on, then}
+use Rattle.kept_store.specs.Failing.{FailsToWrite}
+use Rattle.kept_store.specs.ReportedFaults.{reported_fault_of}
+use Rattle.kept_store.proofs.FailLemmas.{err_is, failed_on, refused_fails}
+use Rattle.kept_store.proofs.Following.{by_call, handed_on}
+use Rattle.kept_store.proofs.Storage.{kept_on, then}
 use Rattle.store_flushing.proofs.ReportedLemmas.{reporting_then}
 use Rattle.store_flushing.proofs.flusher_loop.commit.Goals as goal
 

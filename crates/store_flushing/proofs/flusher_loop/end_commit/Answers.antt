@@ -4,13 +4,13 @@ use Rattle.std.proofs.Common.{◌≡◌, ◌⊎◌, Ok, refl, ap, sym, ◌∙◌
 use Rattle.book_history.specs.Logs.{history_of, newest_in}
 use Rattle.book_lock.specs.Heard.{Heard}
 use Rattle.flush_core.specs.Stored.{stored_after}
-use Rattle.store_flushing.specs.Storing.{Flushes}
+use Rattle.kept_store.specs.Storing.{Flushes}
 use Rattle.store_flushing.specs.ReportNote.{KeepsNotes}
 use Rattle.store_flushing.specs.declared.keeper.Keeper.{Keeper}
-use Rattle.store_flushing.specs.ReportedFaults.{reported_fault_of}
-use Rattle.store_flushing.proofs.FailLemmas.{failed_then, on_err, step_fails}
-use Rattle.store_flushing.proofs.Following.{by_call, by_run, further}
-use Rattle.store_flushing.proofs.Storage.{begun, kept_on, then, reported_all}
+use Rattle.kept_store.specs.ReportedFaults.{reported_fault_of}
+use Rattle.kept_store.proofs.FailLemmas.{failed_then, on_err, step_fails}
+use Rattle.kept_store.proofs.Following.{by_call, by_run, further}
+use Rattle.kept_store.proofs.Storage.{begun, kept_on, then, reported_all}
 use Rattle.store_flushing.proofs.ReportedLemmas.{reporting_self, reporting_then}
 use Rattle.store_flushing.proofs.flusher_loop.end_commit.Goals as goal
 

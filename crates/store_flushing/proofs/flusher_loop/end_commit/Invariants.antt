@@ -1,6 +1,6 @@
 use Rattle.std.proofs.Common.{◌≡◌}
 use Rattle.book_history.specs.Logs.{history_of}
-use Rattle.store_flushing.specs.Storing.{IsStoreOf, Flushes}
+use Rattle.kept_store.specs.Storing.{IsStoreOf, Flushes}
 use Rattle.store_flushing.specs.ReportNote.{KeepsNotes}
 use Rattle.store_flushing.proofs.flusher_loop.end_commit.Given as goal
 

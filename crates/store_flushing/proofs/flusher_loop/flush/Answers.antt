@@ -1,8 +1,8 @@
 use Rattle.std.proofs.Common.{refl, ◌∙◌}
 use Rattle.book_history.specs.Logs.{history_of}
-use Rattle.store_flushing.proofs.FailLemmas.{failed_on}
-use Rattle.store_flushing.proofs.Following.{by_run, handed_on}
-use Rattle.store_flushing.proofs.Storage.{begun, then}
+use Rattle.kept_store.proofs.FailLemmas.{failed_on}
+use Rattle.kept_store.proofs.Following.{by_run, handed_on}
+use Rattle.kept_store.proofs.Storage.{begun, then}
 use Rattle.store_flushing.proofs.ReportedLemmas.{reporting_self, reporting_then}
 use Rattle.store_flushing.proofs.flusher_loop.flush.Goals as goal
 

@@ -1,9 +1,9 @@
 use Rattle.std.proofs.Common.{ap}
 use Rattle.book_history.specs.Logs.{history_of}
-use Rattle.store_flushing.specs.declared.keeper.held_store.HeldStore.{HeldStore}
-use Rattle.store_flushing.proofs.FailLemmas.{failed_on}
-use Rattle.store_flushing.proofs.Following.{by_call, handed_on}
-use Rattle.store_flushing.proofs.Storage.{kept_on, then}
+use Rattle.kept_store.specs.declared.held_store.HeldStore.{HeldStore}
+use Rattle.kept_store.proofs.FailLemmas.{failed_on}
+use Rattle.kept_store.proofs.Following.{by_call, handed_on}
+use Rattle.kept_store.proofs.Storage.{kept_on, then}
 use Rattle.store_flushing.proofs.ReportedLemmas.{reporting_then}
 use Rattle.store_flushing.proofs.flusher_loop.round.Goals as goal
 

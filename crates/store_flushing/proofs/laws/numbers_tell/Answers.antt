@@ -1,4 +1,4 @@
-use Rattle.store_flushing.proofs.SinceLemmas as lemmas
+use Rattle.kept_store.proofs.SinceLemmas as lemmas
 use Rattle.store_flushing.proofs.laws.numbers_tell.Goals as goal
 
 pub returns : goal.returns

@@ -1,4 +1,4 @@
-use Rattle.store_flushing.proofs.Storage as lemmas
+use Rattle.kept_store.proofs.Storage as lemmas
 use Rattle.store_flushing.proofs.laws.reported_is_left.Goals as goal
 
 pub returns : goal.returns

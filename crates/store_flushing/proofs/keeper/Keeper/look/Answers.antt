@@ -4,7 +4,7 @@ use Rattle.book_history.specs.Logs.{history_of}
 use Rattle.book_history.proofs.Chains.{is_history}
 use Rattle.store_flushing.specs.ReportNote.{notes_in}
 use Rattle.store_flushing.proofs.Remembered.{none_so, same_keeper}
-use Rattle.store_flushing.proofs.Storage.{kept, longer}
+use Rattle.kept_store.proofs.Storage.{kept, longer}
 use Rattle.store_flushing.proofs.ReportedLemmas.{none_reported}
 use Rattle.store_flushing.proofs.keeper.Keeper.look.Goals as goal
 

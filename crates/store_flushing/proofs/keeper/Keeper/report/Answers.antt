@@ -4,7 +4,7 @@ use Rattle.book_history.specs.Logs.{history_of, newest_in}
 use Rattle.book_history.proofs.Chains.{is_history}
 use Rattle.book_lock.specs.Heard.{Heard}
 use Rattle.store_flushing.specs.ReportNote.{news_in, notes_at, notes_in}
-use Rattle.store_flushing.proofs.Storage.{all_reported, report_kept, stored_level}
+use Rattle.kept_store.proofs.Storage.{all_reported, report_kept, stored_level}
 use Rattle.store_flushing.proofs.ReportedLemmas.{news_reported}
 use Rattle.store_flushing.proofs.keeper.Keeper.report.Goals as goal
 
