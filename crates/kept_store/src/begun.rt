@@ -1,6 +1,6 @@
 //! What a server begins with: an engine, shut, or none.
 ghost use Rattle.std.specs.Prelude.{◌≡◌, ◌∷◌, []};
-ghost use Rattle.overlay_terms.specs.Histories.{entry, no_event};
+ghost use Rattle.book_history.specs.Logs.{entry, no_event};
 ghost use Rattle.book_history.specs.Rules.{head_of};
 ghost use Rattle.kept_store.specs.Beginning.{flusher_of, start_of};
 
