@@ -7,7 +7,7 @@ import unittest
 from .common import TOP
 
 SOURCES = TOP / "python/src/overlayd"
-ORDER = ("ending", "progress", "program", "grid", "geometry", "kernel", "grid_pass", "files", "store", "maps", "web",
+ORDER = ("ending", "progress", "program", "grid", "geometry", "grid_pass", "kernel", "files", "store", "maps", "web",
          "commands")
 
 

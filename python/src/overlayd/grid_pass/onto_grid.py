@@ -8,18 +8,19 @@ no step is long, maps stay as they are, so that a sliver that somebody made is f
 from __future__ import annotations
 
 import enum
+import functools
 from collections.abc import Sequence
 from dataclasses import dataclass
 from fractions import Fraction
 
 import numpy as np
 
-from ..geometry.flat_arrays import Numbers
+from ..geometry.flat_arrays import Numbers, after_of
 from .chains import chains, inner
 from .pixels import Hits, Hot, hot_of
 from .places import UNIT, BeyondRange, places, whole
-from .rings import WholeRings, live, put_in, without_spikes
-from .steps import Bends, Points, Steps, bends, steps_of, unique
+from .rings import WholeRings, joined, live, put_in, without_spikes
+from .steps import LONG, Bends, Points, Steps, bends, steps_of, unique
 
 
 class Noding(enum.Enum):
@@ -41,17 +42,29 @@ class Rings:
 
 @dataclass(frozen=True)
 class Placed:
-    """A map's corners in places, its steps, and where these are bent."""
+    """A map's corners in places."""
 
     x: Numbers
     y: Numbers
     sizes: Numbers
-    steps: Steps
-    bent: Bends
+
+    @functools.cached_property
+    def steps(self) -> Steps:
+        return steps_of(self.x, self.y, self.sizes)
+
+    @functools.cached_property
+    def bent(self) -> Bends:
+        """Where steps are bent."""
+        return bends(self.steps)
 
     def is_moved(self) -> bool:
         """Whether a corner is more than 2^-16 of a unit off its whole point."""
         return any(bool((np.abs(own - whole(own) * UNIT) > 1).any()) for own in (self.x, self.y))
+
+    def is_long(self) -> bool:
+        """Whether a step is to be bent."""
+        after = after_of(self.sizes)
+        return any(bool((np.abs(own[after] - own) > LONG).any()) for own in map(whole, (self.x, self.y)))
 
     def farthest(self) -> float:
         """How far a coordinate is moved at most, in units."""
@@ -84,8 +97,9 @@ def onto_grid(maps: Sequence[Rings], factor: Fraction, noding: Noding = Noding.W
             fault.map = number
             raise
     moves = any(one.is_moved() for one in placed)
-    does_nothing = not moves and not any(len(one.bent.step) for one in placed)
-    if noding is Noding.NEVER or noding is Noding.WHERE_MOVED and does_nothing:
+    if noding is not Noding.ASKED and not moves and not any(one.is_long() for one in placed):
+        return [rounded(one) for one in placed]
+    if noding is Noding.NEVER:
         return [snapped(one, None) for one in placed]
     corners = [one.corners() for one in placed]
     hot = hot_of(together(corners), noding is Noding.ASKED and not moves)
@@ -94,9 +108,7 @@ def onto_grid(maps: Sequence[Rings], factor: Fraction, noding: Noding = Noding.W
 
 def of_rings(rings: Rings, factor: Fraction) -> Placed:
     """A map in places."""
-    x, y = places(rings.x, factor), places(rings.y, factor)
-    steps = steps_of(x, y, rings.sizes)
-    return Placed(x, y, rings.sizes, steps, bends(steps))
+    return Placed(places(rings.x, factor), places(rings.y, factor), rings.sizes)
 
 
 def together(corners: Sequence[Points]) -> Points:
@@ -104,12 +116,22 @@ def together(corners: Sequence[Points]) -> Points:
     return unique(np.concatenate([one.x for one in corners]), np.concatenate([one.y for one in corners]))
 
 
+def rounded(placed: Placed) -> OnGrid:
+    """A map that is on the grid already, and has no long step."""
+    rings = live(joined(WholeRings(whole(placed.x), whole(placed.y), placed.sizes)))
+    return OnGrid(rings, placed.farthest(), 0, 0, 0, collapsed(placed, rings))
+
+
+def collapsed(placed: Placed, rings: WholeRings) -> Numbers:
+    """The rings of which nothing is left."""
+    return np.flatnonzero((rings.sizes == 0) & (placed.sizes > 0))
+
+
 def snapped(placed: Placed, hot: Hot | None) -> OnGrid:
     """One map, or a part of one, with the hot points of all: where there are none, as rounding and bends leave it."""
     found = chains(placed.steps, placed.bent, hot)
     rings = put_in(placed.x, placed.y, placed.sizes, placed.steps, found)
     rings = live(rings if hot is None else without_spikes(rings))
-    collapsed = np.flatnonzero((rings.sizes == 0) & (placed.sizes > 0))
     own = inner(placed.steps, Hits(placed.bent.step, placed.bent.at, placed.bent.step))
     return OnGrid(rings, placed.farthest(), len(np.unique(placed.bent.step)), len(placed.bent.step),
-                  len(found) - len(own.step), collapsed)
+                  len(found) - len(own.step), collapsed(placed, rings))

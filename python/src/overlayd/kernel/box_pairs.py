@@ -21,20 +21,35 @@ def pairs(a: Numbers, b: Numbers, touching: bool = False) -> Numbers:
     by i, then j."""
     of_a, of_b = levels_of(a), levels_of(b)
     found = [np.zeros(0, np.int64)]
-    for level in sorted({*np.unique(of_a).tolist(), *np.unique(of_b).tolist()} - {-1}):
+    for level in levels_in(of_a, of_b):
         upto, under = np.flatnonzero((of_a >= 0) & (of_a <= level)), np.flatnonzero((of_b >= 0) & (of_b < level))
         # Each pair on the grid of its greater level: b's own with all of a up to it, and a's own with less of b.
         for first, second in ((upto, np.flatnonzero(of_b == level)), (np.flatnonzero(of_a == level), under)):
-            if len(first) and len(second):
-                found += (i * len(b) + j for i, j in met_on(level, first, a, second, b, touching))
-    keys = np.sort(np.concatenate(found))
-    return np.stack([keys // max(1, len(b)), keys % max(1, len(b))], axis=1)
+            found += (i * len(b) + j for i, j in met_on(level, first, a, second, b, touching))
+    return rows(np.concatenate(found), len(b))
 
 
 def pairs_within(boxes: Numbers, touching: bool = False) -> Numbers:
     """The pairs of boxes of one list, the first before the second."""
-    found = pairs(boxes, boxes, touching)
-    return found[found[:, 0] < found[:, 1]]
+    levels = levels_of(boxes)
+    found = [np.zeros(0, np.int64)]
+    for level in levels_in(levels):
+        upto = np.flatnonzero((levels >= 0) & (levels <= level))
+        for i, j in met_on(level, upto, boxes, np.flatnonzero(levels == level), boxes, touching):
+            once = (levels[i] < level) | (i < j)
+            found.append((np.minimum(i, j) * len(boxes) + np.maximum(i, j))[once])
+    return rows(np.concatenate(found), len(boxes))
+
+
+def levels_in(*levels: Numbers) -> list[int]:
+    """The levels that some boxes have, the least first."""
+    return sorted({level for own in levels for level in np.unique(own).tolist()} - {-1})
+
+
+def rows(keys: Numbers, count: int) -> Numbers:
+    """The rows that were put into one number each, in order."""
+    keys = np.sort(keys)
+    return np.stack([keys // max(1, count), keys % max(1, count)], axis=1)
 
 
 def levels_of(boxes: Numbers) -> Numbers:
@@ -60,12 +75,13 @@ def in_cells(boxes: Numbers, places: Numbers, level: int) -> tuple[Numbers, Numb
 
 def met_on(level: int, first: Numbers, a: Numbers, second: Numbers, b: Numbers,
            touching: bool) -> Iterator[tuple[Numbers, Numbers]]:
-    """The pairs of some boxes of a and of b that have a common part, looked for on one grid, in both orders."""
+    """The pairs of some boxes of a and of b that have a common part, looked for on one grid."""
     cells_a, who_a = in_cells(a, first, level)
     cells_b, who_b = in_cells(b, second, level)
     order = np.argsort(cells_b, kind="stable")
     cells_b, who_b = cells_b[order], who_b[order]
     low, high = np.searchsorted(cells_b, cells_a, "left"), np.searchsorted(cells_b, cells_a, "right")
+    a_columns, b_columns = (np.ascontiguousarray(own.T) for own in (a, b))
     ends = np.cumsum(high - low)
     at = 0
     while at < len(cells_a):
@@ -73,8 +89,13 @@ def met_on(level: int, first: Numbers, a: Numbers, second: Numbers, b: Numbers,
         many = (high - low)[at:stop]
         i, j = np.repeat(who_a[at:stop], many), who_b[spans(low[at:stop], many)]
         cell = np.repeat(cells_a[at:stop], many)
-        least, most = np.maximum(a[i, :2], b[j, :2]), np.minimum(a[i, 2:], b[j, 2:])
-        real = (least <= most if touching else least < most).all(axis=1)
-        real &= mixed(least[:, 0] >> level, least[:, 1] >> level) == cell
-        yield i[real], j[real]
+        least: list[Numbers] = []
+        for axis in (0, 1):
+            begin = np.maximum(a_columns[axis][i], b_columns[axis][j])
+            end = np.minimum(a_columns[axis + 2][i], b_columns[axis + 2][j])
+            real = np.flatnonzero(begin <= end if touching else begin < end)
+            i, j, cell = i[real], j[real], cell[real]
+            least = [own[real] for own in (*least, begin >> level)]
+        here = mixed(*least) == cell
+        yield i[here], j[here]
         at = stop

@@ -13,7 +13,7 @@ import numpy as np
 
 from ..geometry.flat_arrays import Numbers, offsets
 
-WIDTH = 8
+COUNT, WIDTH = 4, 8  # bytes of a count and of a double
 
 
 @dataclass(frozen=True)
@@ -50,15 +50,15 @@ def of_arrow(shapes: Numbers) -> Column:
     return of_bytes(shapes.tolist())
 
 
-def views(places: Numbers, is_big: Numbers, kind: str) -> Iterator[tuple[Numbers, int, str]]:
-    """Which places a view of each first byte and order of bytes has: their numbers, the byte, the order."""
-    size = np.dtype(kind).itemsize
-    residue = places % size
-    for first in np.unique(residue).tolist():
-        for order, own in (("<", ~is_big), (">", is_big)):
-            at = np.flatnonzero((residue == first) & own)
-            if len(at):
-                yield at, first, order
+def views(places: Numbers, is_big: Numbers, size: int) -> Iterator[tuple[Numbers | slice, int, str]]:
+    """Which places of numbers of a size a view of each first byte and order of bytes has: their numbers, the byte, the
+    order."""
+    key = places % size
+    if is_big.any():
+        key = key + size * is_big
+    used = np.flatnonzero(np.bincount(key))
+    for one in used.tolist():
+        yield slice(None) if len(used) == 1 else np.flatnonzero(key == one), one % size, "<>"[one // size]
 
 
 def viewed(data: Numbers, first: int, kind: str) -> Numbers:
@@ -67,16 +67,31 @@ def viewed(data: Numbers, first: int, kind: str) -> Numbers:
     return data[first : first + (len(data) - first) // size * size].view(kind)
 
 
-def numbers_at(data: Numbers, places: Numbers, is_big: Numbers, kind: str) -> Numbers:
-    """The numbers that begin at bytes: u4 or f8."""
-    found: Numbers = np.zeros(len(places), kind)
-    for at, first, order in views(places, is_big, kind):
-        found[at] = viewed(data, first, order + kind)[places[at] // found.itemsize]
+def counts_at(data: Numbers, places: Numbers, is_big: Numbers) -> Numbers:
+    """The numbers of four bytes that begin at bytes."""
+    found: Numbers = np.zeros(len(places), np.int64)
+    for at, first, order in views(places, is_big, COUNT):
+        found[at] = viewed(data, first, order + "u4")[places[at] // COUNT]
     return found
 
 
-def put_at(data: Numbers, places: Numbers, numbers: Numbers) -> None:
-    """Writes u4 or f8, lowest bytes first, so that they begin at bytes."""
-    kind = numbers.dtype.str[1:]
-    for at, first, _ in views(places, np.zeros(len(places), bool), kind):
-        viewed(data, first, "<" + kind)[places[at] // numbers.itemsize] = numbers[at]
+def points_at(data: Numbers, places: Numbers, is_big: Numbers) -> tuple[Numbers, Numbers]:
+    """The points, two doubles each, that begin at bytes."""
+    x, y = np.zeros(len(places)), np.zeros(len(places))
+    for at, first, order in views(places, is_big, WIDTH):
+        doubles, own = viewed(data, first, order + "f8"), places[at] // WIDTH
+        x[at], y[at] = doubles[own], doubles[own + 1]
+    return x, y
+
+
+def put_counts(data: Numbers, places: Numbers, counts: Numbers) -> None:
+    """Writes numbers of four bytes, lowest bytes first, so that they begin at bytes."""
+    for at, first, _ in views(places, np.zeros(1, bool), COUNT):
+        viewed(data, first, "<u4")[places[at] // COUNT] = counts[at]
+
+
+def put_points(data: Numbers, places: Numbers, x: Numbers, y: Numbers) -> None:
+    """Writes points likewise."""
+    for at, first, _ in views(places, np.zeros(1, bool), WIDTH):
+        doubles, own = viewed(data, first, "<f8"), places[at] // WIDTH
+        doubles[own], doubles[own + 1] = x[at], y[at]

@@ -13,11 +13,11 @@ from dataclasses import dataclass
 import numpy as np
 
 from ..geometry.flat_arrays import Numbers
-from .columns import WIDTH, Column, numbers_at
+from .columns import COUNT, WIDTH, Column, counts_at
 
 POLYGON, MULTIPOLYGON = 3, 6
 FEW = 50  # features whose rings are found sooner one by one than by a round over all
-ORDER, HEAD, COUNT = 1, 5, 4  # bytes of the order, of order and kind, of a count
+ORDER, HEAD = 1, 5  # bytes of the order, and of order and kind
 HAS_Z, HAS_M, HAS_SYSTEM = 0x80000000, 0x40000000, 0x20000000  # as PostGIS writes it
 DIMENSIONS = np.array([2, 3, 3, 4])  # of kinds from 0, 1000, 2000 and 3000 on
 
@@ -87,7 +87,7 @@ class Walk:
     def counts(self, features: Numbers) -> Numbers:
         """The numbers of four bytes where features stand."""
         self.need(features, COUNT)
-        found: Numbers = numbers_at(self.data, self.at[features], self.is_big[features], "u4").astype(np.int64)
+        found = counts_at(self.data, self.at[features], self.is_big[features])
         self.at[features] += COUNT
         return found
 

@@ -11,8 +11,8 @@ from dataclasses import dataclass
 import numpy as np
 
 from ..geometry.flat_arrays import Numbers, offsets, owners, spans
-from .columns import WIDTH, Column, numbers_at, put_at
-from .ring_walk import COUNT, HEAD, MULTIPOLYGON, POLYGON, Found, Reason, ShapeFault, walked
+from .columns import COUNT, WIDTH, Column, points_at, put_counts, put_points
+from .ring_walk import HEAD, MULTIPOLYGON, POLYGON, Found, Reason, ShapeFault, walked
 
 POINT = 2 * WIDTH
 
@@ -38,7 +38,8 @@ def shapes(column: Column) -> Shapes:
     rings = Found(*(getattr(found, name)[full] for name in Found.__annotations__))
     sizes = rings.points - 1
     at = np.repeat(rings.begin, sizes) + spans(np.zeros_like(sizes), sizes) * np.repeat(rings.width, sizes)
-    x, y = (numbers_at(column.data, at + axis, np.repeat(rings.is_big, sizes), "f8") for axis in (0, WIDTH))
+    is_big = np.repeat(rings.is_big, sizes) if rings.is_big.any() else rings.is_big[:1]
+    x, y = points_at(column.data, at, is_big)
     check(column, rings, x, y)
     counts = np.bincount(rings.feature, minlength=len(column))
     return Shapes(x, y, sizes, rings.is_outer, counts, others, kinds)
@@ -46,11 +47,9 @@ def shapes(column: Column) -> Shapes:
 
 def check(column: Column, rings: Found, x: Numbers, y: Numbers) -> None:
     """Refuses rings that are not closed, and coordinates that are no numbers."""
-    is_open: Numbers = np.zeros(len(rings.begin), bool)
-    for axis in (0, WIDTH):
-        ends = (rings.begin + axis, rings.begin + axis + (rings.points - 1) * rings.width)
-        first, last = (numbers_at(column.data, place, rings.is_big, "f8") for place in ends)
-        is_open |= first != last
+    first_x, first_y = points_at(column.data, rings.begin, rings.is_big)
+    last_x, last_y = points_at(column.data, rings.begin + (rings.points - 1) * rings.width, rings.is_big)
+    is_open = (first_x != last_x) | (first_y != last_y)
     ring = owners(rings.points - 1)
     is_odd = np.bincount(ring[~(np.isfinite(x) & np.isfinite(y))], minlength=len(rings.begin)) > 0
     for wrong, reason in ((is_odd, Reason.NO_NUMBER), (is_open, Reason.OPEN)):
@@ -85,17 +84,15 @@ def column_of(x: Numbers, y: Numbers, sizes: Numbers, outer: Numbers, counts: Nu
 def put_heads(data: Numbers, at: Numbers, kinds: Numbers, counts: Numbers) -> None:
     """Writes orders of bytes, kinds and counts."""
     data[at] = 1
-    put_at(data, at + 1, kinds.astype("u4"))
-    put_at(data, at + HEAD, counts.astype("u4"))
+    put_counts(data, at + 1, kinds)
+    put_counts(data, at + HEAD, counts)
 
 
 def put_rings(data: Numbers, at: Numbers, x: Numbers, y: Numbers, sizes: Numbers, order: Numbers) -> None:
     """Writes rings in an order, each with its closing point."""
-    put_at(data, at, (sizes[order] + 1).astype("u4"))
-    begins = offsets(sizes)[order]
-    counts = sizes[order] + 1
+    begins, counts = offsets(sizes)[order], sizes[order] + 1
+    put_counts(data, at, counts)
     place = spans(np.zeros_like(counts), counts)
     source = np.repeat(begins, counts) + place % np.repeat(np.maximum(sizes[order], 1), counts)
     target = np.repeat(at + COUNT, counts) + POINT * place
-    for axis, own in ((0, x), (WIDTH, y)):
-        put_at(data, target + axis, own[source].astype("f8"))
+    put_points(data, target, x[source], y[source])
