@@ -18,7 +18,7 @@ Version: {version}
 Architecture: {architecture}
 Maintainer: {maintainer}
 Installed-Size: {room}
-Depends: libc6 (>= {library}), python3 (>= {python}), python3-cachetools, python3-flask, \
+Depends: libc6 (>= {library}), python3 (>= {python}), python3-cachetools, python3-click, python3-flask, \
 python3-gdal, python3-numpy, python3-pyproj, python3-tqdm, python3-waitress
 Recommends: libjs-leaflet
 Suggests: bash-completion, qgis
@@ -45,7 +45,7 @@ def package_files(release: list[Entry], version: str, maintainer: str, seconds: 
         Entry(f"share/lintian/overrides/{PACKAGE}", (contents.PARTS / "overrides").read_bytes()),
         Entry("lib/python3/dist-packages/overlayd", target="../../overlayd/python/src/overlayd"),
     ]
-    return packing.below("usr", contents.by_debians_python([*release, *more]))
+    return packing.below("usr", [*release, *more])
 
 
 def control_files(files: list[Entry], version: str, maintainer: str) -> list[Entry]:

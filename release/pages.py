@@ -11,7 +11,6 @@ import re
 import subprocess
 import sys
 import time
-from collections.abc import Iterable
 
 from . import contents, packing
 from .contents import Unmade
@@ -20,31 +19,26 @@ from .packing import Entry
 COLUMNS = 80
 COMPLETIONS = "share/bash-completion/completions"
 OPTION = re.compile(r"(?<![\w-])--[a-z][a-z-]*")
-QUESTION = re.compile(r"^    ([a-z]+)  +\w", re.M)
+SUBCOMMAND = re.compile(r"^  ([a-z]+)  +\w", re.M)
 TITLE = re.compile(r'^\.TH (\S+) 1 .*$', re.M)
-USAGE = re.compile(r"^usage: .*?(?:\n\n|\Z)", re.M | re.S)
-FIRST = re.compile(r"\A(?P<usage>usage: .*?)\n\n(?P<text>.*?)\n\n(?=[a-z][a-z ]*:\n)(?P<words>.*)\Z", re.S)
+FIRST = re.compile(r"\A(?P<usage>[Uu]sage: .*?)\n\n(?P<text>.*?)\n\n(?=[A-Za-z][a-z ]*:\n)(?P<words>.*)\Z", re.S)
 
 
-def help_of(command: pathlib.Path, *words: str) -> str:
-    """What a command prints by --help, in lines of 80 columns."""
-    environment = {**os.environ, "COLUMNS": str(COLUMNS), "PYTHONDONTWRITEBYTECODE": "1", "LC_ALL": "C.UTF-8"}
-    run = [str(command)] if command.name in contents.PROGRAMS else [sys.executable, str(command)]
-    done = subprocess.run([*run, *words, "--help"], env=environment, capture_output=True, text=True, check=False)
+def told_by(folder: pathlib.Path, *words: str, **more: str) -> str:
+    """What the command of an unpacked release prints, in lines of 80 columns."""
+    environment = {**os.environ, "COLUMNS": str(COLUMNS), "PYTHONDONTWRITEBYTECODE": "1", "LC_ALL": "C.UTF-8", **more}
+    done = subprocess.run([sys.executable, str(folder / "bin" / contents.COMMAND), *words], env=environment,
+                          capture_output=True, text=True, check=False)
     if done.returncode or not done.stdout:
-        raise Unmade(f"{command.name} --help: status {done.returncode} {done.stderr.strip()}")
+        raise Unmade(f"{contents.COMMAND} {' '.join(words)}: status {done.returncode} {done.stderr.strip()}")
     return done.stdout
 
 
 def helps_of(folder: pathlib.Path) -> dict[str, str]:
-    """What each command of an unpacked release prints by --help, with what each question of overlay-maps prints."""
-    told = {}
-    for name in contents.COMMANDS:
-        command = folder / "bin" / name
-        text = help_of(command)
-        parts = QUESTION.findall(text.partition("\n  QUESTION\n")[2])
-        told[name] = "\n".join([text, *(help_of(command, part) for part in parts)])
-    return told
+    """What the command of an unpacked release and each of its subcommands print by --help, by the names of pages."""
+    whole = told_by(folder, "--help")
+    parts = SUBCOMMAND.findall(whole.partition("\nSubcommands:\n")[2])
+    return {contents.COMMAND: whole} | {f"{contents.COMMAND}-{name}": told_by(folder, name, "--help") for name in parts}
 
 
 # ---- manual pages
@@ -70,7 +64,7 @@ def page_of(name: str, told: str, version: str, seconds: int) -> str:
     first, _, rest = found["text"].partition("\n\n")
     purpose = " ".join(first.split()).rstrip(".").replace("-", "\\-")
     dashed = name.replace("-", "\\-")
-    usage = found["usage"].removeprefix("usage: ").replace(f"\n{' ' * len('usage: ')}", "\n")
+    usage = found["usage"][len("usage: "):].replace(f"\n{' ' * len('usage: ')}", "\n")
     return "\n".join([
         title(dashed.upper(), version, seconds), ".SH NAME", f"{dashed} \\- {purpose[0].lower()}{purpose[1:]}",
         ".SH SYNOPSIS", as_written(usage), ".SH DESCRIPTION", as_written(rest),
@@ -90,29 +84,23 @@ def manual_pages(top: pathlib.Path, helps: dict[str, str], version: str, seconds
 # ---- completion
 
 
-def words_of(told: str) -> list[str]:
-    """The words that a command can be given: questions first, then options."""
-    usages = " ".join(USAGE.findall(told))
-    return [*QUESTION.findall(told.partition("\n  QUESTION\n")[2]), *sorted({"--help", *OPTION.findall(usages)})]
-
-
 def page_options(text: str) -> list[str]:
     """The options that a manual page names."""
     return sorted({*OPTION.findall(text.replace("\\-", "-").replace("\\fR", "").replace("\\fB", ""))})
 
 
-def completion(words: dict[str, Iterable[str]]) -> str:
-    """The text that bash reads: the words of each command, options where one is begun, questions in the first place."""
+def completion(words: dict[str, list[str]]) -> str:
+    """The text that bash reads: the options of each program."""
     cases = "".join(f"    {name}) echo \"{' '.join(found)}\" ;;\n" for name, found in sorted(words.items()))
     text = (contents.PARTS / "completion.bash").read_text()
     return text.replace("CASES\n", cases).replace("NAMES", " ".join(sorted(words)))
 
 
-def completions(top: pathlib.Path, helps: dict[str, str]) -> list[Entry]:
-    """bash's completion: one file, and a link to it for each other command."""
-    words: dict[str, Iterable[str]] = {name: words_of(told) for name, told in helps.items()}
+def completions(top: pathlib.Path, folder: pathlib.Path) -> list[Entry]:
+    """bash's completion: click's of the command, and of the programs one file, with a link to it."""
     synopsis = (top / "docs/overlayd.1").read_text().partition(".SH DESCRIPTION")[0]
-    words["overlayd"] = page_options(synopsis)
-    words["overlay_live"] = page_options((top / "docs/overlay_live.1").read_text().partition(".SH DESCRIPTION")[0])
-    links = [Entry(f"{COMPLETIONS}/{name}", target="overlayd") for name in words if name != "overlayd"]
-    return [Entry(f"{COMPLETIONS}/overlayd", completion(words).encode()), *links]
+    live = (top / "docs/overlay_live.1").read_text().partition(".SH DESCRIPTION")[0]
+    words = {"overlayd": page_options(synopsis), "overlay_live": page_options(live)}
+    return [Entry(f"{COMPLETIONS}/{contents.COMMAND}", told_by(folder, _OVERLAY_COMPLETE="bash_source").encode()),
+            Entry(f"{COMPLETIONS}/overlayd", completion(words).encode()),
+            Entry(f"{COMPLETIONS}/overlay_live", target="overlayd")]

@@ -4,13 +4,14 @@ import io
 import os
 import pathlib
 import subprocess
+import sys
 import tempfile
 import unittest
 from types import ModuleType
 
 TOP = pathlib.Path(__file__).resolve().parents[2]
 TOOLS, TESTS = TOP / "tools", TOP / "python" / "tests"
-COMMANDS = sorted(TOOLS.glob("*.py"))
+OVERLAY = [sys.executable, str(TOP / "overlay")]
 # What another Python that runs at the top finds the package by, and the tests.
 SOURCES = {**os.environ, "PYTHONPATH": f"{TOP / 'python' / 'src'}:{TOP / 'python'}"}
 SECONDS = 120  # what a program of a test may take before it is ended

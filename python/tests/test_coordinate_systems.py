@@ -3,13 +3,12 @@
 import json
 import pathlib
 import subprocess
-import sys
 import zipfile
 from typing import Any
 
-from overlayd.commands import overlay_maps, to_geojson, to_script
+from overlayd.commands import export as to_geojson, import_ as to_script, maps as overlay_maps
 from overlayd.files import coordinate_systems
-from .common import SECONDS, Programs, outcome, path
+from .common import OVERLAY, SECONDS, Programs, outcome
 from .test_forms import WithGdal
 
 SHAPE = "POLYGON ((1 1, 9.5 1, 9.5 9, 1 9, 1 1))"
@@ -48,7 +47,7 @@ def text_of(system: str, form: str = "WKT1_ESRI") -> str:
 class WithSystems(WithGdal):
     def ran(self, tool: str, *words: object) -> str:
         """What a command says on standard error."""
-        done = subprocess.run([sys.executable, path(tool), *map(str, words)], capture_output=True, text=True,
+        done = subprocess.run([*OVERLAY, tool, *map(str, words)], capture_output=True, text=True,
                               timeout=SECONDS, check=False)
         self.assertEqual(done.returncode, 0, done.stderr)
         return done.stderr
@@ -73,7 +72,7 @@ class WithSystems(WithGdal):
         return json.loads(made.with_suffix(".scale.json").read_text())["crs"], errors
 
     def written(self, end: str) -> Any:
-        """The system of what to_geojson.py writes of that script, as GDAL reads it."""
+        """The system of what overlay export writes of that script, as GDAL reads it."""
         path = self.folder / f"written{end}"
         words = [self.folder / "out.txt", "--program", self.model(), "--output", path]
         self.assertEqual(outcome(to_geojson, *words)[:2], (0, ""))
@@ -89,7 +88,7 @@ class WithSystems(WithGdal):
         if not Programs.live:
             self.skipTest("no overlay_live was given")
         path = self.folder / f"pieces{end}"
-        words = ["overlay", first, second, "--factor", 10, "--pieces", path, "--program", Programs.live, "--jobs", 1,
+        words = ["pieces", first, second, "--factor", 10, "--pieces", path, "--program", Programs.live, "--jobs", 1,
                  "--no-audit"]
         status, _, errors = outcome(overlay_maps, *words)
         self.assertEqual(status, 0, errors)
@@ -187,13 +186,13 @@ class Units(WithSystems):
         for unit, systems in UNITS.items():
             for system in systems:
                 file = self.shapefile(text_of(system))
-                self.ran("to_script.py", file, "--factor", 10, "--output", self.folder / "out.txt")
+                self.ran("import", file, "--factor", 10, "--output", self.folder / "out.txt")
                 self.assertEqual(json.loads((self.folder / "out.scale.json").read_text())["unit"], unit, system)
                 if Programs.live:
-                    told = self.ran("overlay_maps.py", "check", file, "--factor", 10, "--program", Programs.live)
+                    told = self.ran("check", file, "--factor", 10, "--program", Programs.live)
                     several = {"US survey foot": "US survey feet"}.get(unit, f"{unit}s")
                     self.assertIn(f"areas are in square {several}, widths in {several}\n", told, system)
-        self.ran("to_script.py", self.shapefile(None), "--factor", 10, "--output", self.folder / "out.txt")
+        self.ran("import", self.shapefile(None), "--factor", 10, "--output", self.folder / "out.txt")
         self.assertEqual(json.loads((self.folder / "out.scale.json").read_text())["unit"], "1")
 
 

@@ -6,7 +6,7 @@ import sys
 import unittest
 from fractions import Fraction
 
-from overlayd.commands import to_geojson, to_rings
+from overlayd.commands import export as to_geojson, rings as to_rings
 from overlayd.geometry import areas, wkt
 from overlayd.grid import scale as scales
 from .common import WithProgram, outcome

@@ -3,11 +3,10 @@
 import os
 import shlex
 import subprocess
-import sys
 import unittest
 
 from overlayd import ending
-from .common import SECONDS, SQUARE, InFolder, path
+from .common import OVERLAY, SECONDS, SQUARE, InFolder
 
 COUNT = 20000
 SQUARES = 2000
@@ -38,16 +37,16 @@ class Endings(InFolder):
         points = self.file("points.txt", "1 1\n" * 4000)
         script, drawing = self.file("one.txt", f"PUT A {SQUARE}\n"), self.file("drawing", DRAWING, 0o700)
         return [
-            ["to_script.py", str(map_file), "--split"],
-            ["dump_store.py", str(store), "--program", str(program)],
-            ["which.py", "--store", str(store), "--program", str(answers), "--points", str(points)],
-            *([name, str(script), "--program", str(drawing)] for name in ("to_rings.py", "to_geojson.py", "to_svg.py")),
+            ["import", str(map_file), "--split"],
+            ["dump", str(store), "--program", str(program)],
+            ["which", "--store", str(store), "--program", str(answers), "--points", str(points)],
+            *([name, str(script), "--program", str(drawing)] for name in ("rings", "export", "svg")),
         ]
 
     def test_a_reader_that_went_away(self) -> None:
         calls = self.calls()
         for unbuffered, (name, *words) in [("", call) for call in calls] + [("1", calls[-2])]:
-            begin = f"PYTHONUNBUFFERED={unbuffered} {sys.executable} {path(name)} {' '.join(words)}"
+            begin = f"PYTHONUNBUFFERED={unbuffered} {shlex.join(OVERLAY)} {name} {' '.join(words)}"
             text = f"{begin} 2> {self.folder}/errors | head -c 10 > {self.folder}/output; echo ${{PIPESTATUS[0]}}"
             done = subprocess.run(["bash", "-c", text], capture_output=True, text=True, check=True, timeout=SECONDS)
             told = (self.folder / "errors").read_text()
@@ -55,28 +54,28 @@ class Endings(InFolder):
 
     def test_output_is_kept_where_notes_cannot_be_told(self) -> None:
         square = self.file("a.wkt", SQUARE + "\n")
-        plain = subprocess.run([sys.executable, path("to_script.py"), str(square)], capture_output=True, check=True,
+        plain = subprocess.run([*OVERLAY, "import", str(square)], capture_output=True, check=True,
                                timeout=SECONDS)
         self.assertTrue(plain.stdout and plain.stderr)
         for stream, status in (("2>/dev/full", 1), ("2>&-", 0)):
-            call = shlex.join([sys.executable, str(path("to_script.py")), str(square)])
+            call = shlex.join([*OVERLAY, "import", str(square)])
             done = subprocess.run(["bash", "-c", f"{call} {stream}"], stdout=subprocess.PIPE, check=False,
                                   timeout=SECONDS)
             self.assertEqual((done.returncode, done.stdout), (status, plain.stdout), stream)
 
     def test_a_full_device(self) -> None:
-        for name, *words in [*self.calls(), ["which.py", "--help"]]:
+        for name, *words in [*self.calls(), ["which", "--help"]]:
             with open("/dev/full", "w", encoding="utf-8") as full:
-                done = subprocess.run([sys.executable, path(name), *words], stdout=full, stderr=subprocess.PIPE,
+                done = subprocess.run([*OVERLAY, name, *words], stdout=full, stderr=subprocess.PIPE,
                                       text=True, check=False, timeout=SECONDS)
             self.assertEqual(done.returncode, 1, name)
-            self.assertEqual(done.stderr.splitlines()[-1], f"{name}: standard output: No space left on device")
+            self.assertEqual(done.stderr.splitlines()[-1], f"overlay {name}: standard output: No space left on device")
             self.assertNotIn("Traceback", done.stderr)
             self.assertNotIn("Exception", done.stderr)
 
     def test_both_streams(self) -> None:
         name, *words = self.calls()[1]
-        call = f"{sys.executable} {path(name)} {' '.join(words)}"
+        call = f"{shlex.join(OVERLAY)} {name} {' '.join(words)}"
         for streams, status in ((">/dev/full 2>&1", 1), (">&- 2>/dev/null", 1), (">/dev/null", 0)):
             done = subprocess.run(["bash", "-c", f"{call} {streams}"], capture_output=True, text=True, check=False,
                                   timeout=SECONDS)

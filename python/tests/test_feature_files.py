@@ -4,17 +4,16 @@ import io
 import json
 import pathlib
 import subprocess
-import sys
 import unittest
 import unittest.mock
 from dataclasses import replace
 from typing import Any
 
-from overlayd.commands import dump_store, to_geojson, to_script, which
-from overlayd.store import asking, features, layering, sessions, simple
+from overlayd.commands import dump as dump_store, export as to_geojson, import_ as to_script, which
 from overlayd.geometry.plane import Box
+from overlayd.store import asking, features, layering, sessions, simple
 from overlayd.store.features import Change, FeaturesFault, Outline
-from .common import SECONDS, InFolder, WithProgram, outcome, path
+from .common import OVERLAY, SECONDS, InFolder, WithProgram, outcome
 
 WEST = [[0, 0], [10, 0], [10, 10], [5, 10], [0, 10], [0, 0]]
 EAST = [[10, 0], [20, 0], [20, 10], [10, 10], [10, 0]]
@@ -77,7 +76,7 @@ class Plain(unittest.TestCase):
 
 
 class Files(InFolder):
-    """What to_script.py writes, and what is taken for a file of features."""
+    """What overlay import writes, and what is taken for a file of features."""
 
     def table(self, text: str, *words: object) -> features.Table:
         made = self.file("plan.geojson", text)
@@ -223,7 +222,7 @@ class InStores(WithProgram):
 
     def test_a_point_of_fractions(self) -> None:
         store = self.store("plain.db", "PUT A POLYGON ((0 0, 9 0, 9 9, 0 9, 0 0))\n")
-        words = [sys.executable, path("which.py"), "--store", store, "--program", self.program]
+        words = [*OVERLAY, "which", "--store", store, "--program", self.program]
         for point, told in ((["5/3", "2/7"], "A\n"), (["-5/3", "1"], "\n"), (["27/3", "1/3"], "edge\tA\n"),
                             (["1/0", "1"], "error\t1/0 1: no number, or one that is too long: 1/0\n")):
             done = subprocess.run([*words, *point], capture_output=True, text=True, timeout=SECONDS, check=False)

@@ -26,7 +26,7 @@ from typing import Any
 
 import pytest
 
-from overlayd.commands import to_script
+from overlayd.commands import import_ as to_script
 from overlayd.files import writing
 from overlayd.grid import scale as scales
 from overlayd.program import Server, Session
@@ -68,7 +68,7 @@ for _ in range(90):
 
 
 def made(place: pathlib.Path, found: list[dict[str, Any]], *words: str) -> pathlib.Path:
-    """A store of a map with the file of its features, by to_script.py and the program."""
+    """A store of a map with the file of its features, by overlay import and the program."""
     source, script, store = place / "plan.geojson", place / "plan.txt", place / "plan.db"
     source.write_text(json.dumps({"type": "FeatureCollection", "features": found}))
     told, factor = io.StringIO(), [] if "--factor" in words else ["--factor", "1"]

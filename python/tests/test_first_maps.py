@@ -7,15 +7,14 @@ import os
 import pathlib
 import signal
 import subprocess
-import sys
 import unittest
 import unittest.mock
 import urllib.request
 from typing import Any
 
-from overlayd.commands import first_map
+from overlayd.commands import show as first_map
 from overlayd.files import map_reading, writing
-from .common import TOP, WithProgram, outcome, path
+from .common import OVERLAY, WithProgram, outcome, path
 from .test_feature_files import EAST, ISLE, MAP, WEST, collection, feature
 
 OVER = [[5, 5], [25, 5], [25, 6], [5, 6], [5, 5]]
@@ -88,7 +87,7 @@ class FirstMaps(WithProgram):
         self.made(given)
         status, _, errors = self.made(given.with_suffix(".gpkg"))
         self.assertEqual((status, errors), (
-            2, f"{self.folder}/city.gpkg: no such file; the store of that name is shown by overlay_web.py --store "
+            2, f"{self.folder}/city.gpkg: no such file; the store of that name is shown by overlay serve --store "
                f"{self.folder}/maps/city.overlay/city.db\n"))
 
     def test_a_feature_that_is_refused_is_told_with_file_number_and_name(self) -> None:
@@ -209,7 +208,7 @@ class FirstMaps(WithProgram):
         own = [self.file(f"city.{end}", "my own notes")
                for end in ("txt", "db", "names.csv", "scale.json", "features.json")]
         kept = self.file(".city.geojson.new", "mine")
-        words = [sys.executable, TOP / "overlay", given.name, "--program", self.live, "--only-make"]
+        words = [*OVERLAY, "show", given.name, "--program", self.live, "--only-make"]
         for again in ([], [], ["--again"]):
             done = subprocess.run([str(word) for word in (*words, *again)], cwd=self.folder, capture_output=True,
                                   text=True)
@@ -253,7 +252,7 @@ class FirstMaps(WithProgram):
     def test_what_a_kill_left_is_taken_away_at_the_next_start(self) -> None:
         given, maps = self.file("city.geojson", MAP), self.folder / "maps"
         slow = self.file("slow", "#!/bin/sh\nkill -9 $PPID\n", 0o700)
-        words = [sys.executable, TOP / "overlay", given, "--folder", maps, "--only-make", "--program"]
+        words = [*OVERLAY, "show", given, "--folder", maps, "--only-make", "--program"]
         for times in (1, 2):
             self.assertEqual(subprocess.run([str(word) for word in (*words, slow)], capture_output=True).returncode, -9)
             self.assertEqual([one.name.endswith(".new") for one in maps.iterdir()], [True])
@@ -295,7 +294,7 @@ class FirstMaps(WithProgram):
 
     def test_the_word_starts_a_front_that_ends_by_a_signal(self) -> None:
         given = self.file("city.geojson", MAP)
-        words = [sys.executable, TOP / "overlay", given, "--folder", self.folder, "--program", self.live, "--port", "0"]
+        words = [*OVERLAY, "show", given, "--folder", self.folder, "--program", self.live, "--port", "0"]
         for ending in (signal.SIGTERM, signal.SIGINT):
             with subprocess.Popen([*map(str, words), "--no-browser"], stdout=subprocess.PIPE, stderr=subprocess.DEVNULL,
                                   text=True) as run:

@@ -9,15 +9,14 @@ import pathlib
 import re
 import sqlite3
 import subprocess
-import sys
 import unittest.mock
 from fractions import Fraction
 
-from overlayd.commands import to_geojson, to_script
+from overlayd.commands import export as to_geojson, import_ as to_script
 from overlayd.files import coordinate_systems, gdal_files, geojson_maps, map_reading, writing
 from overlayd.geometry.whole_maps import MapFault
 from overlayd.maps import running
-from .common import SECONDS, SQUARE, InFolder, on_file, outcome, path
+from .common import OVERLAY, SECONDS, SQUARE, InFolder, on_file, outcome, path
 from .test_maps import COUNTIES, area_of_script
 
 FEATURE = '{{"type": "Feature", "properties": {{"n": "{}"}}, "geometry": {{"type": "Polygon", "coordinates": [{}]}}}}'
@@ -87,7 +86,7 @@ class FilesOfGdal(WithGdal):
 
     def test_no_program_of_gdal_is_needed(self) -> None:
         file = self.made("a.gpkg", str(self.file("plan.geojson", FIRST)))
-        call = [sys.executable, path("to_script.py"), str(file), "--factor", "2"]
+        call = [*OVERLAY, "import", str(file), "--factor", "2"]
         done = subprocess.run(call, env={"PATH": str(self.folder)}, capture_output=True, text=True, check=False,
                               timeout=SECONDS)
         self.assertEqual((done.returncode, done.stdout), (0, "PUT a POLYGON ((0 0, 18 0, 0 19, 0 0))\n"), done.stderr)
@@ -223,7 +222,7 @@ class OwnTexts(InFolder):
     def test_a_geopackage_that_a_program_has_in_hand_is_not_replaced(self) -> None:
         for end in ("-wal", "-journal"):
             with self.subTest(end):
-                path, kept = self.folder / "n.gpkg", self.file(f"n.gpkg{end}", b"")
+                kept = self.folder / "n.gpkg", self.file(f"n.gpkg{end}", b"")
                 self.assertIsNone(writing.in_hand(path))
                 kept.write_bytes(b"pages")
                 with self.assertRaisesRegex(gdal_files.GdalFault, f"n.gpkg{end} has changes of it that a program"):

@@ -12,9 +12,9 @@ from typing import Any
 
 import pytest
 
+from overlayd.geometry.plane import Box
 from overlayd.grid import limits
 from overlayd.web.features_api import PAGE
-from overlayd.geometry.plane import Box
 from overlayd.web.views import View
 from . import testing
 from .test_shapes import Place, meets
@@ -46,7 +46,7 @@ def exact_area(polygon: list[list[Place]]) -> Fraction:
 
 
 def put_lines() -> list[str]:
-    """The two outlines of Iceland, as tools/to_script.py wrote them."""
+    """The two outlines of Iceland, as overlay import wrote them."""
     text = (TOP / "python/tests/fixtures/iceland.txt").read_text(encoding="utf-8")
     return [line for line in text.splitlines() if line.startswith("PUT ")]
 

@@ -16,14 +16,13 @@ from unittest import mock
 
 from osgeo import gdal, ogr, osr
 
-from overlayd.commands import overlay_maps
+from overlayd.commands import maps as overlay_maps
 from overlayd.files import gdal_maps, gdal_writing, numpy_maps
 from overlayd.files.spooled import Names
 from overlayd.geometry.whole_maps import MapFault, ReadMap, Told
 from overlayd.maps import running
 from overlayd.store.sessions import Unusable
-from . import common
-from .common import SOURCES, TOP, InFolder, Programs, outcome
+from .common import OVERLAY, SOURCES, TOP, InFolder, Programs, outcome
 
 RING = [(0, 0), (10, 0), (10, 10), (0, 10), (0, 0)]
 HOLE = [(2, 2), (2, 4), (4, 4), (4, 2), (2, 2)]
@@ -141,7 +140,7 @@ class Reading(WithFiles):
 
     def test_one_that_is_beyond_all_doubles_in_units_is_refused_in_one_line(self) -> None:
         path = self.made(f"POLYGON {text_of(RING)}", "POLYGON ((0 0, 1e300 0, 1 1, 0 0))")
-        done = subprocess.run([sys.executable, common.path("overlay_maps.py"), "check", path, "--factor", "10000000000",
+        done = subprocess.run([*OVERLAY, "check", path, "--factor", "10000000000",
                                "--program", "true"], capture_output=True, text=True, timeout=60, check=False)
         self.assertEqual(done.returncode, 2)
         self.assertRegex(done.stderr,
@@ -305,7 +304,7 @@ class Missing(WithFiles):
         words = ["check", self.made(f"POLYGON {text_of(RING)}"), "--factor", "1", "--program", sys.executable]
         for module, package in (("numpy", "python3-numpy"), ("osgeo", "python3-gdal")):
             text = (f"import sys; sys.modules['{module}'] = None; from overlayd import ending; "
-                    "ending.run_module('overlayd.commands.overlay_maps')")
+                    "ending.run_module('overlayd.commands.maps')")
             done = subprocess.run([sys.executable, "-c", text, *words], cwd=TOP, env=SOURCES, capture_output=True,
                                   text=True, check=False)
             self.assertEqual((done.returncode, done.stdout, done.stderr), (

@@ -2,16 +2,16 @@
 
 import json
 import os
-import pathlib
 import subprocess
 import sys
 import unittest.mock
 from typing import Any
 
 from overlayd import ending
-from overlayd.commands import to_geojson, to_rings, to_script, to_svg, which
+from overlayd.cli import PURPOSES
+from overlayd.commands import export as to_geojson, import_ as to_script, rings as to_rings, svg as to_svg, which
 from overlayd.files import writing
-from .common import COMMANDS, SECONDS, SOURCES, SQUARE, TOP, InFolder, on_file, outcome
+from .common import SECONDS, SOURCES, SQUARE, TOP, InFolder, on_file, outcome
 
 RING = [[0, 0], [9, 0], [0, 9], [0, 0]]
 
@@ -87,30 +87,29 @@ class WholeFiles(InFolder):
 class Unforeseen(InFolder):
     """Each tool, with a part of it that raises what none of them foresees."""
 
-    def call(self, tool: pathlib.Path, *options: str) -> subprocess.CompletedProcess[str]:
-        code = ("import argparse, runpy, sys\n"
+    def call(self, name: str, *options: str) -> subprocess.CompletedProcess[str]:
+        code = ("import argparse, sys\n"
                 "def broken(*_): raise KeyError('odd\\nthing')\n"
                 "argparse.ArgumentParser.parse_args = broken\n"
-                f"sys.argv = [{str(tool)!r}]\n"
-                f"runpy.run_path({str(tool)!r}, run_name='__main__')\n")
+                "from overlayd import cli\n"
+                f"cli.main(args=[{name!r}])\n")
         return subprocess.run([sys.executable, *options, "-c", code], cwd=TOP, env=SOURCES, capture_output=True,
                               text=True, check=False, timeout=SECONDS)
 
     def test_one_line_and_status_1(self) -> None:
-        self.assertGreater(len(COMMANDS), 6)
-        for tool in COMMANDS:
-            done = self.call(tool)
-            self.assertEqual((done.returncode, done.stdout), (1, ""), tool.name)
-            self.assertEqual(done.stderr, f"{tool.name}: KeyError: 'odd\\nthing' (<string>, line 2): a defect of this "
-                                          "tool; python3 -X dev shows more\n")
-        self.assertIn("Traceback", self.call(COMMANDS[0], "-X", "dev").stderr)
+        for name in PURPOSES:
+            done = self.call(name)
+            self.assertEqual((done.returncode, done.stdout), (1, ""), name)
+            self.assertRegex(done.stderr, rf"^overlay( {name})?: KeyError: 'odd\\nthing' \(<string>, line 2\): a "
+                                          r"defect of this tool; python3 -X dev shows more\n$")
+        self.assertIn("Traceback", self.call("which", "-X", "dev").stderr)
 
     def test_a_tool_that_is_stopped_while_it_is_imported(self) -> None:
-        code = ("import importlib, runpy, sys\n"
+        code = ("import importlib\n"
+                "from overlayd import cli\n"
                 "def stopped(name): raise KeyboardInterrupt\n"
                 "importlib.import_module = stopped\n"
-                "sys.argv = ['tools/which.py']\n"
-                "runpy.run_path('tools/which.py', run_name='__main__')\n")
+                "cli.main(args=['which'])\n")
         done = subprocess.run([sys.executable, "-c", code], cwd=TOP, env=SOURCES, capture_output=True, text=True,
                               check=False, timeout=SECONDS)
         self.assertEqual((done.returncode, done.stdout, done.stderr), (ending.INTERRUPTED, "", ""))

@@ -1,15 +1,14 @@
-"""Tests of overlay_maps.py check, as a user runs it, over maps of which a box says little: a feature with more points
+"""Tests of overlay check, as a user runs it, over maps of which a box says little: a feature with more points
 than a cell of gaps may have, and more features over one place than the program has layers."""
 
 import csv
 import math
 import random
 import subprocess
-import sys
 import time
 from typing import Any
 
-from .common import TOOLS, Programs
+from .common import OVERLAY, Programs
 from .test_map_words import WithMaps, square
 
 ENDS = 300  # seconds, on a busy machine too: before it was mended the first of these took hours
@@ -28,7 +27,7 @@ class Checks(WithMaps):
     def checked(self, *words: object) -> tuple[int, list[list[str]], str]:
         """The status, the rows of the table and what is reported, by the command; it ends in time."""
         begin = time.monotonic()
-        done = subprocess.run([sys.executable, TOOLS / "overlay_maps.py", "check", *map(str, words), "--a-id", "nr",
+        done = subprocess.run([*OVERLAY, "check", *map(str, words), "--a-id", "nr",
                                "--program", str(Programs.live)], capture_output=True, text=True, timeout=4 * ENDS,
                               check=False)
         self.assertLess(time.monotonic() - begin, ENDS)

@@ -8,7 +8,7 @@ from .common import TOP
 
 SOURCES = TOP / "python/src/overlayd"
 ORDER = ("ending", "progress", "program", "grid", "geometry", "grid_pass", "kernel", "files", "store", "maps", "web",
-         "commands")
+         "commands", "cli", "__main__")
 
 
 def imports(path: pathlib.Path) -> set[str]:

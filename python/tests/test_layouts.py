@@ -1,4 +1,4 @@
-"""Tests of to_script.py's ways for large maps: fitting, splitting, union, coding, several stores."""
+"""Tests of overlay import's ways for large maps: fitting, splitting, union, coding, several stores."""
 
 import collections
 import csv
@@ -11,7 +11,7 @@ import unittest.mock
 from fractions import Fraction
 from typing import Any
 
-from overlayd.commands import to_script
+from overlayd.commands import import_ as to_script
 from overlayd.files import rounding
 from overlayd.grid import limits
 from overlayd.store import layering

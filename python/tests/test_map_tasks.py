@@ -15,10 +15,10 @@ import unittest
 from unittest import mock
 
 from overlayd import progress
-from overlayd.commands import overlay_maps
+from overlayd.commands import maps as overlay_maps
 from overlayd.maps import dask_engine, engines, large_tables, planning, tasks, windows
 from overlayd.maps.tasks import FolderFault, TaskFolder
-from .common import SECONDS, SOURCES, TOOLS, TOP, InFolder, Programs, outcome
+from .common import OVERLAY, SECONDS, SOURCES, TOP, InFolder, Programs, outcome
 from .map_works import Refusing, Reversing
 
 NAMES = [f"task {number}".encode() for number in range(12)]
@@ -370,7 +370,7 @@ class OverTool(InTasks):
 
     @unittest.skipUnless(HAS_DASK, "python3-distributed is not installed")
     def test_dask_has_the_same_table(self) -> None:
-        words = [sys.executable, TOOLS / "overlay_maps.py", "pairs", self.folder / "a.geojson",
+        words = [*OVERLAY, "pairs", self.folder / "a.geojson",
                  self.folder / "b.geojson", "--factor", "1", "--program", Programs.live, "--jobs", "2", "--dask"]
         run = subprocess.run(words, capture_output=True, text=True, timeout=2 * WAIT, check=False)
         self.assertEqual((run.returncode, run.stdout), (0, self.table("--jobs", 1)[1]), run.stderr)
@@ -380,7 +380,7 @@ class OverTool(InTasks):
         count = TaskFolder(self.work / "1").count()
         self.assertEqual(status, 0)
         self.assertIn(f"{count} of {count} tasks are left", told)
-        words = [sys.executable, TOOLS / "overlay_maps.py", "task", self.work / "1", "--program", Programs.live]
+        words = [*OVERLAY, "task", self.work / "1", "--program", Programs.live]
         numbers = "".join(f"{number}\n" for number in range(count))
         subprocess.run(["xargs", "-P", "2", "-n", "7", *words], input=numbers, text=True, check=True, timeout=SECONDS)
         self.assertEqual(self.table("--jobs", 0, "--work", self.work)[1], self.table("--jobs", 1)[1])

@@ -10,7 +10,7 @@ import unittest
 from typing import Any
 from unittest import mock
 
-from overlayd.commands import overlay_maps
+from overlayd.commands import maps as overlay_maps
 from overlayd.files import writing
 from overlayd.maps import boundaries, doing, exact_area
 from .common import InFolder, Programs, outcome
@@ -80,7 +80,7 @@ class Tables(WithMaps):
         a, b = self.map("a", {"P": square(0, 0, 10)}), self.map("b", {"Z": square(5, 0, 10), "Y": square(5, 5, 10)})
         pieces = self.folder / "pieces.geojson"
         names = ("--a-id", "nr", "--b-id", "nr")
-        status, rows, errors = self.asked("overlay", a, b, "--factor", 1, *names, "--pieces", pieces)
+        status, rows, errors = self.asked("pieces", a, b, "--factor", 1, *names, "--pieces", pieces)
         self.assertEqual(rows[1:], [["", "Y", "75", "1.875", "alone"], ["P", "", "50", "1.667", "alone"],
                                     ["", "Z", "50", "1.667", "alone"], ["P", "Z", "50", "1.667", "overlaps"],
                                     ["P", "Y", "25", "1.25", "overlaps"]])
@@ -128,7 +128,7 @@ class Tables(WithMaps):
     def test_a_wrong_answer_fails_the_audit(self) -> None:
         a, b = self.map("a", {"P": square(0, 0, 10)}), self.map("b", {"Z": square(5, 0, 10)})
         with mock.patch.object(boundaries, "twice_area", lambda ring: (99, 1)):
-            status, _, errors = self.asked("overlay", a, b, "--factor", 1, "--a-id", "nr", "--b-id", "nr")
+            status, _, errors = self.asked("pieces", a, b, "--factor", 1, "--a-id", "nr", "--b-id", "nr")
             self.assertIn("audit: 1 features of a are NOT the sum of their parts: P\n", errors)
             self.assertEqual(status, 1)
 
@@ -136,7 +136,7 @@ class Tables(WithMaps):
         a = self.map("a", {"P": [[0, 0], [9, 1], [3, 8], [0, 0]], "Q": square(10, 10, 3)})
         b = self.map("b", {"Z": [[1, 0], [10, 5], [0, 7], [1, 0]]})
         with mock.patch.object(exact_area, "BITS_MAX", 8):
-            status, rows, errors = self.asked("overlay", a, b, "--factor", 1, "--a-id", "nr", "--b-id", "nr")
+            status, rows, errors = self.asked("pieces", a, b, "--factor", 1, "--a-id", "nr", "--b-id", "nr")
         self.assertIn("audit: 1 features of a are of more than 10000 steps that cross, or crossings, and not audited: "
                       "P\n", errors)
         self.assertIn("audit: 1 of 2 features of a are exactly the sum of their parts\n", errors)
@@ -146,7 +146,7 @@ class Tables(WithMaps):
         ring = square(2, 2, 5)[:-1]
         turned = [ring[at % 4 :] + ring[: at % 4] for at in range(20)]
         b = self.map("b", {f"Z{at}": [*own, own[0]] for at, own in enumerate(turned)})
-        status, rows, errors = self.asked("overlay", self.map("a", {"P": square(0, 0, 10)}), b, "--factor", 1)
+        status, rows, errors = self.asked("pieces", self.map("a", {"P": square(0, 0, 10)}), b, "--factor", 1)
         self.assertEqual([row[2] for row in rows if row[4] == "alone"], ["75"])
         self.assertIn("audit: 1 features of a are under more than 10000 sets of others, and not audited: 1\n", errors)
         self.assertIn("audit: 20 of 20 features of b are exactly the sum of their parts\n", errors)
@@ -154,7 +154,7 @@ class Tables(WithMaps):
 
     def test_features_that_lie_deep(self) -> None:
         b = self.map("b", {f"Z{at}": square(2, 2, 5 + at) for at in range(20)})
-        status, rows, errors = self.asked("overlay", self.map("a", {"P": square(0, 0, 10)}), b, "--factor", 1)
+        status, rows, errors = self.asked("pieces", self.map("a", {"P": square(0, 0, 10)}), b, "--factor", 1)
         self.assertEqual((status, [row[2] for row in rows if row[:2] == ["1", ""]]), (0, ["36"]), errors)
 
     def test_an_island_in_a_hole_and_cells(self) -> None:

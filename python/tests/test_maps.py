@@ -1,4 +1,4 @@
-"""Tests on two real maps: in by to_script.py, through a store, and out again, with the program."""
+"""Tests on two real maps: in by overlay import, through a store, and out again, with the program."""
 
 import csv
 import json
@@ -9,10 +9,10 @@ from decimal import Decimal
 from fractions import Fraction
 from typing import Any
 
-from overlayd.commands import to_geojson, to_rings, to_script, which
+from overlayd.commands import export as to_geojson, import_ as to_script, rings as to_rings, which
 from overlayd.geometry import wkt
-from overlayd.geometry.rings import polygons_of
 from overlayd.geometry.plane import turn
+from overlayd.geometry.rings import polygons_of
 from overlayd.store import sessions
 from .common import WithProgram, outcome, path
 from .plain import OPERATIONS, area_twice, below, on, overlay, segments_of
@@ -43,7 +43,7 @@ class RoundTrips(WithProgram):
         return self.store("map.db", script.read_bytes())
 
     def features(self, store: pathlib.Path, *words: object) -> dict[str, Any]:
-        """The features that to_geojson.py writes of a store, by layer, and the file in map.geojson."""
+        """The features that overlay export writes of a store, by layer, and the file in map.geojson."""
         found = [outcome(to_geojson, "--store", store, "--program", program, *words) for program in self.readers()]
         self.assertEqual([one for one in found if one[:2] != found[0][:2] or one[0]], [])
         self.file("map.geojson", found[0][1])

@@ -10,8 +10,8 @@ from typing import Any
 
 from overlayd.geometry import wkt
 from overlayd.geometry.areas import Ring, area_of
-from overlayd.geometry.rings import polygons_of
 from overlayd.geometry.plane import turn
+from overlayd.geometry.rings import polygons_of
 from overlayd.program import Piece, Point as Corner
 from overlayd.store import asking, sessions
 from .common import WithProgram

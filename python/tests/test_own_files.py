@@ -7,10 +7,10 @@ import subprocess
 import sys
 from unittest import mock
 
-from overlayd.commands import overlay_maps
+from overlayd.commands import maps as overlay_maps
 from overlayd.files import gdal_writing
 from overlayd.store import keeping
-from .common import SECONDS, SOURCES, SQUARE, InFolder, Programs, outcome, path
+from .common import OVERLAY, SECONDS, SOURCES, SQUARE, InFolder, Programs, outcome
 
 MINE = "mine\n"
 PLAN = ('{"type": "Feature", "properties": {"name": "plan"}, "geometry": {"type": "Polygon", '
@@ -19,7 +19,7 @@ PLAN = ('{"type": "Feature", "properties": {"name": "plan"}, "geometry": {"type"
 
 class OwnFiles(InFolder):
     def ran(self, tool: str, *words: object) -> tuple[int, str]:
-        done = subprocess.run([sys.executable, path(tool), *map(str, words)], capture_output=True, text=True,
+        done = subprocess.run([*OVERLAY, tool, *map(str, words)], capture_output=True, text=True,
                               timeout=SECONDS, check=False)
         return done.returncode, done.stderr
 
@@ -27,13 +27,13 @@ class OwnFiles(InFolder):
         source = self.file("plan.geojson", PLAN)
         for end in keeping.ENDS:
             mine = self.file(f"out{end}", MINE)
-            status, told = self.ran("to_script.py", source, "--coded", "--output", self.folder / "out.txt")
+            status, told = self.ran("import", source, "--coded", "--output", self.folder / "out.txt")
             self.assertEqual((status, mine.read_text()), (2, MINE), told)
             self.assertIn(f"--output: {mine} stands, and is no file of this tool's", told)
             self.assertFalse((self.folder / "out.txt").exists())
             mine.unlink()
         for _ in range(2):  # what it has written itself it replaces
-            self.assertEqual(self.ran("to_script.py", source, "--coded", "--output", self.folder / "out.txt")[0], 0)
+            self.assertEqual(self.ran("import", source, "--coded", "--output", self.folder / "out.txt")[0], 0)
             self.assertEqual([end for end in keeping.ENDS if not (self.folder / f"out{end}").is_file()], [])
 
     def test_names_and_a_scale_that_the_user_has_edited(self) -> None:
@@ -43,28 +43,28 @@ class OwnFiles(InFolder):
                                                                   (".scale.json",
                                                                    ('"factor"', '"title": "Mine", "factor"')))}
         for mine, edit in made.items():
-            self.assertEqual(self.ran("to_script.py", source, "--coded", "--output", output)[0], 0)
-            self.assertEqual(self.ran("to_script.py", source, "--coded", "--output", output)[0], 0)
+            self.assertEqual(self.ran("import", source, "--coded", "--output", output)[0], 0)
+            self.assertEqual(self.ran("import", source, "--coded", "--output", output)[0], 0)
             output.unlink()
             # The same are no loss.
-            self.assertEqual(self.ran("to_script.py", source, "--coded", "--output", output)[0], 0)
+            self.assertEqual(self.ran("import", source, "--coded", "--output", output)[0], 0)
             output.unlink()
             edited = mine.read_text().replace(*edit)
             mine.write_text(edited)
-            status, told = self.ran("to_script.py", source, "--coded", "--output", output)
+            status, told = self.ran("import", source, "--coded", "--output", output)
             self.assertEqual((status, mine.read_text() == edited, output.exists()), (2, True, False), told)
             self.assertIn(
                 f"--output: {mine} stands, would be written otherwise, and belongs to no script, as {output} is not "
                 "there as one: it was not named, and is not written over; take another name, or move it away",
                 told)
             output.write_text("PUT plan POLYGON ((0 0, 1 0, 1 1, 0 0))\n")
-            self.assertEqual(self.ran("to_script.py", source, "--coded", "--output", output)[0], 0)
+            self.assertEqual(self.ran("import", source, "--coded", "--output", output)[0], 0)
             self.assertNotEqual(mine.read_text(), edited)
             output.unlink()
 
     def test_a_scale_that_is_given_may_have_the_name_of_the_output(self) -> None:
         source, given = self.file("plan.wkt", SQUARE), self.file("out.scale.json", '{"title": "out", "factor": 10}')
-        words = "to_script.py", source, "--output", self.folder / "out.txt"
+        words = "import", source, "--output", self.folder / "out.txt"
         self.assertEqual(self.ran(*words)[0], 2)
         status, told = self.ran(*words, "--scale", given)
         self.assertEqual(status, 0, told)
@@ -74,7 +74,7 @@ class OwnFiles(InFolder):
         rings = (", ".join(f"{100 * at + x} {y}" for x, y in [*((x, x % 2) for x in range(41)), (20, 90), (0, 0)])
                  for at in range(900))
         source = self.file("many.wkt", "".join(f"POLYGON (({ring}))\n" for ring in rings))
-        words = "to_script.py", source, "--coded", "--split", "--factor", 1, "--output", self.folder / "out.txt"
+        words = "import", source, "--coded", "--split", "--factor", 1, "--output", self.folder / "out.txt"
         mine = self.file("out.2.txt", MINE)
         status, told = self.ran(*words)
         self.assertEqual((status, mine.read_text(), len(list(self.folder.iterdir()))), (2, MINE, 2), told)
@@ -94,16 +94,16 @@ class OwnFiles(InFolder):
             assert killed.stdout
             killed.stdout.readline()
             (left,) = self.folder.glob(".*.new")
-            self.assertEqual(self.ran("to_script.py", source, "--output", self.folder / "out.txt")[0], 0)
+            self.assertEqual(self.ran("import", source, "--output", self.folder / "out.txt")[0], 0)
             self.assertTrue(left.exists())  # of one that is at work
             killed.send_signal(signal.SIGKILL)
         others = self.file(f".out.txt.{'0' * 32}.{killed.pid}.1.new", MINE)  # of another machine
-        self.assertEqual(self.ran("to_script.py", source, "--output", self.folder / "out.txt")[0], 0)
+        self.assertEqual(self.ran("import", source, "--output", self.folder / "out.txt")[0], 0)
         self.assertEqual(list(self.folder.glob(".*.new")), [others])
 
 
 class OwnPieces(InFolder):
-    """Of `overlay_maps.py overlay --pieces`: two maps of a square each, of which three pieces come."""
+    """Of `overlay pieces --pieces`: two maps of a square each, of which three pieces come."""
 
     def setUp(self) -> None:
         super().setUp()
@@ -118,7 +118,7 @@ class OwnPieces(InFolder):
         words = "--factor", 1, "--program", Programs.live, "--jobs", 1, "--pieces", self.folder / "pieces.gpkg"
         write = functools.partial(gdal_writing.write, part_max=part_max)
         with mock.patch.object(gdal_writing, "write", write):
-            status, _, told = outcome(overlay_maps, "overlay", self.first, self.second, *words)
+            status, _, told = outcome(overlay_maps, "pieces", self.first, self.second, *words)
         return status, told
 
     def names(self) -> set[str]:

@@ -28,7 +28,7 @@ class Pages(WithProgram):
         programs.mkdir()
         for program in filter(None, (Programs.batched, Programs.live)):
             (programs / pathlib.Path(program).name).symlink_to(program)
-        for name in ("tools", "examples", "docs"):
+        for name in ("overlay", "tools", "examples", "docs"):
             (self.folder / name).symlink_to(TOP / name)
         return os.environ | {"PATH": f"{programs}:{os.environ['PATH']}"}
 

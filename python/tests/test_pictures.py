@@ -1,10 +1,10 @@
-"""Tests of to_svg.py."""
+"""Tests of overlay svg."""
 
 import unittest
 import xml.etree.ElementTree
 from fractions import Fraction
 
-from overlayd.commands import to_svg
+from overlayd.commands import svg as to_svg
 from overlayd.grid import limits, scale
 from overlayd.store import sessions
 from .common import SQUARE

@@ -17,7 +17,7 @@ from collections.abc import Iterator, Sequence
 
 import pytest
 
-from overlayd.commands import overlay_web
+from overlayd.commands import serve as overlay_web
 from overlayd.program import Server
 from overlayd.web.features_api import PAGE
 
@@ -33,8 +33,8 @@ def started(*words: str | pathlib.Path, lacking: str = "os.no_module", by: Seque
     interrupt reaches it as from a terminal, also where the tests run in a shell that ignores interrupts."""
     code = (
         "import signal, sys; signal.signal(signal.SIGINT, signal.default_int_handler); "
-        f"sys.argv[0] = 'overlay_web.py'; sys.modules['{lacking}'] = None; "
-        "from overlayd import ending; ending.run_module('overlayd.commands.overlay_web')"
+        f"sys.argv[0] = 'overlay serve'; sys.modules['{lacking}'] = None; "
+        "from overlayd import ending; ending.run_module('overlayd.commands.serve')"
     )
     usual = {"--program": testing.PROGRAM, "--port": "0"}
     missing = [word for option, value in usual.items() if option not in words for word in (option, value)]
@@ -197,7 +197,7 @@ class Processes(unittest.TestCase):
         for module in ("flask", "waitress", "cachetools", "pyproj"):
             told = f"python3-{module} is missing: apt-get install python3-{module}, and run this by /usr/bin/python3"
             run = started("--store", self.store, "--scale", scale, lacking=module)
-            self.assertEqual(self.ended(run), (1, f"overlay_web.py: {told}\n"))
+            self.assertEqual(self.ended(run), (1, f"overlay serve: {told}\n"))
 
     def test_addresses_at_which_nobody_can_listen(self) -> None:
         with socket.create_server(("127.0.0.1", 0)) as other:

@@ -11,7 +11,7 @@ from .test_layouts import geojson, square
 
 class Progresses(InFolder):
     def call(self, before: str = "") -> list[str]:
-        """A call of to_script.py for 300 features, whose bars show at once."""
+        """A call of overlay import for 300 features, whose bars show at once."""
         features = [(f"n{place}", [[square(7 * place, 0, 5)]]) for place in range(300)]
         file, output = self.file("many.geojson", geojson(*features)), self.folder / "many.txt"
         words = [str(file), "--coded", "--output", str(output)]

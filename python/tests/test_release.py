@@ -21,6 +21,7 @@ import unittest.mock
 import urllib.request
 from typing import Any
 
+from overlayd.cli import PURPOSES
 from release import contents, pages
 from release.commands import make
 from release.packing import Entry
@@ -162,7 +163,7 @@ class Versions(unittest.TestCase):
     def test_the_version_is_told_alike_everywhere(self) -> None:
         version, line = make.version_told()
         self.assertEqual(ran("overlay_live", "--version").stdout, f"{line}\n")
-        self.assertIn(f'\nversion = "{version}"\n', (contents.TOP / "python/pyproject.toml").read_text())
+        self.assertEqual(ran("overlay", "--version").stdout, f"overlay, version {version}\n")
         self.assertIn(f'"version": "{version}"', (contents.TOP / "python/src/overlayd/web/openapi.py").read_text())
         self.assertIn(f'"overlay_live {version}"', (contents.TOP / "docs/overlay_live.1").read_text())
         for page in (Built.prefix / contents.PAGES).iterdir():
@@ -228,34 +229,27 @@ class Commits(unittest.TestCase):
 
 
 class Texts(unittest.TestCase):
-    def test_words_to_type_are_those_of_the_release(self) -> None:
-        for given, wanted in (
-            ("    python3 tools/to_geojson.py --store m", "    overlay-to-geojson --store m"),
-            ("tools/which.py tells", "overlay-which tells"), ("`overlay_maps.py task F`", "`overlay-maps task F`"),
-            ("    ./overlay city.geojson", "    overlay city.geojson"),
-            ('(folder / "to_rings.py")', '(folder / "to_rings.py")'),
-            ('"lay them out by to_script.py")', '"lay them out by overlay-to-script")'),
-            ('f"to_geojson.py --store {n}"', 'f"overlay-to-geojson --store {n}"'),
-            ("maps/which.python", "maps/which.python"),
-            ("gdal_to_rings.py", "gdal_to_rings.py"), ("tools/scale.py", "tools/scale.py"),
-        ):
-            self.assertEqual(contents.spelled(given), wanted)
+    def test_the_package_is_byte_for_byte_that_of_the_tests(self) -> None:
+        for folder in (Built.prefix, Built.package):
+            found = {path.relative_to(folder / contents.HOME).as_posix(): path.read_bytes()
+                     for path in (folder / contents.HOME).rglob("*") if path.is_file() and not path.is_symlink()}
+            self.assertEqual(found, {name: (contents.TOP / name).read_bytes() for name in found})
+            self.assertGreater(len(found), 90)
 
-    def test_each_command_tells_its_own_name_and_no_clone(self) -> None:
-        names = "|".join(contents.NAMES)
-        for name in contents.COMMANDS:
-            done = ran(name, "--help")
+    def test_each_subcommand_tells_its_own_name_and_no_clone(self) -> None:
+        for name in PURPOSES:
+            done = ran("overlay", name, "--help")
             self.assertEqual((done.returncode, done.stderr), (0, ""), name)
-            self.assertTrue(done.stdout.startswith(f"usage: {name} "), done.stdout)
-            self.assertIsNone(re.search(rf"\b(?:{names})\.py|\./overlay", done.stdout), name)
+            self.assertTrue(done.stdout.startswith(f"usage: overlay {name} "), done.stdout)
+            self.assertNotIn("./overlay", done.stdout, name)
 
     def test_each_command_has_a_page_and_completion(self) -> None:
-        for name in (*contents.COMMANDS, *contents.PROGRAMS):
+        for name in ("overlay", *(f"overlay-{one}" for one in PURPOSES), *contents.PROGRAMS):
             page = gzip.decompress((Built.prefix / contents.PAGES / f"{name}.1.gz").read_bytes()).decode()
             self.assertIn("\n.SH NAME\n", page)
             self.assertRegex(page, rf"(?m)^{name.replace('-', r'.-')} \\- \S")
-            if name != "overlay_window":
-                self.assertTrue((Built.prefix / pages.COMPLETIONS / name).is_file(), name)
+        for name in ("overlay", "overlayd", "overlay_live"):
+            self.assertTrue((Built.prefix / pages.COMPLETIONS / name).is_file(), name)
 
     def test_pages_are_without_faults(self) -> None:
         if not shutil.which("groff"):
@@ -267,19 +261,22 @@ class Texts(unittest.TestCase):
             lines = [line for line in done.stderr.decode().splitlines() if "can't break line" not in line]
             self.assertEqual((page.name, done.returncode, lines), (page.name, 0, []))
 
-    def test_bash_completes_options_and_questions(self) -> None:
+    def test_bash_completes_options_and_subcommands(self) -> None:
         if not shutil.which("bash"):
             self.skipTest("bash is not there")
         for words, wanted in (
-            ("overlay-which --st", "--store"), ("overlay-maps che", "check"), ("overlay-maps check --ga", "--gaps"),
+            ("overlay which --st", "--store"), ("overlay che", "check"), ("overlay check --ga", "--gaps"),
             ("overlayd --max", "--max-blocks"), ("/opt/bin/overlay_live --re", "--read-only"),
-            ("overlay-to-geojson --fe", "--features"), ("overlay-which map", ""),
-            ("overlay-web --store nothing --wr", "--writable"), ("overlay --on", "--only-make"),
+            ("overlay export --fe", "--features"), ("overlay --ver", "--version"),
+            ("overlay serve --store nothing --wr", "--writable"), ("overlay show --on", "--only-make"),
         ):
             given = words.split()
-            text = (f"source {Built.prefix / pages.COMPLETIONS / 'overlayd'}; COMP_WORDS=({words}); "
-                    f"COMP_CWORD={len(given) - 1}; _overlay; echo \"${{COMPREPLY[*]}}\"")
-            done = subprocess.run(["bash", "-c", text], capture_output=True, text=True, check=True)
+            name = pathlib.Path(given[0]).name
+            function = "_overlay_completion overlay" if name == "overlay" else "_overlay"
+            text = (f"source {Built.prefix / pages.COMPLETIONS / name}; COMP_WORDS=({words}); "
+                    f"COMP_CWORD={len(given) - 1}; {function}; echo \"${{COMPREPLY[*]}}\"")
+            done = subprocess.run(["bash", "-c", text], capture_output=True, text=True, check=True,
+                                  env={**os.environ, "PATH": f"{Built.prefix / 'bin'}:{os.environ['PATH']}"})
             self.assertEqual((words, done.stdout.strip(), done.stderr), (words, wanted, ""))
 
     def test_the_unit_is_one_and_leaves_little_open(self) -> None:
@@ -348,16 +345,15 @@ class Package(unittest.TestCase):
         self.assertEqual(found, {one.relative_to(top).as_posix() for one in top.rglob("*")})
 
     def test_debians_python_runs_it(self) -> None:
-        scripts = [Built.package / "lib/overlayd" / path for path in contents.COMMANDS.values()]
-        for path in scripts:
-            self.assertEqual(path.read_bytes().partition(b"\n")[0], b"#!/usr/bin/python3")
+        command = Built.package / contents.HOME / contents.COMMAND
+        self.assertEqual(command.read_bytes().partition(b"\n")[0], b"#!/usr/bin/python3")
         if not DEBIANS_PYTHON.exists():
             self.skipTest(f"{DEBIANS_PYTHON} is not there")
         asked = "import sys; print(sys.version_info >= (3, 11))"
         done = subprocess.run([DEBIANS_PYTHON, "-c", asked], capture_output=True, text=True, check=True)
         if done.stdout.strip() != "True":
             self.skipTest(f"{DEBIANS_PYTHON} is older than 3.11")
-        self.assertEqual(ran(Built.package / "bin/overlay-which", "--help").returncode, 0)
+        self.assertEqual(ran(Built.package / "bin/overlay", "which", "--help").returncode, 0)
 
 
 class Uses(unittest.TestCase):
@@ -366,19 +362,19 @@ class Uses(unittest.TestCase):
 
     def test_a_first_map_comes_back_with_its_names(self) -> None:
         shutil.copy(MAP, self.folder / "nc.geojson")
-        done = ran("overlay", "nc.geojson", "--only-make", cwd=self.folder)
+        done = ran("overlay", "show", "nc.geojson", "--only-make", cwd=self.folder)
         self.assertEqual(done.returncode, 0, done.stderr)
-        self.assertEqual(ran("overlay-which", "--store", "nc.overlay/nc.db", *RALEIGH, cwd=self.folder).stdout.strip(),
-                         "Wake")
-        done = ran("overlay-to-geojson", "--store", "nc.overlay/nc.db", "--features", cwd=self.folder)
+        told = ran("overlay", "which", "--store", "nc.overlay/nc.db", *RALEIGH, cwd=self.folder).stdout
+        self.assertEqual(told.strip(), "Wake")
+        done = ran("overlay", "export", "--store", "nc.overlay/nc.db", "--features", cwd=self.folder)
         self.assertEqual(len(json.loads(done.stdout)["features"]), 100)
-        done = ran("overlay-maps", "check", "nc.geojson", "--factor", "100000", "--out", "o.csv", cwd=self.folder)
+        done = ran("overlay", "check", "nc.geojson", "--factor", "100000", "--out", "o.csv", cwd=self.folder)
         self.assertEqual(done.returncode, 0, done.stderr)
 
     def test_the_front_serves_it_and_ends_in_order(self) -> None:
         shutil.copy(MAP, self.folder / "nc.geojson")
-        self.assertEqual(ran("overlay", "nc.geojson", "--only-make", cwd=self.folder).returncode, 0)
-        words = [Built.prefix / "bin/overlay-web", "--store", "nc.overlay/nc.db", "--port", "0"]
+        self.assertEqual(ran("overlay", "show", "nc.geojson", "--only-make", cwd=self.folder).returncode, 0)
+        words = [Built.prefix / "bin/overlay", "serve", "--store", "nc.overlay/nc.db", "--port", "0"]
         path = f"{pathlib.Path(sys.executable).parent}:/usr/bin:/bin"
         with subprocess.Popen([str(word) for word in words], cwd=self.folder, stdout=subprocess.PIPE, text=True,
                               env={"PATH": path, "PYTHONDONTWRITEBYTECODE": "1"}) as front:

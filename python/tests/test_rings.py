@@ -1,10 +1,10 @@
-"""Tests of to_rings.py: rings of answers of fixtures/, and of answers that a program gives."""
+"""Tests of overlay rings: rings of answers of fixtures/, and of answers that a program gives."""
 
 import pathlib
 import unittest
 from fractions import Fraction
 
-from overlayd.commands import to_rings, to_svg
+from overlayd.commands import rings as to_rings, svg as to_svg
 from overlayd.geometry.rings import polygons_of
 from overlayd.store import sessions
 from .common import TESTS, InFolder, content, outcome

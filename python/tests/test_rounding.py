@@ -1,22 +1,21 @@
 """Tests that one polygon becomes the same whole numbers by every way in: scripts of texts and of files that GDAL reads,
-maps of overlay_maps.py, requests of the front, and the client; and that LOCATE takes its numbers as they do."""
+maps of `overlay pieces`, requests of the front, and the client; and that LOCATE takes its numbers as they do."""
 
 from __future__ import annotations
 
 import json
 import pathlib
 import subprocess
-import sys
 from fractions import Fraction
 from typing import Any
 
 import pytest
 
-from overlayd.commands import to_script, which
+from overlayd.commands import import_ as to_script, which
 from overlayd.files import gdal_files
 from overlayd.program import Server
 from . import testing
-from .common import TOP, outcome
+from .common import OVERLAY, outcome
 from .test_features import Case
 
 pytestmark = pytest.mark.live
@@ -89,7 +88,7 @@ class OnePolygon(Case):
     def test_by_overlay_maps(self) -> None:
         for name, corners in GIVEN.items():
             text = self.file(f"{name}.geojson", feature(corners))
-            words = [sys.executable, str(TOP / "tools/overlay_maps.py"), "overlay", str(text), str(self.package(text)),
+            words = [*OVERLAY, "pieces", str(text), str(self.package(text)),
                      "--factor", "100", "--exact", "--program", testing.PROGRAM]
             done = subprocess.run(words, capture_output=True, text=True, timeout=60, check=False)
             self.assertEqual(done.returncode, 0, done.stderr)

@@ -118,8 +118,8 @@ class Places(InFolder):
             scales.read(self.folder / "absent")
         absent = self.folder / "absent.scale.json"
         for path, told in ((self.file("half.scale.json", '{"factor"'),
-                            "no scale, as to_script.py writes it: Expecting"),
-                           (self.file("list.scale.json", "[]"), "no scale, as to_script.py writes it: no object"),
+                            "no scale, as overlay import writes it: Expecting"),
+                           (self.file("list.scale.json", "[]"), "no scale, as overlay import writes it: no object"),
                            (absent, "No such file or directory")):
             with self.assertRaises(scales.ScaleFault) as fault:
                 scales.read(path)

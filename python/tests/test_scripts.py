@@ -1,10 +1,10 @@
-"""Tests of to_script.py without its further ways: rounding, what is refused, and names."""
+"""Tests of overlay import without its further ways: rounding, what is refused, and names."""
 
 import re
 import unittest
 import unittest.mock
 
-from overlayd.commands import to_script
+from overlayd.commands import import_ as to_script
 from .common import SQUARE, content, on_file, outcome, path
 
 

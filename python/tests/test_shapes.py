@@ -8,10 +8,10 @@ import unittest
 from decimal import ROUND_HALF_EVEN, Decimal
 from fractions import Fraction
 
+from overlayd.geometry.plane import Box
 from overlayd.grid import limits, scale as scales
 from overlayd.web import map_scale, shapes
 from overlayd.web.map_scale import exact, rounded
-from overlayd.geometry.plane import Box
 from overlayd.web.shapes import Feature, text_of
 from . import testing
 

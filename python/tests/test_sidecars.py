@@ -4,7 +4,7 @@ import json
 import pathlib
 from typing import Any
 
-from overlayd.commands import dump_store, to_geojson, to_rings, to_script, which
+from overlayd.commands import dump as dump_store, export as to_geojson, import_ as to_script, rings as to_rings, which
 from .common import SQUARE, InFolder, WithProgram, outcome, path
 from .test_layouts import geojson, square
 

@@ -1,6 +1,8 @@
 """Tests of the tools over a script that a program is asked for, and over stores."""
 
+import contextlib
 import fcntl
+import io
 import json
 import pathlib
 import unittest
@@ -8,7 +10,9 @@ import unittest.mock
 import xml.etree.ElementTree
 from types import ModuleType
 
-from overlayd.commands import dump_store, to_geojson, to_rings, to_script, to_svg, which
+from overlayd.commands import (
+    dump as dump_store, export as to_geojson, import_ as to_script, rings as to_rings, svg as to_svg, which,
+)
 from overlayd.store import asking, sessions
 from .common import SQUARE, InFolder, WithProgram, content, outcome
 
@@ -239,8 +243,8 @@ class OverStores(WithProgram):
     def test_a_store_in_the_place_of_a_map(self) -> None:
         store = self.store("map.db", CUT)
         self.assertEqual(outcome(to_script, store),
-                         (2, "", f"{store}: a store, and no map; its layers as a script: dump_store.py {store}, as "
-                                 f"GeoJSON: to_geojson.py --store {store}\n"))
+                         (2, "", f"{store}: a store, and no map; its layers as a script: overlay dump {store}, as "
+                                 f"GeoJSON: overlay export --store {store}\n"))
 
     def test_no_program(self) -> None:
         script = self.file("plan.txt", CUT)
@@ -300,13 +304,25 @@ class ProgramsThatAreFound(InFolder):
             with self.assertRaisesRegex(sessions.Unusable,
                                         "neither overlay_live nor overlayd is built in .*; say --program"):
                 asking.found_program((asking.LIVE, asking.BATCHED))
-            builder = top / "python/lab/overlayd_lab/unproved.py"
+            builder = top / asking.BUILDER
             builder.parent.mkdir(parents=True)
             builder.touch()
             with self.assertRaisesRegex(sessions.Unusable,
-                                        "overlay_live is neither built in .* nor on the path; build it there"
-                                        " by `.* crates/overlay_live/src ./overlay_live`, or say --program PATH"):
+                                        "overlay_live is neither built in .* nor on the path; say --program PATH"):
                 asking.found_program((asking.LIVE,))
+            kit = path / "rt"
+            kit.touch(0o700)
+            builder.write_text("import pathlib, sys\npathlib.Path(sys.argv[-1]).write_text(' '.join(sys.argv[1:3]))\n")
+            told = self.enterContext(contextlib.redirect_stderr(io.StringIO()))
+            built = asking.found_program((asking.LIVE,))
+            self.assertEqual((built, pathlib.Path(built).read_text()),
+                             (str(top / "overlay_live"), f"--unchecked {top}/crates/overlay_live/src"))
+            self.assertTrue(told.getvalue().startswith("overlay_live is not built yet: it is now, unproved, "))
+            pathlib.Path(built).unlink()
+            builder.write_text("import sys\nsys.exit('line\\nno room')\n")
+            with self.assertRaisesRegex(sessions.Unusable, "^overlay_live cannot be built: no room$"):
+                asking.found_program((asking.LIVE,))
+            self.assertEqual([one.name for one in top.glob(".built-*")], [])
 
 
 class OfAnswers(InFolder):
@@ -320,7 +336,7 @@ class OfAnswers(InFolder):
 
     def test_tables_that_are_none(self) -> None:
         for text in ("a,b\n1,2\n", "store,number,name\n1,x,y\n", "store,number,name\n1\n", "\xff"):
-            with self.assertRaisesRegex(sessions.Unusable, "expected is NAME.names.csv of to_script.py --coded"):
+            with self.assertRaisesRegex(sessions.Unusable, "expected is NAME.names.csv of overlay import --coded"):
                 which.read_table(self.file("names.csv", text.encode("latin-1") + b"\n"))
         with self.assertRaisesRegex(sessions.Unusable, "^/absent/names.csv: No such file or directory$"):
             which.read_table(pathlib.Path("/absent/names.csv"))

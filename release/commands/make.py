@@ -80,9 +80,8 @@ def release_files(programs: pathlib.Path | None, seconds: int) -> tuple[list[Ent
         folder = pathlib.Path(made)
         contents.written(found, folder)
         check_program(folder / "bin/overlay_live", line)
-        helps = pages.helps_of(folder)
-    found += [*pages.manual_pages(TOP, helps, version, seconds), *contents.printed()]
-    return [*found, *pages.completions(TOP, helps)], version
+        helps, completions = pages.helps_of(folder), pages.completions(TOP, folder)
+    return [*found, *pages.manual_pages(TOP, helps, version, seconds), *contents.printed(), *completions], version
 
 
 def archives(programs: pathlib.Path | None, seconds: int, maintainer: str) -> dict[str, bytes]:

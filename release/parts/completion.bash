@@ -1,4 +1,4 @@
-# Completion for bash of overlayd, overlay_live and the commands beside them.
+# Completion for bash of overlayd and overlay_live.
 
 _overlay_words() {
     case ${1##*/} in
@@ -6,15 +6,13 @@ CASES
     esac
 }
 
-# Options where one is begun, questions in the first place, files else.
+# Options where one is begun, files else.
 _overlay() {
     local word=${COMP_WORDS[COMP_CWORD]} words
     words=$(_overlay_words "${COMP_WORDS[0]}")
     COMPREPLY=()
     if [[ $word == -* ]]; then
         mapfile -t COMPREPLY < <(compgen -W "$words" -- "$word")
-    elif [[ $COMP_CWORD == 1 ]]; then
-        mapfile -t COMPREPLY < <(compgen -W "$words" -X '-*' -- "$word")
     fi
 }
 

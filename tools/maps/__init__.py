@@ -1,1 +1,1 @@
-"""Overlay of maps of any size: the modules of overlay_maps.py."""
+"""Overlay of maps of any size: the modules of overlay pairs, pieces and check."""

@@ -1,6 +1,6 @@
 """Has the tasks of a question done as the words of the call say, and gives what they found in their order.
 
-    --jobs N        N processes of this machine; 0 only writes the tasks, which `overlay_maps.py task FOLDER N..` does
+    --jobs N        N processes of this machine; 0 only writes the tasks, which `overlay task FOLDER N..` does
     --dask [AT]     workers of Dask
     --work FOLDER   tasks and results stay there, and the same call goes on with them
     --window PATH   overlay_window, which draws features in; --no-window has Python do it

@@ -65,7 +65,7 @@ def only_planned(work: Work, folder: TaskFolder, numbers: Iterable[int]) -> Iter
     """By somebody else: that the tasks are written is reported, and the run ends."""
     left = len(list(numbers))
     if left:
-        raise TasksLeft(f"{left} of {folder.count()} tasks are left in {folder.path}: do them by `overlay_maps.py task "
+        raise TasksLeft(f"{left} of {folder.count()} tasks are left in {folder.path}: do them by `overlay task "
                         f"{folder.path} N..`, numbers from 0, and then say the same again")
     yield from ()
 

@@ -113,7 +113,7 @@ def found(program: str) -> str | None:
     """overlay_window beside a program, else where the gate builds it, at the top, or on the path; or nothing."""
     with contextlib.suppress(Unusable):
         beside = Path(program).with_name(WINDOW)
-        return str(beside) if beside.is_file() else asking.found_program((WINDOW,))
+        return str(beside) if beside.is_file() else asking.program_there((WINDOW,))
     return None
 
 

@@ -71,7 +71,7 @@ def iceland(folder: pathlib.Path, program: str) -> pathlib.Path:
     """A store with Iceland at two scales, what both have, and what one of them has; its sidecar stands beside it."""
     files = [str(TOP / f"tools/data/iceland_{scale}.geojson") for scale in ("110m", "50m")]
     scaling = ["--factor", "42262", "--factor-y", "100000", "--origin", "-19", "65"]
-    words = [sys.executable, str(TOP / "tools/to_script.py"), *files, *scaling]
+    words = [sys.executable, str(TOP / "overlay"), "import", *files, *scaling]
     script = subprocess.run(words, capture_output=True, text=True, check=True).stdout
     lines = script.splitlines() + [f"DEFINE {name} = {text}" for name, text in DEFINITIONS.items()]
     store = folder / "map.db"
@@ -86,7 +86,7 @@ def iceland(folder: pathlib.Path, program: str) -> pathlib.Path:
 def front(*words: str | os.PathLike[str], program: str, python: str = DEBIAN_PYTHON) -> Iterator[str]:
     """The address of a front that runs until the end of the block, and then has to end with 0."""
     given = ["--port", "0", "--program", program, *words]
-    run = subprocess.Popen([python, TOP / "web/overlay_web.py", *given], stdout=subprocess.PIPE, text=True)
+    run = subprocess.Popen([python, TOP / "overlay", "serve", *given], stdout=subprocess.PIPE, text=True)
     assert run.stdout
     try:
         address = run.stdout.readline().strip()

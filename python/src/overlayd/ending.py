@@ -1,7 +1,5 @@
 """Ends a tool: with one line where something went wrong that it does not foresee, or standard output cannot be written;
 quietly where the reader of it went away, or who called it has stopped it.
-
-A module for the tools; it is no tool of its own.
 """
 
 import contextlib

@@ -2,8 +2,6 @@
 
 Elsewhere, and of work that takes less than a second, nothing is said; `OfTasks`, of runs that may take hours, has lines
 for a file too.
-
-A module for the tools; it is no tool of its own.
 """
 
 import time

@@ -1,4 +1,4 @@
-"""How long do the overlaps of two maps take, and what are they: overlay_maps.py beside shapely, geopandas and PostGIS?
+"""How long do the overlaps of two maps take, and what are they: `overlay pairs` beside shapely, geopandas and PostGIS?
 
 /usr/bin/python3 -m overlayd_lab.measures.map_peers LIVE [--parcels N] [--zones N] [--lattice] [--folder
 FOLDER] [--only PEER]..
@@ -101,7 +101,7 @@ def read_table(path: pathlib.Path) -> Table:
 
 
 def ours(live: str, folder: pathlib.Path, table: pathlib.Path) -> Run:
-    words = [PYTHON, str(TOP / "tools" / "overlay_maps.py"), "pairs", str(folder / "parcels.gpkg"),
+    words = [PYTHON, str(TOP / "overlay"), "pairs", str(folder / "parcels.gpkg"),
              str(folder / "zones.gpkg"), "--factor", "1000", "--a-id", "parcel", "--b-id", "zone", "--jobs", "1",
              "--out", str(table), "--program", live]
     return timed(words, table)

@@ -1,13 +1,13 @@
-"""How long does overlay_maps take for two maps like a land register's, and how much memory do all its processes take?
+"""How long does `overlay pairs` take for two maps like a land register's, and how much memory do its processes take?
 
     /usr/bin/python3 -m overlayd_lab.measures.map_size LIVE [--parcels N] [--zones N] [--jobs N] [--maps FOLDER]
         [-- WORD..]
 
 LIVE is the built overlay_live; overlay_window is taken where it stands beside it. The maps are made by
-../map_making.py, or stand in --maps; words after -- go to overlay_maps.py. It prints seconds of processors of the run
-and all that it began, seconds by the clock, and the most memory that the run and all processes below it had together at
-one time: the sum of PSS of /proc/PROCESS/smaps_rollup, in which a page that several have counts once, looked at some
-times a second. Status 1: the run fails, or takes more than --seconds or --megabytes.
+../map_making.py, or stand in --maps; words after -- go to `overlay pairs`. It prints seconds of
+processors of the run and all that it began, seconds by the clock, and the most memory that the run and all processes
+below it had together at one time: the sum of PSS of /proc/PROCESS/smaps_rollup, in which a page that several have
+counts once, looked at some times a second. Status 1: the run fails, or takes more than --seconds or --megabytes.
 """
 
 import contextlib
@@ -22,7 +22,7 @@ from overlayd_lab import LAB, TOP
 from overlayd_lab.counting import Words
 from overlayd_lab.processor_time import processor
 
-PYTHON, TOOL, MAKING = "/usr/bin/python3", TOP / "tools" / "overlay_maps.py", LAB / "map_making.py"
+PYTHON, TOOL, MAKING = "/usr/bin/python3", TOP / "overlay", LAB / "map_making.py"
 EACH = 0.25  # seconds between two looks
 
 

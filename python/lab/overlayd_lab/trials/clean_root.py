@@ -35,7 +35,7 @@ SHARED = 'mount -t tmpfs -o mode=1777 tmpfs "$0/dev/shm" && exec chroot "$@"'
 Done = subprocess.CompletedProcess[str]
 SERVED = """
 import json, subprocess, urllib.request
-words = ["overlay-web", "--store", "nc.overlay/nc.db", "--port", "0"]
+words = ["overlay", "serve", "--store", "nc.overlay/nc.db", "--port", "0"]
 front = subprocess.Popen(words, stdout=subprocess.PIPE, text=True)
 address = front.stdout.readline().strip()
 with urllib.request.urlopen(address + "collections/nc/items?limit=1000") as answer:
@@ -107,11 +107,11 @@ def try_uses(tries: Tries, root: Root, how: str, path: str) -> None:
 
     done = ran("overlay", "nc.geojson", "--only-make")
     tries.that(done.returncode == 0, f"{how}: a first map: {done.stderr.strip().splitlines()[-1:]}")
-    done = ran("overlay-which", "--store", "nc.overlay/nc.db", "-78.64", "35.77")
+    done = ran("overlay", "which", "--store", "nc.overlay/nc.db", "-78.64", "35.77")
     tries.that(done.stdout == "Wake\n", f"{how}: Raleigh is in Wake")
-    written = ran("overlay-to-geojson", "--store", "nc.overlay/nc.db", "--features").stdout
+    written = ran("overlay", "export", "--store", "nc.overlay/nc.db", "--features").stdout
     tries.that(written and len(json.loads(written)["features"]) == 100, f"{how}: 100 features come back")
-    done = ran("overlay-maps", "check", "nc.geojson", "--factor", "100000", "--out", "o.csv")
+    done = ran("overlay", "check", "nc.geojson", "--factor", "100000", "--out", "o.csv")
     tries.that(done.returncode == 0 and (place / "o.csv").is_file(), f"{how}: a map of any size is checked")
     done = ran("python3", "-c", SERVED)
     tries.that(done.stdout == "100\n0\n", f"{how}: the front serves 100 features and ends with 0 {done.stderr.strip()}")
@@ -132,10 +132,11 @@ def try_package(tries: Tries, root: Root, package: pathlib.Path) -> None:
     tries.that(told.startswith("Package: overlayd\nStatus: install ok installed\n"), "dpkg says that it is installed")
     told = root.ran("dpkg", "-V", "overlayd").stdout
     tries.that(not told, f"each file is as its sum says {told.strip()}")
-    compiled = root.folder / "usr/lib/overlayd/tools/__pycache__"
+    compiled = root.folder / "usr/lib/overlayd/python/src/overlayd/__pycache__"
     tries.that(compiled.is_dir() and any(compiled.iterdir()), "its modules are compiled")
     try_uses(tries, root, "package", "/usr/bin:/bin")
-    tries.that(root.ran("python3", "-c", "import overlay_client").returncode == 0, "package: Python imports the client")
+    tries.that(root.ran("python3", "-c", "import overlayd.program").returncode == 0,
+               "package: Python imports the client")
     done = root.ran("dpkg", "--purge", "overlayd")
     tries.that(done.returncode == 0 and not done.stderr, f"purged by dpkg {done.stderr.strip()}")
     left = sorted(root.files() ^ before)

@@ -267,7 +267,7 @@ def copy_in_degrees(store: pathlib.Path, folder: pathlib.Path, program: str, key
     """What ogr2ogr makes of the store's features in the store's own system."""
     written, copy = folder / f"{store.stem}.own.geojson", folder / f"{store.stem}.degrees.gpkg"
     words: list[str | pathlib.Path] = ["--store", store, "--features", "--output", written, "--program", program]
-    ran(sys.executable, TOP / "tools/to_geojson.py", *words)
+    ran(sys.executable, TOP / "overlay", "export", *words)
     copy.unlink(missing_ok=True)
     ran("ogr2ogr", "-f", "GPKG", "-t_srs", "OGC:CRS84", copy, written)
     return by_gdal(copy, key)

@@ -1,4 +1,4 @@
-"""Kills workers, programs and runs of overlay_maps.py amid their tasks, by each engine. Is it the same table, is any
+"""Kills workers, programs and runs of `overlay pairs` amid their tasks, by each engine. Is it the same table, is any
 process left?
 
     /usr/bin/python3 -m overlayd_lab.trials.map_engines LIVE [--parcels N] [--zones N] [--times N] [--only CASE]..
@@ -30,7 +30,7 @@ from dataclasses import dataclass, field
 from overlayd_lab import LAB, TOP
 from overlayd_lab.counting import Words
 
-PYTHON, TOOL = "/usr/bin/python3", TOP / "tools" / "overlay_maps.py"
+PYTHON, TOOL = "/usr/bin/python3", TOP / "overlay"
 DONE_BEFORE = 3  # tasks, when something is killed
 SECONDS = 300
 

@@ -103,7 +103,7 @@ def try_changes(tries: Tries, folder: pathlib.Path, program: str, chance: random
     web_front.first_map(SOURCE, folder, program)
     store, changes, done, kills = folder / f"{SOURCE.stem}.overlay/{SOURCE.stem}.db", None, 0, 0
     while done < count:
-        words = [web_front.DEBIAN_PYTHON, TOP / "web/overlay_web.py", "--store", store, "--writable", "--port", "0",
+        words = [web_front.DEBIAN_PYTHON, TOP / "overlay", "serve", "--store", store, "--writable", "--port", "0",
                  "--program", program]
         with subprocess.Popen([str(word) for word in words], stdout=subprocess.PIPE, text=True) as front:
             assert front.stdout

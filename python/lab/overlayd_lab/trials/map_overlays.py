@@ -1,4 +1,4 @@
-"""Overlays random maps by the steps of tools/overlay_maps.py, judges each answer by slabs of
+"""Overlays random maps by the steps of overlay pairs, pieces and check, judges each answer by slabs of
 fractions, and plants faults.
 
     python3 -m overlayd_lab.trials.map_overlays LIVE [--answers N] [--seed S] [--window PATH]

@@ -1,7 +1,5 @@
 """Parses the words that a command is called with, as argparse does; but an option of one value that
 is given twice is refused.
-
-A module for the commands of tools/ and web/; it is no tool of its own.
 """
 
 import argparse

@@ -1,12 +1,12 @@
 """Says which layers, or which features of coded layers, have a point.
 
-    tools/which.py --store map.db 7 7
-    tools/which.py --store nc.db -78.64 35.77
-    tools/which.py --store nc.db --names nc.names.csv --points points.txt
+    overlay which --store map.db 7 7
+    overlay which --store nc.db -78.64 35.77
+    overlay which --store nc.db --names nc.names.csv --points points.txt
 
 Where NAME.features.json lies beside a store NAME.* of coded layers, the answers of layers b0, b1 .. become the
 names of its features, also where features overlap; it must be of the store. With --names they spell the number of the
-feature in the table that to_script.py --coded wrote. Else, and with --layers, the layers are those that no definition
+feature in the table that overlay import --coded wrote. Else, and with --layers, the layers are those that no definition
 names, and each that has the point is named. --store may be given once for each store of a map, in their order. The
 point is in coordinates of the world where a scale is there, x (longitude) first, and its numbers are read as those of a
 map are: of more digits than a double has the nearest double. Where it cannot be asked exactly, the nearest one that can
@@ -122,7 +122,7 @@ def read_table(path: pathlib.Path) -> dict[int, dict[int, str]]:
     except OSError as fault:
         raise Unusable(ending.told(path, fault)) from fault
     except (csv.Error, KeyError, TypeError, ValueError) as fault:
-        raise Unusable(f"{path}: no table of features: expected is NAME.names.csv of to_script.py --coded, with "
+        raise Unusable(f"{path}: no table of features: expected is NAME.names.csv of overlay import --coded, with "
                        "columns store, number and name, the first two of whole numbers") from fault
     return found
 
@@ -252,7 +252,7 @@ def parser_of() -> argparse.ArgumentParser:
     parser.add_argument("--store", metavar="FILE", type=pathlib.Path, action="append", required=True,
                         help="a store; it is not changed")
     told = parser.add_mutually_exclusive_group()
-    told.add_argument("--names", metavar="FILE", type=pathlib.Path, help="NAME.names.csv of to_script.py --coded")
+    told.add_argument("--names", metavar="FILE", type=pathlib.Path, help="NAME.names.csv of overlay import --coded")
     told.add_argument("--layers", action="store_true", help="name layers, also where features are known")
     parser.add_argument("--points", metavar="FILE", type=pathlib.Path,
                         help="a point on each line; blank lines and # lines are passed over; - is standard input")

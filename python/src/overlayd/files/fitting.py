@@ -1,6 +1,4 @@
 """Proposes a factor and an origin from the box of a map, and says where those that were used do not fit it.
-
-A module for to_script.py; it is no tool of its own.
 """
 
 import math

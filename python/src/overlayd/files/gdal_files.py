@@ -2,8 +2,6 @@
 
 `as_geojson` gives what a file has as GeoJSON whose numbers are the shortest ones that spell the file's doubles, and
 `write` makes a file of GeoJSON.
-
-A module for the tools; it is no tool of its own.
 """
 
 import contextlib

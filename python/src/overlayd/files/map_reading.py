@@ -1,8 +1,6 @@
 """Reads GeoJSON and Well-Known Text into shapes, and gives the names of their coordinates.
 
 GeoJSON is one object, or a feature on each line (GeoJSON text sequences). Other forms are read by gdal_files.py.
-
-A module for to_script.py; it is no tool of its own.
 """
 
 import json

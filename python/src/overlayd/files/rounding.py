@@ -1,6 +1,4 @@
 """Polygons in whole numbers of those in fractions, and what rounding did to them.
-
-A module for to_script.py; it is no tool of its own.
 """
 
 from collections.abc import Callable

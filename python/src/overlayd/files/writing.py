@@ -1,7 +1,5 @@
 """Writes files whole or not at all: each is written beside its place, and takes it when all of it, or all of them, is
 written.
-
-A module for the tools; it is no tool of its own.
 """
 
 import contextlib

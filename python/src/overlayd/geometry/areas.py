@@ -1,6 +1,4 @@
 """Areas of rings with exact corners: rounded, and as fractions where these are short or are asked for.
-
-A module for the tools; it is no tool of its own.
 """
 
 from collections.abc import Iterable

@@ -1,6 +1,4 @@
 """Reads and writes Well-Known Text: any geometry is read, with fractions, exponents, Z and M.
-
-A module for the tools; it is no tool of its own.
 """
 
 import re

@@ -1,6 +1,4 @@
 """The limits of overlayd and the borders of its columns: the one place where Python has these numbers.
-
-A module for the tools and for the lab; it is no tool of its own.
 """
 
 COORDINATE_MAX = 2**20

@@ -3,15 +3,13 @@
     {"title": "Boroughs", "factor": 10, "factor_y": 10, "origin": [985000, 189000], "unit": "ft", "crs": "EPSG:2263",
      "digits": 5}
 
-Where to_script.py wrote it, `layers` has of each store's base layers a digest, by which tools see that a store beside
+Where overlay import wrote it, `layers` has of each store's base layers a digest, by which tools see that a store beside
 it has other ones.
 
 world = stored / factor + origin, for x and for y; `digits` is how many stand after the point where a number of the
 world is written. Numbers are exact: one that a double cannot hold is written as a text. `crs` is an authority and its
 code, or Well-Known Text where no authority has the system (coordinate_systems.py). Without it (null) the numbers are
 those of a plane that is nowhere on the earth.
-
-A module for the tools; it is no tool of its own.
 """
 
 import argparse
@@ -198,7 +196,7 @@ def read(path: pathlib.Path) -> Scale:
     except OSError as fault:
         raise ScaleFault(ending.told(path, fault)) from fault
     except (ValueError, RecursionError, ScaleFault) as fault:
-        raise ScaleFault(f"{path}: no scale, as to_script.py writes it: {fault}") from fault
+        raise ScaleFault(f"{path}: no scale, as overlay import writes it: {fault}") from fault
 
 
 def beside(path: pathlib.Path) -> pathlib.Path:

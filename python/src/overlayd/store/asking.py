@@ -2,25 +2,25 @@
 
 Where the program is overlay_live it opens the store by --read-only. Else, and where opening the store has to write, the
 file is copied while a shared lock keeps every writer off it, and the copy is asked.
-
-A module for the tools; it is no tool of its own.
 """
 
 import argparse
 import contextlib
 import errno
 import fcntl
+import os
 import pathlib
 import shutil
 import subprocess
 import sys
 import tempfile
+import time
 from collections.abc import Callable, Iterator
 from dataclasses import dataclass, field
 from fractions import Fraction
 from typing import BinaryIO, TextIO
 
-from .. import ending
+from .. import ending, progress
 from ..geometry import wkt
 from ..grid import limits, scale as scales
 from . import features, sessions
@@ -28,10 +28,11 @@ from .sessions import Session, Unusable
 
 TOP = pathlib.Path(__file__).resolve().parents[4]
 LIVE, BATCHED = "overlay_live", "overlayd"
+BUILDER, BUILD_SECONDS = "python/lab/overlayd_lab/unproved.py", 120
 ROOM = ["--max-blocks", str(limits.BLOCKS_MAX)]
 NEEDS_COPY = ("error 30 device", "error 50 words")
 PROGRAM_HELP = ("the program to ask (default: overlay_live or overlayd, from crates/*/out of this repository, else "
-                "from its top, else on the path)")
+                "from its top, else on the path; else it is built)")
 MAGIC, SLOTS_END = b"OVLSTORE", 8192
 MAGIC_AT = (16, 4112)  # of the two slots: docs/FORMAT.md
 GridFor = Callable[[Session], tuple[int, ...] | None]
@@ -40,29 +41,40 @@ Writer = Callable[["Map", argparse.Namespace, TextIO, TextIO], int]
 
 
 def found_program(names: tuple[str, ...]) -> str:
-    """The first of the programs in crates/*/out, where the gate builds them, or at the top, as README does, or on the
-    path."""
+    """The first of the programs that is there; else the first of all, which is built, where that can be done."""
+    found = program_there(names)
+    if found:
+        return found
+    if (TOP / BUILDER).is_file() and shutil.which("rt"):
+        return built_program(names[0])
+    told = f"{names[0]} is neither" if len(names) == 1 else f"neither {' nor '.join(names)} is"
+    raise Unusable(f"no program: {told} built in {TOP} {'nor' if len(names) == 1 else 'or'} on the path; say --program "
+                   "PATH")
+
+
+def program_there(names: tuple[str, ...]) -> str | None:
+    """The first of the programs in crates/*/out, where the gate builds them, or at the top, where they are built
+    unproved, or on the path."""
     built = [TOP / "crates" / name / "out" / name for name in names] + [TOP / name for name in names]
-    found = [str(file) for file in built if file.is_file()] + [file for file in (shutil.which(name) for name in names)
-                                                               if file]
-    if not found:
-        raise Unusable(f"no program: {missing(names)}; {how_to_build(names[0])}say --program PATH")
-    return found[0]
+    found = [str(file) for file in built if file.is_file()] + [file for name in names if (file := shutil.which(name))]
+    return found[0] if found else None
 
 
-def missing(names: tuple[str, ...]) -> str:
-    """Where programs were looked for, and are not."""
-    if len(names) == 1:
-        return f"{names[0]} is neither built in {TOP} nor on the path"
-    return f"neither {' nor '.join(names)} is built in {TOP} or on the path"
-
-
-def how_to_build(name: str) -> str:
-    """The words that build a program, unproved, where the repository's sources are."""
-    builder = "python/lab/overlayd_lab/unproved.py"
-    if not (TOP / builder).is_file():
-        return ""
-    return f"build it there by `python3 {builder} --unchecked crates/{name}/src ./{name}`, or "
+def built_program(name: str) -> str:
+    """The program of these sources, built unproved at the top, as a line says."""
+    print(f"{name} is not built yet: it is now, unproved, which takes some minutes", file=sys.stderr)
+    with tempfile.TemporaryDirectory(prefix=".built-", dir=TOP) as folder, open(f"{folder}/told", "w+") as told:
+        words = [TOP / BUILDER, "--unchecked", TOP / "crates" / name / "src", f"{folder}/{name}"]
+        run = subprocess.Popen([sys.executable, *map(str, words)], stdout=told, stderr=told)
+        with progress.bar(f"building {name}", BUILD_SECONDS, unit="s") as shown:
+            while run.poll() is None:
+                time.sleep(1)
+                shown.update()
+        if run.returncode:
+            told.seek(0)
+            raise Unusable(f"{name} cannot be built: {told.read().strip().rpartition(chr(10))[2]}")
+        os.replace(f"{folder}/{name}", TOP / name)
+    return str(TOP / name)
 
 
 def ran(program: str, words: list[str], script: bytes) -> bytes:
@@ -197,7 +209,7 @@ def add_scale_words(parser: argparse.ArgumentParser) -> None:
     parser.add_argument("--scale", metavar="FILE", type=pathlib.Path,
                         help="what whole numbers mean (default: NAME.scale.json beside the script or the store NAME.*, "
                         "where it is there)")
-    parser.add_argument("--factor", type=scales.number, help="in its place: the factor that to_script.py was given")
+    parser.add_argument("--factor", type=scales.number, help="in its place: the factor that overlay import was given")
     parser.add_argument("--factor-y", type=scales.number, help="and that for y")
     parser.add_argument("--origin", type=scales.number, nargs=2, metavar=("X", "Y"), help="and the origin")
     parser.add_argument("--digits", type=int,

@@ -1,6 +1,4 @@
-"""Makes the tables of features (features.py) of what to_script.py has laid out in stores.
-
-A module for to_script.py; it is no tool of its own.
+"""Makes the tables of features (features.py) of what overlay import has laid out in stores.
 """
 
 import re

@@ -1,6 +1,4 @@
 """Plans changes of single features: which layers hold other rings then, as lines of one batch, and the table after it.
-
-A module for web/ and its client; it is no tool of its own.
 """
 
 import contextlib
@@ -288,7 +286,7 @@ def put_in(name: str, parts: Mapping[str, list[Ring]], runs: Sequence[Ring]) -> 
         part = next((part for part, rings in found.items() if has_room(part, [*rings, run])), None)
         if part is None:
             raise ChangeFault(f"layer {name} has no room for it: a layer has {limits.STEPS_MAX} steps, a line "
-                              f"{limits.LINE_MAX} bytes; to_script.py --split lays the map out anew")
+                              f"{limits.LINE_MAX} bytes; overlay import --split lays the map out anew")
         found[part].append(run)
     return found
 

@@ -1,6 +1,4 @@
 """Writes the features of a store as GeoJSON: with the source's properties, whole outlines and exact areas.
-
-A module for to_geojson.py; it is no tool of its own.
 """
 
 import json

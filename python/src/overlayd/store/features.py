@@ -1,6 +1,6 @@
 """The features of a map: which rings of a store's layers are whose, with names and properties.
 
-NAME.features.json beside NAME.db says it, and to_script.py writes it beside NAME.txt:
+NAME.features.json beside NAME.db says it, and overlay import writes it beside NAME.txt:
 
     {"collection": "nc", "coded": true, "union": false, "name_by": "name",
      "layers": {"b0": ["b0"], "b1": ["b1"]},
@@ -17,8 +17,6 @@ exactly the rings of its features.
 A change of a feature is written here before the store has it, under `pending`: {"of": 1, "feature": {..}}, `of` null
 for a new one, `feature` null for one that goes. The store's layers say whether it was made. So after a stop at any
 moment the file and the store say together which features there are.
-
-A module for the tools and for web/; it is no tool of its own.
 """
 
 import hashlib
@@ -220,7 +218,7 @@ def resolved(table: Table, held: Held, of: object) -> Table:
     before = replace(table, pending=None)
     reason = unlike(before, held)
     if reason:
-        raise FeaturesFault(f"{of}: not the features of this store: {reason}; to_script.py makes both anew")
+        raise FeaturesFault(f"{of}: not the features of this store: {reason}; overlay import makes both anew")
     return before
 
 
@@ -249,7 +247,7 @@ def read(path: pathlib.Path) -> Table:
     except OSError as fault:
         raise FeaturesFault(f"{path}: {fault.strerror or fault}") from fault
     except (ValueError, RecursionError, KeyError, TypeError, AttributeError, FeaturesFault) as fault:
-        raise FeaturesFault(f"{path}: no file of features, as to_script.py writes it: {fault}") from fault
+        raise FeaturesFault(f"{path}: no file of features, as overlay import writes it: {fault}") from fault
 
 
 def table_of(value: Any) -> Table:

@@ -1,6 +1,4 @@
 """Keeps what lies beside a store: the files that say what its numbers mean are not written anew under it.
-
-A module for to_script.py, to_geojson.py and dump_store.py; it is no tool of its own.
 """
 
 import json

@@ -2,8 +2,6 @@
 
 A ring is cut into runs, each closed through the ring's first point: the chords occur twice, so that by even-odd the
 runs joined by ^ are the ring, with no new corner and nothing rounded.
-
-A module for to_script.py; it is no tool of its own.
 """
 
 from collections.abc import Iterator

@@ -1,6 +1,4 @@
 """Reads scripts of overlayd and their replies: which layers there are, what EDGES and GRID answered, what was refused.
-
-A module for the tools; it is no tool of its own.
 """
 
 import hashlib

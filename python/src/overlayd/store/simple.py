@@ -1,8 +1,6 @@
 """Whether polygons are plain: no two of their edges have a common point but neighbours, and holes lie in their rings.
 
 Of plain polygons the area is that of their rings, and what GIS programs take for the inside is the even-odd inside.
-
-A module for the tools and for web/; it is no tool of its own.
 """
 
 import itertools

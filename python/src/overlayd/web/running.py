@@ -1,6 +1,4 @@
 """Runs a front as the words of its command say: what it opens, what ends it, and with which status.
-
-A module for the command overlay_web.py.
 """
 
 from __future__ import annotations

@@ -12,10 +12,10 @@ from decimal import Decimal
 from fractions import Fraction
 from typing import Any, NamedTuple, Protocol
 
-from ..program import Point
-from .map_scale import CRS84, MapScale
 from ..geometry import plane
 from ..geometry.plane import Box, homogeneous
+from ..program import Point
+from .map_scale import CRS84, MapScale
 
 DEGREE_DIGITS = 10
 """After the point of a degree: a hundredth of a millimetre."""

@@ -1,0 +1,195 @@
+"""Writes layers, or the features of a map, as GeoJSON, in coordinates of the world where a scale is there.
+
+    overlay export --store map.db > map.geojson
+    overlay export --store map.db --layer taken --parts > taken.geojson
+    overlay export --store nc.db --features > counties.geojson
+    overlay export --store nc.db --features --output counties.gpkg
+
+Each layer is a feature with a MultiPolygon, or with --parts each of its polygons one with a Polygon: outer rings
+counter-clockwise, holes clockwise. Its properties are `layer`, `expression` (null for a base layer), `version`, and its
+area in the world's unit, rounded in `area` and, as a fraction, in `area_exact`: where it has at most 60 digits, or with
+--exact. Coordinates are rounded to the scale's digits, or to --digits; a place that is a whole number in the store
+comes back from them through overlay import with the same scale. Where no coordinate system is known, what is written
+says that it is of a plane of its own: GeoJSON that says nothing is of degrees.
+
+--features writes the features of the source in the place of layers, by NAME.features.json beside the store or the
+script NAME.*: each with its own properties, its id, its outline whole, also where it is in several layers or parts,
+and with its area, which is called `area_` where the source has an `area`. An outline that crosses or touches itself is
+written as the boundary of its even-odd inside.
+
+--output writes the file whole or not at all: GeoJSON by the names .geojson and .json, or without an end, a GeoPackage
+(.gpkg) or a FlatGeobuf (.fgb); a name with another end is refused. Whole numbers are the ids of features in a
+GeoPackage too; other ids, and those of a FlatGeobuf, are a column `id` of it, or `id_` where the source has an `id`. A
+property whose name differs from another one's in case alone, as no two columns do, is a column with `_` after its name,
+and a line on standard error says so. What is read, and NAME.scale.json, NAME.features.json and NAME.names.csv of a
+store or a script, are not written over.
+
+Status 0: all layers or features are written; 1: a line of the script was refused (each is reported), a layer has no
+rings to give, or the output cannot be written; 2: a word is refused.
+"""
+
+import argparse
+import json
+import pathlib
+import sys
+from collections.abc import Iterator
+from typing import TextIO
+
+from .. import ending, progress
+from ..files import coordinate_systems, gdal_files, writing
+from ..geometry import areas
+from ..geometry.areas import Ring
+from ..grid import scale as scales
+from ..store import asking, feature_texts, keeping, sessions
+from ..store.asking import Map
+from ..store.features import FeaturesFault, beside, held_rings, read, resolved
+from .parsing import Parser
+
+
+def ring_text(ring: Ring, scale: scales.Scale) -> str:
+    """The positions of a ring, the first once more at its end."""
+    texts = []
+    for corner in ring.corners + ring.corners[:1]:
+        x, y = scale.world(corner)
+        texts.append(f"[{scales.decimals(x, scale.digits)}, {scales.decimals(y, scale.digits)}]")
+    return "[" + ", ".join(texts) + "]"
+
+
+def polygon_text(polygon: list[Ring], scale: scales.Scale) -> str:
+    return "[" + ", ".join(ring_text(ring, scale) for ring in polygon) + "]"
+
+
+def feature(found: Map, layer: str, kind: str, coordinates: str, rings: list[Ring], exact: bool) -> str:
+    """One feature, on one line."""
+    area, fraction = areas.in_world(rings, found.scale, exact)
+    given = {"layer": layer, "expression": found.session.definitions.get(layer), "version": found.session.version}
+    properties = "".join(f"{json.dumps(name)}: {json.dumps(value)}, " for name, value in given.items())
+    properties += f'"area": {scales.decimals(area, 12)}' + (f', "area_exact": "{fraction}"' if fraction else "")
+    return (f'{{"type": "Feature", "properties": {{{properties}}}, '
+            f'"geometry": {{"type": "{kind}", "coordinates": {coordinates}}}}}')
+
+
+def features(found: Map, words: argparse.Namespace) -> Iterator[str]:
+    """A feature for each layer, or for each of its polygons; with its pieces as rings."""
+    for layer in progress.bar("joining layers", len(found.layers), found.layers):
+        polygons = sessions.layer_polygons(found.session, layer)
+        texts = [polygon_text(polygon, found.scale) for polygon in polygons]
+        if words.parts:
+            for polygon, text in zip(polygons, texts, strict=True):
+                yield feature(found, layer, "Polygon", text, polygon, words.exact)
+        else:
+            rings = [ring for polygon in polygons for ring in polygon]
+            yield feature(found, layer, "MultiPolygon", "[" + ", ".join(texts) + "]", rings, words.exact)
+
+
+def text_of(found: Map, words: argparse.Namespace) -> str:
+    """The whole collection."""
+    body, name = ",\n".join(features(found, words)), (words.store or words.script).stem
+    return (f'{{"type": "FeatureCollection", "name": {json.dumps(found.scale.title or name)},\n'
+            f'{coordinate_systems.member(found.scale.crs)}"features": [\n{body}\n]}}\n')
+
+
+def parser_of() -> argparse.ArgumentParser:
+    parser = Parser(description=__doc__, formatter_class=argparse.RawDescriptionHelpFormatter)
+    asking.add_words(parser, many=True)
+    parser.add_argument("--top", action="store_true", help="only layers that no definition names")
+    form = parser.add_mutually_exclusive_group()
+    form.add_argument("--parts", action="store_true", help="a feature for each polygon")
+    form.add_argument("--features", action="store_true", help="the features of the source with all their properties")
+    parser.add_argument("--exact", action="store_true", help="area_exact in each feature, however many digits it has")
+    parser.add_argument("--output", metavar="FILE", type=pathlib.Path,
+                        help="in the place of standard output: .geojson, .gpkg or .fgb")
+    asking.add_scale_words(parser)
+    return parser
+
+
+def feature_collection(words: argparse.Namespace, parser: argparse.ArgumentParser,
+                       errors: TextIO) -> tuple[str, scales.Scale]:
+    """The features of the source, as they are in a store or in the layers of a script."""
+    asking.check_words(words, parser)
+    if words.layer or words.top:
+        parser.error("--features are those of a script or a store, all of them")
+    named = words.store or words.script
+    scale, file = asking.scale_of(words, parser)
+    program = words.program or asking.found_program((asking.LIVE, asking.BATCHED))
+    path = beside(named)
+    try:
+        table = read(path)
+        held = held_rings(asking.base_of(words, program))
+        table = resolved(table, held, path)
+    except FeaturesFault as fault:
+        raise sessions.Unusable(str(fault)) from fault
+    if file:
+        print(f"coordinates of the world by {file}", file=errors)
+    body = ",\n".join(feature_texts.texts(table, held, scale, program))
+    return (f'{{"type": "FeatureCollection", "name": {json.dumps(table.collection)},\n'
+            f'{coordinate_systems.member(scale.crs)}"features": [\n{body}\n]}}\n'), scale
+
+
+def write(found: Map, words: argparse.Namespace, output: TextIO, errors: TextIO) -> int:
+    if words.top:
+        found.layers = [name for name in found.layers if name in found.session.unnamed()]
+    put(text_of(found, words), found.scale, words, output, errors)
+    return 0
+
+
+def put(text: str, scale: scales.Scale, words: argparse.Namespace, output: TextIO, errors: TextIO) -> None:
+    """Writes the collection to where it goes, and says which properties have another name there."""
+    try:
+        if words.output is None:
+            output.write(text)
+        elif is_gdals(words.output):
+            for name, column in gdal_files.write(words.output, text, scale.crs).items():
+                print(f"{words.output}: the property {name} is its column {column}, as another differs in case alone",
+                      file=errors)
+        else:
+            writing.write_all({words.output: text.encode()})
+    except gdal_files.GdalFault as fault:
+        raise sessions.Unusable(f"{words.output}: {fault}") from fault
+    except OSError as fault:
+        if words.output is None:
+            raise
+        raise sessions.Unusable(ending.told(words.output, fault)) from fault
+
+
+def is_gdals(path: pathlib.Path) -> bool:
+    """Whether GDAL is to write a file: one whose name does not say GeoJSON, nor nothing."""
+    return path.suffix.lower() not in ("", *gdal_files.UNAIDED)
+
+
+def check_output(words: argparse.Namespace, parser: argparse.ArgumentParser) -> None:
+    """Refuses an output that cannot be written, before anything is asked."""
+    if words.output is None:
+        return
+    if not words.output.name or words.output.is_dir():
+        parser.error(f"--output: {words.output} is a folder, and no file")
+    if asking.is_store(words.output):
+        parser.error(f"--output: {words.output} is a store, which is not written over")
+    given = [path for path in (words.store, words.script) if path and path.name]
+    for path in [*given, *([words.scale] if words.scale else [])]:
+        if keeping.is_same(words.output, path):
+            parser.error(f"--output: {words.output} is read here, and is not written over")
+    try:
+        keeping.check_apart(words.output, given)
+    except keeping.StoreStands as fault:
+        parser.error(f"--output: {fault}")
+    if is_gdals(words.output):
+        try:
+            gdal_files.check_target(words.output)
+        except gdal_files.GdalFault as fault:
+            parser.error(f"--output: {fault}")
+
+
+def main(arguments: list[str], output: TextIO | None = None, errors: TextIO | None = None) -> int:
+    parser = parser_of()
+    words = parser.parse_args(arguments)
+    check_output(words, parser)
+    if not words.features:
+        return asking.run(parser, arguments, write, output, errors, many=True)
+    try:
+        text, scale = feature_collection(words, parser, errors or sys.stderr)
+        put(text, scale, words, output or sys.stdout, errors or sys.stderr)
+    except sessions.Unusable as fault:
+        print(fault, file=errors or sys.stderr)
+        return 1
+    return 0
