@@ -51,7 +51,7 @@ fn host<J: BookName, S: Wait + Drop, D: Disk>(
 ) -> Result<Hosted<J, S, D>, ServerFault<Shut<D>>>
     requires head { opened.0 ≡ head_of J.book }
     requires book { opened.1.book ≡ J.book }
-    requires own { store.seen_log.book ≡ J.book }
+    requires kept { store.seen_log.book ≡ J.book }
     requires begun { opened.1.log ≡ first_log version }
     requires sessions { (0 < sessions) × (sessions ≤ 4) }
     requires seats { sessions ≤ J.seats }
@@ -102,7 +102,7 @@ where
     Q: Threads + Wait + Sync,
     requires head { opened.0 ≡ head_of J.book }
     requires book { opened.1.book ≡ J.book }
-    requires own { store.seen_log.book ≡ J.book }
+    requires kept { store.seen_log.book ≡ J.book }
     requires begun { opened.1.log ≡ first_log version }
     requires stored { (log : List Entry) (number : ℕ) → J.stored log number ↔ IsStoredOf D.Disk version store.flusher log number }
     requires failed { (log : List Entry) (fault : ReportedFault) → J.failed log fault ↔ IsFailedOf D.Disk version store.flusher log fault }
@@ -141,7 +141,7 @@ where
     Q: Threads + Wait + Sync,
     requires head { opened.0 ≡ head_of J.book }
     requires book { opened.1.book ≡ J.book }
-    requires own { store.seen_log.book ≡ J.book }
+    requires kept { store.seen_log.book ≡ J.book }
     requires begun { opened.1.log ≡ first_log version }
     requires stored { (log : List Entry) (number : ℕ) → J.stored log number ↔ IsStoredOf D.Disk version store.flusher log number }
     requires failed { (log : List Entry) (fault : ReportedFault) → J.failed log fault ↔ IsFailedOf D.Disk version store.flusher log fault }
