@@ -30,7 +30,7 @@ COMMAND = "overlay"
 SOURCES = ("overlay", "python/src/overlayd/*.py", "python/src/overlayd/py.typed",
            "python/src/overlayd/*/*.py", "python/src/overlayd/web/page/*")
 TEXTS = ("README.md", "docs/*.md", "docs/*.png", "docs/*.svg", "python/README.md",
-         "tools/maps/README.md", "tools/data/*", "web/README.md", "examples/**/*")
+         "python/src/overlayd/maps/README.md", "tools/data/*", "web/README.md", "examples/**/*")
 # What is read where pages are printed of the sources.
 READ = (".ci/**", "crates/**", "python/**", "release/**", "tools/**", "web/**")
 
