@@ -3,9 +3,9 @@
 import pathlib
 import sys
 
-if not __package__:
-    sys.path[0] = str(pathlib.Path(__file__).resolve().parents[1])
+if __name__ == "__main__":  # processes that it begins import this file again
+    if not __package__:
+        sys.path[0] = str(pathlib.Path(__file__).resolve().parents[1])
+    from overlayd.cli import main
 
-from overlayd.cli import main  # noqa: E402
-
-main()
+    main()
