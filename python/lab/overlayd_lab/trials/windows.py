@@ -4,7 +4,7 @@
 
 Random rings, which cross themselves and have far corners, are drawn in round random boxes. From each of some points of
 the box, its corners and borders among them, the layer has to be seen as the map is, inside even-odd and on an edge; and
-from points off the frame nothing of it. What overlayd/maps/drawing_in.py draws of the same rings is looked at beside it.
+from points off the frame nothing of it. What overlayd.maps.drawing_in draws of the same rings is looked at beside it.
 The last line is 'N passed, M failed'.
 """
 
