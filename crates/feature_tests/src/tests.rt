@@ -4,4 +4,5 @@ mod block_tests;
 mod refusal_tests;
 mod ring_tests;
 mod row_tests;
+mod step_tests;
 mod vectors;

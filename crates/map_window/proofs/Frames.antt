@@ -8,10 +8,9 @@ use Rattle.overlay_terms.proofs.Difference.{mul_mono}
 use Rattle.overlay_terms.proofs.InputNumbers.{lt_true, le_true, true_le, less_times}
 use Rattle.exact_point.proofs.OnSegment.{and3_parts}
 use Rattle.exact_point.proofs.Tests.{le_no}
-use Rattle.map_window.specs.Window.{Box, IsIn, Side, left_of, right_of, under, over, IsOff, StaysWithin, whole_moved, moved}
+use Rattle.map_window.specs.Window.{Box, IsIn, Side, left_of, right_of, under, over, IsOff, Lies, StaysWithin, whole_moved, moved}
 use Rattle.map_window.specs.Drawn.{are_nested, is_framed, lies_in_plane, into, box_moved, is_held, clamped}
 use Rattle.map_window.proofs.Clamping.{clamped_below, clamped_above, clamped_at_most, clamped_at_least, clamped_low, clamped_high, clamped_none, box_in_range, by_clamped}
-use Rattle.map_window.proofs.Lines.{Lies}
 use Rattle.map_window.proofs.Moves.{times_moved}
 use Rattle.map_window.proofs.Sides.{Aside, mark}
 

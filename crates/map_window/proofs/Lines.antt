@@ -11,19 +11,12 @@ use Rattle.std.proofs.lemmas.List.Elements.{All-nil, All-cons, All-head, All-tai
 use Rattle.overlay_terms.specs.Plane.{WholePoint, Point, Segment, whole_cmp, same_whole, is_closed, ring_segments}
 use Rattle.overlay_terms.proofs.InputNumbers.{lt_true}
 use Rattle.overlay_terms.proofs.PointOrder.{whole_cmp_total}
-use Rattle.map_window.specs.Window.{Box, Side, left_of, right_of, under, over, AreAlike}
+use Rattle.map_window.specs.Window.{Box, Side, left_of, right_of, under, over, Lies, AreAlike}
 use Rattle.map_window.specs.Drawn.{are_less, are_more, share_side, Line, points_of, added, ring_of}
 use Rattle.map_window.proofs.Sides.{differ, differ_self, Aside, mark}
 use Rattle.map_window.proofs.Steps.{SeesNothing, step, ring_segments-cons, parted, alike_self, alike_same, alike_through, alike-append, Seen, seen, spared, last_of, line_seen}
 
 -- ---- points that share a side
--- a whole point lies off a box, on that side
-abbrev pub Lies : Box → Side → WholePoint → Type 0
-Lies box left_of a = a.x <ℤ box.low_x
-Lies box right_of a = box.high_x <ℤ a.x
-Lies box under a = a.y <ℤ box.low_y
-Lies box over a = box.high_y <ℤ a.y
-
 -- three points lie off a box on one side
 pub record ShareSide (box : Box) (a b c : WholePoint) : Type 0 where
   pub side : Side
@@ -85,7 +78,7 @@ module _ (box : Box) (q : Point) (positive : pos 0 <ℤ q.w) (aside : (side : Si
   step_spared : (a b c : WholePoint) → ShareSide box a b c → AreAlike (step a c) q (step a b ++ step b c) q
   step_spared a b c s = spared s.side q positive a b c (aside s.side a s.first) (aside s.side b s.second) (aside s.side c s.third)
 
-  tail_spared : (a b c : WholePoint) (rest : List WholePoint) → ShareSide box a b c → AreAlike (ring_segments (a ∷ c ∷ rest)) q (ring_segments (a ∷ b ∷ c ∷ rest)) q
+  pub tail_spared : (a b c : WholePoint) (rest : List WholePoint) → ShareSide box a b c → AreAlike (ring_segments (a ∷ c ∷ rest)) q (ring_segments (a ∷ b ∷ c ∷ rest)) q
   tail_spared a b c rest s =
       let long : ring_segments (a ∷ b ∷ c ∷ rest) ≡ (step a b ++ step b c) ++ ring_segments (c ∷ rest) =
       ring_segments-cons a b (c ∷ rest) ∙ ap (λ z. step a b ++ z) (ring_segments-cons b c rest) ∙ sym (append_assoc (step a b) (step b c) (ring_segments (c ∷ rest))) in
@@ -198,7 +191,7 @@ last_at_end a b c [] = refl
 last_at_end a b c (x ∷ xs) = last_at_end x b c xs
 
 -- what is seen of a line whose ends are one
-ends_meet : (side : Side) (q : Point) (a b : WholePoint) (xs : List Segment) → a ≡ b → Seen side q a b xs → SeesNothing xs q
+pub ends_meet : (side : Side) (q : Point) (a b : WholePoint) (xs : List Segment) → a ≡ b → Seen side q a b xs → SeesNothing xs q
 ends_meet side q a b xs e s = record { inside = s.inside ∙ ap (λ p. differ (mark side q p) (mark side q b)) e ∙ differ_self (mark side q b); edge = s.edge }
 
 -- nothing is seen of a line on one side whose ends are one

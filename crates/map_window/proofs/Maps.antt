@@ -55,7 +55,7 @@ module _ (core frame : Box) (f : IsFramed core frame) (q : Point) (positive : po
       (step_by a b (either (share_side core a b b) (is_held frame a && is_held frame b) k.0)) (line_clamped b rest k.1))
 
 -- ---- one ring
-map_twice : (f g : WholePoint → WholePoint) (xs : List WholePoint) → map (λ a. g (f a)) xs ≡ map g (map f xs)
+pub map_twice : (f g : WholePoint → WholePoint) (xs : List WholePoint) → map (λ a. g (f a)) xs ≡ map g (map f xs)
 map_twice f g [] = refl
 map_twice f g (x ∷ xs) = ap (λ ys. g (f x) ∷ ys) (map_twice f g xs)
 

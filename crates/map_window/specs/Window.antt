@@ -31,6 +31,13 @@ IsOff box right_of q = (box.high_x *ℤ q.w) <ℤ q.x
 IsOff box under q = q.y <ℤ (box.low_y *ℤ q.w)
 IsOff box over q = (box.high_y *ℤ q.w) <ℤ q.y
 
+-- a whole point lies off a box, on that side
+abbrev pub Lies : Box → Side → WholePoint → Type 0
+Lies box left_of a = a.x <ℤ box.low_x
+Lies box right_of a = box.high_x <ℤ a.x
+Lies box under a = a.y <ℤ box.low_y
+Lies box over a = box.high_y <ℤ a.y
+
 -- a whole point does not lie off a box on that side
 abbrev pub StaysWithin : Box → Side → WholePoint → Type 0
 StaysWithin box left_of a = box.low_x ≤ℤ a.x
