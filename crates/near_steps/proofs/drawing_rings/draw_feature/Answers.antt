@@ -11,7 +11,7 @@ returns-in_default-clause-answer c =
     let one =
     ap (λ ns. dealt ns c.loop-count.rest.now) (drop_more c.args.counts.now i c.count-item.result c.loop-count-test.true ∙ ap (λ z. z ∷ drop (i + 1) c.args.counts.now) (sym c.count-item.is))
     ∙ (λ k. sym c.parted-ring.ensures.first k ∷ dealt (drop (i + 1) c.args.counts.now) (sym c.parted-ring.ensures.rest k)) in
-    c.in_default.is ∙ rings_stop core c.args.layer c.args.marked.now.items c.loop-count.marked.items (dealt c.args.counts.now c.args.points.now) _ _
+    rings_stop core c.args.layer c.args.marked.now.items c.loop-count.marked.items (dealt c.args.counts.now c.args.points.now) _ _
     (subst (AreUnderWay core c.args.layer c.args.marked.now.items c.loop-count.marked.items (dealt c.args.counts.now c.args.points.now)) one c.loop-count.invariant)
     (sym c.in_default.is ∙ c.in_ok-draw_line.ensures.answer)
 
