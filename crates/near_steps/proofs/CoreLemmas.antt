@@ -107,3 +107,24 @@ pub clamped_reach : (low x at : ℤ) → at ≡ clamped (low -ℤ pos coordinate
 clamped_reach low x at e =
     rw e (by_clamped (λ z. InRange (z -ℤ low)) (low -ℤ pos coordinate_max) (low +ℤ pos coordinate_max) x
     (λ l. (omega (arith, ints), omega (arith, ints))) (λ l m. (omega (arith, ints), omega (arith, ints))) (λ l m. (omega (arith, ints, l), omega (arith, ints, m))))
+
+-- the numbers of the code are read as they are: so is a number clamped around another, and how far it is over that one
+module _ (low x from to at : ℤ) (near : is_near low ≡ true) (x_read : to_z w64 (of_z w64 x) ≡ x) (from_read : to_z w64 (of_z w64 from) ≡ from) (to_read : to_z w64 (of_z w64 to) ≡ to)
+    (at_read : to_z w64 (of_z w64 at) ≡ at) (from_is : from ≡ to_z w64 (of_z w64 low) -ℤ pos coordinate_max) (to_is : to ≡ to_z w64 (of_z w64 low) +ℤ pos coordinate_max)
+    (at_is : at ≡ clamped (to_z w64 (of_z w64 from)) (to_z w64 (of_z w64 to)) (to_z w64 (of_z w64 x))) where
+  reach_at : at ≡ clamped (low -ℤ pos coordinate_max) (low +ℤ pos coordinate_max) x
+  reach_at =
+      let f : to_z w64 (of_z w64 from) ≡ low -ℤ pos coordinate_max = from_read ∙ from_is ∙ ap (λ z. z -ℤ pos coordinate_max) (far_read low near) in
+      let t : to_z w64 (of_z w64 to) ≡ low +ℤ pos coordinate_max = to_read ∙ to_is ∙ ap (λ z. z +ℤ pos coordinate_max) (far_read low near) in
+      at_is ∙ (λ i. clamped (f i) (t i) (x_read i))
+
+  pub reach_is : to_z w64 (of_z w64 at) -ℤ to_z w64 (of_z w64 low) ≡ clamped (low -ℤ pos coordinate_max) (low +ℤ pos coordinate_max) x -ℤ low
+  reach_is = let a : to_z w64 (of_z w64 at) ≡ clamped (low -ℤ pos coordinate_max) (low +ℤ pos coordinate_max) x = at_read ∙ reach_at in λ i. a i -ℤ far_read low near i
+
+  pub reach_in_range : InRange (to_z w64 (of_z w64 at) -ℤ to_z w64 (of_z w64 low))
+  reach_in_range =
+      subst InRange (sym (λ i. at_read i -ℤ far_read low near i)) (clamped_reach low x at reach_at)
+
+-- a coordinate of the plane, as the code reads it
+pub coordinate_read : (z : ℤ) → InRange z → to_z w64 (of_z w64 z) ≡ z
+coordinate_read z h = let a = h.0 in let b = h.1 in narrow_read (2 ^ 42) z (record { low = omega (arith, ints, a); high = omega (arith, ints, b) }) (lit< tt)

@@ -24,12 +24,6 @@ pub common_is : (core : Box) (a b c : WholePoint) (x y z : Sides) → x ≡ side
 common_is core a b c x y z e f g = rw (e, f, g) refl
 
 -- ---- more at the end
-pub no_more : (old new : List MarkedSeg) → new ≡ old → HasMore old new
-no_more old new e = record { more = []; added = e ∙ sym (append-nil old) }
-
-pub some_more : (old new : List MarkedSeg) (more : List MarkedSeg) → new ≡ old ++ more → HasMore old new
-some_more old new more e = record { more = more; added = e }
-
 pub more_through : (a b c : List MarkedSeg) → HasMore a b → HasMore b c → HasMore a c
 more_through a b c h k = record { more = h.more ++ k.more; added = k.added ∙ ap (λ xs. xs ++ k.more) h.added ∙ append_assoc a h.more k.more }
 
@@ -91,15 +85,6 @@ module _ (core : Box) (layer : ℕ) where
     pub short : is_line_short core last rest ≡ are_short core (plane_of core) points
     pub more : HasMore old added
 
-  pub begins : (old added : List MarkedSeg) (points : List WholePoint) (last : Step) (a b : WholePoint) (rest : List WholePoint) → points ≡ a ∷ b ∷ rest → last.from.at ≡ a → last.to.at ≡ b → IsSided core last → added ≡ old
-      → IsUnderWay old added points last rest
-  begins old added points last a b rest is from to sided same = record {
-    sided = sided;
-    drawn = rw (same, from, to, is) refl;
-    short = (λ i. are_short core (plane_of core) (from i ∷ to i ∷ rest)) ∙ ap (are_short core (plane_of core)) (sym is);
-    more = no_more old added same;
-  }
-
   pub goes : (old added new : List MarkedSeg) (points : List WholePoint) (before after : Step) (p : WholePoint) (rest : List WholePoint) → IsUnderWay old added points before (p ∷ rest) → GoesOn core layer added new before after p Whole
       → IsSided core after → HasMore added new → IsUnderWay old new points after rest
   goes old added new points before after p rest h k sided more = record {
@@ -119,23 +104,11 @@ module _ (core : Box) (layer : ℕ) where
   ends_told old added points last rest drawing h none told =
       told ∙ ap drawing_of (sym (and_true (is_short core (plane_of core) last.from.at last.to.at)) ∙ sym (ap (is_line_short core last) none) ∙ h.short)
 
-  pub ends_drawn : (old added new : List MarkedSeg) (points : List WholePoint) (last : Step) (rest : List WholePoint) → IsUnderWay old added points last rest → rest ≡ []
-      → new ≡ added ++ marks layer (line_drawn core (last.from.at ∷ last.to.at ∷ [])) → new ≡ old ++ marks layer (line_drawn core (thinned core points))
-  ends_drawn old added new points last rest h none is = is ∙ sym (ap (all_drawn core layer added last) none) ∙ h.drawn
-
-  -- a step that may not be drawn
-  pub stops : (old added new : List MarkedSeg) (points : List WholePoint) (before after : Step) (p : WholePoint) (rest : List WholePoint) → IsUnderWay old added points before (p ∷ rest)
-      → GoesOn core layer added new before after p StepTooLong → StepTooLong ≡ drawing_of (are_short core (plane_of core) points)
-  stops old added new points before after p rest h k = ap drawing_of (sym (k.long refl rest) ∙ h.short)
-
   -- ---- rings under way
   pub record AreUnderWay (old added : List MarkedSeg) (rings rest : List (List WholePoint)) : Type 0 where
     pub drawn : added ++ marks layer (drawn core rest) ≡ old ++ marks layer (drawn core rings)
     pub short : are_drawable core rest ≡ are_drawable core rings
     pub more : HasMore old added
-
-  pub rings_begin : (old added : List MarkedSeg) (rings : List (List WholePoint)) → added ≡ old → AreUnderWay old added rings rings
-  rings_begin old added rings same = record { drawn = ap (λ xs. xs ++ marks layer (drawn core rings)) same; short = refl; more = no_more old added same }
 
   pub rings_go : (old added new : List MarkedSeg) (rings : List (List WholePoint)) (ring : List WholePoint) (rest : List (List WholePoint)) → AreUnderWay old added rings (ring ∷ rest)
       → Whole ≡ drawing_of (are_short core (plane_of core) ring) → new ≡ added ++ marks layer (line_drawn core (thinned core ring)) → HasMore added new → AreUnderWay old new rings rest
@@ -154,9 +127,6 @@ module _ (core : Box) (layer : ℕ) where
   rings_stop old added rings ring rest h told =
       ap drawing_of (ap (λ b. b && are_drawable core rest) (sym (long_by (are_short core (plane_of core) ring) told)) ∙ h.short)
 
-  pub rings_told : (old added : List MarkedSeg) (rings rest : List (List WholePoint)) → AreUnderWay old added rings rest → rest ≡ [] → Whole ≡ drawing_of (are_drawable core rings)
-  rings_told old added rings rest h none = ap drawing_of (sym (ap (are_drawable core) none) ∙ h.short)
-
   pub rings_end : (old added : List MarkedSeg) (rings rest : List (List WholePoint)) → fits core ≡ true → AreUnderWay old added rings rest → rest ≡ [] → HasDrawn core layer rings old added
   rings_end old added rings rest fit h none = record {
     segments = drawn core rings;
@@ -165,9 +135,6 @@ module _ (core : Box) (layer : ℕ) where
   }
 
   -- ---- one ring
-  pub one_told : (points : List WholePoint) (drawing : Drawing) → drawing ≡ drawing_of (are_short core (plane_of core) points) → drawing ≡ drawing_of (are_drawable core (points ∷ []))
-  one_told points drawing told = told ∙ ap drawing_of (sym (and_true (are_short core (plane_of core) points)))
-
   pub one_ring : (old new : List MarkedSeg) (points : List WholePoint) → fits core ≡ true → Whole ≡ drawing_of (are_short core (plane_of core) points)
       → new ≡ old ++ marks layer (line_drawn core (thinned core points)) → HasDrawn core layer (points ∷ []) old new
   one_ring old new points fit told is = record {
@@ -187,10 +154,6 @@ pub record IsThinning (core : Box) (kept points : List WholePoint) (last : Step)
   pub left : kept ++ rest_of core last.from.at last.to.at rest ≡ thinned core points
 
 module _ (core : Box) where
-  pub thins_first : (kept points : List WholePoint) (last : Step) (a b : WholePoint) (rest : List WholePoint) → points ≡ a ∷ b ∷ rest → kept ≡ a ∷ [] → last.from.at ≡ a → last.to.at ≡ b → IsSided core last
-      → IsThinning core kept points last rest
-  thins_first kept points last a b rest is one from to sided = record { sided = sided; left = rw (one, from, to, is) refl }
-
   thins_by : (kept points : List WholePoint) (last : Step) (next : Spot) (rest : List WholePoint) (b : Bool) → common last.from.off last.to.off next.off ≡ b → IsSided core last → next.off ≡ sides_of core next.at
       → kept ++ rest_of core last.from.at last.to.at (next.at ∷ rest) ≡ thinned core points → IsThinning core (kept_after kept last next) points (stepped last next) rest
   thins_by kept points last next rest true e sided off left =
@@ -209,9 +172,6 @@ module _ (core : Box) where
       → new ≡ kept_after kept last next → after ≡ stepped last next → IsThinning core new points after rest
   thins_on kept new points last after next rest h off is stands =
       rw (is, stands) (thins_by kept points last next rest (common last.from.off last.to.off next.off) refl h.sided off h.left)
-
-  pub thins_last : (kept points : List WholePoint) (last : Step) (rest : List WholePoint) → IsThinning core kept points last rest → rest ≡ [] → kept ++ last.to.at ∷ [] ≡ thinned core points
-  thins_last kept points last rest h none = sym (ap (λ xs. kept ++ rest_of core last.from.at last.to.at xs) none) ∙ h.left
 
 -- ---- the border
 on_ok : {T E : Type 0} (r : Result T E) (P Q : Type 0) → (P → Q) → OnOk r P → OnOk r Q

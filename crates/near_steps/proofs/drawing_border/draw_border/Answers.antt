@@ -1,3 +1,5 @@
+use Rattle.std.proofs.Common.{◌∙◌}
+use Rattle.near_steps.proofs.CoreLemmas.{coordinate_read}
 use Rattle.near_steps.proofs.LoopLemmas.{border_drawn, border_is, more_through}
 use Rattle.near_steps.proofs.drawing_border.draw_border.Goals as goal
 
@@ -6,7 +8,8 @@ returns-clause-border c =
     border_drawn c.args.layer c.add_step-4.result c.args.marked.now.items c.add_step.new.marked.items c.add_step-2.new.marked.items c.add_step-3.new.marked.items c.add_step-4.new.marked.items
     c.point_at-low.result c.point_at-right.result c.point_at-far.result c.point_at-over.result _
     (border_is c.args.core.now c.point_at-low.result c.point_at-right.result c.point_at-far.result c.point_at-over.result _ _
-    c.point_at-low.ensures c.point_at-right.ensures c.point_at-far.ensures c.point_at-over.ensures c.size-wide.ensures.wide c.size-wide.ensures.high)
+    c.point_at-low.ensures c.point_at-right.ensures c.point_at-far.ensures c.point_at-over.ensures
+    (coordinate_read c.size-wide.result.0 c.size-wide.ensures.in_range.0 ∙ c.size-wide.ensures.wide) (coordinate_read c.size-wide.result.1 c.size-wide.ensures.in_range.1 ∙ c.size-wide.ensures.high))
     c.in_ok-add_step.ensures.ok c.in_ok-add_step-2.ensures.ok c.in_ok-add_step-3.ensures.ok c.add_step-4.ensures.ok
 
 pub returns-clause-kept : goal.returns-clause-kept

@@ -9,8 +9,8 @@ returns-in_default-clause-answer c =
     let core = c.args.core.now in
     let i = c.loop-count.count-index in
     let one =
-    ap (λ ns. dealt ns c.loop-count.rest.now) (drop_more c.args.counts.now i c.count-item.result c.loop-count-test.true ∙ ap (λ z. z ∷ drop (i + 1) c.args.counts.now) (sym c.count-item.is))
-    ∙ (λ k. sym c.parted-ring.ensures.first k ∷ dealt (drop (i + 1) c.args.counts.now) (sym c.parted-ring.ensures.rest k)) in
+    ap (λ ns. dealt ns c.loop-count.rest.now) (drop_more c.args.counts.now i 0 c.loop-count-test.true)
+    ∙ (λ k. sym c.parted.ensures.first k ∷ dealt (drop (i + 1) c.args.counts.now) (sym c.parted.ensures.rest k)) in
     rings_stop core c.args.layer c.args.marked.now.items c.loop-count.marked.items (dealt c.args.counts.now c.args.points.now) _ _
     (subst (AreUnderWay core c.args.layer c.args.marked.now.items c.loop-count.marked.items (dealt c.args.counts.now c.args.points.now)) one c.loop-count.invariant)
     (sym c.in_default.is ∙ c.in_ok-draw_line.ensures.answer)
@@ -20,8 +20,8 @@ loop-count-preserved c =
     let core = c.args.core.now in
     let i = c.loop-count.count-index in
     let one =
-    ap (λ ns. dealt ns c.loop-count.rest.now) (drop_more c.args.counts.now i c.count-item.result c.loop-count-test.true ∙ ap (λ z. z ∷ drop (i + 1) c.args.counts.now) (sym c.count-item.is))
-    ∙ (λ k. sym c.parted-ring.ensures.first k ∷ dealt (drop (i + 1) c.args.counts.now) (sym c.parted-ring.ensures.rest k)) in
+    ap (λ ns. dealt ns c.loop-count.rest.now) (drop_more c.args.counts.now i 0 c.loop-count-test.true)
+    ∙ (λ k. sym c.parted.ensures.first k ∷ dealt (drop (i + 1) c.args.counts.now) (sym c.parted.ensures.rest k)) in
     rings_go core c.args.layer c.args.marked.now.items c.loop-count.marked.items c.draw_line.new.marked.items (dealt c.args.counts.now c.args.points.now) _ _
     (subst (AreUnderWay core c.args.layer c.args.marked.now.items c.loop-count.marked.items (dealt c.args.counts.now c.args.points.now)) one c.loop-count.invariant)
     (sym c.in-Whole.is ∙ c.in_ok-draw_line.ensures.answer) (c.in_ok-draw_line.ensures.drawn c.in-Whole.is) c.draw_line.ensures.kept

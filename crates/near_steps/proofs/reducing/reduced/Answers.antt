@@ -5,6 +5,8 @@ use Rattle.near_steps.proofs.LineLemmas.{reduced}
 use Rattle.near_steps.proofs.reducing.reduced.Goals as goal
 
 pub returns : goal.returns
-returns c =
-    IfOk-weaker c.thinned.result (λ kept. kept.items ≡ thinned c.args.core.now c.args.points.now) (λ kept. IsReduced c.args.core.now c.args.points.now kept.items)
-    (λ kept e. subst (IsReduced c.args.core.now c.args.points.now) (sym e) (reduced c.args.core.now c.args.points.now)) c.thinned.ensures
+returns c = record {
+  reduced =
+      IfOk-weaker c.thinned.result (λ kept. kept.items ≡ thinned c.args.core.now c.args.points.now) (λ kept. IsReduced c.args.core.now c.args.points.now kept.items)
+      (λ kept e. subst (IsReduced c.args.core.now c.args.points.now) (sym e) (reduced c.args.core.now c.args.points.now)) c.thinned.ensures;
+}
