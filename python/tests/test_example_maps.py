@@ -51,7 +51,7 @@ class Example(unittest.TestCase):
 
     def table(self, question: str) -> list[str]:
         """The rows below a command, without the names of columns."""
-        block = re.search(rf"^\$ tools/overlay_maps.py {question} .*\n((?:.*,.*\n)+)", self.page, re.M)
+        block = re.search(rf"^\$ \./overlay {question} .*\n((?:.*,.*\n)+)", self.page, re.M)
         assert block
         return block[1].splitlines()[1:]
 

@@ -16,7 +16,7 @@ from overlayd.commands import export as to_geojson, import_ as to_script
 from overlayd.files import coordinate_systems, gdal_files, geojson_maps, map_reading, writing
 from overlayd.geometry.whole_maps import MapFault
 from overlayd.maps import running
-from .common import OVERLAY, SECONDS, SQUARE, InFolder, on_file, outcome, path
+from .common import OVERLAY, SECONDS, SQUARE, InFolder, on_file, outcome
 from .test_maps import COUNTIES, area_of_script
 
 FEATURE = '{{"type": "Feature", "properties": {{"n": "{}"}}, "geometry": {{"type": "Polygon", "coordinates": [{}]}}}}'
@@ -222,7 +222,7 @@ class OwnTexts(InFolder):
     def test_a_geopackage_that_a_program_has_in_hand_is_not_replaced(self) -> None:
         for end in ("-wal", "-journal"):
             with self.subTest(end):
-                kept = self.folder / "n.gpkg", self.file(f"n.gpkg{end}", b"")
+                path, kept = self.folder / "n.gpkg", self.file(f"n.gpkg{end}", b"")
                 self.assertIsNone(writing.in_hand(path))
                 kept.write_bytes(b"pages")
                 with self.assertRaisesRegex(gdal_files.GdalFault, f"n.gpkg{end} has changes of it that a program"):

@@ -17,7 +17,7 @@ class Progresses(InFolder):
         words = [str(file), "--coded", "--output", str(output)]
         code = (f"import sys\n{before}\n"
                 "from overlayd import ending, progress\n"
-                "from overlayd.commands import to_script\n"
+                "from overlayd.commands import import_ as to_script\n"
                 "progress.BEGIN_SECONDS = 0\n"
                 f"ending.run(lambda _: to_script.main({words!r}))\n")
         return [sys.executable, "-c", code]

@@ -322,7 +322,8 @@ class Package(unittest.TestCase):
                          ("overlayd", make.version_told()[0], "amd64", "A B <a@b.example>"))
         self.assertRegex(fields["Depends"],
                          r"^libc6 \(>= 2\.[0-9]+\), python3 \(>= 3\.11\), python3-cachetools, "
-                         r"python3-flask, python3-gdal, python3-numpy, python3-pyproj, python3-tqdm, python3-waitress$")
+                         r"python3-click, python3-flask, python3-gdal, python3-numpy, python3-pyproj, python3-tqdm, "
+                         r"python3-waitress$")
         self.assertEqual(fields["Recommends"], "libjs-leaflet")
         self.assertGreater(int(fields["Installed-Size"]), 1000)
 
