@@ -5,11 +5,6 @@ use Rattle.overlay_server.proofs.Refusals.{may_answer, refused_at_once}
 use Rattle.overlay_server.proofs.StoreParts.{stopped_at_once}
 use Rattle.overlay_server.proofs.hosting.host.Goals as goal
 
--- the reporter is of the book that was seen, and so is the store
-pub new-requires-clause-book : goal.new-requires-clause-book
-new-requires-clause-book g c κs within =
-    ap (λ (l : BookLog). l.book) c.open_book-begun.ensures.reporter ∙ c.requires.book ∙ sym c.requires.kept
-
 pub returns-in-Err-clause-refused : goal.returns-in-Err-clause-refused
 returns-in-Err-clause-refused g c =
     let opened = c.open_book-begun in
