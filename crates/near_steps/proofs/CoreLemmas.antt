@@ -1,5 +1,5 @@
 -- What fitting says of a core: it lies strictly within the plane around its low corner.
-use Rattle.std.proofs.Common.{◌≡◌, ℤ, pos, ◌+ℤ◌, ◌-ℤ◌, ◌<ℤ◌, ◌≤ℤ◌, ◌^◌, ◌∙◌, ap, sym, subst, refl, arith, lit<, to_z, of_z, true, Bool, ◌&&◌}
+use Rattle.std.proofs.Common.{◌≡◌, ℤ, pos, ◌+ℤ◌, ◌-ℤ◌, ◌<ℤ◌, ◌≤ℤ◌, ◌^◌, ◌∙◌, ap, sym, subst, arith, lit<, to_z, of_z, true, ◌&&◌}
 use Rattle.std.specs.Int.{w64}
 use Rattle.std.proofs.lemmas.Bool.{and_parts, and_from}
 use Rattle.std.proofs.lemmas.Int.{ints}

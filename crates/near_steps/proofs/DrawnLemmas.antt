@@ -1,12 +1,10 @@
 -- What is drawn of rings is what the clauses say.
-use Rattle.std.proofs.Common.{◌≡◌, ℕ, ℤ, pos, ◌<ℤ◌, refl, ap, sym, ◌∙◌, true, false, Bool, ◌&&◌, List, [], ◌∷◌, ◌++◌, append_assoc, map}
+use Rattle.std.proofs.Common.{◌≡◌, refl, ap, ◌∙◌, true, List, [], ◌∷◌, ◌++◌}
 use Rattle.std.specs.Prelude.{All}
-use Rattle.std.specs.List.{list_all}
 use Rattle.std.proofs.lemmas.Bool.{and_parts}
-use Rattle.std.proofs.lemmas.List.{append-nil}
-use Rattle.std.proofs.lemmas.List.Elements.{All-nil, All-cons, All-head, All-tail}
-use Rattle.overlay_terms.specs.Plane.{WholePoint, Point, Segment, ring_segments, segments_of}
-use Rattle.map_window.specs.Window.{Box, Side, StaysWithin, moved}
+use Rattle.std.proofs.lemmas.List.Elements.{All-head, All-tail}
+use Rattle.overlay_terms.specs.Plane.{WholePoint, Segment, ring_segments, segments_of}
+use Rattle.map_window.specs.Window.{Box, StaysWithin, moved}
 use Rattle.map_window.specs.Drawn.{are_short}
 use Rattle.map_window.proofs.Steps.{alike-append, nothing-append}
 use Rattle.near_steps.specs.Cores.{fits, low_of, plane_of}

@@ -1,8 +1,8 @@
 -- What is left of a line, and what is drawn of it.
-use Rattle.std.proofs.Common.{◌≡◌, ℕ, ℤ, pos, ◌+◌, ◌≤◌, ◌<ℤ◌, refl, ap, sym, ◌∙◌, arith, true, false, Bool, List, [], ◌∷◌, ◌++◌, length, map}
+use Rattle.std.proofs.Common.{◌≡◌, pos, ◌<ℤ◌, refl, ap, sym, ◌∙◌, arith, true, List, [], ◌∷◌, length, map}
 use Rattle.std.specs.Prelude.{All, Contains}
 use Rattle.std.proofs.lemmas.List.Elements.{All-nil, All-cons, All-head, All-tail, All-weaker, All-contains_itself}
-use Rattle.overlay_terms.specs.Plane.{WholePoint, Point, Segment, is_closed, is_inside, same_whole, ring_segments}
+use Rattle.overlay_terms.specs.Plane.{WholePoint, Point, is_closed, is_inside, same_whole, ring_segments}
 use Rattle.overlay_terms.specs.Laws.{is_on_any}
 use Rattle.overlay_terms.proofs.PointOrder.{same_points}
 use Rattle.map_window.specs.Window.{Box, Side, IsIn, IsOff, Lies, StaysWithin, AreAlike, moved, whole_moved}
@@ -13,7 +13,7 @@ use Rattle.map_window.proofs.Moves.{line_moved}
 use Rattle.map_window.proofs.Lines.{closed_is, same_self, nowhere, ends_meet}
 use Rattle.map_window.proofs.Frames.{IsFramed, stays_still, across, seen_across}
 use Rattle.map_window.proofs.Maps.{line_clamped, map_twice}
-use Rattle.near_steps.specs.Cores.{fits, low_of, plane_of, IsPart}
+use Rattle.near_steps.specs.Cores.{fits, low_of, plane_of}
 use Rattle.near_steps.specs.Thinned.{rest_of, thinned, IsReduced}
 use Rattle.near_steps.specs.Drawn.{IsClosed, LiesOff, line_drawn}
 use Rattle.near_steps.proofs.CoreLemmas.{framed_core, whole_part}

@@ -1,15 +1,15 @@
 -- Drawing a line and a feature, point by point and ring by ring.
-use Rattle.std.proofs.Common.{◌≡◌, ℕ, suc, ℤ, pos, ◌-ℤ◌, ◌+◌, ◌-◌, ◌<◌, ◌≤◌, refl, ap, sym, ◌∙◌, subst, arith, true, false, Bool, ◌&&◌, ◌||◌, List, [], ◌∷◌, ◌++◌, append_assoc, length, drop, get_or, map}
+use Rattle.std.proofs.Common.{◌≡◌, ℕ, ℤ, pos, ◌-ℤ◌, refl, ap, sym, ◌∙◌, true, false, Bool, ◌&&◌, List, [], ◌∷◌, ◌++◌, append_assoc, map}
 use Rattle.std.specs.Prelude.{Result, Ok, Err, IfOk, OnOk}
 use Rattle.std.proofs.lemmas.List.{append-nil, map-append}
 use Rattle.overlay_terms.specs.Plane.{WholePoint, Segment, ring_segments}
 use Rattle.arrange.specs.declared.marked_seg.MarkedSeg.{MarkedSeg}
 use Rattle.map_window.specs.Window.{Box}
 use Rattle.map_window.specs.Drawn.{share_side, is_short, are_short, placed}
-use Rattle.map_window.proofs.Steps.{step, ring_segments-cons, parted}
+use Rattle.map_window.proofs.Steps.{ring_segments-cons, parted}
 use Rattle.near_steps.specs.Cores.{fits, low_of, plane_of}
 use Rattle.near_steps.specs.Thinned.{common, kept_after, rest_of, sides_of, stepped, thinned}
-use Rattle.near_steps.specs.Drawn.{are_drawable, border_of, drawing_of, drawn, marks, HasDrawn, HasMore, line_drawn, line_from, all_drawn, is_line_short, IsSided, GoesOn}
+use Rattle.near_steps.specs.Drawn.{are_drawable, border_of, drawing_of, drawn, marks, HasDrawn, HasMore, line_drawn, all_drawn, is_line_short, IsSided, GoesOn}
 use Rattle.near_steps.specs.declared.drawing.Drawing.{Drawing}
 use Rattle.near_steps.specs.declared.drawing.Drawing.TheVariants.{Whole, StepTooLong}
 use Rattle.near_steps.specs.declared.sides.Sides.{Sides}

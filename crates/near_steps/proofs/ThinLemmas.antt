@@ -1,7 +1,7 @@
 -- Lines without the middle one of three points on one side.
-use Rattle.std.proofs.Common.{◌≡◌, ◌⊎◌, inl, inr, ℕ, ℤ, pos, ◌+◌, ◌≤◌, ◌<ℤ◌, refl, ap, sym, ◌∙◌, arith, true, false, Bool, ◌&&◌, ◌||◌, List, [], ◌∷◌, ◌++◌, length}
-use Rattle.std.specs.Prelude.{int_lt, All, Contains}
-use Rattle.std.proofs.lemmas.Bool.{and_parts, and_from}
+use Rattle.std.proofs.Common.{◌≡◌, ℤ, pos, ◌≤◌, ◌<ℤ◌, refl, ap, sym, ◌∙◌, arith, true, false, Bool, ◌&&◌, ◌||◌, List, [], ◌∷◌, length}
+use Rattle.std.specs.Prelude.{int_lt, All}
+use Rattle.std.proofs.lemmas.Bool.{and_from}
 use Rattle.std.proofs.lemmas.List.Elements.{All-nil, All-cons, All-head, All-tail}
 use Rattle.overlay_terms.specs.Plane.{WholePoint, Point, ring_segments}
 use Rattle.overlay_terms.proofs.InputNumbers.{true_lt}
@@ -9,7 +9,7 @@ use Rattle.map_window.specs.Window.{Box, Side, left_of, right_of, under, over, I
 use Rattle.map_window.specs.Drawn.{share_side, is_held, is_short, are_short}
 use Rattle.map_window.proofs.Steps.{step, ring_segments-cons, alike_self, alike_through, alike-append, last_of}
 use Rattle.map_window.proofs.Frames.{aside}
-use Rattle.map_window.proofs.Lines.{ShareSide, shared_side, tail_spared}
+use Rattle.map_window.proofs.Lines.{shared_side, tail_spared}
 use Rattle.near_steps.specs.Cores.{IsPart}
 use Rattle.near_steps.specs.Thinned.{rest_of}
 use Rattle.near_steps.proofs.CoreLemmas.{off_part}

@@ -1,5 +1,5 @@
 -- What is drawn of rings within a core: segments of the plane that has the core's low corner as its origin.
-use Rattle.std.specs.Prelude.{◌≡◌, ℕ, ℤ, pos, ◌-ℤ◌, ◌<ℤ◌, ◌++◌, Bool, true, false, List, [], ◌∷◌, map, flat_map, All}
+use Rattle.std.specs.Prelude.{◌≡◌, ℕ, pos, ◌-ℤ◌, ◌<ℤ◌, ◌++◌, Bool, true, false, List, [], ◌∷◌, map, flat_map, All}
 use Rattle.std.specs.List.{list_all}
 use Rattle.overlay_terms.specs.Plane.{WholePoint, Point, Segment, is_closed, ring_segments, segments_of}
 use Rattle.arrange.specs.declared.marked_seg.MarkedSeg.{MarkedSeg}

@@ -1,5 +1,5 @@
 -- Lines without points that change nothing within a core.
-use Rattle.std.specs.Prelude.{◌≡◌, ℤ, pos, ◌<ℤ◌, ◌≤◌, ◌&&◌, ◌||◌, int_lt, Bool, true, List, [], ◌∷◌, ◌++◌, length, All, Contains, if◌then◌else◌}
+use Rattle.std.specs.Prelude.{◌≡◌, pos, ◌<ℤ◌, ◌≤◌, ◌&&◌, ◌||◌, int_lt, Bool, true, List, [], ◌∷◌, ◌++◌, length, All, Contains, if◌then◌else◌}
 use Rattle.overlay_terms.specs.Plane.{WholePoint, Point, is_closed, ring_segments}
 use Rattle.map_window.specs.Window.{Box, Side, IsIn, Lies, AreAlike}
 use Rattle.map_window.specs.Drawn.{share_side, are_short}

@@ -1,4 +1,4 @@
-use Rattle.std.proofs.Common.{◌≡◌, drop}
+use Rattle.std.proofs.Common.{drop}
 use Rattle.block_reading.specs.Block.{dealt}
 use Rattle.near_steps.proofs.LoopLemmas.{AreUnderWay}
 use Rattle.near_steps.proofs.drawing_rings.draw_feature.Given as goal

@@ -1,4 +1,4 @@
-use Rattle.std.proofs.Common.{◌≡◌, drop}
+use Rattle.std.proofs.Common.{drop}
 use Rattle.near_steps.proofs.LoopLemmas.{IsUnderWay}
 use Rattle.near_steps.proofs.drawing_rings.draw_line.Given as goal
 

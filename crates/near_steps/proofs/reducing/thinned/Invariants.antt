@@ -1,4 +1,4 @@
-use Rattle.std.proofs.Common.{◌≡◌, drop}
+use Rattle.std.proofs.Common.{drop}
 use Rattle.near_steps.proofs.LoopLemmas.{IsThinning}
 use Rattle.near_steps.proofs.reducing.thinned.Given as goal
 
