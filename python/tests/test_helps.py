@@ -68,7 +68,9 @@ class Helps(unittest.TestCase):
     def test_each_module_is_told_once(self) -> None:
         _, _, table = (TOP / "python/README.md").read_text().partition("| Part | Modules |\n")
         sources = TOP / "python/src/overlayd"
-        self.assertEqual(sorted(re.findall(r"`([\w/]+\.py)`", table)),
+        rows, _, _ = (sources / "maps/README.md").read_text().partition("\n\nWhat the programs")
+        told = re.findall(r"`(\w+\.py)`", rows)
+        self.assertEqual(sorted([*re.findall(r"`([\w/]+\.py)`", table), *(f"maps/{name}" for name in told)]),
                          sorted(path.relative_to(sources).as_posix() for path in sources.rglob("*.py")
                                 if path.stem != "__init__" or path.parent.name == "grid"))
 
