@@ -35,7 +35,14 @@ pub fn run<Q: Env + Files<File = File> + Threads + Wait + Sync + AllocGlobal>(
     let options = ServeOptions {
         workers: keeping.workers as usize,
     };
-    match serve(rt, rt.alloc(), options, &OpenGate, Begun::of(engine), sources) {
+    match serve(
+        rt,
+        rt.alloc(),
+        options,
+        &OpenGate,
+        Begun::of(engine),
+        sources,
+    ) {
         Ok(Left { sessions, closed }) => {
             let printed = print_all(&mut output, &sessions).is_ok();
             end_run(&keeping, &closed, printed, Ends::of(&sessions))
