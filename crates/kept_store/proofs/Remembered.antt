@@ -1,5 +1,5 @@
 -- What is remembered of a store's roots, over its calls.
-use Rattle.std.proofs.Common.{◌≡◌, Option, sym, subst}
+use Rattle.std.proofs.Common.{◌≡◌, sym, subst}
 use Rattle.std.proofs.Math.Logic.{∥∥₁_prop}
 use Rattle.disk_model.specs.declared.disk.Disk.{Ghosts}
 use Rattle.commit_plan.specs.Live.{live_content}

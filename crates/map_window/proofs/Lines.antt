@@ -14,7 +14,7 @@ use Rattle.overlay_terms.proofs.PointOrder.{whole_cmp_total}
 use Rattle.map_window.specs.Window.{Box, Side, left_of, right_of, under, over, Lies, AreAlike}
 use Rattle.map_window.specs.Drawn.{are_less, are_more, share_side, Line, points_of, added, ring_of}
 use Rattle.map_window.proofs.Sides.{differ, differ_self, Aside, mark}
-use Rattle.map_window.proofs.Steps.{SeesNothing, step, ring_segments-cons, parted, alike_self, alike_same, alike_through, alike-append, Seen, seen, spared, last_of, line_seen}
+use Rattle.map_window.proofs.Steps.{SeesNothing, step, ring_segments-cons, parted, alike_self, alike_same, alike_through, alike-append, Seen, spared, last_of, line_seen}
 
 -- ---- points that share a side
 -- three points lie off a box on one side

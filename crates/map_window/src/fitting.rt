@@ -1,7 +1,6 @@
 //! Whether a map may be drawn into a frame.
-ghost use Rattle.std.specs.Prelude.{◌≡◌, int_lt, int_le, ◌&&◌, ◌||◌, ◌-ℤ◌, Some, None};
+ghost use Rattle.std.specs.Prelude.{◌≡◌, int_le, ◌&&◌, ◌||◌, ◌-ℤ◌, Some, None};
 ghost use Rattle.overlay_terms.specs.Plane.{is_coordinate};
-ghost use Rattle.map_window.specs.Window.{Box};
 ghost use Rattle.map_window.specs.Drawn.{are_nested, is_framed, are_coordinates, lies_in_plane, are_less};
 ghost use Rattle.map_window.specs.Drawn.{are_more, share_side, is_held, is_short, are_short};
 ghost use Rattle.map_window.specs.Fault.{first_long_ring, window_fault};

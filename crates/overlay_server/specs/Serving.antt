@@ -19,7 +19,6 @@ use Rattle.script_form.specs.Transcript.{BookStore, StoreReport, of_number, of_f
 use Rattle.server_session.specs.Fault.{store_fault_of}
 use Rattle.server_session.specs.Session.{IsSessionWithin}
 use Rattle.kept_store.specs.Among.{IsFileIn, IsFileExactlyIn}
-use Rattle.kept_store.specs.Beginning.{start_of, flusher_of}
 use Rattle.kept_store.specs.Failing.{FailedAt}
 use Rattle.kept_store.specs.Storing.{IsStoreOf, IsStored}
 use Rattle.store_flushing.specs.ReportNote.{StaysReported, notes_in}

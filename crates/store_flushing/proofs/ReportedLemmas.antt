@@ -1,6 +1,6 @@
 -- How what was reported durable stays reported.
 use Rattle.std.proofs.Common.{◌≡◌, ◌⊎◌, inl, inr, ⊎_elim, ℕ, suc, ◌≤◌, List, [], ◌∷◌, ◌++◌, length, drop, map, All, refl, sym, ap, ◌∙◌, subst, arith}
-use Rattle.std.specs.List.{AllByRecursion, Contains, cons_option, slice_index_or}
+use Rattle.std.specs.List.{Contains, cons_option, slice_index_or}
 use Rattle.std.proofs.lemmas.List.{append-nil, map-append, length-map, get_or-map}
 use Rattle.std.proofs.lemmas.List.Elements.{All-append, All-from_recursion, All-map, All-weaker, filter_map-append}
 use Rattle.std.proofs.Math.Seq.{drop-append_seam}
@@ -17,7 +17,7 @@ use Rattle.kept_store.specs.Since.{number_reported, reported_in}
 use Rattle.store_flushing.specs.ReportNote.{news_in, note_then, notes_at, notes_in, StaysReported, NotesGoOn, KeepsNotes}
 use Rattle.store_flushing.specs.declared.keeper.Keeper.{Keeper}
 use Rattle.store_flushing.specs.declared.keeper.report_log.ReportNote.{ReportNote}
-use Rattle.kept_store.proofs.ReportsLemmas.{durable_rises, low_in, none_in}
+use Rattle.kept_store.proofs.ReportsLemmas.{low_in, none_in}
 use Rattle.kept_store.proofs.Histories.{begins_self, file_more, follow_rest, last_append}
 use Rattle.kept_store.proofs.Storage.{OnlyNow, store_leaves}
 

@@ -1,5 +1,5 @@
 -- A store at rest, and the files that a crash may leave of it.
-use Rattle.std.proofs.Common.{◌≡◌, ℕ, Result, Ok, Err, refl, sym, ◌∙◌, ap, subst}
+use Rattle.std.proofs.Common.{◌≡◌, Result, Ok, Err, refl, sym, ◌∙◌, ap, subst}
 use Rattle.disk_model.specs.declared.disk.Disk.{Ghosts}
 use Rattle.commit_plan.proofs.Reading.{calm_stands}
 use Rattle.store_terms.specs.declared.damage.Damage.{Damage}

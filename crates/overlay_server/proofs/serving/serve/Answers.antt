@@ -3,7 +3,7 @@ use Rattle.std.proofs.lemmas.Result.{IfOk-weaker}
 use Rattle.overlay_server.specs.Given.{bytes_of, given_by}
 use Rattle.overlay_server.specs.Refusing.{IsRefusedFrom}
 use Rattle.overlay_server.specs.Serving.{IsLeftFrom}
-use Rattle.kept_store.specs.Beginning.{flusher_of, start_of}
+use Rattle.kept_store.specs.Beginning.{flusher_of}
 use Rattle.overlay_server.proofs.Disks.{disk_left}
 use Rattle.overlay_server.proofs.Reporting.{has_engine}
 use Rattle.overlay_server.proofs.serving.serve.Goals as goal

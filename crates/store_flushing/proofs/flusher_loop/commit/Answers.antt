@@ -1,4 +1,4 @@
-use Rattle.std.proofs.Common.{◌≡◌, ap, subst, sym, ◌∙◌}
+use Rattle.std.proofs.Common.{ap, subst, sym, ◌∙◌}
 use Rattle.book_history.specs.Logs.{history_of, newest_in}
 use Rattle.book_lock.specs.Heard.{Heard}
 use Rattle.kept_store.specs.Storing.{Flushes}
