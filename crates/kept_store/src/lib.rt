@@ -1,5 +1,5 @@
 //! A store as its book's keeper holds it. None of these calls waits, so each returns, and what it leaves is what its contract
-//! says: no code above has a store or its disk open.
+//! says. What they give has store and disk shut, or held by the keeper; programs have a disk open until they shut it.
 #![tactic(auto)]
 
 pub mod begun;

@@ -1,12 +1,12 @@
-//! A disk that is shut: no code above this crate has one by value without its key.
+//! A disk that is shut: no code above this crate has it by value without a key.
 ghost use Rattle.std.specs.Prelude.{◌≡◌};
 
 use std::fmt;
 use std::marker::{Model, PhantomData};
 
-/// A disk that is shut, as a store gives it up. Who has its key alone can open it, and no store is made of it without: so
-/// code above this crate that is generic over its disk makes no device call but by the calls of a store, each of which says
-/// what every one of its device calls leaves.
+/// A disk that is shut, as a store gives it up. Who has a key of its type alone can open it, and no store is made of it
+/// without: so code above this crate that is generic over its disk, and is given no open disk and no key, makes no
+/// device call but by the calls of a store, each of which says what every one of its device calls leaves.
 #[derive(Drop)]
 pub struct Shut<D> {
     pub(crate) disk: D,
@@ -24,14 +24,16 @@ impl<D> fmt::Debug for Shut<D> {
     }
 }
 
-/// What opens disks that are shut. Who has a disk open can make one; no other call does.
+/// What opens a disk that is shut: any of its type. Who has some disk of that type open can make one; no other call
+/// does.
 #[derive(Drop)]
 pub struct Key<D> {
     of: PhantomData<D>,
 }
 
 impl<D> Key<D> {
-    /// The key of a disk, for who has the disk open, before a store is made of it.
+    /// A key, for who has a disk of the type open: before a store is made of it. It opens any disk of that type that is
+    /// shut, not this one alone.
     pub fn of(_disk: &D) -> Key<D> {
         Key { of: PhantomData }
     }
