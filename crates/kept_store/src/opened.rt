@@ -1,5 +1,5 @@
 //! A store before its book's keeper has it: shut, so that no code above has one by value.
-ghost use Rattle.std.specs.Prelude.{◌≡◌, ◌<◌, is_some, option_map, MatchOption, IfNone, IfSome, None, Some};
+ghost use Rattle.std.specs.Prelude.{◌≡◌, ◌<◌, is_some, option_map, MatchOption, IfSome, None, Some};
 ghost use Rattle.kept_store.specs.Unstored.{IsUnstoredFor};
 ghost use Rattle.root_store.specs.declared.phase.Phase.TheVariants as phases;
 
@@ -36,6 +36,22 @@ impl<D: Disk> ShutStore<D> {
     {
         let ShutStore { flusher, seen_log } = self;
         (flusher, seen_log)
+    }
+
+    /// What is left of it, with why it would not begin the commit of the newest version. It makes no device call.
+    pub fn left(self, alloc: Global, version: &Version) -> StoreLeft<D>
+        ensures stored { result.stored ≡ self.flusher.commit.root.version }
+        ensures disk { result.disk ≡ Some self.flusher.commit.disk }
+        ensures fault { IfSome result.fault (λ fault. IsUnstoredFor fault self.flusher version.now) }
+        ensures failed { self.flusher.commit.phase ≡ phases.Failed
+            → self.flusher.commit.root.version < version.now.number
+            → result.fault ≡ Some StoreFault.Failed }
+    {
+        let ShutStore {
+            flusher,
+            seen_log: _,
+        } = self;
+        left_of(alloc, Some(flusher), version)
     }
 }
 
@@ -87,21 +103,5 @@ impl<D: Disk> Opened<D> {
             Some(flusher) => Some(ShutStore::of(flusher, seen_log)),
             None => None,
         }
-    }
-
-    /// What is left of it, if there is one, with why it would not begin the commit of the newest version. It makes no
-    /// device call.
-    pub fn left(self, alloc: Global, version: &Version) -> StoreLeft<D>
-        ensures none { IfNone self.flusher ((result.stored ≡ 0) × (result.disk ≡ None)) }
-        ensures some { IfSome self.flusher (λ f. (result.stored ≡ f.commit.root.version) × (result.disk ≡ Some f.commit.disk)) }
-        ensures fault { IfSome result.fault (λ fault. IfSome self.flusher (λ f. IsUnstoredFor fault f version.now)) }
-        ensures failed { IfSome self.flusher (λ f. f.commit.phase ≡ phases.Failed
-            → f.commit.root.version < version.now.number → result.fault ≡ Some StoreFault.Failed) }
-    {
-        let Opened {
-            flusher,
-            seen_log: _,
-        } = self;
-        left_of(alloc, flusher, version)
     }
 }

@@ -16,7 +16,7 @@ use crate::keeper::report_log::ReportLog;
 use commit_plan::fault::StoreFault;
 use disk_model::disk::Disk;
 use kept_store::left::StoreLeft;
-use kept_store::opened::Opened;
+use kept_store::opened::ShutStore;
 use root_store::shut::Shut;
 use std::alloc::Global;
 use std::sync::{Arc, Wait};
@@ -44,14 +44,14 @@ pub struct Closed<D> {
     pub notes: ReportLog,
 }
 
-/// Ends a book once the threads that share it have returned, and gives up its store. The sessions are all that it began
-/// with.
+/// Ends a book once the threads that share it have returned, and gives up its store, as `flusher_loop` has left it, or
+/// as it was opened where none ran. The sessions are all that it began with.
 pub fn close<J: BookName, R: Wait + Drop, D: Disk, W: Wait>(
     rt: &W,
     alloc: Global,
     shared: Shared<J, R>,
     reporter: Reporter,
-    store: Opened<D>,
+    store: Option<ShutStore<D>>,
     notes: ReportLog,
     sessions: Vec<Session>,
 ) -> Closed<Shut<D>>
@@ -63,37 +63,39 @@ pub fn close<J: BookName, R: Wait + Drop, D: Disk, W: Wait>(
     ensures log { (result.seen_log.book ≡ J.book) × IsLog result.seen_log.log }
     ensures reporter { IsPrefix reporter.log result.seen_log.log }
     ensures sessions { All (λ session. HasAllOf result.seen_log.log session) sessions.items }
-    ensures none { IfNone store.flusher ((result.stored ≡ 0) × (result.disk ≡ None)) }
-    ensures disk { IfSome store.flusher (λ f. (result.stored ≡ f.commit.root.version) × (result.disk ≡ Some f.commit.disk)) }
+    ensures none { IfNone store ((result.stored ≡ 0) × (result.disk ≡ None)) }
+    ensures disk { IfSome store
+        (λ s. (result.stored ≡ s.flusher.commit.root.version) × (result.disk ≡ Some s.flusher.commit.disk)) }
     // Where the newest version is not stored and the store would not begin its commit, the book is given the reason.
     ensures fault { IfSome result.fault
-        (λ fault. IfSome store.flusher (λ f. IsUnstoredFor fault f (arc_value result.version))) }
-    ensures failed { IfSome store.flusher (λ f. f.commit.phase ≡ phases.Failed
-        → f.commit.root.version < (arc_value result.version).number
+        (λ fault. IfSome store (λ s. IsUnstoredFor fault s.flusher (arc_value result.version))) }
+    ensures failed { IfSome store (λ s. s.flusher.commit.phase ≡ phases.Failed
+        → s.flusher.commit.root.version < (arc_value result.version).number
         → result.fault ≡ Some StoreFault.Failed) }
     // All that is reported is stored, where it was for the reporter.
-    ensures reported { IfSome store.flusher (λ f. (newest_in reporter.log).durable ≤ f.commit.root.version
+    ensures reported { IfSome store (λ s. (newest_in reporter.log).durable ≤ s.flusher.commit.root.version
         → All (λ entry. entry.version.durable ≤ result.stored) result.seen_log.log) }
     // Every file that a crash may leave holds a version of the log, where it held one of the reporter's.
-    ensures files { IfSome store.flusher
-        (λ f. Leaves D.Disk f.commit.disk (IsFileIn (history_of reporter.log) f.commit.root.version)
+    ensures files { IfSome store
+        (λ s. Leaves D.Disk s.flusher.commit.disk (IsFileIn (history_of reporter.log) s.flusher.commit.root.version)
         → IfSome result.disk (λ disk. Leaves D.Disk disk (IsFileIn (history_of result.seen_log.log) result.stored))) }
     // It is just the version that is stored, where no commit is under way and the device did not fail.
-    ensures exactly { IfSome store.flusher (λ f. IsStoreOf D.Disk (history_of reporter.log) f → f.commit.phase ≡ phases.Idle
+    ensures exactly { IfSome store (λ s. IsStoreOf D.Disk (history_of reporter.log) s.flusher
+        → s.flusher.commit.phase ≡ phases.Idle
         → IfSome result.disk (λ disk. Leaves D.Disk disk
         (IsFileExactlyIn (history_of result.seen_log.log) result.stored))) }
     // What was written down as it was reported is all that the log reports durable, and it stays so.
     ensures written { result.notes ≡ notes }
-    ensures notes_stay { IfSome store.flusher
-        (λ f. IfSome result.disk (λ disk. NotesGoOn D.Disk (history_of reporter.log) (notes_in notes) f.commit.disk
-        (history_of result.seen_log.log) (notes_in result.notes) disk)) }
+    ensures notes_stay { IfSome store
+        (λ s. IfSome result.disk (λ disk. NotesGoOn D.Disk (history_of reporter.log) (notes_in notes)
+        s.flusher.commit.disk (history_of result.seen_log.log) (notes_in result.notes) disk)) }
 {
     let book = end_book(rt, shared, &reporter, &sessions);
     let StoreLeft {
         stored,
         fault,
         disk,
-    } = store.left(alloc, &book.version);
+    } = left_of(alloc, store, &book.version);
     Closed {
         version: book.version,
         seen_log: book.seen_log,
@@ -101,6 +103,26 @@ pub fn close<J: BookName, R: Wait + Drop, D: Disk, W: Wait>(
         fault,
         disk,
         notes,
+    }
+}
+
+/// What is left of a store, if there is one, with why it would not begin the commit of the newest version. It makes no
+/// device call.
+fn left_of<D: Disk>(alloc: Global, store: Option<ShutStore<D>>, version: &Version) -> StoreLeft<D>
+    ensures none { IfNone store ((result.stored ≡ 0) × (result.disk ≡ None)) }
+    ensures some { IfSome store
+        (λ s. (result.stored ≡ s.flusher.commit.root.version) × (result.disk ≡ Some s.flusher.commit.disk)) }
+    ensures fault { IfSome result.fault (λ fault. IfSome store (λ s. IsUnstoredFor fault s.flusher version.now)) }
+    ensures failed { IfSome store (λ s. s.flusher.commit.phase ≡ phases.Failed
+        → s.flusher.commit.root.version < version.now.number → result.fault ≡ Some StoreFault.Failed) }
+{
+    match store {
+        Some(store) => store.left(alloc, version),
+        None => StoreLeft {
+            stored: 0,
+            fault: None,
+            disk: None,
+        },
     }
 }
 

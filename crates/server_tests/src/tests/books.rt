@@ -58,7 +58,7 @@ where
         alloc,
         shared,
         reporter,
-        store,
+        store.into_store(),
         ReportLog::none(),
         sessions,
     );

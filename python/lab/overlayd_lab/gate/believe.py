@@ -284,10 +284,9 @@ which the prover alone has to believe, and those of further calls of docs/PROOFS
      those of a created or recovered engine are.
   5. `runs_lose_nothing` joins all of that, through any number of runs: what was reported durable at one moment, or
      within a call that was cut, is so at each later one. A moment comes from the one before by a call that returned, by
-     the end of a book, or by a crash within a call and the openings after it. Of a book whose store a keeper had,
-     `Store::close` says the end (`reporter`, `log`, `store`, `durable`); of one whose store none had, `close`
-     (`reporter`, `log`, `disk`, `reported`). That what the reporter has seen is a history (`valid`) each call says
-     (`keeps`), and both of the log (`log`).
+     the end of a book (`close`: `reporter`, `log`, `disk`, `reported`; `Store::close`, by which `serve` ends:
+     `reporter`, `log`, `store`, `durable`), or by a crash within a call and the openings after it. That what the
+     reporter has seen is a history (`valid`) each call says (`keeps`), and both of the log (`log`).
 
   `serve`, the call of `overlayd`, speaks of a run that came to its end; `serve_ports`, that of `overlay_live`, says the
   same (`left`). Two things are seen by reading the code alone: that nothing else moves the disk, and that the server's

@@ -13,21 +13,21 @@ pub returns-clause-reported : goal.returns-clause-reported
 returns-clause-reported g c =
     let left = c.end_book-book.result in
     let ended = c.end_book-book.ensures in
-    reported_left c.args.store.flusher c.left-stored.result.stored c.left-stored.result.disk c.left-stored.ensures.some c.args.reporter left.seen_log.log ended.reporter ended.durable
+    reported_left c.args.store c.left_of-stored.result.stored c.left_of-stored.result.disk c.left_of-stored.ensures.some c.args.reporter left.seen_log.log ended.reporter ended.durable
 
 pub returns-clause-files : goal.returns-clause-files
 returns-clause-files g c =
     let was = c.args.reporter.log in
     let left = c.end_book-book.result in
     let ended = c.end_book-book.ensures in
-    files_left g.D.Disk (history_of was) (history_of left.seen_log.log) (begins_with was left.seen_log.log ended.begun ended.reporter.longer) c.args.store.flusher c.left-stored.result.stored c.left-stored.result.disk c.left-stored.ensures.some
+    files_left g.D.Disk (history_of was) (history_of left.seen_log.log) (begins_with was left.seen_log.log ended.begun ended.reporter.longer) c.args.store c.left_of-stored.result.stored c.left_of-stored.result.disk c.left_of-stored.ensures.some
 
 pub returns-clause-exactly : goal.returns-clause-exactly
 returns-clause-exactly g c =
     let was = c.args.reporter.log in
     let left = c.end_book-book.result in
     let ended = c.end_book-book.ensures in
-    exactly_left g.D.Disk (history_of was) (history_of left.seen_log.log) (begins_with was left.seen_log.log ended.begun ended.reporter.longer) c.args.store.flusher c.left-stored.result.stored c.left-stored.result.disk c.left-stored.ensures.some
+    exactly_left g.D.Disk (history_of was) (history_of left.seen_log.log) (begins_with was left.seen_log.log ended.begun ended.reporter.longer) c.args.store c.left_of-stored.result.stored c.left_of-stored.result.disk c.left_of-stored.ensures.some
 
 pub returns-clause-notes_stay : goal.returns-clause-notes_stay
 returns-clause-notes_stay g c =
@@ -36,4 +36,4 @@ returns-clause-notes_stay g c =
     let now = left.seen_log.log in
     let ended = c.end_book-book.ensures in
     notes_left g.D.Disk (history_of was) (history_of now) (begins_with was now ended.begun ended.reporter.longer)
-    (is_history now ended.log.1) ended.reporter.durable (notes_in c.args.notes) c.args.store.flusher c.left-stored.result.stored c.left-stored.result.disk c.left-stored.ensures.some
+    (is_history now ended.log.1) ended.reporter.durable (notes_in c.args.notes) c.args.store c.left_of-stored.result.stored c.left_of-stored.result.disk c.left_of-stored.ensures.some
