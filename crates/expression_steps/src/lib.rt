@@ -1,0 +1,7 @@
+//! Steps of definitions over layers, where these are in order.
+#![tactic(auto)]
+
+mod making;
+mod ordering;
+
+pub use making::steps_over;
