@@ -1,0 +1,33 @@
+//! Cells of an expression.
+use crate::fault::JobFault;
+use block_reading::{Core, Member};
+use feature_windows::{Features, Found, Near, found_in, windows};
+use layer_expr::StepList;
+use std::alloc::{AllocError, Global};
+
+/// The members of a job, as features near its core.
+fn nears(alloc: Global, members: &[Member]) -> Result<Vec<Near>, AllocError> {
+    let mut list = Vec::new(alloc);
+    for one in members {
+        list.push(Near {
+            feature: one.feature as usize,
+            layer: one.layer as usize,
+        })?;
+    }
+    Ok(list)
+}
+
+/// What an expression over so many layers of features holds of a core, whose own layer is the last one.
+pub(crate) fn cells(
+    alloc: Global,
+    features: &Features,
+    steps: &StepList,
+    core: &Core,
+    members: &[Member],
+    limit: usize,
+) -> Result<Found, JobFault> {
+    let near = nears(alloc, members)?;
+    let count = usize::from(steps.bases()).saturating_sub(1);
+    let list = windows(alloc, features, &near, count, core, limit)?;
+    Ok(found_in(alloc, &list, steps, core.low_x, core.low_y)?)
+}

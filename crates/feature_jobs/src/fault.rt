@@ -1,0 +1,74 @@
+//! Why a job has no answer.
+use feature_windows::WindowsFault;
+use layer_expr::ExprFault;
+use std::alloc::{AllocError, AllocFailed};
+
+/// Why a job has no answer, or a block.
+#[derive(Clone, Copy, Debug, PartialEq, Eq)]
+pub enum JobFault {
+    OutOfMemory,
+    /// The expression cannot be read, or names what is no layer of the block.
+    BadExpression,
+    /// An expression over more layers than a pass may have.
+    TooManyLayers,
+    /// A step near a core is longer than the plane of one pass.
+    LongStep,
+    /// More steps through one place than one pass may have.
+    TooManySteps,
+    /// Twice the area does not fit 128 bits.
+    LargeArea,
+    /// A ring that is not closed, or has fewer than four points.
+    BadRing,
+    /// Outlines are wanted, which are not made here.
+    NoOutlines,
+}
+
+impl JobFault {
+    /// The number of the fault.
+    pub fn code(&self) -> u32 {
+        match self {
+            JobFault::OutOfMemory => 40,
+            JobFault::BadExpression => 76,
+            JobFault::TooManyLayers => 77,
+            JobFault::LongStep => 78,
+            JobFault::TooManySteps => 79,
+            JobFault::LargeArea => 80,
+            JobFault::BadRing => 82,
+            JobFault::NoOutlines => 84,
+        }
+    }
+}
+
+impl From<AllocError> for JobFault {
+    fn from(_e: AllocError) -> JobFault {
+        JobFault::OutOfMemory
+    }
+}
+
+impl<T: Drop> From<AllocFailed<T>> for JobFault {
+    fn from(_e: AllocFailed<T>) -> JobFault {
+        JobFault::OutOfMemory
+    }
+}
+
+impl From<ExprFault> for JobFault {
+    fn from(e: ExprFault) -> JobFault {
+        match e {
+            ExprFault::OutOfMemory => JobFault::OutOfMemory,
+            _ => JobFault::BadExpression,
+        }
+    }
+}
+
+impl From<WindowsFault> for JobFault {
+    fn from(e: WindowsFault) -> JobFault {
+        match e {
+            WindowsFault::OutOfMemory => JobFault::OutOfMemory,
+            WindowsFault::BadRing => JobFault::BadRing,
+            WindowsFault::LongStep => JobFault::LongStep,
+            WindowsFault::TooManySteps => JobFault::TooManySteps,
+            WindowsFault::LargeArea => JobFault::LargeArea,
+            WindowsFault::OtherLayers => JobFault::BadExpression,
+        }
+    }
+}

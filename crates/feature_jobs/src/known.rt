@@ -1,0 +1,142 @@
+//! What is known of a feature before any job: its area, and the box of its boundary.
+use crate::expressions::of_two;
+use crate::fault::JobFault;
+use block_reading::Core;
+use exact_point::HPoint;
+use feature_windows::{
+    Features, Found, Near, Window, around, found_in, is_nothing, nothing, pieces_in, windows,
+};
+use layer_expr::StepList;
+use std::alloc::Global;
+use swept_area::SidedPiece;
+
+/// Twice a feature's area with its bound, and the box of its boundary, which holds nothing where there is none.
+#[derive(Clone, Copy, Debug)]
+pub(crate) struct Known {
+    pub found: Found,
+    pub extent: Core,
+}
+
+/// A feature, or why nothing is known of it.
+#[derive(Clone, Copy, Debug)]
+pub(crate) enum Knowing {
+    Known(Known),
+    Fault(JobFault),
+}
+
+/// Nothing found in no window.
+pub(crate) fn nothing_found() -> Found {
+    Found {
+        twice: 0,
+        bound: 0,
+        pieces: 0,
+        windows: 0,
+    }
+}
+
+/// A number of 64 bits, or the one next to it.
+fn narrow(z: i128) -> i64 {
+    match i64::try_from(z) {
+        Ok(own) => own,
+        Err(_) => if z < 0 { i64::MIN } else { i64::MAX },
+    }
+}
+
+/// The whole numbers next to x / w and farther by a number: at most that, and at least that.
+fn next_to(x: i128, w: i128, by: i64) -> (i64, i64) {
+    match x.checked_div_euclid(w) {
+        Some(whole) => {
+            let low = narrow(whole).saturating_add(by);
+            let is_whole = whole.saturating_mul(w) == x;
+            (low, if is_whole { low } else { low.saturating_add(1) })
+        }
+        None => (by, by),
+    }
+}
+
+/// The whole box next to a place in a core.
+fn around_place(p: &HPoint, core: &Core) -> Core {
+    let (low_x, high_x) = next_to(p.x, p.w, core.low_x);
+    let (low_y, high_y) = next_to(p.y, p.w, core.low_y);
+    Core {
+        low_x,
+        high_x,
+        low_y,
+        high_y,
+    }
+}
+
+/// The box around the pieces of a window.
+fn extent_of(pieces: &[SidedPiece], core: &Core) -> Core {
+    let mut extent = nothing();
+    for one in pieces {
+        extent = around(&extent, &around_place(&one.from, core));
+        extent = around(&extent, &around_place(&one.to, core));
+    }
+    extent
+}
+
+/// The box around what windows have of an expression.
+fn extent_in(alloc: Global, list: &[Window], own: &StepList) -> Result<Core, JobFault> {
+    let mut extent = nothing();
+    for window in list {
+        let pieces = pieces_in(alloc, window, own)?;
+        extent = around(&extent, &extent_of(&pieces, &window.core));
+    }
+    Ok(extent)
+}
+
+/// What is known of a feature; `own` says that it is the first of two layers, within the core.
+fn known_of(
+    alloc: Global,
+    features: &Features,
+    feature: usize,
+    own: &StepList,
+    limit: usize,
+) -> Result<Known, JobFault> {
+    let core = features.extent_of(feature);
+    if is_nothing(&core) {
+        return Ok(Known {
+            found: nothing_found(),
+            extent: nothing(),
+        });
+    }
+    let list = windows(
+        alloc,
+        features,
+        &[Near { feature, layer: 0 }],
+        2,
+        &core,
+        limit,
+    )?;
+    let found = found_in(alloc, &list, own, core.low_x, core.low_y)?;
+    let extent = extent_in(alloc, &list, own)?;
+    Ok(Known { found, extent })
+}
+
+/// What is known of all features.
+pub(crate) fn all_known(
+    alloc: Global,
+    features: &Features,
+    limit: usize,
+) -> Result<Vec<Knowing>, JobFault> {
+    let own = of_two(alloc, b"A & Core")?;
+    let mut list = Vec::new(alloc);
+    for feature in 0..features.count() {
+        match known_of(alloc, features, feature, &own, limit) {
+            Ok(one) => list.push(Knowing::Known(one))?,
+            Err(JobFault::OutOfMemory) => return Err(JobFault::OutOfMemory),
+            Err(fault) => list.push(Knowing::Fault(fault))?,
+        }
+    }
+    Ok(list)
+}
+
+/// What is known of one of them.
+pub(crate) fn known_at(list: &[Knowing], feature: usize) -> Result<Known, JobFault> {
+    match list.get(feature) {
+        Some(Knowing::Known(one)) => Ok(*one),
+        Some(Knowing::Fault(fault)) => Err(*fault),
+        None => Err(JobFault::BadRing),
+    }
+}

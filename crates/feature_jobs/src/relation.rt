@@ -1,0 +1,197 @@
+//! How two features lie to each other, by the boundaries of layers: their interiors meet exactly if A & B has a boundary,
+//! and one has a part off the other exactly if their difference has one; they touch if the interiors do not meet and some
+//! point is on both boundaries.
+use crate::expressions::of_two;
+use crate::fault::JobFault;
+use crate::known::Known;
+use block_reading::Core;
+use exact_point::HPoint;
+use feature_windows::{Features, Near, Window, is_nothing, is_within, meet, pieces_in, windows};
+use layer_expr::StepList;
+use std::alloc::Global;
+use swept_area::SidedPiece;
+
+/// How one feature lies to another.
+#[derive(Clone, Copy, Debug, PartialEq, Eq)]
+pub(crate) enum Relation {
+    Disjoint,
+    Touches,
+    Overlaps,
+    Within,
+    Contains,
+    Equals,
+}
+
+impl Relation {
+    /// The number of a relation.
+    pub fn number(self) -> u32 {
+        match self {
+            Relation::Disjoint => 0,
+            Relation::Touches => 1,
+            Relation::Overlaps => 2,
+            Relation::Within => 3,
+            Relation::Contains => 4,
+            Relation::Equals => 5,
+        }
+    }
+}
+
+/// The expressions that a pair asks.
+#[derive(Debug, Drop)]
+pub(crate) struct PairSteps {
+    pub both: StepList,
+    pub first: StepList,
+    pub second: StepList,
+    pub first_alone: StepList,
+    pub second_alone: StepList,
+}
+
+/// Those expressions.
+pub(crate) fn pair_steps(alloc: Global) -> Result<PairSteps, JobFault> {
+    Ok(PairSteps {
+        both: of_two(alloc, b"A & B & Core")?,
+        first: of_two(alloc, b"A")?,
+        second: of_two(alloc, b"B")?,
+        first_alone: of_two(alloc, b"(A - B) & Core")?,
+        second_alone: of_two(alloc, b"(B - A) & Core")?,
+    })
+}
+
+/// Whether x / w lies in a span that begins at 0.
+fn is_in_span(x: i128, w: i128, low: i64, high: i64) -> bool {
+    let wide = i128::from(high).saturating_sub(i128::from(low));
+    0 <= x && x <= wide.saturating_mul(w)
+}
+
+/// Whether a place lies in a core, whose low corner is the origin.
+fn is_in(p: &HPoint, core: &Core) -> bool {
+    is_in_span(p.x, p.w, core.low_x, core.high_x) && is_in_span(p.y, p.w, core.low_y, core.high_y)
+}
+
+/// The ends of pieces that lie in a core, in order.
+fn ends_in(alloc: Global, pieces: &[SidedPiece], core: &Core) -> Result<Vec<HPoint>, JobFault> {
+    let mut ends = Vec::new(alloc);
+    for one in pieces {
+        if is_in(&one.from, core) {
+            ends.push(one.from)?;
+        }
+        if is_in(&one.to, core) {
+            ends.push(one.to)?;
+        }
+    }
+    ends.sort_unstable();
+    Ok(ends)
+}
+
+/// Whether a list in order has a place.
+fn has(ends: &[HPoint], place: &HPoint) -> bool {
+    let at = ends.partition_point(|one| one < place);
+    match ends.get(at) {
+        Some(one) => one == place,
+        None => false,
+    }
+}
+
+/// Whether two lists have a place in common; the first is in order.
+fn share(ends: &[HPoint], others: &[HPoint]) -> bool {
+    for place in others {
+        if has(ends, place) {
+            return true;
+        }
+    }
+    false
+}
+
+/// Whether some point of a window is on both boundaries.
+fn touch_in(alloc: Global, window: &Window, steps: &PairSteps) -> Result<bool, JobFault> {
+    let first = pieces_in(alloc, window, &steps.first)?;
+    let ends = ends_in(alloc, &first, &window.core)?;
+    if ends.is_empty() {
+        return Ok(false);
+    }
+    let second = pieces_in(alloc, window, &steps.second)?;
+    let others = ends_in(alloc, &second, &window.core)?;
+    Ok(share(&ends, &others))
+}
+
+/// Whether some point of some windows is on both boundaries.
+pub(crate) fn touch(alloc: Global, list: &[Window], steps: &PairSteps) -> Result<bool, JobFault> {
+    for window in list {
+        if touch_in(alloc, window, steps)? {
+            return Ok(true);
+        }
+    }
+    Ok(false)
+}
+
+/// Whether an expression has a part in some windows.
+fn has_part(alloc: Global, list: &[Window], steps: &StepList) -> Result<bool, JobFault> {
+    for window in list {
+        let pieces = pieces_in(alloc, window, steps)?;
+        if !pieces.is_empty() {
+            return Ok(true);
+        }
+    }
+    Ok(false)
+}
+
+/// Two features, with what is known of both.
+#[derive(Debug, Drop)]
+pub(crate) struct Both<'a> {
+    pub near: &'a [Near; 2],
+    pub a: &'a Known,
+    pub b: &'a Known,
+}
+
+/// Whether the first of two features has a part off the second, by the boxes of their boundaries, or else by a pass.
+fn has_rest(
+    alloc: Global,
+    features: &Features,
+    both: &Both,
+    is_first: bool,
+    steps: &PairSteps,
+    limit: usize,
+) -> Result<bool, JobFault> {
+    let (one, other) = if is_first {
+        (both.a, both.b)
+    } else {
+        (both.b, both.a)
+    };
+    if !is_within(&one.extent, &other.extent) {
+        return Ok(true);
+    }
+    let near = both.near;
+    let list = windows(alloc, features, near, 2, &one.extent, limit)?;
+    has_part(
+        alloc,
+        &list,
+        if is_first {
+            &steps.first_alone
+        } else {
+            &steps.second_alone
+        },
+    )
+}
+
+/// The relation of two features whose interiors meet.
+pub(crate) fn relation_within(
+    alloc: Global,
+    features: &Features,
+    both: &Both,
+    steps: &PairSteps,
+    limit: usize,
+) -> Result<Relation, JobFault> {
+    let first = has_rest(alloc, features, both, true, steps, limit)?;
+    let second = has_rest(alloc, features, both, false, steps, limit)?;
+    Ok(match (first, second) {
+        (true, true) => Relation::Overlaps,
+        (false, true) => Relation::Within,
+        (true, false) => Relation::Contains,
+        (false, false) => Relation::Equals,
+    })
+}
+
+/// Whether two features have no point in common, by the boxes of their boundaries.
+pub(crate) fn are_apart(a: &Known, b: &Known) -> bool {
+    is_nothing(&a.extent) || is_nothing(&b.extent) || !meet(&a.extent, &b.extent)
+}
