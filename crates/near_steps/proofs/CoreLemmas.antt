@@ -91,7 +91,11 @@ low_x_near core h = near_low core.low_x core.high_x (x_span core h)
 pub low_y_near : (core : Box) → fits core ≡ true → is_near core.low_y ≡ true
 low_y_near core h = near_low core.low_y core.high_y (y_span core h)
 
--- how long a span is, as the code reads it
+-- how long a span is
+pub span_in_range : (low high : ℤ) → is_close_span low high ≡ true → InRange (high -ℤ low)
+span_in_range low high h = let s = close_span low high h in let a = s.ordered in let b = s.close in (omega (arith, ints, a, b), omega (arith, ints, a, b))
+
+-- the same, as the code reads it
 pub size_read : (low high : ℤ) → is_close_span low high ≡ true → InRange (to_z w64 (of_z w64 (to_z w64 (of_z w64 high) -ℤ to_z w64 (of_z w64 low))))
 size_read low high h =
     let s = close_span low high h in
@@ -99,8 +103,7 @@ size_read low high h =
     let b = s.close in
     let small : IsWithin (2 ^ 42) (high -ℤ low) = record { low = omega (arith, ints, a, b); high = omega (arith, ints, a, b) } in
     let parts : to_z w64 (of_z w64 high) -ℤ to_z w64 (of_z w64 low) ≡ high -ℤ low = λ i. far_read high (near_high low high h) i -ℤ far_read low (near_low low high h) i in
-    let in_range : InRange (high -ℤ low) = (omega (arith, ints, a, b), omega (arith, ints, a, b)) in
-    subst InRange (sym (ap (λ z. to_z w64 (of_z w64 z)) parts ∙ narrow_read (2 ^ 42) (high -ℤ low) small (lit< tt))) in_range
+    subst InRange (sym (ap (λ z. to_z w64 (of_z w64 z)) parts ∙ narrow_read (2 ^ 42) (high -ℤ low) small (lit< tt))) (span_in_range low high h)
 
 -- a number clamped into the plane around another is a coordinate, seen from it
 pub clamped_reach : (low x at : ℤ) → at ≡ clamped (low -ℤ pos coordinate_max) (low +ℤ pos coordinate_max) x → InRange (at -ℤ low)

@@ -1,14 +1,18 @@
 -- What is left of a line, and what is drawn of it.
 use Rattle.std.proofs.Common.{◌≡◌, pos, ◌<ℤ◌, refl, ap, sym, ◌∙◌, arith, true, List, [], ◌∷◌, length, map}
 use Rattle.std.specs.Prelude.{All, Contains}
-use Rattle.std.proofs.lemmas.List.Elements.{All-nil, All-cons, All-head, All-tail, All-weaker, All-contains_itself}
-use Rattle.overlay_terms.specs.Plane.{WholePoint, Point, is_closed, is_inside, same_whole, ring_segments}
+use Rattle.std.specs.Ordering.{ordering_reverse}
+use Rattle.std.specs.declared.cmp.Ordering.{Ordering}
+use Rattle.std.specs.declared.cmp.Ordering.TheVariants.{Less, Equal, Greater}
+use Rattle.std.proofs.lemmas.List.Elements.{All-nil, All-cons, All-head, All-tail, All-same, All-append, All-weaker, All-contains_itself}
+use Rattle.overlay_terms.specs.Plane.{WholePoint, Point, InRange, is_closed, is_inside, same_whole, whole_cmp, ring_segments}
+use Rattle.overlay_terms.specs.TileLaws.{IsProper}
 use Rattle.overlay_terms.specs.Laws.{is_on_any}
-use Rattle.overlay_terms.proofs.PointOrder.{same_points}
+use Rattle.overlay_terms.proofs.PointOrder.{same_points, whole_cmp_total}
 use Rattle.map_window.specs.Window.{Box, Side, IsIn, IsOff, Lies, StaysWithin, AreAlike, moved, whole_moved}
-use Rattle.map_window.specs.Drawn.{are_short, into, placed}
+use Rattle.map_window.specs.Drawn.{are_short, clamped, into, placed}
 use Rattle.map_window.proofs.Sides.{Aside}
-use Rattle.map_window.proofs.Steps.{SeesNothing, step, last_of, line_seen}
+use Rattle.map_window.proofs.Steps.{SeesNothing, step, ring_segments-cons, last_of, line_seen}
 use Rattle.map_window.proofs.Moves.{line_moved}
 use Rattle.map_window.proofs.Lines.{closed_is, same_self, nowhere, ends_meet}
 use Rattle.map_window.proofs.Frames.{IsFramed, stays_still, across, seen_across}
@@ -16,7 +20,7 @@ use Rattle.map_window.proofs.Maps.{line_clamped, map_twice}
 use Rattle.near_steps.specs.Cores.{fits, low_of, plane_of}
 use Rattle.near_steps.specs.Thinned.{rest_of, thinned, IsReduced}
 use Rattle.near_steps.specs.Drawn.{IsClosed, LiesOff, line_drawn}
-use Rattle.near_steps.proofs.CoreLemmas.{framed_core, whole_part}
+use Rattle.near_steps.proofs.CoreLemmas.{clamped_reach, framed_core, whole_part}
 use Rattle.near_steps.proofs.ThinLemmas.{thin_alike, thin_short, thin_each, thin_last, thin_few, thin_off}
 
 -- a closed ring ends where it begins
@@ -71,6 +75,30 @@ last_made : (f : WholePoint → WholePoint) (a : WholePoint) (xs : List WholePoi
 last_made f a [] = refl
 last_made f a (x ∷ xs) = last_made f x xs
 
+-- ---- segments of points in the plane
+abbrev pub IsPlaced : WholePoint → Type 0
+IsPlaced p = InRange p.x × InRange p.y
+
+step_proper : (a b : WholePoint) (o : Ordering) → whole_cmp a b ≡ o → IsPlaced a → IsPlaced b → All IsProper (step a b)
+step_proper a b Less e h k =
+    let same : step a b ≡ record { left = a; right = b } ∷ [] = rw e refl in
+    All-same IsProper _ _ same (All-cons IsProper (record { left = a; right = b }) [] (record { first = e; left_x = h.0; left_y = h.1; right_x = k.0; right_y = k.1 }) (All-nil IsProper))
+step_proper a b Equal e h k =
+    let same : step a b ≡ [] = rw e refl in
+    All-same IsProper _ _ same (All-nil IsProper)
+step_proper a b Greater e h k =
+    let same : step a b ≡ record { left = b; right = a } ∷ [] = rw e refl in
+    let back : whole_cmp b a ≡ Less = whole_cmp_total.antisymm b a ∙ ap ordering_reverse e in
+    All-same IsProper _ _ same (All-cons IsProper (record { left = b; right = a }) [] (record { first = back; left_x = k.0; left_y = k.1; right_x = h.0; right_y = h.1 }) (All-nil IsProper))
+
+pub line_proper : (points : List WholePoint) → All IsPlaced points → All IsProper (ring_segments points)
+line_proper [] all = All-nil IsProper
+line_proper (a ∷ []) all = All-nil IsProper
+line_proper (a ∷ b ∷ rest) all =
+    let others : All IsPlaced (b ∷ rest) = All-tail IsPlaced a (b ∷ rest) all in
+    All-same IsProper _ _ (ring_segments-cons a b rest)
+    (All-append IsProper (step a b) (ring_segments (b ∷ rest)) (step_proper a b (whole_cmp a b) refl (All-head IsPlaced a (b ∷ rest) all) (All-head IsPlaced b rest others)) (line_proper (b ∷ rest) others))
+
 module _ (core : Box) (fit : fits core ≡ true) where
   abbrev made : WholePoint → WholePoint
   made = placed (plane_of core) (low_of core)
@@ -92,6 +120,11 @@ module _ (core : Box) (fit : fits core ≡ true) where
         edge = ap (λ z. is_on_any z (moved (low_of core) q)) same ∙ one.edge ∙ two.edge ∙ three.edge;
       }
 
+  -- what is drawn of a closed ring ends where it begins
+  still_meets : (a b : WholePoint) (rest : List WholePoint) → is_closed (a ∷ b ∷ rest) ≡ true → made a ≡ last_of (made a) (map made (rest_of core a b rest))
+  still_meets a b rest closed =
+      ap made (meets a b rest closed ∙ sym (thin_last core a a b rest)) ∙ sym (last_made made a (rest_of core a b rest))
+
   line_nothing : (a b : WholePoint) (rest : List WholePoint) (side : Side) (q : Point) → pos 0 <ℤ q.w → is_closed (a ∷ b ∷ rest) ≡ true → All (StaysWithin core side) (a ∷ b ∷ rest) → IsOff core side q
       → SeesNothing (line_drawn core (a ∷ rest_of core a b rest)) (moved (low_of core) q)
   line_nothing a b rest side q positive closed all off =
@@ -103,9 +136,7 @@ module _ (core : Box) (fit : fits core ≡ true) where
       let kept : All P (rest_of core a b rest) = thin_each core P a b rest (All-head P b rest others) (All-tail P b rest others) in
       let seen = line_seen (across side) (moved (low_of core) q) positive (made a) (map made (rest_of core a b rest)) (there a (All-head P a (b ∷ rest) all))
       (map_each made A (rest_of core a b rest) (All-weaker P (λ p. A (made p)) there (rest_of core a b rest) kept)) in
-      let ends : made a ≡ last_of (made a) (map made (rest_of core a b rest)) =
-      ap made (meets a b rest closed ∙ sym (thin_last core a a b rest)) ∙ sym (last_made made a (rest_of core a b rest)) in
-      ends_meet (across side) (moved (low_of core) q) (made a) (last_of (made a) (map made (rest_of core a b rest))) (line_drawn core (a ∷ rest_of core a b rest)) ends seen
+      ends_meet (across side) (moved (low_of core) q) (made a) (last_of (made a) (map made (rest_of core a b rest))) (line_drawn core (a ∷ rest_of core a b rest)) (still_meets a b rest closed) seen
 
   line_off : (a b : WholePoint) (rest : List WholePoint) (side : Side) → is_closed (a ∷ b ∷ rest) ≡ true → All (Lies core side) (a ∷ b ∷ rest) → line_drawn core (a ∷ rest_of core a b rest) ≡ []
   line_off a b rest side closed all =
@@ -130,3 +161,22 @@ module _ (core : Box) (fit : fits core ≡ true) where
   none [] closed off = refl
   none (a ∷ []) closed off = refl
   none (a ∷ b ∷ rest) closed off = line_off a b rest off.side closed off.points
+
+  pub still_closed : (points : List WholePoint) → IsClosed points → IsClosed (map made (thinned core points))
+  still_closed [] closed = closed
+  still_closed (a ∷ []) closed = closed_is (made a) [] ∙ same_self (made a)
+  still_closed (a ∷ b ∷ rest) closed =
+      closed_is (made a) (map made (rest_of core a b rest)) ∙ ap (λ p. same_whole (made a) p) (sym (still_meets a b rest closed)) ∙ same_self (made a)
+
+  -- ---- its segments are proper
+  made_placed : (a : WholePoint) → IsPlaced (made a)
+  made_placed a =
+      let plane = plane_of core in
+      (clamped_reach core.low_x a.x (clamped plane.low_x plane.high_x a.x) refl, clamped_reach core.low_y a.y (clamped plane.low_y plane.high_y a.y) refl)
+
+  all_placed : (points : List WholePoint) → All IsPlaced (map made points)
+  all_placed [] = All-nil IsPlaced
+  all_placed (a ∷ points) = All-cons IsPlaced (made a) (map made points) (made_placed a) (all_placed points)
+
+  pub proper_line : (points : List WholePoint) → All IsProper (line_drawn core points)
+  proper_line points = line_proper (map made points) (all_placed points)

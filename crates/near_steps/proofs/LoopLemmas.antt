@@ -178,6 +178,10 @@ on_ok : {T E : Type 0} (r : Result T E) (P Q : Type 0) → (P → Q) → OnOk r 
 on_ok (Ok x) P Q f h = f h
 on_ok (Err e) P Q f h = h
 
+pub any_ok : {T E : Type 0} (r : Result T E) (P : Type 0) → P → OnOk r P
+any_ok (Ok x) P h = h
+any_ok (Err e) P h = tt
+
 pub border_is : (core : Box) (low right far over : WholePoint) (w h : ℤ) → low ≡ record { x = pos 0; y = pos 0 } → right ≡ record { x = w; y = pos 0 } → far ≡ record { x = w; y = h } → over ≡ record { x = pos 0; y = h }
     → w ≡ core.high_x -ℤ core.low_x → h ≡ core.high_y -ℤ core.low_y → low ∷ right ∷ far ∷ over ∷ low ∷ [] ≡ border_of core
 border_is core low right far over w h a b c d e f =

@@ -1,7 +1,9 @@
 -- What is drawn of rings within a core: segments of the plane that has the core's low corner as its origin.
-use Rattle.std.specs.Prelude.{◌≡◌, ℕ, pos, ◌-ℤ◌, ◌<ℤ◌, ◌++◌, Bool, true, false, List, [], ◌∷◌, map, flat_map, All}
+use Rattle.std.specs.Prelude.{◌≡◌, ℕ, pos, ◌%◌, ◌-ℤ◌, ◌<ℤ◌, ◌++◌, Bool, true, false, List, [], ◌∷◌, map, flat_map, All}
 use Rattle.std.specs.List.{list_all}
 use Rattle.overlay_terms.specs.Plane.{WholePoint, Point, Segment, is_closed, ring_segments, segments_of}
+use Rattle.overlay_terms.specs.TileLaws.{IsProper}
+use Rattle.overlay_terms.specs.InputLaws.{segment_ends_at}
 use Rattle.arrange.specs.declared.marked_seg.MarkedSeg.{MarkedSeg}
 use Rattle.map_window.specs.Window.{Box, Side, IsIn, IsOff, Lies, StaysWithin, moved, AreAlike}
 use Rattle.map_window.specs.Drawn.{are_short, placed}
@@ -29,6 +31,10 @@ pub record LiesOff (core : Box) (ring : List WholePoint) : Type 0 where
   pub side : Side
   pub points : All (Lies core side) ring
 
+-- each whole point is an end of an even number of segments
+abbrev pub AreEven : List Segment → Type 0
+AreEven segments = (v : WholePoint) → segment_ends_at segments v % 2 ≡ 0
+
 -- segments are drawn of rings
 pub record AreDrawn (core : Box) (rings : List (List WholePoint)) (segments : List Segment) : Type 0 where
   -- each point of the core is inside, and on an edge, of both or of neither
@@ -38,6 +44,10 @@ pub record AreDrawn (core : Box) (rings : List (List WholePoint)) (segments : Li
       → AreAlike segments (moved (low_of core) q) [] (moved (low_of core) q)
   -- of closed rings that each lie off the core on one side there are none
   pub off : All IsClosed rings → All (LiesOff core) rings → segments ≡ []
+  -- each has its left end first, and its ends lie in the plane
+  pub proper : All IsProper segments
+  -- of closed rings each whole point is an end of an even number of them
+  pub even : All IsClosed rings → AreEven segments
 
 -- segments with a layer
 abbrev pub marks : ℕ → List Segment → List MarkedSeg
@@ -61,6 +71,11 @@ border_of core =
     let high = core.high_y -ℤ core.low_y in
     record { x = pos 0; y = pos 0 } ∷ record { x = wide; y = pos 0 } ∷ record { x = wide; y = high } ∷ record { x = pos 0; y = high }
     ∷ record { x = pos 0; y = pos 0 } ∷ []
+
+-- the border of a core as segments that a pass may take
+pub record IsBorder (core : Box) : Type 0 where
+  pub proper : All IsProper (ring_segments (border_of core))
+  pub even : AreEven (ring_segments (border_of core))
 
 -- the segments of a line in the plane: clamped into it, seen from the core's low corner
 abbrev pub line_drawn : Box → List WholePoint → List Segment

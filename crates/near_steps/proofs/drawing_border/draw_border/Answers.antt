@@ -1,6 +1,7 @@
 use Rattle.std.proofs.Common.{◌∙◌}
 use Rattle.near_steps.proofs.CoreLemmas.{coordinate_read}
-use Rattle.near_steps.proofs.LoopLemmas.{border_drawn, border_is, more_through}
+use Rattle.near_steps.proofs.DrawnLemmas.{border_taken}
+use Rattle.near_steps.proofs.LoopLemmas.{any_ok, border_drawn, border_is, more_through}
 use Rattle.near_steps.proofs.drawing_border.draw_border.Goals as goal
 
 pub returns-clause-border : goal.returns-clause-border
@@ -15,3 +16,6 @@ returns-clause-border c =
 pub returns-clause-kept : goal.returns-clause-kept
 returns-clause-kept c =
     more_through _ _ _ (more_through _ _ _ (more_through _ _ _ c.add_step.ensures.kept c.add_step-2.ensures.kept) c.add_step-3.ensures.kept) c.add_step-4.ensures.kept
+
+pub returns-clause-taken : goal.returns-clause-taken
+returns-clause-taken c = any_ok c.add_step-4.result _ (border_taken c.args.core.now c.known.ensures)
