@@ -1,6 +1,6 @@
 //! Where points lie against a feature.
-use block_reading::FarFraction;
-use map_window::{FarPt, FarRing};
+use block_reading::{FarFraction, FarPoint};
+use feature_windows::{Rings, parted};
 
 /// The greatest denominator of a point.
 const FINE_MAX: i64 = 4398046511104;
@@ -39,9 +39,9 @@ fn over(x: i64, w: i64, low: i64) -> i128 {
 }
 
 /// How far over the line of a step a point lies, where the step leads to the right.
-fn height(a: FarPt, b: FarPt, p: &FarFraction) -> i128 {
-    let up = minus(b.x(), a.x()).saturating_mul(over(p.y, p.w, a.y()));
-    up.saturating_sub(minus(b.y(), a.y()).saturating_mul(over(p.x, p.w, a.x())))
+fn height(a: FarPoint, b: FarPoint, p: &FarFraction) -> i128 {
+    let up = minus(b.x, a.x).saturating_mul(over(p.y, p.w, a.y));
+    up.saturating_sub(minus(b.y, a.y).saturating_mul(over(p.x, p.w, a.x)))
 }
 
 /// What is seen of a step from a point: the point is on it, or over it, from its left end on and before its right end.
@@ -52,15 +52,15 @@ struct Seen {
 }
 
 /// What is seen of an upright step that leads up, or of a point.
-fn see_upright(a: FarPt, b: FarPt, p: &FarFraction) -> Seen {
-    let on = over(p.x, p.w, a.x()) == 0 && over(p.y, p.w, a.y()) >= 0 && over(p.y, p.w, b.y()) <= 0;
+fn see_upright(a: FarPoint, b: FarPoint, p: &FarFraction) -> Seen {
+    let on = over(p.x, p.w, a.x) == 0 && over(p.y, p.w, a.y) >= 0 && over(p.y, p.w, b.y) <= 0;
     Seen { on, over: false }
 }
 
 /// What is seen of a step that leads to the right.
-fn see_right(a: FarPt, b: FarPt, p: &FarFraction) -> Seen {
-    let past_right = over(p.x, p.w, b.x());
-    if over(p.x, p.w, a.x()) < 0 || past_right > 0 {
+fn see_right(a: FarPoint, b: FarPoint, p: &FarFraction) -> Seen {
+    let past_right = over(p.x, p.w, b.x);
+    if over(p.x, p.w, a.x) < 0 || past_right > 0 {
         return Seen {
             on: false,
             over: false,
@@ -74,12 +74,12 @@ fn see_right(a: FarPt, b: FarPt, p: &FarFraction) -> Seen {
 }
 
 /// What is seen of a step.
-fn see(a: FarPt, b: FarPt, p: &FarFraction) -> Seen {
-    if a.x() < b.x() {
+fn see(a: FarPoint, b: FarPoint, p: &FarFraction) -> Seen {
+    if a.x < b.x {
         see_right(a, b, p)
-    } else if b.x() < a.x() {
+    } else if b.x < a.x {
         see_right(b, a, p)
-    } else if a.y() <= b.y() {
+    } else if a.y <= b.y {
         see_upright(a, b, p)
     } else {
         see_upright(b, a, p)
@@ -87,7 +87,7 @@ fn see(a: FarPt, b: FarPt, p: &FarFraction) -> Seen {
 }
 
 /// Whether a point is on a step of a ring, and whether it is over an odd number of them. The ring closes itself.
-fn look(points: &[FarPt], p: &FarFraction) -> Seen {
+fn look(points: &[FarPoint], p: &FarFraction) -> Seen {
     let Some(last) = points.last() else {
         return Seen {
             on: false,
@@ -111,17 +111,21 @@ fn look(points: &[FarPt], p: &FarFraction) -> Seen {
 }
 
 /// Where a point lies against the rings of a feature.
-pub(crate) fn locate(rings: &[FarRing], p: &FarFraction) -> Spot {
+pub(crate) fn locate(rings: &Rings, p: &FarFraction) -> Spot {
     if p.w > FINE_MAX {
         return Spot::TooFine;
     }
+    let (counts, points) = rings.lent();
+    let mut rest = points;
     let mut odd = false;
-    for ring in rings {
-        let seen = look(ring.points(), p);
+    for count in counts {
+        let (ring, after) = parted(rest, *count);
+        let seen = look(ring, p);
         if seen.on {
             return Spot::OnEdge;
         }
         odd ^= seen.over;
+        rest = after;
     }
     if odd { Spot::Inside } else { Spot::Outside }
 }

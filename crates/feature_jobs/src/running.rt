@@ -68,8 +68,10 @@ fn point_rows(
     feature: usize,
     queries: &Queries,
 ) -> Result<Vec<u8>, AllocError> {
-    let rings = ground.features.rings_of(feature);
     let mut rows = Vec::new(alloc);
+    let Some(rings) = ground.features.rings_of(feature) else {
+        return Ok(rows);
+    };
     for point in queries.points() {
         add_point(&mut rows, locate(rings, point).number())?;
     }

@@ -1,6 +1,5 @@
 //! Upright boxes. One whose low end lies beyond its high end holds nothing.
-use block_reading::Core;
-use map_window::FarPt;
+use block_reading::{Core, FarPoint};
 
 /// The box that holds nothing.
 pub fn nothing() -> Core {
@@ -44,14 +43,14 @@ pub fn around(a: &Core, b: &Core) -> Core {
 }
 
 /// The box around points.
-pub(crate) fn extent(points: &[FarPt]) -> Core {
+pub(crate) fn extent(points: &[FarPoint]) -> Core {
     let mut e = nothing();
     for p in points {
         let at = Core {
-            low_x: p.x(),
-            high_x: p.x(),
-            low_y: p.y(),
-            high_y: p.y(),
+            low_x: p.x,
+            high_x: p.x,
+            low_y: p.y,
+            high_y: p.y,
         };
         e = around(&e, &at);
     }

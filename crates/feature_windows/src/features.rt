@@ -1,88 +1,66 @@
-//! The features of a block, ring by ring, with their boxes.
-use crate::boxes::{around, extent, nothing};
+//! The features of a block, with their boxes.
+use crate::boxes::nothing;
+use crate::rings::{Rings, parted};
 use block_reading::{Core, FarPoint, Shapes};
-use map_window::{FarPt, FarRing};
 use std::alloc::{AllocError, Global};
-
-/// Places in a list, from one on and before another.
-#[derive(Clone, Copy, Debug)]
-struct Span {
-    from: usize,
-    to: usize,
-}
 
 /// The features of a block.
 #[derive(Debug, Drop)]
 pub struct Features {
-    rings: Vec<FarRing>,
-    spans: Vec<Span>,
+    rings: Vec<Rings>,
     boxes: Vec<Core>,
 }
 
-/// Places one after another, so many of each.
-fn spans(alloc: Global, counts: &[u32]) -> Result<Vec<Span>, AllocError> {
-    let mut list = Vec::new(alloc);
-    let mut from: usize = 0;
-    for count in counts {
-        let to = from.saturating_add(*count as usize);
-        list.push(Span { from, to })?;
-        from = to;
-    }
-    Ok(list)
-}
-
-/// A ring of these points.
-fn ring_of(alloc: Global, points: &[FarPoint]) -> Result<FarRing, AllocError> {
-    let mut own = Vec::new(alloc);
-    for p in points {
-        own.push(FarPt::new(p.x, p.y))?;
-    }
-    Ok(FarRing::new(own))
-}
-
-/// The first so many points, or all where there are fewer, and those after them.
-fn parted(points: &[FarPoint], count: u32) -> (&[FarPoint], &[FarPoint]) {
-    let count = count as usize;
-    if points.len() < count {
-        return (points, &points[points.len()..]);
-    }
-    points.split_at(count)
-}
-
-/// Points dealt out to rings.
-fn rings(alloc: Global, counts: &[u32], points: &[FarPoint]) -> Result<Vec<FarRing>, AllocError> {
-    let mut list = Vec::new(alloc);
+/// Rings of so many points each, from the front of some points.
+fn rings_of(alloc: Global, counts: &[u32], points: &[FarPoint]) -> Result<Rings, AllocError> {
+    let mut rings = Rings::none(alloc);
     let mut rest = points;
     for count in counts {
         let (own, after) = parted(rest, *count);
-        list.push(ring_of(alloc, own)?)?;
+        rings.add(own)?;
         rest = after;
+    }
+    Ok(rings)
+}
+
+/// The points after such rings.
+fn skipped<'a>(counts: &[u32], points: &'a [FarPoint]) -> &'a [FarPoint] {
+    let mut rest = points;
+    for count in counts {
+        let (_, after) = parted(rest, *count);
+        rest = after;
+    }
+    rest
+}
+
+/// The first so many counts, or all where there are fewer, and those after them.
+fn counts_parted(counts: &[u32], count: u32) -> (&[u32], &[u32]) {
+    let count = count as usize;
+    if counts.len() < count {
+        return (counts, &counts[counts.len()..]);
+    }
+    counts.split_at(count)
+}
+
+/// Rings dealt out to features.
+fn dealt_out(alloc: Global, shapes: &Shapes) -> Result<Vec<Rings>, AllocError> {
+    let mut list = Vec::new(alloc);
+    let mut counts = shapes.point_counts();
+    let mut rest = shapes.points();
+    for count in shapes.ring_counts() {
+        let (own, others) = counts_parted(counts, *count);
+        list.push(rings_of(alloc, own, rest)?)?;
+        rest = skipped(own, rest);
+        counts = others;
     }
     Ok(list)
 }
 
-/// The box around some rings.
-pub(crate) fn box_of(rings: &[FarRing]) -> Core {
-    let mut e = nothing();
-    for ring in rings {
-        e = around(&e, &extent(ring.points()));
-    }
-    e
-}
-
-/// The rings in some places of a list.
-fn in_span(rings: &[FarRing], span: Span) -> &[FarRing] {
-    match rings.get(span.from..span.to) {
-        Some(own) => own,
-        None => &rings[..0],
-    }
-}
-
 /// The boxes of features.
-fn boxes(alloc: Global, rings: &[FarRing], spans: &[Span]) -> Result<Vec<Core>, AllocError> {
+fn boxes(alloc: Global, rings: &[Rings]) -> Result<Vec<Core>, AllocError> {
     let mut list = Vec::new(alloc);
-    for span in spans {
-        list.push(box_of(in_span(rings, *span)))?;
+    for own in rings {
+        list.push(own.extent())?;
     }
     Ok(list)
 }
@@ -90,14 +68,9 @@ fn boxes(alloc: Global, rings: &[FarRing], spans: &[Span]) -> Result<Vec<Core>, 
 impl Features {
     /// The features of a block.
     pub fn of(alloc: Global, shapes: &Shapes) -> Result<Features, AllocError> {
-        let rings = rings(alloc, shapes.point_counts(), shapes.points())?;
-        let spans = spans(alloc, shapes.ring_counts())?;
-        let boxes = boxes(alloc, &rings, &spans)?;
-        Ok(Features {
-            rings,
-            spans,
-            boxes,
-        })
+        let rings = dealt_out(alloc, shapes)?;
+        let boxes = boxes(alloc, &rings)?;
+        Ok(Features { rings, boxes })
     }
 
     /// How many there are.
@@ -106,11 +79,8 @@ impl Features {
     }
 
     /// The rings of a feature; none where there is no such feature.
-    pub fn rings_of(&self, feature: usize) -> &[FarRing] {
-        match self.spans.get(feature) {
-            Some(span) => in_span(&self.rings, *span),
-            None => &self.rings[..0],
-        }
+    pub fn rings_of(&self, feature: usize) -> Option<&Rings> {
+        self.rings.get(feature)
     }
 
     /// The box of a feature.

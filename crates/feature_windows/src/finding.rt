@@ -1,20 +1,17 @@
 //! One pass over a window.
 ghost use Rattle.std.specs.Prelude.{◌≡◌, ◌-ℤ◌, pos, map, IfOk, IfSome};
 ghost use Rattle.overlay_terms.specs.Column.{IsInColumn};
-ghost use Rattle.overlay_terms.specs.Layers.{marked_segments};
-ghost use Rattle.strip_inputs.specs.Strips.{kept_in_strip};
 ghost use Rattle.sided_pieces.specs.Sided.{sided_of, AreSided};
 ghost use Rattle.feature_windows.specs.Boundary.{AreBoundary};
 
 use crate::fault::WindowsFault;
-use crate::halving::Window;
+use crate::halving::{SEGMENTS_MAX, Window};
 use block_reading::Core;
-use crossing_sweep::Strip;
+use crossing_sweep::{PassInput, Strip};
 use layer_expr::StepList;
-use plane_base::{BaseLayer, Column, column_of};
+use plane_base::{Column, column_of};
 use sided_pieces::{SidedTile, sided_tile};
 use std::alloc::Global;
-use strip_inputs::StripInput;
 use swept_area::SidedPiece;
 
 /// How far one number lies over another.
@@ -35,38 +32,16 @@ fn strip_of(core: &Core) -> Option<Strip>
 }
 
 /// All boundary pieces of the strip of an input, in order.
-fn pieces_of(alloc: Global, input: &StripInput) -> Result<Vec<SidedPiece>, WindowsFault>
+fn pieces_of(alloc: Global, input: &PassInput) -> Result<Vec<SidedPiece>, WindowsFault>
     ensures { IfOk result (λ list. AreSided input.now (map sided_of list.items)) }
 {
-    let pass = input.pass();
-    match sided_tile(alloc, &pass, usize::MAX)? {
+    match sided_tile(alloc, input, usize::MAX)? {
         SidedTile::Pieces(list) => Ok(list),
         SidedTile::Oversize => Err(WindowsFault::TooManySteps),
     }
 }
 
-/// The input of a strip over layers, where the steps are over as many.
-fn input_of(
-    alloc: Global,
-    strip: Strip,
-    layers: &[BaseLayer],
-    steps: &StepList,
-) -> Result<StripInput, WindowsFault>
-    ensures { IfOk result (λ input. input
-        ≡ record { strip = strip; marked = kept_in_strip strip (marked_segments layers.now); steps = steps.now }) }
-{
-    let mut bases = Vec::new(alloc);
-    for layer in layers {
-        bases.push(layer)?;
-    }
-    if bases.len() != usize::from(steps.bases()) {
-        return Err(WindowsFault::OtherLayers);
-    }
-    let own = steps.try_copy(alloc)?;
-    Ok(StripInput::of(alloc, strip, &bases, own)?)
-}
-
-/// The boundary pieces of an expression over the layers of a window.
+/// The boundary pieces of an expression over the layers of a window, the last of which is the window's core.
 pub fn pieces_in(
     alloc: Global,
     window: &Window,
@@ -74,9 +49,17 @@ pub fn pieces_in(
 ) -> Result<Vec<SidedPiece>, WindowsFault>
     ensures { IfOk result (λ list. AreBoundary window.now.core window.now.layers.items steps.now (map sided_of list.items)) }
 {
+    if !window.is_drawn || window.marked.len() > SEGMENTS_MAX {
+        return Err(WindowsFault::TooManySteps);
+    }
+    if window.layers.len() != usize::from(steps.bases()) {
+        return Err(WindowsFault::OtherLayers);
+    }
     let Some(strip) = strip_of(&window.core) else {
         return Err(WindowsFault::LongStep);
     };
-    let input = input_of(alloc, strip, &window.layers, steps)?;
+    // The strip's columns are in order, and there are so many: the pass wants that.
+    let _ = strip.last().number();
+    let input = PassInput::of_strip(strip, &window.marked, steps);
     pieces_of(alloc, &input)
 }

@@ -1,124 +1,136 @@
-//! Rings by layer, and what is drawn of them within a core.
+//! Layers of rings, and what is drawn of them within a core.
+ghost use Rattle.std.specs.Prelude.{◌≡◌, map, IfOk, IfSome, All};
+ghost use Rattle.overlay_terms.specs.InputLaws.{IsClosed};
+ghost use Rattle.arrange.specs.Marked.{marked_of};
+ghost use Rattle.near_steps.specs.Drawn.{HasDrawn};
+ghost use Rattle.feature_windows.specs.Shown.{AreShown, HasLayer};
+
 use crate::boxes::{extent, meet};
 use crate::fault::WindowsFault;
-use block_reading::Core;
-use map_window::{FarBox, FarPt, FarRing, WindowFault, windowed};
-use plane_base::{BaseLayer, COORD_MAX, PlaneFault};
+use crate::rings::{Rings, parted};
+use arrange::MarkedSeg;
+use block_reading::{Core, FarPoint};
+use near_steps::{Drawing, NearCore, draw_feature, reduced};
 use std::alloc::{AllocError, Global};
 
-/// The rings that count for a layer.
-#[derive(Debug, Drop)]
-pub(crate) struct RingLayer {
-    pub rings: Vec<FarRing>,
-}
-
-/// What became of drawing: layers and how many steps they have, or that one pass cannot take them.
-#[derive(Drop)]
-pub(crate) enum Drawn {
-    Layers(Vec<BaseLayer>),
-    LongStep,
-    TooManySteps,
-}
-
-/// The same ring in memory of its own.
-fn copied(alloc: Global, ring: &FarRing) -> Result<FarRing, AllocError> {
-    let mut own = Vec::new(alloc);
-    for p in ring.points() {
-        own.push(*p)?;
-    }
-    Ok(FarRing::new(own))
-}
-
-/// Adds those of some rings that meet a core.
+/// Adds those of some rings that meet a core; where the core is small, what is left of each for it.
 pub(crate) fn add_near(
     alloc: Global,
-    to: &mut Vec<FarRing>,
-    rings: &[FarRing],
+    to: &mut Rings,
+    rings: &Rings,
     core: &Core,
 ) -> Result<(), AllocError> {
-    for ring in rings {
-        if meet(&extent(ring.points()), core) {
-            to.push(copied(alloc, ring)?)?;
+    let near = NearCore::of(core);
+    let (counts, points) = rings.lent();
+    let mut rest = points;
+    for count in counts {
+        let (own, after) = parted(rest, *count);
+        if meet(&extent(own), core) {
+            add_reduced(alloc, to, own, &near)?;
         }
+        rest = after;
     }
     Ok(())
 }
 
-/// Those rings of layers that meet a core.
-pub(crate) fn near(
+/// Adds a ring, or what is left of it for a core.
+fn add_reduced(
     alloc: Global,
-    layers: &[RingLayer],
-    core: &Core,
-) -> Result<Vec<RingLayer>, AllocError> {
+    to: &mut Rings,
+    points: &[FarPoint],
+    near: &Option<NearCore>,
+) -> Result<(), AllocError> {
+    if points.len() < 64 {
+        return to.add(points);
+    }
+    match near {
+        Some(own) => {
+            let less = reduced(alloc, points, own)?;
+            if less.len() < 4 {
+                to.add(points)
+            } else {
+                to.add(&less)
+            }
+        }
+        None => to.add(points),
+    }
+}
+
+/// Those rings of layers that meet a core, and its border as the last layer.
+pub(crate) fn near(alloc: Global, layers: &[Rings], core: &Core) -> Result<Vec<Rings>, AllocError> {
     let mut list = Vec::new(alloc);
     for layer in layers {
-        let mut rings = Vec::new(alloc);
-        add_near(alloc, &mut rings, &layer.rings, core)?;
-        list.push(RingLayer { rings })?;
+        let mut own = Rings::none(alloc);
+        add_near(alloc, &mut own, layer, core)?;
+        list.push(own)?;
     }
+    list.push(border(alloc, core)?)?;
     Ok(list)
 }
 
 /// The border of a core as a ring.
-pub(crate) fn border(alloc: Global, core: &Core) -> Result<RingLayer, AllocError> {
-    let mut points = Vec::new(alloc);
-    points.push(FarPt::new(core.low_x, core.low_y))?;
-    points.push(FarPt::new(core.high_x, core.low_y))?;
-    points.push(FarPt::new(core.high_x, core.high_y))?;
-    points.push(FarPt::new(core.low_x, core.high_y))?;
-    points.push(FarPt::new(core.low_x, core.low_y))?;
-    let mut rings = Vec::new(alloc);
-    rings.push(FarRing::new(points))?;
-    Ok(RingLayer { rings })
+fn border(alloc: Global, core: &Core) -> Result<Rings, AllocError> {
+    let corners = [
+        FarPoint {
+            x: core.low_x,
+            y: core.low_y,
+        },
+        FarPoint {
+            x: core.high_x,
+            y: core.low_y,
+        },
+        FarPoint {
+            x: core.high_x,
+            y: core.high_y,
+        },
+        FarPoint {
+            x: core.low_x,
+            y: core.high_y,
+        },
+        FarPoint {
+            x: core.low_x,
+            y: core.low_y,
+        },
+    ];
+    let mut rings = Rings::none(alloc);
+    rings.add(&corners)?;
+    Ok(rings)
 }
 
-/// The frame of a core: as far as the plane goes, seen from the core's low corner.
-fn frame_of(core: &Core) -> FarBox {
-    FarBox::new(
-        core.low_x.saturating_sub(COORD_MAX),
-        core.low_x.saturating_add(COORD_MAX),
-        core.low_y.saturating_sub(COORD_MAX),
-        core.low_y.saturating_add(COORD_MAX),
-    )
+/// Draws a layer of rings within a core.
+fn draw_layer(
+    marked: &mut Vec<MarkedSeg>,
+    number: u8,
+    rings: &Rings,
+    core: &NearCore,
+) -> Result<Drawing, WindowsFault>
+    ensures { IfOk result (λ drawing. drawing ≡ Drawing.Whole → HasLayer core.now number rings.now marked.old.items marked.new.items) }
+{
+    if !rings.are_rings() {
+        return Err(WindowsFault::BadRing);
+    }
+    let (counts, points) = rings.lent();
+    Ok(draw_feature(marked, number, counts, points, core)?)
 }
 
-/// What is drawn of the rings of a layer within a core, seen from its low corner.
-fn drawn_layer(alloc: Global, layer: &RingLayer, core: &Core) -> Result<BaseLayer, WindowFault> {
-    let near = FarBox::new(core.low_x, core.high_x, core.low_y, core.high_y);
-    let frame = frame_of(core);
-    windowed(
-        alloc,
-        &layer.rings,
-        &near,
-        &frame,
-        FarPt::new(core.low_x, core.low_y),
-    )
-}
-
-/// What is drawn of layers within a core.
+/// What is drawn of layers within a core; none where a step is too long.
 pub(crate) fn draw_layers(
     alloc: Global,
-    layers: &[RingLayer],
-    core: &Core,
-) -> Result<Drawn, WindowsFault> {
-    let mut list = Vec::new(alloc);
-    for layer in layers {
-        match drawn_layer(alloc, layer, core) {
-            Ok(one) => list.push(one)?,
-            Err(WindowFault::OutOfMemory) => return Err(WindowsFault::OutOfMemory),
-            Err(WindowFault::Plane(PlaneFault::TooManySegments)) => return Ok(Drawn::TooManySteps),
-            Err(WindowFault::Plane(_)) => return Err(WindowsFault::BadRing),
-            Err(_) => return Ok(Drawn::LongStep),
-        }
+    layers: &[Rings],
+    core: &NearCore,
+) -> Result<Option<Vec<MarkedSeg>>, WindowsFault>
+    ensures { IfOk result (λ found. IfSome found (λ marked. AreShown core.now layers.now (map marked_of marked.items))) }
+{
+    let mut marked = Vec::new(alloc);
+    let mut number: u8 = 0;
+    for rings in layers {
+        let Drawing::Whole = draw_layer(&mut marked, number, rings, core)? else {
+            return Ok(None);
+        };
+        let Some(next) = number.checked_add(1) else {
+            return Err(WindowsFault::OtherLayers);
+        };
+        number = next;
     }
-    Ok(Drawn::Layers(list))
-}
-
-/// How many steps layers have.
-pub(crate) fn count_steps(layers: &[BaseLayer]) -> usize {
-    let mut count: usize = 0;
-    for layer in layers {
-        count = count.saturating_add(layer.segs().len());
-    }
-    count
+    Ok(Some(marked))
 }

@@ -9,6 +9,7 @@ mod finding;
 mod found;
 mod halving;
 mod layers;
+mod rings;
 
 pub use boxes::{around, common, is_nothing, is_within, meet, nothing};
 pub use fault::WindowsFault;
@@ -16,3 +17,4 @@ pub use features::Features;
 pub use finding::pieces_in;
 pub use found::{Found, found_in, found_in_one};
 pub use halving::{Near, Window, windows};
+pub use rings::{Rings, parted};
