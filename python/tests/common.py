@@ -9,6 +9,9 @@ import tempfile
 import unittest
 from types import ModuleType
 
+from overlayd.program import Layer, Reply, lines_after
+from overlayd.store.layers import Columns, Layers
+
 TOP = pathlib.Path(__file__).resolve().parents[2]
 TOOLS, TESTS = TOP / "tools", TOP / "python" / "tests"
 OVERLAY = [sys.executable, str(TOP / "overlay")]
@@ -19,8 +22,7 @@ SQUARE = "POLYGON ((0 0, 10 0, 10 10, 0 10, 0 0))"
 
 
 class Programs:
-    """The built programs, or None: those of the words --program, --live and --window, else of crates/. Stores are made
-    by the first."""
+    """The built programs, or None: those of the words --program, --live and --window, else of crates/."""
 
     batched: str | None = None
     live: str | None = None
@@ -51,6 +53,22 @@ def on_file(tool: ModuleType, text: str | bytes, *words: object) -> tuple[int, s
         return status, output, errors.replace(str(name), "FILE")
 
 
+def fixture(name: str) -> tuple[Layers, dict[str, Columns]]:
+    """The layers of a script of fixtures/, and the columns that its replies have of them."""
+    lines = [line for line in content("fixtures", f"{name}.txt").decode().splitlines() if line and line[0] != "#"]
+    replies = iter(content("fixtures", f"{name}.replies").decode().splitlines())
+    listed: list[Layer] = []
+    columns: dict[str, Columns] = {}
+    for line in lines:
+        (word, layer, *rest), first = line.split(" ", 2), next(replies)
+        reply = Reply(first, "".join(next(replies) + "\n" for _ in range(lines_after(first))).encode())
+        if word == "EDGES":
+            columns.setdefault(layer, []).append(reply.pieces())
+        elif word != "WAIT":
+            listed.append(Layer(layer, *((rest[0], None) if word == "PUT" else (None, rest[0].removeprefix("= ")))))
+    return Layers.of(listed), columns
+
+
 class InFolder(unittest.TestCase):
     """A test with a folder of its own."""
 
@@ -66,8 +84,9 @@ class InFolder(unittest.TestCase):
         return made
 
     def model(self) -> pathlib.Path:
-        """The plain model of the lab in the place of the program, over layers in memory."""
-        text = f"#!/bin/sh\nPYTHONPATH='{TOP}/python/lab' exec python3 -m overlayd_lab.reference.model /dev/stdin\n"
+        """The plain model of the lab in the place of overlay_live, of which a script is the store."""
+        path = f"{TOP}/python/lab:{TOP}/python/src"
+        text = f"#!/bin/sh\nPYTHONPATH='{path}' exec python3 '{TESTS}/model_live.py' \"$@\"\n"
         return self.file("model", text, 0o700)
 
 
@@ -76,13 +95,9 @@ class WithProgram(InFolder):
 
     def setUp(self) -> None:
         super().setUp()
-        if Programs.batched is None:
-            self.skipTest("no built overlayd: --program names it")
-        self.program: str = Programs.batched
-
-    def readers(self) -> list[str]:
-        """The programs by which a store can be read."""
-        return [program for program in (Programs.batched, Programs.live) if program]
+        if Programs.live is None:
+            self.skipTest("no built overlay_live: --live names it")
+        self.program: str = Programs.live
 
     def store(self, name: str, script: str | bytes) -> pathlib.Path:
         """A new store with the layers of a script, all of whose lines are accepted."""

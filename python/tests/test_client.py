@@ -22,8 +22,8 @@ import pytest
 from overlayd import program as overlay_client
 from overlayd.grid import limits
 from overlayd.program import Boundary, Ended, Layer, Refused, Reply, Server, Session, edges_lines
+from overlayd.store.world import rings
 from . import testing
-from .common import TOP
 from .testing import BAR, SHIFTED, SQUARE, TRIANGLE
 
 pytestmark = pytest.mark.live
@@ -97,9 +97,9 @@ class Commands(ClientCase):
         one = self.session
         one.batch([one.put_line("T", TRIANGLE), one.put_line("S", BAR), "DEFINE I = T & S", "DEFINE O = S - T"])
         third = [(1, Fraction(1, 3)), (2, Fraction(2, 3)), (2, Fraction(4, 3)), (1, Fraction(5, 3))]
-        self.assertEqual(one.rings("I"), [[third]])
+        self.assertEqual(rings(one, "I"), [[third]])
         self.assertEqual(
-            one.rings("O"),
+            rings(one, "O"),
             [
                 [[(1, -1), (2, -1), (2, Fraction(2, 3)), (1, Fraction(1, 3))]],
                 [[(1, Fraction(5, 3)), (2, Fraction(4, 3)), (2, 3), (1, 3)]],
@@ -111,7 +111,7 @@ class Commands(ClientCase):
         one.batch(
             [one.put_line("A", SQUARE), one.put_line("B", "POLYGON ((2 2, 4 2, 4 4, 2 4, 2 2))"), "DEFINE D = A - B"]
         )
-        self.assertEqual(one.rings("D"), [[[(0, 0), (10, 0), (10, 10), (0, 10)], [(2, 2), (2, 4), (4, 4), (4, 2)]]])
+        self.assertEqual(rings(one, "D"), [[[(0, 0), (10, 0), (10, 10), (0, 10)], [(2, 2), (2, 4), (4, 4), (4, 2)]]])
 
     def test_refusals_have_number_and_text(self) -> None:
         fault = self.refused(10, self.session.locate, "Z", 1, 1)
@@ -146,18 +146,17 @@ class Commands(ClientCase):
                              ("same", 0), ("error 10 unknown layer", 0), ("refused 1 error 10 unknown layer", 0)):
             self.assertEqual(overlay_client.lines_after(first), count, first)
 
-    def test_its_file_alone_in_a_package_uses_the_package_that_is_installed(self) -> None:
+    def test_its_file_alone_needs_no_other(self) -> None:
         code = ("import own.overlay_client as c\n"
                 "with c.Server(program=sys.argv[1]) as server, server.session() as one:\n"
                 "    one.batch(['PUT A POLYGON ((0 0, 9 0, 9 9, 0 9, 0 0))', 'DEFINE I = A'])\n"
-                "    print(len(one.rings('I')))")
+                "    print(len(one.boundary('I').pieces))")
         with testing.folder() as place:
             (place / "own").mkdir()
             shutil.copy(overlay_client.__file__, place / "own" / "overlay_client.py")
-            (place / "overlayd").symlink_to(TOP / "python/src/overlayd")
             words = [sys.executable, "-c", f"import sys\n{code}", testing.PROGRAM]
             done = subprocess.run(words, cwd=place, capture_output=True, text=True, check=False)
-        self.assertEqual((done.returncode, done.stdout, done.stderr), (0, "1\n", ""))
+        self.assertEqual((done.returncode, done.stdout, done.stderr), (0, "4\n", ""))
 
     def test_lines_up_to_the_limit_are_carried(self) -> None:
         one = self.session

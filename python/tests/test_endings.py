@@ -1,8 +1,10 @@
 """Each tool ends with one line, or none, where what it writes cannot be written."""
 
 import os
+import pathlib
 import shlex
 import subprocess
+import sys
 import unittest
 
 from overlayd import ending
@@ -10,15 +12,17 @@ from .common import OVERLAY, SECONDS, SQUARE, InFolder
 
 COUNT = 20000
 SQUARES = 2000
-# A program whose layers have so many squares in one column.
-DRAWING = f"""#!/bin/sh
-exec awk '
-    /^EDGES . 16$/ {{ print "edges {4 * SQUARES}"
-        for (k = 0; k < {SQUARES}; k++) {{ x = 2 * k; y = x + 1
-            print x " 0 1 " x " 1 1\\n" x " 0 1 " y " 0 1\\n" x " 1 1 " y " 1 1\\n" y " 0 1 " y " 1 1" }}
-        next }}
-    /^EDGES/ {{ print "edges 0"; next }}
-    {{ print "ok 1" }}'
+# What is answered of a column that has so many squares.
+MANY = f"edges {4 * SQUARES}\n" + "".join(
+    f"{x} 0 1 {x} 1 1\n{x} 0 1 {x + 1} 0 1\n{x} 1 1 {x + 1} 1 1\n{x + 1} 0 1 {x + 1} 1 1\n"
+    for x in range(0, 2 * SQUARES, 2))
+# A program in the place of overlay_live, which answers each line by what it begins with.
+PROGRAM = """#!{}
+import sys
+with open(sys.argv[-2]) as lines, open(sys.argv[-1], 'w') as replies:
+    for line in lines:
+        replies.write(next(text for begin, text in {!r}.items() if line.startswith(begin)))
+        replies.flush()
 """
 
 
@@ -28,20 +32,20 @@ class Endings(InFolder):
         map_file = self.file("map.wkt", "".join(f"POLYGON (({x} 100000, {x + 9} 100000, {x + 9} 100009, {x} 100000))\n"
                                                 for x in range(100000, 115000, 10)))
         store = self.file("a.db", "")
-        many = self.file("many.replies", f"layers {COUNT}\n" + "I = A\n" * COUNT)
-        program = self.file("program", f"#!/bin/sh\ncat '{many}'\n", 0o700)
-        listed = self.file("listed.replies", f"layers 1\n{'A' * 32} {SQUARE}\n")
-        found = self.file("found.replies", "in\n" * 4000)
-        answers = self.file("answers", f"#!/bin/sh\nread line\n[ $line = LAYERS ] && exec cat '{listed}'\n"
-                                       f"exec cat '{found}'\n", 0o700)
+        listed = {"LAYERS": f"layers 1\n{'A' * 32} {SQUARE}\n", "SYNC": "durable 1\n", "LOCATE": "in\n"}
+        many = self.program("many", {"LAYERS": f"layers {COUNT}\n" + "I = A\n" * COUNT})
+        answers = self.program("answers", listed)
+        drawing = self.program("drawing", {**listed, "EDGES asked 16": MANY, "EDGES": "edges 0\n", "": "ok 1\n"})
         points = self.file("points.txt", "1 1\n" * 4000)
-        script, drawing = self.file("one.txt", f"PUT A {SQUARE}\n"), self.file("drawing", DRAWING, 0o700)
         return [
             ["import", str(map_file), "--split"],
-            ["dump", str(store), "--program", str(program)],
+            ["dump", str(store), "--program", str(many)],
             ["which", "--store", str(store), "--program", str(answers), "--points", str(points)],
-            *([name, str(script), "--program", str(drawing)] for name in ("rings", "export", "svg")),
+            *([name, "--store", str(store), "--program", str(drawing)] for name in ("rings", "export", "svg")),
         ]
+
+    def program(self, name: str, answers: dict[str, str]) -> pathlib.Path:
+        return self.file(name, PROGRAM.format(sys.executable, answers), 0o700)
 
     def test_a_reader_that_went_away(self) -> None:
         calls = self.calls()

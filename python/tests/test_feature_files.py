@@ -11,7 +11,8 @@ from typing import Any
 
 from overlayd.commands import dump as dump_store, export as to_geojson, import_ as to_script, which
 from overlayd.geometry.plane import Box
-from overlayd.store import asking, features, layering, sessions, simple
+from overlayd.store import features, layering, simple
+from overlayd.store.opening import layers_of, opened
 from overlayd.store.features import Change, FeaturesFault, Outline
 from .common import OVERLAY, SECONDS, InFolder, WithProgram, outcome
 
@@ -170,30 +171,29 @@ class InStores(WithProgram):
         self.assertEqual(status, 0, errors)
         return self.store("plan.db", script.read_bytes())
 
-    def written(self, store: pathlib.Path, program: str) -> list[dict[str, Any]]:
-        status, output, errors = outcome(to_geojson, "--store", store, "--program", program, "--features")
+    def written(self, store: pathlib.Path) -> list[dict[str, Any]]:
+        status, output, errors = outcome(to_geojson, "--store", store, "--program", self.program, "--features")
         self.assertEqual(status, 0, errors)
         found: list[dict[str, Any]] = json.loads(output)["features"]
         return found
 
     def held(self, store: pathlib.Path) -> dict[str, list[list[tuple[int, int]]]]:
-        replies = asking.store_replies(self.readers()[-1], store, b"LAYERS\n")
-        return features.held_rings(sessions.read(b"LAYERS\n", replies, 0).base)
+        with opened(self.program, store) as session:
+            return layers_of(session).base
 
     def test_a_map_comes_back_with_its_outlines_and_properties(self) -> None:
         wanted = json.loads(MAP)["features"]
         for words in (["--coded", "--name-by", "name"], ["--name-by", "name"], ["--name", "all"]):
             store = self.made(MAP, *words)
-            for program in self.readers():
-                found = self.written(store, program)
-                self.assertEqual([one["geometry"] for one in found[:3]], [one["geometry"] for one in wanted[:3]])
-                for one, source in zip(found, wanted, strict=True):
-                    self.assertLessEqual(source["properties"].items(), one["properties"].items())
-                self.assertEqual([one["properties"]["area__exact"] for one in found], ["96", "100", "8", "8"])
+            found = self.written(store)
+            self.assertEqual([one["geometry"] for one in found[:3]], [one["geometry"] for one in wanted[:3]])
+            for one, source in zip(found, wanted, strict=True):
+                self.assertLessEqual(source["properties"].items(), one["properties"].items())
+            self.assertEqual([one["properties"]["area__exact"] for one in found], ["96", "100", "8", "8"])
             store.unlink()
 
     def test_an_outline_that_crosses_itself_is_written_as_its_inside(self) -> None:
-        found = self.written(self.made(collection(feature([BOW], {"a": 1})), "--coded"), self.program)[0]
+        found = self.written(self.made(collection(feature([BOW], {"a": 1})), "--coded"))[0]
         self.assertEqual(found["properties"], {"a": 1, "area": 8, "area_exact": "8"})
         self.assertEqual(found["geometry"]["coordinates"],
                          [[[[40, 0], [42, 2], [40, 4], [40, 0]]], [[[42, 2], [44, 0], [44, 4], [42, 2]]]])
@@ -203,7 +203,7 @@ class InStores(WithProgram):
         text = collection(feature([ring], {"name": "Comb"}), feature([[[0, 100], [9, 100], [9, 109], [0, 100]]], {}))
         for words in (["--coded", "--split"], ["--split"]):
             store = self.made(text, *words)
-            found = self.written(store, self.program)
+            found = self.written(store)
             self.assertEqual(found[0]["geometry"], {"type": "Polygon", "coordinates": [ring]})
             self.assertEqual(found[1]["geometry"]["coordinates"], [[[0, 100], [9, 100], [9, 109], [0, 100]]])
             store.unlink()
@@ -215,9 +215,8 @@ class InStores(WithProgram):
         points = self.file("points", "1 1\n9 3\n12 3\n19 9\n33 1\n50 50\n10 1\n10 3\n14 3\n8.5 4\n")
         wanted = ["West", "West\tOver", "East\tOver", "East", "Isle", "", "edge\tWest\tEast",
                   "edge\tWest\tEast\tOver", "edge\tOver\tEast", "edge\tOver\tWest"]
-        for program in self.readers():
-            status, output, _ = outcome(which, "--store", store, "--program", program, "--points", points)
-            self.assertEqual((status, output.splitlines()), (0, wanted))
+        status, output, _ = outcome(which, "--store", store, "--program", self.program, "--points", points)
+        self.assertEqual((status, output.splitlines()), (0, wanted))
         self.assertEqual(outcome(which, "--store", store, "--program", self.program, "--layers", 9, 3)[1], "b1\n")
 
     def test_a_point_of_fractions(self) -> None:
@@ -292,7 +291,7 @@ class InStores(WithProgram):
         for end in (".features.json", ".scale.json"):
             self.assertEqual((self.folder / f"again{end}").read_bytes(), (self.folder / f"plan{end}").read_bytes())
         made = self.store("again.db", again.read_bytes())
-        self.assertEqual(self.written(made, self.program), self.written(store, self.program))
+        self.assertEqual(self.written(made), self.written(store))
         self.assertEqual(outcome(dump_store, store, "--program", self.program, "--output", self.folder / "plan.txt")[0],
                          0)
         status, _, errors = outcome(dump_store, store, "--program", self.program, "--output", store)
@@ -303,19 +302,19 @@ class InStores(WithProgram):
         (self.folder / "link.json").symlink_to("plan.features.json")
         before = {path: path.read_bytes() for path in self.folder.iterdir()}
         other = self.store("other.db", "PUT b0 POLYGON ((0 0, 9 0, 9 9, 0 0))\n")
-        script = self.file("lone.txt", "PUT b0 POLYGON ((0 0, 9 0, 9 9, 0 0))\n")
+        lone = self.file("lone.db", "no store yet")
         for name in ("plan.features.json", "plan.scale.json", "plan.names.csv", "link.json"):
             for told, tool, *words in (
                 (2, to_geojson, "--store", store), (2, to_geojson, "--store", other),
-                (2, to_geojson, self.folder / "plan.txt"), (1, dump_store, store), (1, dump_store, other),
+                (1, dump_store, store), (1, dump_store, other),
             ):
                 status, errors = ended(tool, *words, *program, "--output", self.folder / name)
                 self.assertEqual((status, "not written over" in errors), (told, True), (name, tool, words, errors))
             words = [self.folder / "plan.geojson", "--factor", 1, "--output", self.folder / name]
             status, errors = ended(to_script, *words)
             self.assertEqual((status, "not written over" in errors), (2, True), errors)
-        for name in ("lone.features.json", "lone.names.csv", "lone.txt"):  # there is no store of this name
-            status, errors = ended(to_geojson, script, *program, "--output", self.folder / name)
+        for name in ("lone.features.json", "lone.names.csv", "lone.db"):
+            status, errors = ended(to_geojson, "--store", lone, *program, "--output", self.folder / name)
             self.assertEqual((status, "not written over" in errors), (2, True), errors)
         self.assertEqual({path: path.read_bytes() for path in before}, before)
         self.assertFalse((self.folder / "lone.features.json").exists())

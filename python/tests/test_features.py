@@ -31,6 +31,7 @@ from overlayd.files import writing
 from overlayd.grid import scale as scales
 from overlayd.program import Server, Session
 from overlayd.store import feature_changes, features
+from overlayd.store.world import World, rings
 from overlayd.web import feature_store, map_scale, rescue
 from overlayd.web.feature_store import FeatureStore, Unlike
 from overlayd.web.front import Front
@@ -609,7 +610,8 @@ class ByClient(unittest.TestCase):
         self.store = made(self.enterContext(folder()), MAP, "--coded", "--name-by", "name")
         self.server = self.enterContext(Server(self.store, program=testing.PROGRAM, timeout=60))
         self.session = self.enterContext(self.server.session())
-        self.map = self.server.features(self.session)
+        self.world = World(self.server)
+        self.map = self.world.features(self.session)
 
     def layer_texts(self) -> dict[str, str | None]:
         return {layer.name: layer.text for layer in self.session.layers()}
@@ -648,17 +650,18 @@ class ByClient(unittest.TestCase):
             with self.assertRaises(ValueError):
                 self.map.put(1, given)
             with self.assertRaises(ValueError):
-                self.server.text_of(given)
+                self.world.text_of(given)
         with self.assertRaises(ValueError):
             self.map.remove(9)
         self.assertEqual(self.layer_texts(), before)
 
     def test_layers_are_put_and_given_in_coordinates_of_the_world(self) -> None:
         scales.beside(self.store).write_text('{"factor": 10, "origin": [100, 200], "digits": 3}')
-        self.session.put("plot", self.server.text_of(Geometry([[100, 200], [101, 200], [101, 201], [100, 200]])))
+        world = World(self.server)
+        self.session.put("plot", world.text_of(Geometry([[100, 200], [101, 200], [101, 201], [100, 200]])))
         self.assertEqual(self.layer_texts()["plot"], "MULTIPOLYGON (((0 0, 10 0, 10 10, 0 0)))")
         self.session.define("all", "plot")
-        shape = self.server.shape_of(self.session.rings("all"))
+        shape = world.shape_of(rings(self.session, "all"))
         self.assertEqual(shape.__geo_interface__, {"type": "MultiPolygon", "coordinates": [
             [[[100, 200], [101, 200], [101, 201], [100, 200]]]]})
 
@@ -666,8 +669,8 @@ class ByClient(unittest.TestCase):
         self.server.close()
         with Server(self.store, read_only=True, program=testing.PROGRAM, timeout=60) as server, server.session() as one:
             with self.assertRaisesRegex(ValueError, "reading alone"):
-                server.features(one).remove(1)
-            self.assertEqual(len(list(server.features(one))), 4)
+                World(server).features(one).remove(1)
+            self.assertEqual(len(list(World(server).features(one))), 4)
 
 
 class Installed(unittest.TestCase):
@@ -683,8 +686,9 @@ class Installed(unittest.TestCase):
         self.assertEqual(done.returncode, 0, done.stderr)
         store = made(place, MAP, "--coded")
         code = ("import sys, overlayd.program as c\n"
+                "from overlayd.store.world import World\n"
                 "with c.Server(sys.argv[1], program=sys.argv[2]) as s, s.session() as one:\n"
-                "    print(c.__file__, len(list(s.features(one))), len(one.layers()))\n")
+                "    print(c.__file__, len(list(World(s).features(one))), len(one.layers()))\n")
         shutil.rmtree(place / "source")
         done = subprocess.run([sys.executable, "-c", code, str(store), testing.PROGRAM], capture_output=True, text=True,
                               env={**os.environ, "PYTHONPATH": str(place / "site")}, cwd=place, check=False)

@@ -36,10 +36,7 @@ class Names(unittest.TestCase):
 class FirstMaps(WithProgram):
     def setUp(self) -> None:
         super().setUp()
-        readers = self.readers()
-        if len(readers) < 2:
-            self.skipTest("no overlay_live was given")
-        self.live = readers[1]
+        self.live = self.program
 
     def made(self, *words: object) -> tuple[int, str, str]:
         return outcome(first_map, *words, "--folder", self.folder / "maps", "--program", self.live, "--only-make")
@@ -154,8 +151,8 @@ class FirstMaps(WithProgram):
                              (1, "", f"{folder}: nothing can be written in it; say another --folder\n"))
 
     def test_a_device_that_fails_is_told_with_the_room_that_is_left(self) -> None:
-        given, failing = self.file("city.geojson", MAP), self.file("failing",
-                                                                   "#!/bin/sh\necho error 30 device\nexit 1\n", 0o700)
+        given = self.file("city.geojson", MAP)
+        failing = self.file("failing", "#!/bin/sh\necho error 30 device >&2\nexit 1\n", 0o700)
         status, _, errors = outcome(first_map, given, "--folder", self.folder / "maps", "--program", failing,
                                     "--only-make")
         self.assertEqual(status, 1)

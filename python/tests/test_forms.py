@@ -131,7 +131,7 @@ class FilesOfGdal(WithGdal):
         script, output = self.file("plan.txt", f"PUT A {SQUARE}\n"), self.folder / "out.gpkg"
         self.file("plan.scale.json", '{"factor": 10, "origin": [500, -20], "crs": "EPSG:25832", "digits": 3}')
         program = self.model()
-        self.assertEqual(outcome(to_geojson, script, "--program", program, "--output", output)[:2], (0, ""))
+        self.assertEqual(outcome(to_geojson, "--store", script, "--program", program, "--output", output)[:2], (0, ""))
         with sqlite3.connect(output) as store:
             self.assertEqual(store.execute('SELECT layer, area FROM "out"').fetchall(), [("A", 1)])
             self.assertEqual(store.execute("SELECT srs_id FROM gpkg_geometry_columns").fetchall(), [(25832,)])
@@ -140,7 +140,7 @@ class FilesOfGdal(WithGdal):
         self.assertEqual(sorted(file.name for file in self.folder.glob("*.new")), [])
         (self.folder / "plan.scale.json").unlink()
         plane = self.folder / "plane.gpkg"
-        self.assertEqual(outcome(to_geojson, script, "--program", program, "--output", plane)[:2], (0, ""))
+        self.assertEqual(outcome(to_geojson, "--store", script, "--program", program, "--output", plane)[:2], (0, ""))
         self.assertEqual(json.loads(gdal_files.as_geojson(plane))["crs"]["properties"]["name"],
                          coordinate_systems.UNKNOWN)
 
@@ -174,7 +174,7 @@ class FilesOfGdal(WithGdal):
         self.assertEqual(outcome(to_script, plan, "--factor", 2, "--output", script)[0], 0)
         for name in ("out.gpkg", "out.fgb"):
             file = self.folder / name
-            words = [script, "--program", self.model(), "--features", "--output", file]
+            words = ["--store", script, "--program", self.model(), "--features", "--output", file]
             with contextlib.redirect_stderr(io.StringIO()) as errors:
                 self.assertEqual(to_geojson.main([str(word) for word in words]), 0)
             told = [f"{file}: the property {name} is its column {name}_, as another differs in case alone"
@@ -203,7 +203,7 @@ class OwnTexts(InFolder):
         for name, told in (("a.shp", ends), ("a.csv", ends), ("a.xyz", ends), ("a.json.dxf", ends),
                            ("a.geojson.gz", ends), (".", "is a folder")):
             with self.assertRaises(SystemExit) as ended, contextlib.redirect_stderr(io.StringIO()) as errors:
-                to_geojson.main([str(script), "--output", name])
+                to_geojson.main(["--store", str(script), "--output", name])
             self.assertEqual((ended.exception.code, told in errors.getvalue()), (2, True), errors.getvalue())
 
     def piped(self, data: bytes) -> str:
@@ -231,13 +231,15 @@ class OwnTexts(InFolder):
 
     def test_geojson_is_written_whole(self) -> None:
         script, output = self.file("plan.txt", f"PUT A {SQUARE}\n"), self.folder / "out.geojson"
-        text = outcome(to_geojson, script, "--program", self.model())[1]
-        self.assertEqual(outcome(to_geojson, script, "--program", self.model(), "--output", output)[:2], (0, ""))
+        text = outcome(to_geojson, "--store", script, "--program", self.model())[1]
+        self.assertEqual(outcome(to_geojson, "--store", script, "--program",
+                         self.model(), "--output", output)[:2], (0, ""))
         self.assertEqual(output.read_text(), text)
         for name in ("plain", "out.json", "OUT.GeoJSON", ".hidden"):
-            told = outcome(to_geojson, script, "--program", self.model(), "--output", self.folder / name)
+            told = outcome(to_geojson, "--store", script, "--program", self.model(), "--output", self.folder / name)
             self.assertEqual((told[:2], (self.folder / name).read_text()), ((0, ""), text))
-        told = outcome(to_geojson, script, "--program", self.model(), "--output", self.folder / "absent" / "a.json")
+        told = outcome(to_geojson, "--store", script, "--program", self.model(),
+                       "--output", self.folder / "absent" / "a.json")
         self.assertEqual((told[0], told[2]), (1, f"{self.folder / 'absent' / 'a.json'}: No such file or directory\n"))
 
     def test_texts_of_our_own_need_no_gdal_whatever_their_name(self) -> None:

@@ -14,6 +14,7 @@ import pytest
 
 from overlayd.geometry.plane import Box
 from overlayd.grid import limits
+from overlayd.store.world import rings as rings_of
 from overlayd.web.features_api import PAGE
 from overlayd.web.views import View
 from . import testing
@@ -69,7 +70,7 @@ class Iceland(FrontCase):
     def polygons(self, name: str) -> list[list[list[Place]]]:
         """The polygons of a derived layer in the world, by the client."""
         with self.server.session() as one:
-            rings = one.rings(name)
+            rings = rings_of(one, name)
         return [[[(x / 42262 - 19, y / 100000 + 65) for x, y in ring] for ring in polygon] for polygon in rings]
 
     def test_from_the_landing_page_to_an_item(self) -> None:

@@ -13,7 +13,7 @@ from overlayd.commands import export as to_geojson, import_ as to_script, rings 
 from overlayd.geometry import wkt
 from overlayd.geometry.plane import turn
 from overlayd.geometry.rings import polygons_of
-from overlayd.store import sessions
+from overlayd.store.layers import rings_of_text
 from .common import WithProgram, outcome, path
 from .plain import OPERATIONS, area_twice, below, on, overlay, segments_of
 from .test_layouts import geojson, zigzag
@@ -44,10 +44,10 @@ class RoundTrips(WithProgram):
 
     def features(self, store: pathlib.Path, *words: object) -> dict[str, Any]:
         """The features that overlay export writes of a store, by layer, and the file in map.geojson."""
-        found = [outcome(to_geojson, "--store", store, "--program", program, *words) for program in self.readers()]
-        self.assertEqual([one for one in found if one[:2] != found[0][:2] or one[0]], [])
-        self.file("map.geojson", found[0][1])
-        return {one["properties"]["layer"]: one for one in json.loads(found[0][1])["features"]}
+        status, output, errors = outcome(to_geojson, "--store", store, "--program", self.program, *words)
+        self.assertEqual(status, 0, errors)
+        self.file("map.geojson", output)
+        return {one["properties"]["layer"]: one for one in json.loads(output)["features"]}
 
     def back(self) -> str:
         """The script that comes of what was written."""
@@ -92,7 +92,7 @@ class RoundTrips(WithProgram):
         store = self.made(ICELAND, "--factor", 42262, "--factor-y", 100000, "--origin", -19, 65)
         script = (self.folder / "map.txt").read_text() + "DEFINE both = iceland_110m & iceland_50m\n"
         store = self.store("both.db", script)
-        layers = [[ring[:-1] for ring in rings] for rings in sessions.put_by(script.encode()).values()]
+        layers = [[ring[:-1] for ring in rings_of_text(line)] for line in script.splitlines() if line[:4] == "PUT "]
         wanted = polygons_of(overlay(layers, OPERATIONS["&"]))
         told = outcome(to_rings, "--store", store, "--program", self.program, "--exact")[1]
         rings = [ring for polygon in wanted for ring in polygon]
@@ -134,11 +134,10 @@ class Counties(WithProgram):
         self.assertGreater(sum(map(len, wanted)), 150)
         text = "".join(f"{Decimal(x) / 100000} {Decimal(y) / 100000}\n" for x, y in points)
         file = self.file("points.txt", text)
-        for program in self.readers():
-            words = ["--store", self.db, "--names", self.folder / "nc.names.csv", "--points", file]
-            status, output, errors = outcome(which, *words, "--program", program)
-            self.assertEqual((status, errors), (0, ""))
-            self.assertEqual([line.split("\t") if line else [] for line in output.splitlines()], wanted)
+        words = ["--store", self.db, "--names", self.folder / "nc.names.csv", "--points", file]
+        status, output, errors = outcome(which, *words, "--program", self.program)
+        self.assertEqual((status, errors), (0, ""))
+        self.assertEqual([line.split("\t") if line else [] for line in output.splitlines()], wanted)
 
     def test_on_a_common_border_both_are_among_those_that_fit(self) -> None:
         one, other = (set(self.rings[name]) for name in ("Ashe", "Alleghany"))
@@ -150,15 +149,16 @@ class Counties(WithProgram):
 
     def test_the_areas_say_that_none_overlap(self) -> None:
         areas = {row["name"]: Fraction(row["area"]) * 10**10 for row in self.rows}
-        script = self.file("any.txt", (self.folder / "nc.txt").read_text()
+        store = self.store("any.db", (self.folder / "nc.txt").read_text()
                            + "DEFINE any = b0 | b1 | b2 | b3 | b4 | b5 | b6\n"
                            + "".join(f"DEFINE c{row['number']} = {row['expression']}\n" for row in self.rows[:20]))
         told = outcome(to_script, COUNTIES, "--fit", "--coded", "--check", "--name-by", "name", "--program",
                        self.program, "--output", self.folder / "again.txt")
         self.assertEqual((told[0], told[2].splitlines()[-1]), (0, "of 100 features no two overlap"))
-        told = outcome(to_rings, script, "--program", self.program, "--layer", "any", "--areas")
+        told = outcome(to_rings, "--store", store, "--program", self.program, "--layer", "any", "--areas")
         self.assertEqual(Fraction(told[1].split()[-1]), sum(areas.values()))
-        told = outcome(to_geojson, script, "--program", self.program, *(f"--layer=c{n}" for n in range(1, 21)))
+        told = outcome(to_geojson, "--store", store, "--program", self.program,
+                       *(f"--layer=c{n}" for n in range(1, 21)))
         found = [Fraction(one["properties"]["area_exact"]) for one in json.loads(told[1])["features"]]
         self.assertEqual(found, list(areas.values())[:20])
         layer = outcome(to_rings, "--store", self.db, "--program", self.program, "--layer", "b2", "--areas")[1]
@@ -172,13 +172,12 @@ def rectangle(left: int, low: int, right: int, high: int) -> str:
 
 class Overlaps(WithProgram):
     def checked(self, *texts: str, words: tuple[object, ...] = ("--factor", 1)) -> tuple[int, list[str]]:
-        """The status of --check, and the lines that it prints, which are the same by each program."""
+        """The status of --check, and the lines that it prints."""
         file = self.file("plan.wkt", " ".join(f"POLYGON (({text}))" for text in texts))
         given = [file, "--coded", "--check", *words, "--output", self.folder / "plan.txt"]
-        found = [outcome(to_script, *given, "--program", program) for program in self.readers()]
-        self.assertEqual([one for one in found if one != found[0]], [])
-        lines = found[0][2].replace(f"{file}, text ", "").splitlines()
-        return found[0][0], [line for line in lines if line.startswith(("overlap", "of "))]
+        status, _, errors = outcome(to_script, *given, "--program", self.program)
+        lines = errors.replace(f"{file}, text ", "").splitlines()
+        return status, [line for line in lines if line.startswith(("overlap", "of "))]
 
     def test_features_that_overlap_are_told(self) -> None:
         squares = [f"{x} 0, {x + 10} 0, {x + 10} 10, {x} 10, {x} 0" for x in (0, 10, 20, 29)]
@@ -252,5 +251,6 @@ class LargeMaps(WithProgram):
         squares = [f"POLYGON (({x} 0, {x + 10} 0, {x + 10} 10, {x} 10, {x} 0))" for x in (0, 5, 14, 40)]
         file, script = self.file("plan.wkt", " ".join(squares)), self.folder / "plan.txt"
         self.assertEqual(outcome(to_script, file, "--union", "--output", script)[0], 0)
-        told = outcome(to_rings, script, "--program", self.program, "--areas")[1]
+        store = self.store("plan.db", script.read_bytes())
+        told = outcome(to_rings, "--store", store, "--program", self.program, "--areas")[1]
         self.assertEqual(told, "polygon 1 outer area 240 240\npolygon 2 outer area 100 100\narea 340 340\n")

@@ -13,7 +13,7 @@ from overlayd.geometry.areas import Ring, area_of
 from overlayd.geometry.plane import turn
 from overlayd.geometry.rings import polygons_of
 from overlayd.program import Piece, Point as Corner
-from overlayd.store import asking, sessions
+from overlayd.store import expressions, layers
 from .common import WithProgram
 from .plain import OPERATIONS, area_twice, below, homogeneous, on, overlay, random_rings, segments_of
 
@@ -121,13 +121,12 @@ class ProgramBeside(WithProgram):
     def test_the_program_gives_the_same_pieces(self) -> None:
         source = random.Random(21)
         for number in range(12):
-            layers = [random_rings(source, 8), random_rings(source, 8)]
+            given = [random_rings(source, 8), random_rings(source, 8)]
             operation = "&|-^"[number % 4]
-            texts = [wkt.write([[ring + ring[:1]] for ring in rings]) for rings in layers]
-            puts = [f"PUT {name} {text}\n" for name, text in zip("AB", texts)]
-            script = ("".join(puts) + f"DEFINE I = A {operation} B\n").encode()
-            asked = sessions.with_lines(script, sessions.questions(["I"]))
-            pieces, missing = sessions.pieces_of(sessions.read(asked, asking.ran(self.program, [], asked)), "I")
+            texts = [wkt.write([[ring + ring[:1]] for ring in rings]) for rings in given]
+            puts = [f"PUT {name} {text}" for name, text in zip("AB", texts)]
+            (columns,) = expressions.boundaries(self.program, [(puts, f"A {operation} B")])
+            pieces, missing = layers.pieces_of(columns)
             self.assertEqual(missing, [])
-            self.assertEqual(sorted(pieces), sorted(overlay(layers, OPERATIONS[operation])))
-            check(self, layers, OPERATIONS[operation], polygons_of(pieces))
+            self.assertEqual(sorted(pieces), sorted(overlay(given, OPERATIONS[operation])))
+            check(self, given, OPERATIONS[operation], polygons_of(pieces))

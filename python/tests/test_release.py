@@ -397,9 +397,10 @@ class Uses(unittest.TestCase):
 
     def test_the_client_is_one_that_python_imports(self) -> None:
         code = ("from overlayd import program as overlay_client\n"
+                "from overlayd.store.world import rings\n"
                 "with overlay_client.Server() as server, server.session() as one:\n"
                 "    one.batch(['PUT A POLYGON ((0 0, 9 0, 9 9, 0 9, 0 0))', 'DEFINE I = A'])\n"
-                "    print(len(one.rings('I')))")
+                "    print(len(rings(one, 'I')))")
         place = Built.package / "lib/python3/dist-packages"
         done = subprocess.run([sys.executable, "-c", code], capture_output=True, text=True, check=False, env={
             "PATH": f"{Built.package / 'bin'}:/usr/bin:/bin", "PYTHONPATH": str(place), "PYTHONDONTWRITEBYTECODE": "1"})

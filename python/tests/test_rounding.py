@@ -14,6 +14,7 @@ import pytest
 from overlayd.commands import import_ as to_script, which
 from overlayd.files import gdal_files
 from overlayd.program import Server
+from overlayd.store.world import World
 from . import testing
 from .common import OVERLAY, outcome
 from .test_features import Case
@@ -117,15 +118,15 @@ class OnePolygon(Case):
     def test_by_the_client(self) -> None:
         for corners in GIVEN.values():
             given: Any = json.loads(geometry(corners))
-            self.assertEqual(self.server.text_of(given), f"POLYGON {TEXT}")
+            self.assertEqual(World(self.server).text_of(given), f"POLYGON {TEXT}")
             with self.server.session() as one:
-                made = self.server.features(one).add(given, {"name": "own"})
+                made = World(self.server).features(one).add(given, {"name": "own"})
             self.assertEqual(stored(made.geometry), WHOLE)
 
     def test_points_are_the_same_ones(self) -> None:
         with self.server.session() as one:
             self.client.ask("/collections/plan/items", "POST", feature(HALVES).encode())
-            found = self.server.features(one)
+            found = World(self.server).features(one)
             for (x, y), (long_x, long_y) in zip(HALVES, LONG):
                 short, long = (self.client.get(f"/locate?x={a}&y={b}") for a, b in ((x, y), (long_x, long_y)))
                 self.assertEqual((short["asked"], short["exact"]), (long["asked"], True))

@@ -133,5 +133,5 @@ class SeveralStores(InFolder):
         self.assertEqual([len(one) for one in digest_in(self.folder / "many.scale.json")], [32, 8])
         for script in ("many.1.txt", "many.2.txt"):
             layer = f"n{32 * ('2' in script)}"
-            told = outcome(to_rings, self.folder / script, "--program", self.model(), "--layer", layer)
+            told = outcome(to_rings, "--store", self.folder / script, "--program", self.model(), "--layer", layer)
             self.assertEqual((told[0], "changed" in told[2]), (0, False), told)

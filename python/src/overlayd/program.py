@@ -8,7 +8,7 @@
                        "DEFINE rest = parcel - road"])
         session.sync()                          # returns when both are in the file
         session.locate("rest", 7, 5)            # 'in'
-        session.rings("rest")                   # two polygons with exact corners
+        session.boundary("rest").pieces         # each with exact ends
         for reply in session.answers(f"LOCATE rest {x} 5" for x in range(10_000)):
             reply.first                         # many lines are sent ahead, and each has its reply
 
@@ -18,25 +18,14 @@ over named pipes or a socket as well. It is used by one thread at a time. What t
 reply that does not come in time, as TimeoutError, and its session is lent again once it has come. A text that would be
 another line, or none, is a `ValueError` before anything is sent.
 
-In the world's coordinates, which `map.scale.json` beside `map.db` gives, and with the features of `map.features.json`:
-
-        session.put("plot", server.text_of(polygon))            # anything with __geo_interface__, as of shapely
-        shapely.geometry.shape(server.shape_of(session.rings("rest")))
-        counties = server.features(session)                     # each with id, name, properties, __geo_interface__
-        geopandas.GeoDataFrame.from_features(counties)
-        counties.put(37, polygon, {"name": "Wake"})             # one batch of the layers that hold it, durable
-
 It needs the standard library alone, and may be handed on as this one file. Rings, coordinates of the world and features
-use the package overlayd, where it is installed.
+are those of overlayd.store.world.
 """
 
 from __future__ import annotations
 
 import contextlib
 import fcntl
-import functools
-import importlib
-import json
 import os
 import pathlib
 import queue
@@ -46,11 +35,9 @@ import subprocess
 import threading
 import time
 from collections import deque
-from collections.abc import Iterable, Iterator, Mapping, Sequence
-from decimal import Decimal
-from fractions import Fraction
+from collections.abc import Iterable, Iterator, Sequence
 from types import TracebackType
-from typing import Any, BinaryIO, NamedTuple, cast
+from typing import BinaryIO, NamedTuple, cast
 
 NAME = re.compile(r"[A-Za-z][A-Za-z0-9_]{0,31}\Z")
 LARGEST_BATCH = 64
@@ -67,8 +54,6 @@ Point = tuple[int, int, int]
 """The point (x / w, y / w), as x, y and w."""
 Piece = tuple[Point, Point]
 """A straight part of a boundary, its left end first."""
-Ring = list[tuple[Fraction, Fraction]]
-"""The corners of a ring, the first of them not repeated, with the inside on its left."""
 Request = str | Sequence[str]
 """A line of any command but BATCH; or the 1 to 64 lines of a batch."""
 
@@ -461,10 +446,6 @@ class Session:
                 pieces = [piece for reply in found for piece in reply.pieces()]
                 return Boundary(before.number(), pieces, [layer_of(line) for line in layers.lines()])
 
-    def rings(self, name: str) -> list[list[Ring]]:
-        """Waits for a derived layer, and gives its polygons: each an outer ring, counter-clockwise, and its holes."""
-        return rings_of(self.boundary(name).pieces)
-
     def verify(self, name: str, column: int) -> str:
         """Builds a finished column anew and compares: 'same' or 'different'."""
         return self.ask(f"VERIFY {name} {column}")[0]
@@ -492,141 +473,6 @@ def number_of(reply: Sequence[str]) -> int:
 def is_pending(reply: Reply) -> bool:
     """Whether a column was asked that no worker has built yet."""
     return reply.refusal is not None and reply.refusal.number == PENDING
-
-
-def module(name: str) -> Any:
-    """A module of the package, which rings, coordinates of the world and features need."""
-    return importlib.import_module(f"overlayd.{name}")
-
-
-def rings_of(pieces: list[Piece]) -> list[list[Ring]]:
-    """The polygons that pieces of a whole boundary bound, by overlayd.geometry.rings."""
-    found = module("geometry.rings").polygons_of(pieces)
-    return [
-        [[(Fraction(x, w), Fraction(y, w)) for x, y, w in ring.corners] for ring in polygon]
-        for polygon in found
-    ]
-
-
-class Shape:
-    """A geometry of GeoJSON, in numbers of the world; of a feature also what it is. It is taken as
-    __geo_interface__."""
-
-    def __init__(self, geometry: Mapping[str, Any], properties: Mapping[str, Any] | None = None) -> None:
-        self.geometry, self.properties = geometry, properties
-
-    @property
-    def __geo_interface__(self) -> Mapping[str, Any]:
-        return self.geometry
-
-
-class MapFeature(Shape):
-    """A feature of a map: its id, its name, its revision, its properties and its outline."""
-
-    def __init__(self, found: Any, geometry: Mapping[str, Any]) -> None:
-        super().__init__(geometry, found.properties)
-        self.id, self.name, self.revision = found.id, found.name, found.revision()
-
-    @property
-    def __geo_interface__(self) -> Mapping[str, Any]:
-        return {"type": "Feature", "id": self.id, "properties": self.properties, "geometry": self.geometry}
-
-
-class Features:
-    """The features of a store's map, by the file of features beside it (docs/FEATURES.md): read,
-    and changed one by one.
-
-    They are read anew by each call. A change is durable when its call returns; one that cannot be
-    made is a ValueError that says why.
-    """
-
-    def __init__(self, server: Server, session: Session, path: pathlib.Path) -> None:
-        self._server, self._session, self.path = server, session, path
-        self._of, self._changes = module("store.features"), module("store.feature_changes")
-        self._texts = module("store.feature_texts")
-
-    def _standing(self) -> tuple[Any, dict[str, Any], list[str]]:
-        """The table as it is, the rings of the base layers, and the names of all layers."""
-        layers = self._session.layers()
-        held = {layer.name: self._of.rings_of_text(layer.text) for layer in layers if layer.text is not None}
-        return self._of.resolved(self._of.read(self.path), held, self.path), held, [layer.name for layer in layers]
-
-    def __iter__(self) -> Iterator[MapFeature]:
-        table, held, _ = self._standing()
-        scale, program = self._server.scale, self._server.program
-        for one in self._of.outlines(table, held):
-            geometry = self._texts.geometry(one.feature.kind, self._texts.shaped(one.polygons, program), scale)
-            yield MapFeature(one.feature, json.loads(geometry))
-
-    @property
-    def __geo_interface__(self) -> Mapping[str, Any]:
-        return {"type": "FeatureCollection", "features": [one.__geo_interface__ for one in self]}
-
-    def __getitem__(self, identity: int | str) -> MapFeature:
-        """The feature with an id, else the first of a name."""
-        found = list(self)
-        fitting = ([one for one in found if str(one.id) == str(identity)]
-                   or [one for one in found if one.name == identity])
-        if not fitting:
-            raise KeyError(identity)
-        return fitting[0]
-
-    def at(self, x: float | Fraction, y: float | Fraction) -> list[tuple[str, str]]:
-        """The names of the features that have the place nearest to a point of the world, each with `in` or `edge`."""
-        table, held, _ = self._standing()
-        corner = self._server.scale.question(Fraction(str(x)), Fraction(str(y)))
-        within, edge = self._of.at(self._of.outlines(table, held), corner)
-        return [(one.name, "in") for one in within] + [(one.name, "edge") for one in edge]
-
-    def put(
-        self, identity: int | str, geometry: object = None, properties: Mapping[str, Any] | None = None,
-        revision: str | None = None,
-    ) -> MapFeature:
-        """Changes the outline of a feature, its properties, or both; what is None stays.
-
-        Where a revision is given and the feature has another one by now, nothing is changed, and ValueError is raised.
-        """
-        table, held, _ = self._standing()
-        old = self._changes.known(table, identity)
-        if revision not in (None, old.revision()):
-            raise ValueError(f"{identity}: it has changed since revision {revision}")
-        given = self._given(geometry, old.properties if properties is None else properties, old.kind)
-        return cast(MapFeature, self._change(table, self._changes.replaced(table, held, old.id, given)))
-
-    def add(self, geometry: object, properties: Mapping[str, Any]) -> MapFeature:
-        """A new feature, with an id of its own."""
-        table, held, names = self._standing()
-        given = self._given(geometry, properties, "Polygon")
-        return cast(MapFeature, self._change(table, self._changes.added(table, held, names, given)))
-
-    def remove(self, identity: int | str) -> None:
-        table, held, _ = self._standing()
-        self._change(table, self._changes.removed(table, held, identity))
-
-    def _given(self, geometry: object, properties: Mapping[str, Any], kind: str) -> Any:
-        plain = self._of.plain(json.loads(json.dumps(dict(properties)), parse_float=Decimal))
-        if geometry is None:
-            return self._changes.Given(kind, None, plain)
-        found = self._changes.rounded(geojson_of(geometry), self._server.scale)
-        return self._changes.Given(found.kind, found.polygons, plain)
-
-    def _change(self, table: Any, plan: Any) -> Any:
-        if self._server.read_only:
-            raise ValueError("the store is opened for reading alone")
-        after = self._changes.carried_out(self.path, table, plan, self._session.batch, self._session.sync, Refused)
-        new = plan.change.feature
-        return self[new.id] if new and after else None
-
-
-def geojson_of(given: object) -> dict[str, Any]:
-    """The geometry of what has __geo_interface__, or of GeoJSON, its numbers exact as they are written."""
-    value: Any = getattr(given, "__geo_interface__", given)
-    if isinstance(value, Mapping) and value.get("type") == "Feature":
-        value = value.get("geometry")
-    if not isinstance(value, Mapping):
-        raise ValueError("what has __geo_interface__, or a geometry of GeoJSON, is wanted")
-    found: dict[str, Any] = json.loads(json.dumps(dict(value)), parse_float=Decimal)
-    return found
 
 
 class Pool:
@@ -717,38 +563,6 @@ class Server:
             if not isinstance(fault, Ended):
                 raise
             raise fault_of_start(told) or Ended(f"the program ended with status {status}: {told}") from None
-
-    @functools.cached_property
-    def scale(self) -> Any:
-        """What whole numbers mean, as grid/scale.py has it: by NAME.scale.json beside the store, else themselves."""
-        scales = module("grid.scale")
-        path = scales.beside(self.store) if self.store else None
-        return scales.read(path) if path and path.is_file() else scales.Scale()
-
-    def text_of(self, geometry: object) -> str:
-        """The Well-Known Text that keeps a geometry of the world: anything with __geo_interface__, or of GeoJSON.
-
-        Each corner is at the nearest whole place. What cannot be kept, as a ring that is too small, is a ValueError.
-        """
-        found = module("store.feature_changes").rounded(geojson_of(geometry), self.scale)
-        return str(module("geometry.wkt").write(found.polygons))
-
-    def shape_of(self, polygons: list[list[Ring]]) -> Shape:
-        """Polygons as `Session.rings` gives them, as a MultiPolygon of the world."""
-        def position(corner: tuple[Fraction, Fraction]) -> list[float]:
-            x, y = corner
-            world = self.scale.world((x.numerator * y.denominator, y.numerator * x.denominator,
-                                      x.denominator * y.denominator))
-            return [float(round(number, self.scale.digits)) for number in world]
-
-        rings = [[[position(corner) for corner in ring + ring[:1]] for ring in polygon] for polygon in polygons]
-        return Shape({"type": "MultiPolygon", "coordinates": rings})
-
-    def features(self, session: Session) -> Features:
-        """The features of the map whose file NAME.features.json lies beside the store NAME.*."""
-        if self.store is None:
-            raise ValueError("a store in memory has no file of features")
-        return Features(self, session, module("store.features").beside(self.store))
 
     def session(self, *, slow: bool = False, timeout: float = 30) -> contextlib.AbstractContextManager[Session]:
         """Lends a session to one thread, `with server.session() as session:`; slow for what may sleep: WAIT, SYNC.

@@ -37,6 +37,7 @@ from shapely import geometry, wkb
 
 from overlayd import program as overlay_client
 from overlayd.grid.limits import COLUMN_WIDTH, COORDINATE_MAX
+from overlayd.store.world import World, rings
 from overlayd_lab import TOP, web_front
 from overlayd_lab.counting import Tries, Words
 from overlayd_lab.reference import read_store
@@ -436,7 +437,7 @@ def try_layers(tries: Tries, folder: pathlib.Path, program: str) -> None:
     """What GDAL copies of derived layers, whose outlines are exact, beside what the client has of them."""
     store = web_front.iceland(folder, program)
     with overlay_client.Server(store, read_only=True, program=program) as server, server.session() as one:
-        wanted = {name: geometry.shape(server.shape_of(one.rings(name))) for name in web_front.DEFINITIONS}
+        wanted = {name: geometry.shape(World(server).shape_of(rings(one, name))) for name in web_front.DEFINITIONS}
     with fronts_of([store], program) as (address,):
         for name, shape in wanted.items():
             target = folder / f"{name}.gpkg"

@@ -12,8 +12,8 @@ area in the world's unit, rounded in `area` and, as a fraction, in `area_exact`:
 comes back from them through overlay import with the same scale. Where no coordinate system is known, what is written
 says that it is of a plane of its own: GeoJSON that says nothing is of degrees.
 
---features writes the features of the source in the place of layers, by NAME.features.json beside the store or the
-script NAME.*: each with its own properties, its id, its outline whole, also where it is in several layers or parts,
+--features writes the features of the source in the place of layers, by NAME.features.json beside the store NAME.*:
+each with its own properties, its id, its outline whole, also where it is in several layers or parts,
 and with its area, which is called `area_` where the source has an `area`. An outline that crosses or touches itself is
 written as the boundary of its even-odd inside.
 
@@ -22,10 +22,10 @@ written as the boundary of its even-odd inside.
 GeoPackage too; other ids, and those of a FlatGeobuf, are a column `id` of it, or `id_` where the source has an `id`. A
 property whose name differs from another one's in case alone, as no two columns do, is a column with `_` after its name,
 and a line on standard error says so. What is read, and NAME.scale.json, NAME.features.json and NAME.names.csv of a
-store or a script, are not written over.
+store, are not written over.
 
-Status 0: all layers or features are written; 1: a line of the script was refused (each is reported), a layer has no
-rings to give, or the output cannot be written; 2: a word is refused.
+Status 0: all layers or features are written; 1: the store cannot be read, a layer has no rings to give, or the output
+cannot be written; 2: a word is refused.
 """
 
 import argparse
@@ -36,14 +36,18 @@ from collections.abc import Iterator
 from typing import TextIO
 
 from .. import ending, progress
+from ..ending import Unusable
 from ..files import coordinate_systems, gdal_files, writing
 from ..geometry import areas
 from ..geometry.areas import Ring
 from ..grid import scale as scales
-from ..store import asking, feature_texts, keeping, sessions
-from ..store.asking import Map
-from ..store.features import FeaturesFault, beside, held_rings, read, resolved
+from ..program_files import found_program
+from ..store import feature_texts, keeping, layers
+from ..store.features import FeaturesFault, beside, read, resolved
+from ..store.opening import is_store, layers_of, opened
+from . import store_layers
 from .parsing import Parser
+from .store_layers import Map
 
 
 def ring_text(ring: Ring, scale: scales.Scale) -> str:
@@ -62,7 +66,7 @@ def polygon_text(polygon: list[Ring], scale: scales.Scale) -> str:
 def feature(found: Map, layer: str, kind: str, coordinates: str, rings: list[Ring], exact: bool) -> str:
     """One feature, on one line."""
     area, fraction = areas.in_world(rings, found.scale, exact)
-    given = {"layer": layer, "expression": found.session.definitions.get(layer), "version": found.session.version}
+    given = {"layer": layer, "expression": found.layers.definitions.get(layer), "version": found.layers.version}
     properties = "".join(f"{json.dumps(name)}: {json.dumps(value)}, " for name, value in given.items())
     properties += f'"area": {scales.decimals(area, 12)}' + (f', "area_exact": "{fraction}"' if fraction else "")
     return (f'{{"type": "Feature", "properties": {{{properties}}}, '
@@ -71,8 +75,8 @@ def feature(found: Map, layer: str, kind: str, coordinates: str, rings: list[Rin
 
 def features(found: Map, words: argparse.Namespace) -> Iterator[str]:
     """A feature for each layer, or for each of its polygons; with its pieces as rings."""
-    for layer in progress.bar("joining layers", len(found.layers), found.layers):
-        polygons = sessions.layer_polygons(found.session, layer)
+    for layer, columns in progress.bar("joining layers", len(found.columns), found.columns.items()):
+        polygons = layers.polygons(layer, columns)
         texts = [polygon_text(polygon, found.scale) for polygon in polygons]
         if words.parts:
             for polygon, text in zip(polygons, texts, strict=True):
@@ -84,14 +88,14 @@ def features(found: Map, words: argparse.Namespace) -> Iterator[str]:
 
 def text_of(found: Map, words: argparse.Namespace) -> str:
     """The whole collection."""
-    body, name = ",\n".join(features(found, words)), (words.store or words.script).stem
+    body, name = ",\n".join(features(found, words)), words.store.stem
     return (f'{{"type": "FeatureCollection", "name": {json.dumps(found.scale.title or name)},\n'
             f'{coordinate_systems.member(found.scale.crs)}"features": [\n{body}\n]}}\n')
 
 
 def parser_of() -> argparse.ArgumentParser:
     parser = Parser(description=__doc__, formatter_class=argparse.RawDescriptionHelpFormatter)
-    asking.add_words(parser, many=True)
+    store_layers.add_words(parser, many=True)
     parser.add_argument("--top", action="store_true", help="only layers that no definition names")
     form = parser.add_mutually_exclusive_group()
     form.add_argument("--parts", action="store_true", help="a feature for each polygon")
@@ -99,26 +103,25 @@ def parser_of() -> argparse.ArgumentParser:
     parser.add_argument("--exact", action="store_true", help="area_exact in each feature, however many digits it has")
     parser.add_argument("--output", metavar="FILE", type=pathlib.Path,
                         help="in the place of standard output: .geojson, .gpkg or .fgb")
-    asking.add_scale_words(parser)
+    store_layers.add_scale_words(parser)
     return parser
 
 
 def feature_collection(words: argparse.Namespace, parser: argparse.ArgumentParser,
                        errors: TextIO) -> tuple[str, scales.Scale]:
-    """The features of the source, as they are in a store or in the layers of a script."""
-    asking.check_words(words, parser)
+    """The features of the source, as they are in a store."""
     if words.layer or words.top:
-        parser.error("--features are those of a script or a store, all of them")
-    named = words.store or words.script
-    scale, file = asking.scale_of(words, parser)
-    program = words.program or asking.found_program((asking.LIVE, asking.BATCHED))
-    path = beside(named)
+        parser.error("--features are those of a store, all of them")
+    scale, file = store_layers.scale_of(words, parser)
+    program = words.program or found_program()
     try:
+        path = beside(words.store)
         table = read(path)
-        held = held_rings(asking.base_of(words, program))
+        with opened(program, words.store) as session:
+            held = layers_of(session).base
         table = resolved(table, held, path)
     except FeaturesFault as fault:
-        raise sessions.Unusable(str(fault)) from fault
+        raise Unusable(str(fault)) from fault
     if file:
         print(f"coordinates of the world by {file}", file=errors)
     body = ",\n".join(feature_texts.texts(table, held, scale, program))
@@ -128,7 +131,7 @@ def feature_collection(words: argparse.Namespace, parser: argparse.ArgumentParse
 
 def write(found: Map, words: argparse.Namespace, output: TextIO, errors: TextIO) -> int:
     if words.top:
-        found.layers = [name for name in found.layers if name in found.session.unnamed()]
+        found.columns = {name: found.columns[name] for name in found.layers.unnamed() if name in found.columns}
     put(text_of(found, words), found.scale, words, output, errors)
     return 0
 
@@ -145,11 +148,11 @@ def put(text: str, scale: scales.Scale, words: argparse.Namespace, output: TextI
         else:
             writing.write_all({words.output: text.encode()})
     except gdal_files.GdalFault as fault:
-        raise sessions.Unusable(f"{words.output}: {fault}") from fault
+        raise Unusable(f"{words.output}: {fault}") from fault
     except OSError as fault:
         if words.output is None:
             raise
-        raise sessions.Unusable(ending.told(words.output, fault)) from fault
+        raise Unusable(ending.told(words.output, fault)) from fault
 
 
 def is_gdals(path: pathlib.Path) -> bool:
@@ -163,9 +166,9 @@ def check_output(words: argparse.Namespace, parser: argparse.ArgumentParser) -> 
         return
     if not words.output.name or words.output.is_dir():
         parser.error(f"--output: {words.output} is a folder, and no file")
-    if asking.is_store(words.output):
+    if is_store(words.output):
         parser.error(f"--output: {words.output} is a store, which is not written over")
-    given = [path for path in (words.store, words.script) if path and path.name]
+    given = [words.store] if words.store.name else []
     for path in [*given, *([words.scale] if words.scale else [])]:
         if keeping.is_same(words.output, path):
             parser.error(f"--output: {words.output} is read here, and is not written over")
@@ -185,11 +188,11 @@ def main(arguments: list[str], output: TextIO | None = None, errors: TextIO | No
     words = parser.parse_args(arguments)
     check_output(words, parser)
     if not words.features:
-        return asking.run(parser, arguments, write, output, errors, many=True)
+        return store_layers.run(parser, arguments, write, output, errors, many=True)
     try:
         text, scale = feature_collection(words, parser, errors or sys.stderr)
         put(text, scale, words, output or sys.stdout, errors or sys.stderr)
-    except sessions.Unusable as fault:
+    except Unusable as fault:
         print(fault, file=errors or sys.stderr)
         return 1
     return 0

@@ -52,6 +52,7 @@ from fractions import Fraction
 from typing import TextIO
 
 from .. import ending, progress
+from ..ending import Unusable
 from ..files import coordinate_systems, fitting, map_reading, rounding, writing
 from ..files.coordinate_systems import DEGREES
 from ..files.map_reading import Refused, Shape
@@ -59,9 +60,12 @@ from ..geometry import wkt
 from ..grid import limits, scale as scales
 from ..grid.scale import Scale
 from ..maps import checking
-from ..store import asking, describing, features, keeping, layering, sessions
+from ..program_files import PROGRAM_HELP, found_program
+from ..store import describing, features, keeping, layering
 from ..store.describing import Described, counted
 from ..store.layering import Group, Layout, Store
+from ..store.layers import digests
+from ..store.opening import begins_as_store, is_store
 from .parsing import Parser
 
 
@@ -126,7 +130,7 @@ class Reader:
 def content(name: str, layer: str | None) -> str:
     """The text of a file, or of standard input for -; where it is a store the words to type are reported."""
     data = map_reading.content(name, layer)
-    if asking.begins_as_store(data):
+    if begins_as_store(data):
         raise Stopped(f"{name}: a store, and no map; its layers as a script: overlay dump {name}, as GeoJSON: "
                       f"overlay export --store {name}")
     return data.decode("utf-8-sig")
@@ -343,7 +347,7 @@ def read_by(words: argparse.Namespace) -> list[pathlib.Path]:
 def check_targets(paths: list[pathlib.Path], inputs: list[pathlib.Path]) -> None:
     """Refuses to write over a store, or over what was read, by whatever path or link."""
     for path in paths:
-        if asking.is_store(path):
+        if is_store(path):
             raise Stopped(f"--output: {path} is a store, which a script is not written over")
         for given in inputs:
             if path.exists() and given.exists() and path.samefile(given):
@@ -360,8 +364,8 @@ def scripts_of(output: pathlib.Path, stores: list[Store]) -> list[pathlib.Path]:
 
 def scale_text(words: argparse.Namespace, stores: list[Store], scale: Scale) -> bytes:
     """The scale, with digests of the layers that it is written for."""
-    layers = tuple(keeping.digests({name: [ring for polygon in polygons for ring in polygon]
-                                    for layout in store.layouts for name, polygons in layout.base})
+    layers = tuple(digests({name: [ring for polygon in polygons for ring in polygon]
+                            for layout in store.layouts for name, polygons in layout.base})
                    for store in stores)
     try:
         return replace(scale, title=words.title or scale.title, layers=layers).text().encode()
@@ -437,9 +441,9 @@ def overlaps(words: argparse.Namespace, stores: list[Store], scale: Scale, say: 
     """Says which features overlap, and by how much, the largest area first: 1 where some do, or nobody can say."""
     features_of_all = [group for store in stores for group in store.features]
     try:
-        program = words.program or asking.found_program((asking.LIVE, asking.BATCHED))
+        program = words.program or found_program()
         found = checking.overlapping(program, features_of_all)
-    except sessions.Unusable as fault:
+    except Unusable as fault:
         say(f"--check: {fault}")
         return 1
     for one in found:
@@ -475,7 +479,7 @@ def words_of(arguments: list[str]) -> argparse.Namespace:
     parser.add_argument("--union", action="store_true", help="polygons of one layer may overlap")
     parser.add_argument("--coded", action="store_true", help="number the features over few layers (needs --output)")
     parser.add_argument("--check", action="store_true", help="say which features of --coded overlap, and by how much")
-    parser.add_argument("--program", metavar="PATH", help="the program that --check asks (default: as the other tools)")
+    parser.add_argument("--program", metavar="PATH", help=PROGRAM_HELP)
     parser.add_argument("--output", metavar="NAME.txt", type=pathlib.Path, help="in the place of standard output")
     parser.add_argument("--title", help="for the scale's file (default: the output's name)")
     parser.add_argument("--unit", help="of the world's numbers (default: that of the coordinate system, else 1)")

@@ -28,12 +28,12 @@ from collections.abc import Callable
 from fractions import Fraction
 from typing import TextIO
 
+from ..ending import Unusable
 from ..geometry.whole_maps import MapFault
 from ..grid import scale as scales
 from ..maps import doing, map_checks, overlays, questions, running, work
 from ..maps.engines import TasksLeft
 from ..maps.rounds import ProgramEnded, ProgramRefused
-from ..store.sessions import Unusable
 from .parsing import Parser
 
 

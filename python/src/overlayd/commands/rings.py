@@ -1,7 +1,7 @@
 """Joins the boundary of a layer into rings with exact corners, and gives their areas.
 
     overlay rings --store map.db --layer I
-    overlay rings script.txt --layer I --areas
+    overlay rings --store map.db --layer I --areas
 
 The inside is on the left of each ring: outer rings run counter-clockwise, holes clockwise. It is found by even-odd: a
 place is inside where an odd number of pieces are below it. No ring passes a place twice: where boundaries touch, each
@@ -18,8 +18,8 @@ with --exact:
     area 8.333333 25/3
 
 Coordinates and areas are those of the world where a scale is there. A base layer has the boundary of its even-odd
-inside. Status 0: all rings are written; 1: a line of the script was refused (each is reported), a column is missing or
-oversize, a reply is of another form, or the output cannot be written.
+inside. Status 0: all rings are written; 1: the store cannot be read, a column is missing or oversize, or the output
+cannot be written.
 """
 
 import argparse
@@ -29,9 +29,10 @@ from typing import TextIO
 from ..geometry import areas, wkt
 from ..geometry.areas import Ring
 from ..grid.scale import Scale, decimals, spelled_exactly
-from ..store import asking, sessions
-from ..store.asking import Map
+from ..store import layers
+from . import store_layers
 from .parsing import Parser
+from .store_layers import Map
 
 
 def heads(polygons: list[list[Ring]]) -> Iterator[tuple[str, Ring]]:
@@ -51,8 +52,8 @@ def exact_lines(polygons: list[list[Ring]], found: Map, _words: argparse.Namespa
 
 def area_line(head: str, rings: list[Ring], scale: Scale, exact: bool) -> str:
     area, fraction = areas.in_world(rings, scale, exact)
-    told = [decimals(abs(area), scale.digits), *([fraction.removeprefix("-")] if fraction else [])]
-    return f"{head} {' '.join(told)}"
+    numbers = [decimals(abs(area), scale.digits), *([fraction.removeprefix("-")] if fraction else [])]
+    return f"{head} {' '.join(numbers)}"
 
 
 def area_lines(polygons: list[list[Ring]], found: Map, words: argparse.Namespace) -> Iterator[str]:
@@ -69,18 +70,18 @@ def text_lines(polygons: list[list[Ring]], found: Map, _words: argparse.Namespac
 
 def parser_of() -> argparse.ArgumentParser:
     parser = Parser(description=__doc__, formatter_class=argparse.RawDescriptionHelpFormatter)
-    asking.add_words(parser)
+    store_layers.add_words(parser)
     parser.add_argument("--exact", action="store_true",
                         help="fractions in place of Well-Known Text; with --areas each of them, however long")
     parser.add_argument("--areas", action="store_true", help="areas in place of Well-Known Text")
-    asking.add_scale_words(parser)
+    store_layers.add_scale_words(parser)
     return parser
 
 
 def write(found: Map, words: argparse.Namespace, output: TextIO, errors: TextIO) -> int:
-    polygons = sessions.layer_polygons(found.session, found.layers[0])
-    lines = area_lines if words.areas else exact_lines if words.exact else text_lines
-    output.write("".join(line + "\n" for line in list(lines(polygons, found, words))))
+    (polygons,) = (layers.polygons(name, columns) for name, columns in found.columns.items())
+    lines_of = area_lines if words.areas else exact_lines if words.exact else text_lines
+    output.write("".join(line + "\n" for line in list(lines_of(polygons, found, words))))
     holes = sum(len(polygon) - 1 for polygon in polygons)
     print(f"outer rings {len(polygons)} (counter-clockwise), holes {holes} (clockwise); inside on the left",
           file=errors)
@@ -88,4 +89,4 @@ def write(found: Map, words: argparse.Namespace, output: TextIO, errors: TextIO)
 
 
 def main(arguments: list[str], output: TextIO | None = None, errors: TextIO | None = None) -> int:
-    return asking.run(parser_of(), arguments, write, output, errors)
+    return store_layers.run(parser_of(), arguments, write, output, errors)

@@ -38,10 +38,13 @@ from collections.abc import Iterable, Mapping
 from typing import TextIO
 
 from .. import ending
+from ..ending import Unusable
 from ..files import writing
 from ..grid import scale as scales
-from ..store import asking, sessions
+from ..program import Ended, Layer, Refused, Server
+from ..program_files import PROGRAM_HELP, found_program
 from ..store.describing import Described
+from ..store.layers import Layers
 from . import import_ as to_script
 from .parsing import Parser
 
@@ -81,7 +84,7 @@ def words_of(arguments: list[str]) -> argparse.Namespace:
                         help="of the first front; 0 for one that is free (default 8080)")
     parser.add_argument("--no-browser", action="store_true", help="open no browser")
     parser.add_argument("--only-make", action="store_true", help="make the store, and start no front")
-    parser.add_argument("--program", metavar="PATH", help="overlay_live (default: as the other tools find it)")
+    parser.add_argument("--program", metavar="PATH", help=PROGRAM_HELP)
     words = parser.parse_args(arguments)
     if words.others and words.name_by:
         parser.error("--name-by is for the features of one map, and --with makes each map a layer")
@@ -152,10 +155,9 @@ def define_common(words: argparse.Namespace, scripts: list[pathlib.Path]) -> Non
     """Adds the layer of what all maps have in common, where one store holds all of them."""
     if len(scripts) > 1:
         raise Unmade(1, f"{words.map} and {words.others[0]} do not fit into one store: lay them out by overlay import")
-    layers = sessions.Session()
     text = scripts[0].read_text()
-    for line in text.splitlines():
-        layers.answered_line(line, ["ok"])
+    lines = (line.split(" ", 2) for line in text.splitlines())
+    layers = Layers.of(Layer(name, *((rest, None) if word == "PUT" else (None, rest))) for word, name, rest in lines)
     names = layers.unnamed()
     if len(names) > 1 and NAMED not in layers.order:
         scripts[0].write_text(f"{text}DEFINE {NAMED} = {' & '.join(names)}\n")
@@ -163,13 +165,15 @@ def define_common(words: argparse.Namespace, scripts: list[pathlib.Path]) -> Non
 
 def make_store(script: pathlib.Path, program: str) -> None:
     """A store of a script, beside it."""
-    words = [program, "--store", str(script.with_suffix(".db")), "--create"]
-    status, replies, told = asking.outcome(words[0], words[1:], script.read_bytes() + b"SYNC\n")
-    faults = [line for line in sessions.lines_of(replies) if sessions.REFUSED.fullmatch(line)]
-    if status or faults:
-        fault = faults[0] if faults else told.strip() or f"status {status}"
+    lines = [line for line in script.read_text().splitlines() if not line.startswith("#")]
+    try:
+        with Server(script.with_suffix(".db"), create=True, program=program) as server:
+            for reply in server.sessions[0].answers([*lines, "SYNC"]):
+                if reply.refusal:
+                    raise reply.refusal
+    except (Refused, Ended) as fault:
         free = f"; the disk of {script.parent.parent} has {shutil.disk_usage(script.parent).free:,} bytes free"
-        raise Unmade(1, f"{script.name}: {fault}{free if DEVICE in fault else ''}")
+        raise Unmade(1, f"{script.name}: {fault}{free if DEVICE in str(fault) else ''}") from fault
 
 
 def stores_for(words: argparse.Namespace, program: str, errors: TextIO) -> tuple[list[pathlib.Path], int]:
@@ -395,14 +399,14 @@ def main(arguments: list[str], output: TextIO | None = None, errors: TextIO | No
     words = words_of(arguments)
     output, errors = output or sys.stdout, errors or sys.stderr
     try:
-        program = words.program or asking.found_program((asking.LIVE,))
+        program = words.program or found_program()
         words.folder.mkdir(parents=True, exist_ok=True)
         stores, status = stores_for(words, program, errors)
         return status if words.only_make else show(words, stores, program, output)
     except Unmade as fault:
         print(fault, file=errors)
         return fault.status
-    except (sessions.Unusable, OSError) as fault:
-        print(fault if isinstance(fault, sessions.Unusable) else ending.told(fault.filename or "overlay", fault),
+    except (Unusable, OSError) as fault:
+        print(fault if isinstance(fault, Unusable) else ending.told(fault.filename or "overlay", fault),
               file=errors)
         return 1

@@ -1,15 +1,14 @@
 """Draws a layer of overlayd: base edges thin, its boundary bold, its inside shaded, the columns of its tiles.
 
     overlay svg --store map.db --layer I > picture.svg
-    overlay svg script.txt --layer I > picture.svg
+    overlay svg --store map.db --layer I --grid 60 > points.svg
 
 The base layers are those that the layer's definition reaches, filled by even-odd. Above each column is its number
 and how many pieces its tile has. With --grid N points are drawn: full where in, a ring where edge, small where out.
 Where a scale is there, a bar of it and the corners of the picture are reported. Coordinates of the picture are rounded
 to a hundredth of a unit.
 
-Status 0: the picture is whole; 1: it is not, or a line of the script was refused (each is reported), there is none, or
-it cannot be written.
+Status 0: the picture is whole; 1: it is not, there is none, or it cannot be written.
 """
 
 import argparse
@@ -23,10 +22,10 @@ from ..geometry.areas import Ring
 from ..geometry.rings import polygons_of
 from ..grid import limits, scale as scales
 from ..program import Piece, Point as Corner
-from ..store import asking, sessions
-from ..store.asking import Map
-from ..store.sessions import Grid, Session
+from ..store.layers import Columns, Layers, pieces_of
+from . import store_layers
 from .parsing import Parser
+from .store_layers import Grid, Map
 
 COLOURS = ("#1f77b4", "#d9730d", "#2a8f4d", "#9c3fb0", "#8a6d3b", "#0f8b8d", "#c2407a", "#5c6470")
 INK = "#111111"
@@ -135,15 +134,11 @@ def legend(view: View, names: list[str], text: str) -> tuple[list[str], float]:
     return found, y
 
 
-def joined(session: Session, layer: str, say: Callable[[str], None]
+def joined(layer: str, answers: Columns, say: Callable[[str], None]
            ) -> tuple[list[Piece], list[int | str], list[list[Ring]] | None]:
     """The pieces, how many each column has, and the polygons, None where they can't be joined."""
-    pieces, missing = sessions.pieces_of(session, layer)
-    counts: list[int | str] = ["?"] * limits.COLUMNS
-    for column in range(limits.COLUMNS):
-        answer = session.edges.get((layer, column))
-        if isinstance(answer, list):
-            counts[column] = len(answer)
+    pieces, missing = pieces_of(answers)
+    counts: list[int | str] = ["?" if isinstance(answer, str) else len(answer) for answer in answers]
     for column, reason in missing:
         say(f"{layer}: column {column} is not drawn: {reason}")
     if missing:
@@ -171,19 +166,18 @@ def bar(view: View, scale: scales.Scale, y: float) -> list[str]:
             f'{html.escape(text)}; {corners(view, scale)}</text>']
 
 
-def picture(session: Session, layer: str, width: int, say: Callable[[str], None],
-            scale: scales.Scale | None = None) -> str:
+def picture(layers: Layers, layer: str, answers: Columns, width: int, say: Callable[[str], None],
+            scale: scales.Scale | None = None, grid: Grid | None = None) -> str:
     """The whole picture of a layer, as text."""
-    pieces, counts, polygons = joined(session, layer, say)
-    names = session.base_in_reach(layer)
-    points: list[Any] = [point for name in names for ring in session.base[name] for point in ring]
+    pieces, counts, polygons = joined(layer, answers, say)
+    names = layers.base_in_reach(layer)
+    points: list[Any] = [point for name in names for ring in layers.base[name] for point in ring]
     view = View(points + [(x / w, y / w) for piece in pieces for x, y, w in piece], width)
     body = columns(view, counts)
-    body += [base_layer(view, session.base[name], COLOURS[i % len(COLOURS)]) for i, name in enumerate(names)]
+    body += [base_layer(view, layers.base[name], COLOURS[i % len(COLOURS)]) for i, name in enumerate(names)]
     body.append(boundary(view, pieces, polygons))
-    if layer in session.grids:
-        body += grid_points(view, session.grids[layer])
-    text = f"{layer} = {session.definitions[layer]}" if layer in session.definitions else f"boundary of {layer}"
+    body += grid_points(view, grid) if grid else []
+    text = f"{layer} = {layers.definitions[layer]}" if layer in layers.definitions else f"boundary of {layer}"
     lines, end = legend(view, names, text)
     if scale:
         lines += bar(view, scale, end)
@@ -194,9 +188,9 @@ def picture(session: Session, layer: str, width: int, say: Callable[[str], None]
     return "\n".join([head, '<rect width="100%" height="100%" fill="#ffffff"/>'] + body + lines + ["</svg>", ""])
 
 
-def grid_for(session: Session, count: int) -> tuple[int, ...] | None:
-    """A GRID of about so many points across, over the base layers of a session, as x, y, step, nx, ny."""
-    points = [point for rings in session.base.values() for ring in rings for point in ring]
+def grid_for(layers: Layers, count: int) -> tuple[int, ...] | None:
+    """A GRID of about so many points across, over all base layers, as x, y, step, nx, ny."""
+    points = [point for rings in layers.base.values() for ring in rings for point in ring]
     if not points:
         return None
     left, low = min(x for x, _ in points), min(y for _, y in points)
@@ -207,11 +201,11 @@ def grid_for(session: Session, count: int) -> tuple[int, ...] | None:
 
 def parser_of() -> argparse.ArgumentParser:
     parser = Parser(description=__doc__, formatter_class=argparse.RawDescriptionHelpFormatter)
-    asking.add_words(parser)
+    store_layers.add_words(parser)
     parser.add_argument("--grid", type=int, metavar="N",
                         help=f"ask for a GRID of about N points across (1 to {limits.GRID_MAX}), and draw it")
     parser.add_argument("--width", type=int, default=800, help="of the picture (default 800)")
-    asking.add_scale_words(parser)
+    store_layers.add_scale_words(parser)
     return parser
 
 
@@ -224,15 +218,15 @@ def main(arguments: list[str], output: TextIO | None = None, errors: TextIO | No
     count = words.grid
 
     def write(found: Map) -> int:
-        told: list[str] = []
-        layer = found.layers[0]
-        if count and layer not in found.session.grids:
-            told.append(f"{layer}: it gave no grid")
+        faults: list[str] = []
+        ((layer, answers),) = found.columns.items()
+        if count and not found.grid:
+            faults.append(f"{layer}: it gave no grid")
         scale = found.scale if found.scaled_by or words.factor or words.origin else None
-        target.write(picture(found.session, layer, words.width, told.append, scale))
-        for text in told:
+        target.write(picture(found.layers, layer, answers, words.width, faults.append, scale, found.grid))
+        for text in faults:
             print(text, file=errors)
-        return 1 if told else 0
+        return 1 if faults else 0
 
-    grid = (lambda session: grid_for(session, count)) if count else None
-    return asking.worked(lambda: asking.map_of(words, parser, grid=grid), write, errors)
+    grid = (lambda layers: grid_for(layers, count)) if count else None
+    return store_layers.worked(lambda: store_layers.map_of(words, parser, grid=grid), write, errors)

@@ -33,13 +33,17 @@ from fractions import Fraction
 from typing import TextIO
 
 from .. import ending
+from ..ending import Unusable
 from ..grid import limits, scale as scales
 from ..grid.scale import Scale
-from ..program import Point as Corner
-from ..store import asking, features, sessions
+from ..program import Point as Corner, Session
+from ..program_files import PROGRAM_HELP, found_program
+from ..store import features
 from ..store.features import FeaturesFault, Outline, Table
-from ..store.sessions import Session, Unusable
+from ..store.layers import Layers
+from ..store.opening import layers_of, opened
 from .parsing import Parser
+from .store_layers import other_layers, scale_beside
 
 OUTSIDE = 0
 BLANKS = dict.fromkeys(map(ord, "\t\n\v\f\r\x1c\x1d\x1e\x85\u2028\u2029"), " ")  # what ends a line or a column
@@ -127,51 +131,52 @@ def read_table(path: pathlib.Path) -> dict[int, dict[int, str]]:
     return found
 
 
-def asked(program: str, store: pathlib.Path, names: list[str], points: list[Corner]) -> Iterator[list[str]]:
+def asked(session: Session, store: pathlib.Path, names: list[str], points: list[Corner]) -> Iterator[list[str]]:
     """For each point the answers of the layers."""
     lines = [f"LOCATE {name} {x} {y} {w}" for x, y, w in points for name in names]
-    replies = sessions.lines_of(asking.store_replies(program, store, "".join(line + "\n" for line in lines).encode()))
-    for place, reply in enumerate(replies):
+    replies = [reply.first for reply in session.answers(lines)]
+    for line, reply in zip(lines, replies):
         if reply not in ("in", "out", "edge"):
-            raise Unusable(f"{store}: {lines[place]}: {reply}")
+            raise Unusable(f"{store}: {line}: {reply}")
     for at in range(0, len(replies), max(len(names), 1)):
         yield replies[at : at + len(names)]
 
 
-def names_of(session: Session, table: Numbered, store: pathlib.Path) -> list[str]:
+def names_of(layers: Layers, table: Numbered, store: pathlib.Path) -> list[str]:
     """The layers to ask: those of the bits, or all that no definition names."""
     if table is None:
-        return session.unnamed()
+        return layers.unnamed()
     if isinstance(table, Table):
         return [f"b{bit}" for bit in range(len(table.layers))]
     names = [f"b{bit}" for bit in range(max(table, default=0).bit_length())]
     for name in names:
-        if name not in session.order:
+        if name not in layers.order:
             raise Unusable(f"{store}: no layer {name}: the store is not of this table")
     return names
 
 
-def standing(session: Session, table: Table, store: pathlib.Path) -> Table:
+def standing(layers: Layers, table: Table, store: pathlib.Path) -> Table:
     """The features of a table as they are in a store, which must be the one of the table."""
     try:
-        return features.resolved(table, features.held_rings(session.base), features.beside(store))
+        return features.resolved(table, layers.base, features.beside(store))
     except FeaturesFault as fault:
         raise Unusable(str(fault)) from fault
 
 
 def answers_of(program: str, store: pathlib.Path, table: Numbered, points: list[Corner],
-               check: Callable[[pathlib.Path, Session], None]) -> list[Answer]:
-    """The answers of one store for all points; check is given its session."""
-    session = sessions.read(b"LAYERS\n", asking.store_replies(program, store, b"LAYERS\n"), 0)
-    check(store, session)
+               check: Callable[[pathlib.Path, Layers], None]) -> list[Answer]:
+    """The answers of one store for all points; check is given its layers."""
+    with opened(program, store) as session:
+        layers = layers_of(session)
+        check(store, layers)
+        if isinstance(table, Table):
+            table = standing(layers, table, store)
+        names = names_of(layers, table, store)
+        if not names:
+            return [Answer() for _ in points]
+        found = list(asked(session, store, names, points))
     if isinstance(table, Table):
-        table = standing(session, table, store)
-    names = names_of(session, table, store)
-    if not names:
-        return [Answer() for _ in points]
-    found = asked(program, store, names, points)
-    if isinstance(table, Table):
-        outlines = features.outlines(table, features.held_rings(session.base))
+        outlines = features.outlines(table, layers.base)
         return [of_features(outlines, corner, own) for corner, own in zip(points, found, strict=True)]
     return [of_layers(names, own) if table is None else of_bits(table, own) for own in found]
 
@@ -258,40 +263,29 @@ def parser_of() -> argparse.ArgumentParser:
                         help="a point on each line; blank lines and # lines are passed over; - is standard input")
     parser.add_argument("--scale", metavar="FILE", type=pathlib.Path,
                         help="what whole numbers mean (default: NAME.scale.json beside the store NAME.*)")
-    parser.add_argument("--program", metavar="PATH", help="the program to ask (default: as the other tools)")
+    parser.add_argument("--program", metavar="PATH", help=PROGRAM_HELP)
     return parser
-
-
-def scale_for(words: argparse.Namespace) -> tuple[Scale, pathlib.Path | None]:
-    """The scale that is given, or that lies beside the first store, and then its file; else that of whole numbers."""
-    try:
-        file = words.scale or scales.beside(words.store[0])
-        if not (words.scale or file.is_file()):
-            return Scale(), None
-        return scales.read(file), None if words.scale else file
-    except scales.ScaleFault as fault:
-        raise Unusable(str(fault)) from fault
 
 
 def work(words: argparse.Namespace, output: TextIO, errors: TextIO) -> int:
     """Asks for all points and writes a line for each; the status."""
     points = read_points(words)
-    program = words.program or asking.found_program((asking.LIVE, asking.BATCHED))
+    program = words.program or found_program()
     tables: dict[int, Numbered] = {**read_table(words.names)} if words.names else {}
     if not words.names and not words.layers:
         tables = {place: table_beside(store) for place, store in enumerate(words.store, 1)}
     if words.names and len(tables) != len(words.store):
         raise Unusable(f"{words.names} is of {len(tables)} stores, and {len(words.store)} are given")
-    (scale, file), told = scale_for(words), list[str]()
-    corners = [question(*point.place, scale, told.append) if point.place else None for point in points]
+    (scale, file), notes = scale_beside(words.store[0], words.scale), list[str]()
+    corners = [question(*point.place, scale, notes.append) if point.place else None for point in points]
     asking_for = [corner for corner in corners if corner is not None]
 
-    def check(store: pathlib.Path, session: Session) -> None:
-        told.extend(asking.other_layers(store, session, file, scale) if file else [])
+    def check(store: pathlib.Path, layers: Layers) -> None:
+        notes.extend(other_layers(store, layers, file, scale) if file and not words.scale else [])
 
     found = [answers_of(program, store, tables.get(place), asking_for, check)
              for place, store in enumerate(words.store, 1)]
-    for text in told:
+    for text in notes:
         print(text, file=errors)
     status = 0
     for text, is_answered in texts(points, corners, (joined(list(own)) for own in zip(*found, strict=True)), scale):

@@ -8,11 +8,11 @@ from collections.abc import Iterator, Sequence
 from fractions import Fraction
 from typing import NamedTuple
 
+from ..ending import Unusable
 from ..geometry import box_pairs, plane, sweeping
 from ..geometry.rings import loops_of
 from ..geometry.whole_maps import Box
 from ..program import Piece, Point as Corner
-from ..store.sessions import Unusable
 from .exact_area import total, twice_area
 
 Loop = list[Corner]

@@ -1,19 +1,19 @@
 """Which features of a map that is taken in overlap, and by how much."""
 
-import pathlib
 from collections.abc import Iterator
 from dataclasses import dataclass
 from fractions import Fraction
 
 from .. import progress
+from ..ending import Unusable
 from ..geometry import bending, box_pairs
 from ..geometry.whole_maps import WholeMap
-from ..store import asking, layering, sessions
+from ..store import layering
 from ..store.expressions import Step, areas
 from ..store.layering import Group
 from . import rounds, task_form
 
-RUN_MAX = 100  # pairs of layers that one script can have
+RUN_MAX = 100  # pairs of layers that one process is asked
 Pair = tuple[int, int]
 
 
@@ -84,13 +84,12 @@ def overlapping(program: str, groups: list[Group]) -> list[Overlap]:
     whole = whole_map(groups)
     boxes = [whole.box(feature) for feature in range(len(whole))]
     is_long = [has_long_step(group) for group in groups]
-    is_batched = pathlib.Path(program).name != asking.LIVE
     slow: list[Pair] = []
     quick: list[Pair] = []
     for i, j in box_pairs.pairs_within(boxes):
-        (slow if is_batched or is_long[i] or is_long[j] else quick).append((i, j))
+        (slow if is_long[i] or is_long[j] else quick).append((i, j))
     try:
         found = [*slotted(program, whole, quick), *one_by_one(program, groups, slow)]
     except (rounds.ProgramEnded, rounds.ProgramRefused) as fault:
-        raise sessions.Unusable(str(fault)) from fault
+        raise Unusable(str(fault)) from fault
     return sorted(found, key=lambda one: (-one.area, one.first, one.second))

@@ -15,10 +15,10 @@ from collections.abc import Iterable, Iterator
 from typing import Any
 
 from .. import ending, progress
+from ..ending import Unusable
 from ..files import spooled
 from ..geometry.whole_maps import MapFault
-from ..store import asking
-from ..store.sessions import Unusable
+from ..program_files import found_program
 from . import dask_engine, engines, tasks, windows, work
 from .dask_engine import DaskFault
 from .engines import Engine, TaskFault
@@ -57,7 +57,7 @@ def add_program_words(parser: argparse.ArgumentParser) -> None:
 
 def find_programs(words: argparse.Namespace) -> None:
     """Has the words name both programs by paths; window is None where Python is to draw in."""
-    words.program = os.path.abspath(words.program or asking.found_program((asking.LIVE,)))
+    words.program = os.path.abspath(words.program or found_program())
     if words.window is None and not words.no_window:
         words.window = windows.found(words.program)
     if words.window is not None:

@@ -10,8 +10,8 @@ from pathlib import Path
 from typing import Any
 
 from .. import ending
+from ..ending import Unusable
 from ..files import coordinate_systems, gdal_writing, writing
-from ..store.sessions import Unusable
 
 Piece = tuple[Mapping[str, Any], bytes]
 """Properties, and Well-Known Binary of a multipolygon."""

@@ -9,11 +9,11 @@ from collections.abc import Callable, Iterable, Iterator
 from typing import TextIO
 
 from .. import ending
+from ..ending import Unusable
 from ..files import coordinate_systems, gdal_files, gdal_maps, geojson_maps, writing
 from ..files.rounding import shown, told_longer
 from ..geometry.whole_maps import MapFault, ReadMap, Told
-from ..store import asking
-from ..store.sessions import Unusable
+from ..store.opening import is_store
 from . import doing
 from .task_form import Found, Task
 
@@ -136,7 +136,7 @@ def not_writable(given: str, path: pathlib.Path) -> str | None:
         return "no name of a file"
     if path.is_dir():
         return "a folder; say a file in it"
-    if asking.is_store(path):
+    if is_store(path):
         return "a store of layers; take another name"
     if path.exists() and not path.is_file():
         return None  # a pipe, or a device

@@ -4,7 +4,6 @@ A part of a map is rings with a core, a frame and an origin. What comes back for
 from the origin, or the number and text of a refusal (docs/COMMANDS.md, "Windows").
 """
 
-import contextlib
 import struct
 import subprocess
 from collections.abc import Iterable, Sequence
@@ -13,8 +12,7 @@ from pathlib import Path
 
 from .. import ending
 from ..geometry.whole_maps import Box, Point, Ring
-from ..store import asking
-from ..store.sessions import Unusable
+from ..program_files import program_there
 from .drawing_in import Drawn, Wanted, drawn
 from .rounds import ProgramEnded, ProgramRefused
 from .slots import CORE_MAX
@@ -111,10 +109,8 @@ def rings_of(text: str, origin: Point) -> list[Ring]:
 
 def found(program: str) -> str | None:
     """overlay_window beside a program, else where the gate builds it, at the top, or on the path; or nothing."""
-    with contextlib.suppress(Unusable):
-        beside = Path(program).with_name(WINDOW)
-        return str(beside) if beside.is_file() else asking.program_there((WINDOW,))
-    return None
+    beside = Path(program).with_name(WINDOW)
+    return str(beside) if beside.is_file() else program_there(WINDOW)
 
 
 def is_window(core: Box, is_plain: bool) -> bool:

@@ -11,10 +11,9 @@ from .. import progress
 from ..files import rounding
 from ..files.rounding import Polygon
 from ..geometry import areas
-from ..geometry.rings import polygons_of
 from ..grid.scale import Scale, decimals, spelled_exactly
 from ..program import Point as Corner
-from . import expressions, features, layering, simple
+from . import expressions, features, layering, layers, simple
 from .features import Outline, Table
 
 
@@ -32,8 +31,8 @@ def shaped(polygons: list[Polygon], program: str) -> Shaped:
         return Shaped([[[(x, y, 1) for x, y in ring] for ring in polygon] for polygon in polygons],
                       rounding.area_of(polygons))
     layout = layering.split("f", polygons, layering.Names(), False)
-    (pieces,) = expressions.boundaries(program, [(layout.lines(), "f")])
-    found = polygons_of(pieces)
+    (columns,) = expressions.boundaries(program, [(layout.lines(), "f")])
+    found = layers.polygons("f", columns)
     closed = [[ring.corners + ring.corners[:1] for ring in polygon] for polygon in found]
     return Shaped(closed, areas.area_of_all(found))
 

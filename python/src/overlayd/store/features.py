@@ -150,17 +150,6 @@ def digest(ring: Ring) -> str:
     return hashlib.blake2b(text.encode(), digest_size=12).hexdigest()
 
 
-def held_rings(base: Mapping[str, Iterable[Iterable[tuple[int, int]]]]) -> dict[str, list[Ring]]:
-    """The rings of base layers as lists of points, of what a session has read of them."""
-    return {name: [list(ring) for ring in rings] for name, rings in base.items()}
-
-
-def rings_of_text(text: str) -> list[Ring]:
-    """The rings of a layer's text, as LAYERS writes it."""
-    rings = re.findall(r"\(([-0-9 ,]+)\)", text)
-    return [[(int(x), int(y)) for x, y in (point.split() for point in ring.split(","))] for ring in rings]
-
-
 def rings_of(polygons: Iterable[Polygon]) -> Rings:
     """The digests of polygons as the layers hold them, long rings in runs."""
     return tuple(tuple(tuple(digest(run) for run in layering.runs_of(ring)) for ring in polygon)
@@ -222,10 +211,10 @@ def resolved(table: Table, held: Held, of: object) -> Table:
     return before
 
 
-def layers_of(path: pathlib.Path, base: Mapping[str, Iterable[Iterable[tuple[int, int]]]]) -> set[str]:
-    """The base layers of a store or a script that hold features by the file beside it, where that is of them."""
+def layers_of(path: pathlib.Path, base: Held) -> set[str]:
+    """The base layers of a store that hold features by the file beside it, where that is of them."""
     try:
-        return set(resolved(read(beside(path)), held_rings(base), path).base_layers())
+        return set(resolved(read(beside(path)), base, path).base_layers())
     except FeaturesFault:
         return set()
 

@@ -9,7 +9,8 @@ from dataclasses import replace
 from decimal import Decimal
 
 from ..grid import scale as scales
-from . import asking, features, sessions
+from . import features
+from .opening import is_store
 
 
 NAMES_BEGIN = b"store,number,name,"
@@ -19,11 +20,6 @@ ENDS = (".scale.json", ".features.json", ".names.csv")
 
 class StoreStands(Exception):
     """Why nothing is written."""
-
-
-def digests(base: Mapping[str, Iterable[Iterable[tuple[int, int]]]]) -> dict[str, str]:
-    """What tells base layers from others, for the scale that is written with them."""
-    return {name: sessions.digest_of(rings) for name, rings in base.items()}
 
 
 def meaning_of(path: pathlib.Path, data: bytes) -> object:
@@ -41,7 +37,7 @@ def stores_of(output: pathlib.Path) -> list[pathlib.Path]:
     name = re.escape(output.with_suffix("").name)
     folder = output.parent.iterdir() if output.parent.is_dir() else ()
     return sorted(path for path in folder if re.fullmatch(rf"{name}(\.[0-9]+)?\.[^.]+", path.name)
-                  and path != output and asking.is_store(path))
+                  and path != output and is_store(path))
 
 
 def scripts_of_name(output: pathlib.Path) -> list[pathlib.Path]:

@@ -21,6 +21,7 @@ from ..program import Point, Refused
 from ..store import features, layering, simple
 from ..store.feature_changes import Plan, carried_out, put
 from ..store.features import Feature, Held, Outline, Table
+from ..store.layers import rings_of_text
 from .kept_values import Kept
 from .layer_store import KEPT_MOST, PATIENCE, TURN, LayerStore
 from .rescue import NotWritten
@@ -98,7 +99,7 @@ class FeatureStore:
         known = self._state
         if known and known[0] is table and known[1] == key:
             return known[2]
-        held = {name: features.rings_of_text(view.layers[name].layer.text or "") for name in bases}
+        held = {name: rings_of_text(view.layers[name].layer.text or "") for name in bases}
         try:
             made = self._made(features.resolved(table, held, self.path), held)
         except features.FeaturesFault as fault:

@@ -14,9 +14,11 @@ import time
 from collections.abc import Iterator
 
 from .. import ending as endings
+from ..ending import Unusable
 from ..grid import scale as scales
 from ..program import MOST_SESSIONS, Ended, Refused, Server
-from ..store import asking, features, sessions
+from ..program_files import found_program
+from ..store import features
 from .by_waitress import serve
 from .feature_store import FeatureStore, Unlike
 from .front import Front
@@ -118,7 +120,7 @@ def run(words: argparse.Namespace, hosts: set[str]) -> int:
     for number in (signal.SIGTERM, signal.SIGALRM):
         signal.signal(number, ending.on_signal)
     try:
-        words.program = words.program or asking.found_program((asking.LIVE,))
+        words.program = words.program or found_program()
         with opened(words, ending) as (server, store):
             try:
                 with contextlib.suppress(SystemExit, KeyboardInterrupt):
@@ -133,7 +135,7 @@ def run(words: argparse.Namespace, hosts: set[str]) -> int:
             status, told = server.close()
             for child in multiprocessing.active_children():  # what it joins nobody will ask for
                 child.kill()
-    except (Unheard, sessions.Unusable) as fault:
+    except (Unheard, Unusable) as fault:
         print(fault, file=sys.stderr)
         return 1
     except (features.FeaturesFault, Unlike) as fault:
