@@ -2,9 +2,13 @@
 
 from __future__ import annotations
 
+import os
+import signal
+import subprocess
 import sys
+import threading
 import time
-from collections.abc import Iterator
+from collections.abc import Callable, Iterator
 from pathlib import Path
 
 import numpy as np
@@ -20,6 +24,8 @@ from overlayd.kernel.running import Cancelled, ProgramEnded, run
 STAND_IN = """#!{python}
 import struct, sys, time
 what = {what!r}
+if what == "long":
+    sys.stderr.write("x" * 1_000_000)
 while head := sys.stdin.buffer.read(8):
     block = sys.stdin.buffer.read(int.from_bytes(head, "little") - 8)
     jobs = struct.unpack_from("<I", block, 32)[0]
@@ -84,6 +90,103 @@ def test_a_fault_of_who_makes_blocks_is_raised_and_a_reader_may_stop(tmp_path: P
     with pytest.raises(KeyError):
         list(run(stand_in(tmp_path, "reply"), broken()))
     assert len(next(run(stand_in(tmp_path, "reply"), blocks(9))).rows) == 2
+
+
+def test_blocks_may_wait_for_rows(tmp_path: Path) -> None:
+    has_come = threading.Event()
+
+    def made_of_rows() -> Iterator[bytes]:
+        for one in blocks(3):
+            yield one
+            assert has_come.wait(20)
+            has_come.clear()
+
+    found = []
+    for rows in run(stand_in(tmp_path, "reply"), made_of_rows()):
+        found.append(len(rows.rows))
+        has_come.set()
+    assert found == 3 * [2]
+
+
+def test_what_a_program_says_never_stops_it(tmp_path: Path) -> None:
+    assert len(list(run(stand_in(tmp_path, "long"), blocks(3)))) == 3
+
+
+def test_a_run_that_waits_for_its_blocks_is_cancelled_and_a_fault_of_who_is_asked_is_raised(tmp_path: Path) -> None:
+    def slow() -> Iterator[bytes]:
+        yield from blocks(1)
+        time.sleep(30)
+
+    def broken(done: int) -> bool:
+        raise KeyError(done)
+
+    began = time.monotonic()
+    with pytest.raises(Cancelled):
+        list(run(stand_in(tmp_path, "reply"), slow(), lambda done: done == 0))
+    with pytest.raises(KeyError):
+        list(run(stand_in(tmp_path, "wait"), blocks(3), broken))
+    assert time.monotonic() < began + 10
+
+
+# A process whose thread begins a run and ends; then it waits.
+HOST = """
+import sys, threading, time
+sys.path[:0] = {paths!r}
+from overlayd.kernel.running import run
+kept = []
+def blocks():
+    time.sleep(600)
+    yield b""
+def begin():
+    kept.append(run({program!r}, blocks()))
+    threading.Thread(target=lambda: next(kept[0]), daemon=True).start()
+thread = threading.Thread(target=begin)
+thread.start()
+thread.join()
+print("begun", flush=True)
+time.sleep(600)
+"""
+
+
+def begun_by(process: int) -> list[int]:
+    """The programs that a process has begun."""
+    found = []
+    for name in os.listdir(f"/proc/{process}/task"):
+        with open(f"/proc/{process}/task/{name}/children", encoding="ascii") as file:
+            found += [int(child) for child in file.read().split()]
+    return found
+
+
+def is_running(process: int) -> bool:
+    """Whether a process goes on. One that has ended stays listed until whoever has taken it over looks at it."""
+    try:
+        with open(f"/proc/{process}/stat", encoding="ascii") as file:
+            return file.read().rpartition(")")[2].split()[0] not in "ZX"
+    except (FileNotFoundError, ProcessLookupError):
+        return False
+
+
+def soon(what: Callable[[], object]) -> bool:
+    """Whether something comes to be true within ten seconds."""
+    end = time.monotonic() + 10
+    while not what() and time.monotonic() < end:
+        time.sleep(0.02)
+    return bool(what())
+
+
+@pytest.mark.parametrize("how", [signal.SIGKILL, signal.SIGTERM])
+def test_the_program_ends_with_the_process_that_began_it_not_with_its_thread(tmp_path: Path, how: int) -> None:
+    code = HOST.format(paths=sys.path, program=stand_in(tmp_path, "reply"))
+    with subprocess.Popen([sys.executable, "-c", code], stdout=subprocess.PIPE) as host:
+        try:
+            assert host.stdout is not None and host.stdout.readline() == b"begun\n"
+            assert soon(lambda: begun_by(host.pid))
+            (program,) = begun_by(host.pid)
+            time.sleep(0.5)
+            assert is_running(program)
+        finally:
+            host.send_signal(how)
+    assert soon(lambda: not is_running(program))
 
 
 def reply(kind: int, flags: int, rows: np.ndarray[object, np.dtype[np.void]], rings: object, corners: object) -> Rows:

@@ -1,11 +1,13 @@
 """The program `overlay_features` as a process: blocks go in, replies come out in their order, and it can be cancelled.
 
-The process ends with the one that began it: its input is a pipe, at whose end it ends by itself, and no signal of the
-system's that belongs to a thread is asked for, so it outlives the thread that began it.
+The process ends with the one that began it: its input is a pipe, at whose end it ends by itself, at the latest when it
+has done the block in hand. No signal of the system's that belongs to a thread is asked for, so it outlives the thread
+that began it. A thread that reads rows keeps Python from ending, as any does that is no daemon.
 """
 
 from __future__ import annotations
 
+import io
 import subprocess
 import threading
 from collections.abc import Callable, Iterable, Iterator
@@ -15,7 +17,9 @@ from .rows import Rows, rows_of
 
 LENGTH = 8
 PATIENCE = 0.1  # seconds between two looks at whether to go on
+SAID = 4096  # bytes of what the program says that are kept, the last ones
 NO_FAULT: Exception | None = None
+GoesOn = Callable[[int], bool]
 
 
 class Cancelled(Exception):
@@ -30,34 +34,41 @@ class ProgramEnded(Exception):
         self.status, self.said = status, said
 
 
-def run(program: str, blocks: Iterable[bytes], goes_on: Callable[[int], bool] = lambda done: True) -> Iterator[Rows]:
-    """The rows of each block. goes_on is asked ten times a second, with how many blocks are done; where it says no the
-    program is ended, and Cancelled is raised."""
+def always(done: int) -> bool:
+    """Goes on to the end."""
+    return True
+
+
+def run(program: str, blocks: Iterable[bytes], goes_on: GoesOn = always) -> Iterator[Rows]:
+    """The rows of each block. goes_on is asked ten times a second, in a thread of its own, with how many blocks are
+    done; where it says no the program is ended, and Cancelled is raised."""
     process = subprocess.Popen([program], stdin=subprocess.PIPE, stdout=subprocess.PIPE, stderr=subprocess.PIPE)
-    fed = Feeding(process, blocks)
-    watch = Watch(process, goes_on)
+    fed, said, watch = Feeding(process, blocks), Said(process), Watch(process, goes_on)
     try:
         while (reply := read_reply(process.stdout)) is not None:
-            yield rows_of(reply)
             watch.done += 1
-        finish(process, fed, watch)
+            yield rows_of(reply)
+        finish(process, fed, said, watch)
     finally:
         watch.ended.set()
         process.kill()
         process.wait()
+        assert process.stdout is not None
+        process.stdout.close()
 
 
-def finish(process: subprocess.Popen[bytes], fed: Feeding, watch: Watch) -> None:
+def finish(process: subprocess.Popen[bytes], fed: Feeding, said: Said, watch: Watch) -> None:
     """Says why replies have ended."""
-    fed.thread.join()
+    if watch.fault is not None:
+        raise watch.fault
     if watch.is_cancelled:
         raise Cancelled
+    if process.wait() == 0 or fed.fault is not None:
+        fed.thread.join()
     if fed.fault is not None:
         raise fed.fault
-    assert process.stderr is not None
-    said = process.stderr.read().decode(errors="replace").strip()
-    if process.wait() or watch.done < fed.count:
-        raise ProgramEnded(process.returncode, said)
+    if process.returncode or watch.done < fed.count:
+        raise ProgramEnded(process.returncode, said.text())
 
 
 def read_reply(replies: IO[bytes] | None) -> bytes | None:
@@ -85,10 +96,11 @@ class Feeding:
         assert into is not None
         try:
             for block in self.blocks:
-                into.write(block)
                 self.count += 1
+                into.write(block)
+                into.flush()  # the next block may be made only of what this one gives
         except BrokenPipeError:
-            self.count += 1
+            pass
         except Exception as fault:  # of whoever makes the blocks: raised where rows are read
             self.fault = fault
         finally:
@@ -98,17 +110,44 @@ class Feeding:
                 pass
 
 
+class Said:
+    """Reads what the program says on standard error, so that it never waits there, and keeps the end of it."""
+
+    def __init__(self, process: subprocess.Popen[bytes]) -> None:
+        self.kept, self.source = b"", process.stderr
+        self.thread = threading.Thread(target=self._read, daemon=True)
+        self.thread.start()
+
+    def _read(self) -> None:
+        assert isinstance(self.source, io.BufferedReader)
+        with self.source:
+            while some := self.source.read1(SAID):
+                self.kept = (self.kept + some)[-SAID:]
+
+    def text(self) -> str:
+        """What it has said, when it has ended."""
+        self.thread.join()
+        return self.kept.decode(errors="replace").strip()
+
+
 class Watch:
     """Looks whether a run is to go on, in a thread of its own, and kills the program where it is not."""
 
-    def __init__(self, process: subprocess.Popen[bytes], goes_on: Callable[[int], bool]) -> None:
-        self.done, self.is_cancelled, self.ended = 0, False, threading.Event()
+    def __init__(self, process: subprocess.Popen[bytes], goes_on: GoesOn) -> None:
+        self.done, self.is_cancelled, self.ended, self.fault = 0, False, threading.Event(), NO_FAULT
         self.process, self.goes_on = process, goes_on
         threading.Thread(target=self._watch, daemon=True).start()
 
     def _watch(self) -> None:
         while not self.ended.wait(PATIENCE):
-            if not self.goes_on(self.done):
+            if not self._is_to_go_on():
                 self.is_cancelled = True
                 self.process.kill()
                 return
+
+    def _is_to_go_on(self) -> bool:
+        try:
+            return self.goes_on(self.done)
+        except Exception as fault:  # of whoever asked: raised where rows are read
+            self.fault = fault
+            return False
