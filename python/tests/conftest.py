@@ -7,7 +7,7 @@ import pytest
 from . import testing
 from .common import TOP, Programs
 
-BUILT = {"program": "overlayd", "live": "overlay_live", "window": "overlay_window"}
+BUILT = {"program": "overlayd", "live": "overlay_live", "window": "overlay_window", "features": "overlay_features"}
 
 
 def pytest_addoption(parser: pytest.Parser) -> None:
@@ -18,11 +18,14 @@ def pytest_addoption(parser: pytest.Parser) -> None:
 
 def pytest_configure(config: pytest.Config) -> None:
     config.addinivalue_line("markers", "live: a test of a built overlay_live")
+    config.addinivalue_line("markers", "features: a test of a built overlay_features")
     found = [str(path.resolve()) if (path := config.getoption(word)).is_file() else None for word in BUILT]
-    Programs.batched, Programs.live, Programs.window = found
+    Programs.batched, Programs.live, Programs.window, Programs.features = found
     testing.PROGRAM = Programs.live or testing.PROGRAM
 
 
 def pytest_runtest_setup(item: pytest.Item) -> None:
     if Programs.live is None and item.get_closest_marker("live"):
         pytest.skip("no built overlay_live: --live names it")
+    if Programs.features is None and item.get_closest_marker("features"):
+        pytest.skip("no built overlay_features: --features names it")

@@ -11,7 +11,7 @@ from dataclasses import dataclass
 
 import numpy as np
 
-from ..geometry.flat_arrays import Numbers, offsets
+from ..geometry.flat_arrays import Numbers, offsets, spans
 
 COUNT, WIDTH = 4, 8  # bytes of a count and of a double
 
@@ -31,6 +31,11 @@ class Column:
         found: bytes = self.data[self.at[number] : self.at[number + 1]].tobytes()
         return found
 
+    def part(self, places: Numbers) -> Column:
+        """Some of the shapes."""
+        sizes = np.diff(self.at)[places]
+        return Column(self.data[spans(self.at[:-1][places], sizes)], offsets(sizes))
+
     def to_list(self) -> list[bytes]:
         """The bytes of each, for who wants them one by one."""
         whole, ends = self.data.tobytes(), self.at.tolist()
@@ -41,6 +46,13 @@ def of_bytes(shapes: Sequence[bytes | None]) -> Column:
     """A column of the bytes of each shape."""
     own = [shape or b"" for shape in shapes]
     return Column(np.frombuffer(b"".join(own), np.uint8), offsets(np.fromiter(map(len, own), np.int64, len(own))))
+
+
+def columns_joined(columns: Sequence[Column]) -> Column:
+    """The shapes of several columns in one."""
+    sizes = [np.diff(one.at) for one in columns]
+    data = [one.data for one in columns]
+    return Column(np.concatenate([np.zeros(0, np.uint8), *data]), offsets(np.concatenate([np.zeros(0, int), *sizes])))
 
 
 def of_arrow(shapes: Numbers) -> Column:

@@ -4,6 +4,7 @@ from __future__ import annotations
 
 import enum
 from dataclasses import dataclass
+from fractions import Fraction
 
 import numpy as np
 
@@ -70,13 +71,22 @@ class Rows:
         wide = self.rows[name][row]
         return (int(wide["high"]) << 64) + int(wide["low"])
 
-    def outlines(self) -> Column:
-        """The outline of each row as Well-Known Binary in units; of rows without rings an empty multipolygon."""
+    def outlines(self, factor: Fraction = Fraction(1)) -> Column:
+        """The outline of each row as Well-Known Binary; of rows without rings an empty multipolygon. So many units are
+        one of the map's."""
         counts = self.rows["rings"].astype(np.int64)
         outer, begin = self.rings["outer"].astype(np.int64), offsets(counts)[owners(counts)]
         whole = np.where(outer == NONE, -1, outer + begin)
         sizes = self.rings["corners"].astype(np.int64)
-        return column_of(self.corners[:, 0], self.corners[:, 1], sizes, whole, counts)
+        return column_of(self.coordinates(0, factor), self.coordinates(1, factor), sizes, whole, counts)
+
+    def coordinates(self, axis: int, factor: Fraction = Fraction(1)) -> Numbers:
+        """The corners' coordinates by doubles, in units of the map."""
+        found: Numbers = self.corners[:, axis]
+        if found.dtype == WIDE:
+            found = (found["high"] * 2.0**64 + found["low"]) / (
+                self.corners[:, 2]["high"] * 2.0**64 + self.corners[:, 2]["low"])
+        return found * float(factor.denominator) / float(factor.numerator)
 
 
 def rows_of(reply: bytes) -> Rows:

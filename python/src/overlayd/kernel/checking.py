@@ -1,0 +1,96 @@
+"""What is wrong in one map: which of its features overlap, and the gaps between them, with audits that close."""
+
+from __future__ import annotations
+
+from dataclasses import dataclass
+
+import numpy as np
+
+from .asking import Areas, Ask
+from .blocks import Wants
+from .columns import Column
+from .laying import lay
+from .layered import Core, Found, Layers, evaluated, frame_of, layer_areas, layers_of
+from .overlaying import Overlay, overlay_within, pairs_in
+from .polygons import Polygons, polygons_of
+from .rows import Relation
+
+
+@dataclass(frozen=True)
+class Audit:
+    """In parts of 2^-40 of twice a unit square. Of each colour: the area of the layer, less those of its features; then
+    what is covered and what is open, less the frame; then what three features or more have in common, by what is
+    covered; and how much each of these may be off by the program's bounds."""
+
+    colours: list[int]
+    frame: int
+    deeper: int
+    off: int
+
+    def closes(self) -> bool:
+        """Whether nothing is open but what lies in three features or more."""
+        return all(abs(one) <= self.off for one in [*self.colours, self.frame]) and self.deeper >= -self.off
+
+
+@dataclass(frozen=True)
+class Check:
+    """The rows of features with themselves, of which each has its area, and of those that overlap; the pairs to which
+    the program has no answer; what is covered and what is open within the frame; the gaps where outlines were asked
+    for; and the audit."""
+
+    own: Overlay
+    overlaps: Overlay
+    unanswered: Overlay
+    covered: Areas
+    open: Areas
+    gaps: Polygons | None
+    audit: Audit
+
+
+def check(column: Column, ask: Ask) -> Check:
+    """Overlaps and gaps of a map."""
+    laid = lay([column], ask.grid)
+    ask.look()
+    features = laid.maps[0]
+    live = np.flatnonzero(features.points() > 0)
+    near = pairs_in(features)
+    rows = overlay_within(laid, np.concatenate([np.stack([live, live], axis=1), near]), ask.stage(0, 0.5))
+    is_own = rows.pairs[:, 0] == rows.pairs[:, 1]
+    own = rows.part(np.flatnonzero(is_own))
+    overlaps = rows.part(np.flatnonzero(~is_own & (rows.relations() >= Relation.OVERLAPS)))
+    unanswered = rows.part(rows.faults())
+    apart = np.concatenate([overlaps.pairs, unanswered.pairs])
+    (layers,) = layers_of([features], [apart[apart[:, 0] != apart[:, 1]]])
+    frame = frame_of([features])
+    union = " | ".join(layers.names()) or "Core - Core"
+    covered = evaluated([layers], union, frame, laid, ask.stage(0.5, 0.65))
+    left = evaluated([layers], f"Core - ({union})", frame, laid, ask.stage(0.65, 0.9, ask.wants & Wants.OUTLINES))
+    audit = audited(own, overlaps, layers, (covered, left), frame, ask.stage(0.9, 1))
+    gaps = gaps_of(left, frame) if ask.wants & Wants.OUTLINES else None
+    return Check(own, overlaps, unanswered, covered.area(), left.area(), gaps, audit)
+
+
+def audited(own: Overlay, overlaps: Overlay, layers: Layers, found: tuple[Found, Found], frame: Core,
+            ask: Ask) -> Audit:
+    """What closes, and what does not."""
+    covered, left = (one.area() for one in found)
+    areas = layer_areas(layers, frame, own.laid, ask)
+    colour, off, apart = layers.layer[own.pairs[:, 0]], 0, []
+    for number in range(layers.count()):
+        mine = own.areas("a").part(np.flatnonzero(colour == number))
+        apart.append(areas.whole(number) - mine.sum())
+        off = max(off, areas.part(np.array([number])).sum_off() + mine.sum_off())
+    west, east, south, north = frame
+    whole = 2 * (east - west) * (north - south) << 40
+    common, sums = overlaps.areas(), own.areas("a")
+    deeper = covered.whole(0) - sums.sum() + common.sum()
+    off = max(off, covered.sum_off() + left.sum_off() + sums.sum_off() + common.sum_off())
+    return Audit(apart, covered.whole(0) + left.whole(0) - whole, deeper, off)
+
+
+def gaps_of(left: Found, frame: Core) -> Polygons:
+    """The polygons of what is open that do not reach the frame: what does lies outside of all features."""
+    found = polygons_of(left.rows, left.laid.factor)
+    west, east, south, north = frame
+    reaches = (found.boxes == np.array([west, south, east, north])).any(axis=1)
+    return found.part(np.flatnonzero(~reaches))
