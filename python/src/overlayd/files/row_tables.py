@@ -1,0 +1,167 @@
+"""Tables of the kernel's rows: as text, as arrays of numpy, and as a layer of a GeoPackage, without a loop over rows.
+
+What calls a feature is a text; a map's features are called by their numbers where no names are given.
+"""
+
+from __future__ import annotations
+
+import io
+import sqlite3
+from collections.abc import Iterator
+from dataclasses import dataclass
+from pathlib import Path
+
+import numpy as np
+
+from ..geometry.flat_arrays import Numbers, offsets, spans
+from ..kernel.columns import Column
+from ..kernel.overlaying import Overlay
+from ..kernel.rows import Relation
+from . import writing
+from .coordinate_systems import UNKNOWN, parsed
+from .gdal_maps import modules
+from .gdal_writing import QUICKLY, configured
+
+HEADS = ("a", "b", "relation", "area", "bound", "area_a", "area_b")
+QUOTED = set(',"\r\n')  # marks for which a name is quoted
+LAYER = "pairs"
+HEAD = np.frombuffer(b"GP\x00\x01", np.uint8)  # of a shape in a GeoPackage: version 0, lowest bytes first, no box
+EMPTY, SIZE_OF_EMPTY = 0x10, 9  # the bit of an empty shape; the bytes of one, than which no other has so few
+INSERT = f"INSERT INTO {LAYER} ({', '.join(HEADS)}, geom) VALUES ({', '.join('?' * (len(HEADS) + 1))})"
+
+
+@dataclass(frozen=True)
+class Named:
+    """Rows, and what features of both maps are called, or None."""
+
+    rows: Overlay
+    a: Numbers | None = None
+    b: Numbers | None = None
+
+    def columns(self) -> list[list[object]]:
+        """What a table has below its heads, column by column."""
+        relations = np.array([one.name.lower() for one in Relation])
+        areas = [self.rows.areas(name) for name in ("both", "a", "b")]
+        names = [called(own, self.rows.pairs[:, place]) for place, own in enumerate((self.a, self.b))]
+        numbers = [areas[0].doubles(), areas[0].bounds(), areas[1].doubles(), areas[2].doubles()]
+        return [column.tolist() for column in (*names, relations[self.rows.relations()], *numbers)]
+
+
+def called(names: Numbers | None, features: Numbers) -> Numbers:
+    """What features are called."""
+    found: Numbers = features if names is None else names[features]
+    return found
+
+
+def quoted(names: Numbers | None) -> Numbers | None:
+    """Names as a table of text has them."""
+    if names is None:
+        return None
+    own = [f'"{name.replace(chr(34), chr(34) * 2)}"' if QUOTED & {*name} else name for name in names.tolist()]
+    return np.array(own, object)
+
+
+def write_text(path: Path, named: Named) -> None:
+    """Writes a table as CSV, whole or not at all. Areas are the shortest decimals of their doubles."""
+    columns = Named(named.rows, quoted(named.a), quoted(named.b)).columns()
+    with writing.whole(path) as file:
+        file.write(",".join(HEADS) + "\n")
+        file.writelines(map("{},{},{},{!r},{!r},{!r},{!r}\n".format, *columns))
+
+
+def write_array(path: Path, rows: Overlay) -> None:
+    """Writes rows as one array of numpy, with the numbers of features, areas and bounds as doubles, and twice the areas
+    as they are: numbers of 16 bytes, in parts of 2^-40 of the grid's unit square."""
+    data = io.BytesIO()
+    np.save(data, as_array(rows))
+    writing.write_all({path: data.getvalue()})
+
+
+def as_array(rows: Overlay) -> Numbers:
+    """Rows as one array."""
+    wide = ("both", "off", "of_a", "of_b")
+    kind = [("a", "<i8"), ("b", "<i8"), ("relation", "u1"), ("is_proper", "?"), ("fault", "<u4"), ("area", "<f8"),
+            ("bound", "<f8"), ("area_a", "<f8"), ("area_b", "<f8"), *((name, "<u8", 2) for name in wide)]
+    found: Numbers = np.zeros(len(rows), kind)
+    found["a"], found["b"] = rows.pairs[:, 0], rows.pairs[:, 1]
+    for name in ("relation", "is_proper", "fault"):
+        found[name] = rows.rows[name]
+    for name, own in (("area", "both"), ("area_a", "a"), ("area_b", "b")):
+        found[name] = rows.areas(own).doubles()
+    found["bound"] = rows.areas().bounds()
+    for name, own in zip(wide, ("both", "bound", "a", "b")):
+        found[name] = np.ascontiguousarray(rows.rows[own]).view("<u8").reshape(-1, 2)
+    return found
+
+
+def write_package(path: Path, named: Named, system: str | None = None) -> None:
+    """Writes a GeoPackage with a layer of the rows and, where they have them, their outlines. The
+    coordinates' system is called as the other tools call it, or unknown."""
+    target = path.resolve()
+    new = writing.beside(target, ".gpkg")
+    try:
+        with configured(modules()[0], QUICKLY):
+            number = made(new, system)
+            fill(new, named, number)
+            indexed(new)
+        writing.take_places({new: target})
+    finally:
+        new.unlink(missing_ok=True)
+
+
+def made(path: Path, system: str | None) -> int:
+    """Makes an empty layer by GDAL; the number of its system of coordinates."""
+    gdal, ogr = modules()
+    file = gdal.GetDriverByName("GPKG").Create(str(path), 0, 0, 0)
+    options = ["SPATIAL_INDEX=NO", "GEOMETRY_NAME=geom", "FID=fid"]
+    layer = file.CreateLayer(LAYER, parsed(system or UNKNOWN), ogr.wkbUnknown, options)
+    for name, kind in zip(HEADS, [ogr.OFTString] * 3 + [ogr.OFTReal] * 4):
+        layer.CreateField(ogr.FieldDefn(name, kind))
+    del layer, file
+    store = sqlite3.connect(path)
+    try:
+        (number,) = store.execute("SELECT srs_id FROM gpkg_geometry_columns").fetchone()
+    finally:
+        store.close()
+    return int(number)
+
+
+def fill(path: Path, named: Named, system: int) -> None:
+    """Puts the rows in."""
+    columns = named.columns()
+    columns[:2] = [[*map(str, own)] for own in columns[:2]]
+    store = sqlite3.connect(path, isolation_level=None)
+    try:
+        store.execute("PRAGMA synchronous = OFF")
+        store.execute("BEGIN")
+        store.executemany(INSERT, zip(*columns, shapes_of(named.rows, system)))
+        store.execute("COMMIT")
+    finally:
+        store.close()
+
+
+def shapes_of(rows: Overlay, system: int) -> Iterator[bytes | None]:
+    """The outlines as a GeoPackage has them."""
+    if rows.outlines is None:
+        return iter([None] * len(rows))
+    return iter(headed(rows.outlines, system).to_list())
+
+
+def headed(shapes: Column, system: int) -> Column:
+    """Shapes with the head of a GeoPackage's."""
+    sizes = np.diff(shapes.at)
+    head = np.concatenate([HEAD, np.frombuffer(system.to_bytes(4, "little", signed=True), np.uint8)])
+    at = offsets(sizes + len(head))
+    data: Numbers = np.zeros(int(at[-1]), np.uint8)
+    data[np.repeat(at[:-1], len(head)) + np.tile(np.arange(len(head)), len(sizes))] = np.tile(head, len(sizes))
+    data[spans(at[:-1] + len(head), sizes)] = shapes.data
+    data[at[:-1][sizes == SIZE_OF_EMPTY] + 3] |= EMPTY
+    return Column(data, at)
+
+
+def indexed(path: Path) -> None:
+    """Adds the extent, and an index of places."""
+    gdal, _ = modules()
+    file = gdal.OpenEx(str(path), gdal.OF_VECTOR | gdal.OF_UPDATE)
+    file.ExecuteSQL(f"RECOMPUTE EXTENT ON {LAYER}")  # by the shapes, as the index would give a wider one
+    file.ExecuteSQL(f"SELECT CreateSpatialIndex('{LAYER}', 'geom')")
