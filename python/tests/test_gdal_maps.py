@@ -17,11 +17,11 @@ from unittest import mock
 from osgeo import gdal, ogr, osr
 
 from overlayd.commands import maps as overlay_maps
+from overlayd.ending import Unusable
 from overlayd.files import gdal_maps, gdal_writing, numpy_maps
 from overlayd.files.spooled import Names
 from overlayd.geometry.whole_maps import MapFault, ReadMap, Told
 from overlayd.maps import running
-from overlayd.store.sessions import Unusable
 from .common import OVERLAY, SOURCES, TOP, InFolder, Programs, outcome
 
 RING = [(0, 0), (10, 0), (10, 10), (0, 10), (0, 0)]

@@ -103,7 +103,7 @@ def test_gaps_are_what_features_enclose() -> None:
     ask = asked(Wants.OUTLINES) if has_outlines() else asked()
     found = check(column(features), ask)
     frame_area, own = 14 * 14, 12 * 12 - 4 - 9 + 1
-    assert (found.covered.exact(0), found.open.exact(0)) == (own, frame_area - own)
+    assert found.covered.exact(0) == own and found.open.exact(0) == frame_area - own
     assert found.audit.closes() and not len(found.overlaps)
     if found.gaps is not None:
         assert sorted(found.gaps.areas.tolist()) == [4, 8]

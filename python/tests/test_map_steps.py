@@ -10,6 +10,7 @@ from unittest import mock
 
 import numpy as np
 
+from overlayd.ending import Unusable
 from overlayd.files import numpy_maps
 from overlayd.geometry import bending, box_pairs
 from overlayd.geometry.numpy_arrays import Numbers
@@ -20,7 +21,6 @@ from overlayd.maps import (
 )
 from overlayd.maps.task_form import ALONE, COMMON, Found, Row, ShapeOf, Task
 from overlayd.program import Piece
-from overlayd.store.sessions import Unusable
 from . import plain, slabs
 from .common import Programs
 from .random_maps import random_maps, wrong_answers
