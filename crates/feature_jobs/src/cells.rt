@@ -1,6 +1,8 @@
 //! Cells of an expression.
 use crate::fault::JobFault;
+use crate::outlining::outline_in;
 use block_reading::{Core, Member};
+use boundary_outlines::Outline;
 use feature_windows::{Features, Found, Near, found_in, windows};
 use layer_expr::StepList;
 use std::alloc::{AllocError, Global};
@@ -17,7 +19,8 @@ fn nears(alloc: Global, members: &[Member]) -> Result<Vec<Near>, AllocError> {
     Ok(list)
 }
 
-/// What an expression over so many layers of features holds of a core, whose own layer is the last one.
+/// What an expression over so many layers of features holds of a core, whose own layer is the last one; and its outline, if
+/// that is wanted.
 pub(crate) fn cells(
     alloc: Global,
     features: &Features,
@@ -25,9 +28,14 @@ pub(crate) fn cells(
     core: &Core,
     members: &[Member],
     limit: usize,
-) -> Result<Found, JobFault> {
+    wants: bool,
+) -> Result<(Found, Option<Outline>), JobFault> {
     let near = nears(alloc, members)?;
     let count = usize::from(steps.bases()).saturating_sub(1);
     let list = windows(alloc, features, &near, count, core, limit)?;
-    Ok(found_in(alloc, &list, steps, core.low_x, core.low_y)?)
+    let found = found_in(alloc, &list, steps, core.low_x, core.low_y)?;
+    if wants {
+        return Ok((found, Some(outline_in(alloc, &list, steps, core)?)));
+    }
+    Ok((found, None))
 }

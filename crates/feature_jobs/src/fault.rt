@@ -1,4 +1,5 @@
 //! Why a job has no answer.
+use boundary_outlines::OutlineFault;
 use feature_windows::WindowsFault;
 use layer_expr::ExprFault;
 use std::alloc::{AllocError, AllocFailed};
@@ -19,8 +20,8 @@ pub enum JobFault {
     LargeArea,
     /// A ring that is not closed, or has fewer than four points.
     BadRing,
-    /// Outlines are wanted, which are not made here.
-    NoOutlines,
+    /// The pieces of a boundary do not close.
+    OpenBoundary,
 }
 
 impl JobFault {
@@ -34,7 +35,7 @@ impl JobFault {
             JobFault::TooManySteps => 79,
             JobFault::LargeArea => 80,
             JobFault::BadRing => 82,
-            JobFault::NoOutlines => 84,
+            JobFault::OpenBoundary => 84,
         }
     }
 }
@@ -56,6 +57,15 @@ impl From<ExprFault> for JobFault {
         match e {
             ExprFault::OutOfMemory => JobFault::OutOfMemory,
             _ => JobFault::BadExpression,
+        }
+    }
+}
+
+impl From<OutlineFault> for JobFault {
+    fn from(e: OutlineFault) -> JobFault {
+        match e {
+            OutlineFault::OutOfMemory => JobFault::OutOfMemory,
+            OutlineFault::NotClosed => JobFault::OpenBoundary,
         }
     }
 }

@@ -1,14 +1,18 @@
-//! Jobs over features: pairs, cells of an expression, points to locate; and a block's reply.
+//! Jobs over features: pairs, cells of an expression, points to locate; outlines; and a block's reply.
 #![tactic(auto)]
 
+mod bytes;
 mod cells;
+mod dealing;
 mod expressions;
 mod fault;
 mod known;
 mod locating;
+mod outlining;
 mod pair;
 mod relation;
 mod reply;
+mod rings;
 mod running;
 mod text;
 

@@ -1,12 +1,15 @@
 //! Pairs of features.
 use crate::fault::JobFault;
 use crate::known::{Known, nothing_found};
+use crate::outlining::outline_in;
 use crate::relation::{Both, PairSteps, Relation, are_apart, relation_within, touch};
-use feature_windows::{Features, Found, Near, Window, common, found_in, windows};
+use block_reading::Core;
+use boundary_outlines::Outline;
+use feature_windows::{Features, Found, Near, Window, common, found_in, nothing, windows};
 use std::alloc::Global;
 
 /// What a pair is.
-#[derive(Clone, Copy, Debug)]
+#[derive(Debug, Drop)]
 pub(crate) struct PairFound {
     pub relation: Relation,
     /// Whether one contains the other, and no boundary is shared.
@@ -14,6 +17,9 @@ pub(crate) struct PairFound {
     pub a: Found,
     pub b: Found,
     pub both: Found,
+    /// The outline of both, if it is wanted, seen from the low corner of a core.
+    pub outline: Option<Outline>,
+    pub core: Core,
 }
 
 /// The relation of a pair of which this was found in its windows, and whether it is proper.
@@ -54,6 +60,7 @@ pub(crate) fn pair(
     b: &Known,
     steps: &PairSteps,
     limit: usize,
+    wants: bool,
 ) -> Result<PairFound, JobFault> {
     if are_apart(a, b) {
         let both = nothing_found();
@@ -63,6 +70,8 @@ pub(crate) fn pair(
             a: a.found,
             b: b.found,
             both,
+            outline: None,
+            core: nothing(),
         });
     }
     let core = common(&a.extent, &b.extent);
@@ -70,11 +79,18 @@ pub(crate) fn pair(
     let found = found_in(alloc, &list, &steps.both, core.low_x, core.low_y)?;
     let both = Both { near, a, b };
     let (relation, is_proper) = related(alloc, features, &both, steps, limit, &list, &found)?;
+    let outline = if wants {
+        Some(outline_in(alloc, &list, &steps.both, &core)?)
+    } else {
+        None
+    };
     Ok(PairFound {
         relation,
         is_proper,
         a: a.found,
         b: b.found,
         both: found,
+        outline,
+        core,
     })
 }

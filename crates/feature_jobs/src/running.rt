@@ -1,5 +1,6 @@
 //! The jobs of a block, answered in order.
 use crate::cells::cells;
+use crate::dealing::{Dealt, deal_out};
 use crate::expressions::within_core;
 use crate::fault::JobFault;
 use crate::known::{Knowing, all_known, known_at};
@@ -7,7 +8,9 @@ use crate::locating::locate;
 use crate::pair::{PairFound, pair};
 use crate::relation::{PairSteps, pair_steps};
 use crate::reply::{Reply, add_point, cells_row, fault_row, pair_row, row_size};
+use crate::rings::form_in;
 use block_reading::{Block, BlockFault, Core, Job, Member, Queries};
+use boundary_outlines::Outline;
 use feature_windows::{Features, Found, Near};
 use layer_expr::StepList;
 use row_writing::{Answering, write_rows};
@@ -21,6 +24,8 @@ struct Ground {
     pairs: PairSteps,
     cells: Option<StepList>,
     limit: usize,
+    outlines: bool,
+    fractions: bool,
 }
 
 /// The answer to a pair.
@@ -45,6 +50,7 @@ fn pair_of(alloc: Global, ground: &Ground, a: usize, b: usize) -> Result<PairFou
         &second,
         &ground.pairs,
         ground.limit,
+        ground.outlines,
     )
 }
 
@@ -54,9 +60,17 @@ fn cells_of(
     ground: &Ground,
     core: &Core,
     members: &[Member],
-) -> Result<Found, JobFault> {
+) -> Result<(Found, Option<Outline>), JobFault> {
     match &ground.cells {
-        Some(steps) => cells(alloc, &ground.features, steps, core, members, ground.limit),
+        Some(steps) => cells(
+            alloc,
+            &ground.features,
+            steps,
+            core,
+            members,
+            ground.limit,
+            ground.outlines,
+        ),
         None => Err(JobFault::BadExpression),
     }
 }
@@ -92,11 +106,16 @@ impl Answering<Job> for Ground {
     fn row(&self, alloc: Global, job: &Job) -> Result<Vec<u8>, AllocError> {
         match job {
             Job::Pair(a, b) => match pair_of(alloc, self, *a as usize, *b as usize) {
-                Ok(one) => pair_row(alloc, &one),
+                Ok(one) => pair_row(alloc, &one, &form_in(&one.core, self.fractions)),
                 Err(fault) => row_of_fault(alloc, fault, 0),
             },
             Job::Cells(core, members) => match cells_of(alloc, self, core, members.members()) {
-                Ok(found) => cells_row(alloc, &found),
+                Ok((found, outline)) => cells_row(
+                    alloc,
+                    &found,
+                    &outline,
+                    &form_in(core, self.fractions),
+                ),
                 Err(fault) => row_of_fault(alloc, fault, 1),
             },
             Job::Locate(feature, queries) => point_rows(alloc, self, *feature as usize, queries),
@@ -107,9 +126,6 @@ impl Answering<Job> for Ground {
 /// What the jobs of a block share.
 fn ground_of(alloc: Global, block: &Block) -> Result<Ground, JobFault> {
     let head = block.head();
-    if head.flags != 0 {
-        return Err(JobFault::NoOutlines);
-    }
     let features = Features::of(alloc, block.shapes())?;
     let limit = head.limit as usize;
     let pairs = pair_steps(alloc)?;
@@ -129,6 +145,40 @@ fn ground_of(alloc: Global, block: &Block) -> Result<Ground, JobFault> {
         pairs,
         cells,
         limit,
+        outlines: head.flags % 2 == 1,
+        fractions: head.flags / 2 % 2 == 1,
+    })
+}
+
+/// The records of a block as rows, rings and corners.
+fn parts_of(alloc: Global, block: &Block, records: Vec<u8>) -> Result<Dealt, AllocError> {
+    let head = block.head();
+    if head.flags % 2 == 1 && head.kind < 2 {
+        return deal_out(alloc, &records, head.kind, head.flags, block.jobs().len());
+    }
+    Ok(Dealt {
+        rows: records,
+        rings: Vec::new(alloc),
+        corners: Vec::new(alloc),
+    })
+}
+
+/// The reply of these records.
+fn reply_of(alloc: Global, block: &Block, records: Vec<u8>) -> Result<Reply, AllocError> {
+    let Dealt {
+        rows,
+        rings,
+        corners,
+    } = parts_of(alloc, block, records)?;
+    let head = block.head();
+    Ok(Reply {
+        kind: head.kind,
+        flags: head.flags,
+        fault: 0,
+        job: 0,
+        rows,
+        rings,
+        corners,
     })
 }
 
@@ -137,13 +187,7 @@ fn answered(alloc: Global, block: &Block) -> Result<Reply, JobFault> {
     let ground = ground_of(alloc, block)?;
     let mut rows = Vec::new(alloc);
     match write_rows(alloc, &ground, block.jobs(), &mut rows) {
-        Ok(()) => Ok(Reply {
-            kind: block.head().kind,
-            flags: 0,
-            fault: 0,
-            job: 0,
-            rows,
-        }),
+        Ok(()) => Ok(reply_of(alloc, block, rows)?),
         Err(_) => Err(JobFault::OutOfMemory),
     }
 }

@@ -1,4 +1,5 @@
 //! Replies as lines of text.
+use crate::bytes::word_at;
 use crate::reply::{Reply, row_size};
 use byteorder::{ByteOrder, LittleEndian};
 use std::alloc::{AllocError, Global};
@@ -22,14 +23,6 @@ fn spot(number: u32) -> &'static str {
         1 => "inside",
         2 => "edge",
         _ => "fine",
-    }
-}
-
-/// The number of 4 bytes from a place on; 0 where there are fewer.
-fn word_at(row: &[u8], at: usize) -> u32 {
-    match row.get(at..at.saturating_add(4)) {
-        Some(bytes) => LittleEndian::read_u32(bytes),
-        None => 0,
     }
 }
 
