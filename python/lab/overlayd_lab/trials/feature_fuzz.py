@@ -5,8 +5,8 @@
 Hostile pairs (relation, whether one contains the other properly, three areas within their bounds), expressions over
 four features in cells, points to locate. Each job is asked at three limits of steps, so that cores are halved anywhere:
 all numbers but the counts of pieces and passes and the bound are the same. With --outlines these are asked for and are
-the same, too: simple rings with the inside on their left, holes within their outer ring, and the judge's area. The last
-line is 'N passed, M failed'.
+the same, too: simple rings with the inside on their left, holes within their outer ring, the judge's area, and as
+doubles the ones nearest to the fractions. The last line is 'N passed, M failed'.
 """
 
 from __future__ import annotations
@@ -87,6 +87,12 @@ def rings_alike(a: list[blocks.Ring], b: list[blocks.Ring]) -> bool:
     return Counter(frozenset(r.corners) for r in a) == Counter(frozenset(r.corners) for r in b)
 
 
+def are_nearest(exact: list[blocks.Ring], doubles: list[blocks.Ring]) -> bool:
+    """Whether rings have the doubles nearest to these fractions for their corners, in the same order."""
+    return [(one.outer, [(Fraction(float(x)), Fraction(float(y))) for x, y in one.corners]) for one in exact] == \
+        [(one.outer, one.corners) for one in doubles]
+
+
 def pair_faults(a: Feature, b: Feature, row: blocks.Row, flags: int) -> list[str]:
     """What is wrong with the row of a pair."""
     if row.fault:
@@ -111,15 +117,23 @@ def same(rows: list[blocks.Row], counts: tuple[int, ...]) -> bool:
     return len(alike) == 1 and all(rings_alike(rows[0].rings, row.rings) for row in rows)
 
 
+def forms(flags: int) -> list[tuple[int, int]]:
+    """The flags and limits by which a job is asked; the last one without fractions."""
+    return [*((flags, limit) for limit in LIMITS), (flags & 1, LIMITS[0])]
+
+
 def try_pairs(program: str, draw: random.Random, count: int, flags: int, told: Counter[str]) -> None:
     """Pairs: each at all limits."""
     drawn = [far_pair(draw) for _ in range(count)]
     features = [one for both in drawn for one in both]
     jobs = [blocks.words([2 * k, 2 * k + 1]) for k in range(count)]
-    found = blocks.run(program, [blocks.block("pair", features, jobs, flags=flags, limit=limit) for limit in LIMITS])
+    asked = [blocks.block("pair", features, jobs, flags=form, limit=limit) for form, limit in forms(flags)]
+    *found, rough = blocks.run(program, asked)
     for k, (a, b) in enumerate(drawn):
         rows = [reply.rows[k] for reply in found]
         faults = pair_faults(a, b, rows[0], flags)
+        if not are_nearest(rows[0].rings, rough.rows[k].rings):
+            faults.append("doubles")
         if not rows[0].fault and not same(rows, (2, 3, 4, 8)):
             faults.append("halves differ")
         tell(told, "pairs", faults, (a, b))
@@ -163,13 +177,15 @@ def try_cells(program: str, draw: random.Random, count: int, flags: int, told: C
         cores = [core_of(draw, four) for four in drawn]
         features = [one for four in drawn for one in four]
         jobs = [blocks.cells_job(core, [(4 * k + i, i) for i in range(4)]) for k, core in enumerate(cores)]
-        asked = [blocks.block("cells", features, jobs, flags=flags, limit=limit, expression=text, layers=4)
-                 for limit in LIMITS]
-        found = blocks.run(program, asked)
+        asked = [blocks.block("cells", features, jobs, flags=form, limit=limit, expression=text, layers=4)
+                 for form, limit in forms(flags)]
+        *found, rough = blocks.run(program, asked)
         for k, four in enumerate(drawn):
             rows = [reply.rows[k] for reply in found]
             area = job_area(four, cores[k], rule)
             faults = cells_faults(rows[0], area, flags)
+            if not are_nearest(rows[0].rings, rough.rows[k].rings):
+                faults.append("doubles")
             if not rows[0].fault and not same(rows, (0, 1, 2, 4)):
                 faults.append("halves differ")
             tell(told, "cells", faults, (text, cores[k], four))
