@@ -74,7 +74,7 @@ class WithSystems(WithGdal):
     def written(self, end: str) -> Any:
         """The system of what overlay export writes of that script, as GDAL reads it."""
         path = self.folder / f"written{end}"
-        words = [self.folder / "out.txt", "--program", self.model(), "--output", path]
+        words = ["--store", self.folder / "out.txt", "--program", self.model(), "--output", path]
         self.assertEqual(outcome(to_geojson, *words)[:2], (0, ""))
         return self.system(path)
 

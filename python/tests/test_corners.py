@@ -37,8 +37,8 @@ class ManyCorners(WithProgram):
     def setUp(self) -> None:
         super().setUp()
         source = random.Random(200)
-        self.script = self.file("soup.txt", f"PUT A {soup(source)}\nPUT B {soup(source)}\nDEFINE I = A ^ B\n")
-        self.words = [self.script, "--program", self.program, "--layer", "I"]
+        store = self.store("soup.db", f"PUT A {soup(source)}\nPUT B {soup(source)}\nDEFINE I = A ^ B\n")
+        self.words = ["--store", store, "--program", self.program, "--layer", "I"]
         lines = outcome(to_rings, *self.words, "--exact")[1].splitlines()
         rings: list[list[tuple[Fraction, Fraction]]] = []
         for line in lines[1:]:
